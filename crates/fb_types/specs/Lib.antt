@@ -1,0 +1,4 @@
+pub mod formers
+pub mod Latencies
+pub mod Limits
+pub mod Names

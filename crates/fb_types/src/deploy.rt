@@ -1,0 +1,105 @@
+//! Resources, links and stimuli.
+
+ghost use Rattle.std.specs.Prelude.{◌≡◌, IfOk};
+ghost use Rattle.fb_types.specs.Limits.{IsWithinLimits, single};
+
+use crate::items::Items;
+use crate::latency::Latency;
+use crate::name::Name;
+use crate::value::Value;
+use std::alloc::{AllocError, Global};
+use std::marker::Model;
+
+/// A resource of a device, with the instances of the application that it holds.
+#[derive(Drop)]
+pub struct Resource {
+    pub device: Name,
+    pub name: Name,
+    pub instances: Items<Name>,
+}
+
+/// Carries the connections from one resource to another.
+#[derive(Drop)]
+pub struct Link {
+    pub from: Name,
+    pub to: Name,
+    pub latency: Latency,
+}
+
+/// Resources and links, each numbered by its place from 0. Where `holds_all` is set, the one resource
+/// holds every instance, whatever its list says.
+#[derive(Drop)]
+pub struct Plan {
+    pub resources: Items<Resource>,
+    pub links: Items<Link>,
+    pub holds_all: bool,
+}
+
+/// A plan within the limits: 1 to 256 resources, one where it holds all, and at most 1,024 links.
+/// Contracts see the plan.
+#[derive(Drop)]
+pub struct Deploy {
+    plan: Plan,
+}
+
+impl Model for Deploy {
+    ghost use Rattle.fb_types.specs.declared.deploy.Plan.{Plan};
+    ghost use Rattle.fb_types.specs.Limits.{IsWithinLimits};
+
+    ghost Value = { Plan };
+
+    ghost view = { λ d. d.plan };
+
+    ghost invariant = { λ d. IsWithinLimits d.plan };
+}
+
+impl Deploy {
+    pub fn new(plan: Plan) -> Deploy
+        requires { IsWithinLimits plan }
+        ensures { result ≡ plan }
+    {
+        Deploy { plan }
+    }
+
+    /// One resource `MAIN` in the device `DEV`, which holds every instance.
+    pub fn single(alloc: Global) -> Result<Deploy, AllocError>
+        ensures { IfOk result (λ d. d ≡ single) }
+    {
+        let main = Resource {
+            device: Name::from_text(alloc, "DEV")?,
+            name: Name::from_text(alloc, "MAIN")?,
+            instances: Items::new(alloc),
+        };
+        let mut resources = Items::new(alloc);
+        resources.push(main)?;
+        let plan = Plan {
+            resources,
+            links: Items::new(alloc),
+            holds_all: true,
+        };
+        Ok(Deploy { plan })
+    }
+
+    pub fn plan(&self) -> &Plan
+        ensures value { result.now ≡ self.now }
+        ensures limits { IsWithinLimits self.now }
+    {
+        &self.plan
+    }
+}
+
+/// A value for the slot of an input variable.
+#[derive(Drop)]
+pub struct Setting {
+    pub variable: Name,
+    pub value: Value,
+}
+
+/// An event from outside, at an event input of an instance of the application. It sets slots first.
+#[derive(Drop)]
+pub struct Stimulus {
+    pub tick: u64,
+    pub instance: Name,
+    pub event: Name,
+    pub settings: Items<Setting>,
+}

@@ -1,0 +1,96 @@
+//! A `Vec` that contracts see as the list of its elements.
+
+ghost use Rattle.std.specs.Prelude.{◌≡◌, [], ◌∷◌, ◌++◌, ◌<◌, length, slice_get, ◌↔◌, IsTrue, IfOk, OnOk, OnErr, OnSome};
+ghost use Rattle.std.specs.Option.{option_copied};
+
+use std::alloc::{AllocError, Global};
+use std::marker::Model;
+
+/// A list on the heap. Contracts see its elements alone: no pointer and no room.
+#[derive(Drop)]
+pub struct Items<T> {
+    all: Vec<T>,
+}
+
+impl<T> Model for Items<T> {
+    ghost use Rattle.std.specs.Prelude.{List};
+    ghost use Rattle.std.specs.Coded.{coded_list};
+
+    ghost Value = { List T };
+
+    ghost coded = { coded_list T.code };
+
+    ghost view = { λ l. l.all.items };
+}
+
+impl<T> Items<T> {
+    /// The empty list, which takes no memory.
+    pub fn new(alloc: Global) -> Items<T>
+        ensures { result ≡ [] }
+    {
+        Items {
+            all: Vec::new(alloc),
+        }
+    }
+
+    /// The elements of a `Vec`, which are not copied.
+    pub fn from_vec(all: Vec<T>) -> Items<T>
+        ensures { result ≡ all.items }
+    {
+        Items { all }
+    }
+
+    /// The elements in a `Vec`, which are not copied.
+    pub fn into_vec(self) -> Vec<T>
+        ensures { result.items ≡ self }
+    {
+        let Items { all } = self;
+        all
+    }
+
+    pub fn as_slice(&self) -> &[T]
+        ensures { result.now ≡ self.now }
+    {
+        self.all.as_slice()
+    }
+
+    pub fn len(&self) -> usize
+        ensures { result ≡ length self.now }
+    {
+        self.all.len()
+    }
+
+    pub fn is_empty(&self) -> bool
+        ensures { IsTrue result ↔ (self.now ≡ []) }
+    {
+        self.all.is_empty()
+    }
+
+    pub fn get(&self, index: usize) -> Option<&T>
+        ensures value { option_copied result ≡ slice_get self.now index }
+        ensures within { OnSome result (index < length self.now) }
+    {
+        self.all.get(index)
+    }
+}
+
+impl<T: Drop> Items<T> {
+    /// Adds an element at the end.
+    pub fn push(&mut self, item: T) -> Result<(), AllocError>
+        ensures ok { OnOk result (self.new ≡ self.old ++ item ∷ []) }
+        ensures err { OnErr result (self.new ≡ self.old) }
+    {
+        self.all.push(item)?;
+        Ok(())
+    }
+}
+
+impl<T: Copy> Items<T> {
+    /// A copy of the elements of a slice.
+    pub fn from_slice(alloc: Global, items: &[T]) -> Result<Items<T>, AllocError>
+        ensures { IfOk result (λ l. l ≡ items.now) }
+    {
+        let all = Vec::from_slice(alloc, items)?;
+        Ok(Items { all })
+    }
+}

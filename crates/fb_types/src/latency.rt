@@ -1,0 +1,60 @@
+//! The latency of a link, which depends on the tick of sending.
+
+ghost use Rattle.std.specs.Prelude.{◌≡◌, ◌≤◌, ◌^◌, [], ◌∷◌, IfOk};
+ghost use Rattle.fb_types.specs.Latencies.{IsLatencyTable, constant_table};
+
+use crate::items::Items;
+use std::alloc::{AllocError, Global};
+use std::marker::Model;
+
+/// From this tick of sending on, a message takes so many ticks.
+#[derive(Clone, Copy, Debug, PartialEq, Eq)]
+pub struct Entry {
+    pub from: u64,
+    pub latency: u64,
+}
+
+/// A table of latencies by the tick of sending: 1 to 64 entries, the first at tick 0, in strictly rising
+/// ticks of at most 10^12, each latency from 1 to 1,000,000 ticks. Contracts see the list of its entries.
+#[derive(Drop)]
+pub struct Latency {
+    entries: Items<Entry>,
+}
+
+impl Model for Latency {
+    ghost use Rattle.std.specs.Prelude.{List};
+    ghost use Rattle.fb_types.specs.declared.latency.Entry.{Entry};
+    ghost use Rattle.fb_types.specs.Latencies.{IsLatencyTable};
+
+    ghost Value = { List Entry };
+
+    ghost view = { λ l. l.entries };
+
+    ghost invariant = { λ l. IsLatencyTable l.entries };
+}
+
+impl Latency {
+    pub fn new(entries: Items<Entry>) -> Latency
+        requires { IsLatencyTable entries }
+        ensures { result ≡ entries }
+    {
+        Latency { entries }
+    }
+
+    /// The same latency at every tick.
+    pub fn constant(alloc: Global, latency: u64) -> Result<Latency, AllocError>
+        requires least { 1 ≤ latency }
+        requires most { latency ≤ 10 ^ 6 }
+        ensures { IfOk result (λ l. l ≡ constant_table latency) }
+    {
+        let entries = Items::from_slice(alloc, &[Entry { from: 0, latency }])?;
+        Ok(Latency { entries })
+    }
+
+    pub fn entries(&self) -> &[Entry]
+        ensures value { result.now ≡ self.now }
+        ensures table { IsLatencyTable self.now }
+    {
+        self.entries.as_slice()
+    }
+}

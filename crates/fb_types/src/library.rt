@@ -1,0 +1,135 @@
+//! Block types and the application, as they are read (IEC 61499-1, 5 to 7).
+
+use crate::items::Items;
+use crate::name::Name;
+use crate::text::{Body, Expr};
+use crate::value::{Ty, Value};
+
+/// An event input or output, with the variables that go WITH it.
+#[derive(Drop)]
+pub struct EventPort {
+    pub name: Name,
+    pub with: Items<Name>,
+}
+
+#[derive(Drop)]
+pub struct Variable {
+    pub name: Name,
+    pub ty: Ty,
+    pub initial: Option<Value>,
+}
+
+/// The interface of a type, each list in the order of the declaration.
+#[derive(Drop)]
+pub struct Ports {
+    pub event_inputs: Items<EventPort>,
+    pub event_outputs: Items<EventPort>,
+    pub inputs: Items<Variable>,
+    pub outputs: Items<Variable>,
+}
+
+/// An algorithm, an output event, or an algorithm followed by an output event.
+#[derive(Drop)]
+pub struct Action {
+    pub algorithm: Option<Name>,
+    pub output: Option<Name>,
+}
+
+/// A state of an execution control chart.
+#[derive(Drop)]
+pub struct State {
+    pub name: Name,
+    pub actions: Items<Action>,
+}
+
+/// An event input, a guard, or an event input followed by a guard. With neither it is `1`.
+#[derive(Drop)]
+pub struct Condition {
+    pub event: Option<Name>,
+    pub guard: Option<Expr>,
+}
+
+#[derive(Drop)]
+pub struct Transition {
+    pub from: Name,
+    pub to: Name,
+    pub condition: Condition,
+}
+
+#[derive(Drop)]
+pub struct Algorithm {
+    pub name: Name,
+    pub body: Body,
+}
+
+/// A basic block type. The first state is the initial one.
+#[derive(Drop)]
+pub struct BasicType {
+    pub name: Name,
+    pub ports: Ports,
+    pub internals: Items<Variable>,
+    pub states: Items<State>,
+    pub transitions: Items<Transition>,
+    pub algorithms: Items<Algorithm>,
+}
+
+/// A port of a component, or with no component one of the composite that the network belongs to.
+#[derive(Drop)]
+pub struct PortName {
+    pub component: Option<Name>,
+    pub port: Name,
+}
+
+#[derive(Drop)]
+pub struct Connection {
+    pub from: PortName,
+    pub to: PortName,
+}
+
+#[derive(Drop)]
+pub struct Parameter {
+    pub name: Name,
+    pub value: Value,
+}
+
+#[derive(Drop)]
+pub struct Instance {
+    pub name: Name,
+    pub block_type: Name,
+    pub parameters: Items<Parameter>,
+}
+
+/// Instances and their connections, in the order of the text.
+#[derive(Drop)]
+pub struct Network {
+    pub instances: Items<Instance>,
+    pub event_connections: Items<Connection>,
+    pub data_connections: Items<Connection>,
+}
+
+#[derive(Drop)]
+pub struct CompositeType {
+    pub name: Name,
+    pub ports: Ports,
+    pub network: Network,
+}
+
+#[derive(Drop)]
+pub enum BlockType {
+    Basic(BasicType),
+    Composite(CompositeType),
+}
+
+/// The application: a network whose instances are mapped to resources.
+#[derive(Drop)]
+pub struct Application {
+    pub name: Name,
+    pub network: Network,
+}
+
+/// What a declaration text declares.
+#[derive(Drop)]
+pub struct Library {
+    pub blocks: Items<BlockType>,
+    pub application: Application,
+}

@@ -1,0 +1,49 @@
+//! A variable as an expression or a statement names it.
+
+ghost use Rattle.std.specs.Prelude.{◌≡◌};
+
+use crate::name::Name;
+use std::marker::Model;
+
+/// The name of a variable, with the place at which the variable is expected in the list of its block's
+/// variables. Contracts see the name alone: who uses the place compares the name that stands there, so a
+/// place that is wrong costs time and nothing else.
+#[derive(Drop)]
+pub struct Reference {
+    name: Name,
+    place: usize,
+}
+
+impl Model for Reference {
+    ghost use Rattle.std.specs.Prelude.{List, ℕ};
+
+    ghost Value = { List ℕ };
+
+    ghost view = { λ r. r.name };
+}
+
+impl Reference {
+    pub fn new(name: Name) -> Reference
+        ensures { result ≡ name }
+    {
+        Reference { name, place: 0 }
+    }
+
+    pub fn name(&self) -> &Name
+        ensures { result.now ≡ self.now }
+    {
+        &self.name
+    }
+
+    /// Where the variable is expected.
+    pub fn place(&self) -> usize {
+        self.place
+    }
+
+    /// Says where the variable is to be expected from now on.
+    pub fn expect_at(&mut self, place: usize)
+        ensures { self.new ≡ self.old }
+    {
+        self.place = place;
+    }
+}
