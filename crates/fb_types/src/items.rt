@@ -48,6 +48,11 @@ impl<T> Items<T> {
         all
     }
 
+    /// The allocator of the list.
+    pub fn allocator(&self) -> Global {
+        *self.all.allocator()
+    }
+
     pub fn as_slice(&self) -> &[T]
         ensures { result.now ≡ self.now }
     {

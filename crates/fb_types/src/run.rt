@@ -1,0 +1,95 @@
+//! What a simulation gives: lines, messages, emissions, and how it ends. Instances, events and variables
+//! are numbers here, which stand for names only when a trace is written.
+
+use crate::items::Items;
+use crate::key::Key;
+use crate::value::{Reason, Value};
+
+/// A line of the trace: an event that was taken at an input of an instance, or emitted at an output.
+#[derive(Drop)]
+pub struct Line {
+    /// The key of the event whose taking gave the line.
+    pub key: Key,
+    /// Set where the event was taken, and not where it was emitted.
+    pub taken: bool,
+    /// The number of the instance in the whole application.
+    pub instance: u32,
+    /// The place of the event among the event inputs, or outputs, of the instance's type.
+    pub event: u32,
+    /// The values of the variables WITH the event, in the order in which the variables are declared.
+    pub values: Items<Value>,
+}
+
+/// An event input of an instance, or an event output of a composite that is reached from inside.
+#[derive(Clone, Copy, Debug, PartialEq, Eq)]
+pub struct Target {
+    pub instance: u32,
+    pub event: u32,
+    /// Set where the event is an output, which an event reaches from inside.
+    pub is_output: bool,
+}
+
+/// A value that was emitted, with the output variable that it is of.
+#[derive(Clone, Copy, Debug, PartialEq, Eq)]
+pub struct Carried {
+    pub instance: u32,
+    /// The place of the variable among the outputs of the instance's type.
+    pub variable: u32,
+    pub value: Value,
+}
+
+/// An event on its way over a link.
+#[derive(Drop)]
+pub struct Message {
+    pub link: u32,
+    /// Its number on that link, from 0.
+    pub number: u128,
+    /// The tick of its arrival.
+    pub arrives: u64,
+    pub target: Target,
+    pub values: Items<Carried>,
+}
+
+/// An output event that was emitted, by its place among the event outputs, with the values of its WITH
+/// variables in the order in which these are declared.
+#[derive(Drop)]
+pub struct Emission {
+    pub event: u32,
+    pub values: Items<Value>,
+}
+
+/// The emissions of a reaction, in order.
+pub type Emits = Items<Emission>;
+
+/// What a reaction asks of the timer of its event block.
+#[derive(Clone, Copy, Debug, PartialEq, Eq)]
+pub enum TimerAsk {
+    /// The timer stays as it is.
+    Keep,
+    /// The timer is taken out, if there is one.
+    Clear,
+    /// The timer goes off at this tick.
+    At(u64),
+}
+
+/// Why a reaction ends early.
+#[derive(Clone, Copy, Debug, PartialEq, Eq)]
+pub enum Halt {
+    Stop(Reason),
+    Memory,
+}
+
+/// Where and why a simulation stops.
+#[derive(Clone, Copy, Debug, PartialEq, Eq)]
+pub struct StopMark {
+    pub tick: u64,
+    pub resource: u32,
+    pub reason: Reason,
+}
+
+/// The form of a trace: with `Two`, each line but the last begins with the class and the parts of the key.
+#[derive(Clone, Copy, Debug, PartialEq, Eq)]
+pub enum Form {
+    One,
+    Two,
+}
