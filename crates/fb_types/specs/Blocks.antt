@@ -1,5 +1,5 @@
 -- Block types and their ports (IEC 61499-1, 5.1 and Annex A; the ports of event blocks are this project's profile).
-use Rattle.std.specs.Prelude.{List, [], ◌∷◌, ◌++◌, map, Bool, ◌&&◌, if◌then◌else◌, Option, Some, None, codes}
+use Rattle.std.specs.Prelude.{List, [], ◌∷◌, ◌++◌, map, Bool, ◌&&◌, if◌then◌else◌, Option, Some, None, option_map, codes}
 use Rattle.std.specs.List.{filter, list_any}
 use Rattle.fb_types.specs.Names.{Name, same_name}
 use Rattle.fb_types.specs.Values.{Values, Types, zero_of}
@@ -80,12 +80,21 @@ ports_of_event_block CountUp =
     (variable (codes "PV") Uint ∷ []) (variable (codes "Q") Boolean ∷ variable (codes "CV") Uint ∷ [])
 
 -- the type names of the event blocks
-abbrev pub event_blocks : List (Name × EventKind)
-event_blocks =
+abbrev pub routing_blocks : List (Name × EventKind)
+routing_blocks =
     (codes "E_RESTART", Restart) ∷ (codes "E_SPLIT", Split) ∷ (codes "E_MERGE", Merge) ∷ (codes "E_REND", Rendezvous)
-    ∷ (codes "E_PERMIT", Permit) ∷ (codes "E_SELECT", Select) ∷ (codes "E_SWITCH", Switch) ∷ (codes "E_DELAY", Delay)
-    ∷ (codes "E_CYCLE", Cycle) ∷ (codes "E_SR", SetReset) ∷ (codes "E_D_FF", DataLatch) ∷ (codes "E_R_TRIG", RisingEdge)
-    ∷ (codes "E_F_TRIG", FallingEdge) ∷ (codes "E_CTU", CountUp) ∷ []
+    ∷ (codes "E_PERMIT", Permit) ∷ (codes "E_SELECT", Select) ∷ (codes "E_SWITCH", Switch) ∷ []
+
+abbrev pub remembering_blocks : List (Name × EventKind)
+remembering_blocks =
+    (codes "E_DELAY", Delay) ∷ (codes "E_CYCLE", Cycle) ∷ (codes "E_SR", SetReset) ∷ (codes "E_D_FF", DataLatch)
+    ∷ (codes "E_R_TRIG", RisingEdge) ∷ (codes "E_F_TRIG", FallingEdge) ∷ (codes "E_CTU", CountUp) ∷ []
+
+abbrev pub event_blocks : List (Name × EventKind)
+event_blocks = routing_blocks ++ remembering_blocks
+
+abbrev pub event_block_named : Name → Option EventKind
+event_block_named n = option_map (λ e. e.1) (named (λ e. e.0) n event_blocks)
 
 -- ---- Ports of a type
 

@@ -4,6 +4,7 @@
 pub mod boxed;
 pub mod deploy;
 pub mod event_kind;
+pub mod event_ports;
 pub mod items;
 pub mod key;
 pub mod latency;
