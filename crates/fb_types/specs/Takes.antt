@@ -54,11 +54,14 @@ post_all sys k (o ∷ os) x = post_all sys k os (post sys k o x)
 abbrev pub is_timer_of : (resource instance : ℕ) → Key → Bool
 is_timer_of r i k = k.resource == r && k.class == 1 && k.a == i
 
--- The timer of an instance is kept, taken out, or set.
+-- The timer of an instance is kept, taken out, or set anew, so there is one at most.
 abbrev pub timer_change : System → (resource : ℕ) → Path → TimerAsk → Change Event
 timer_change sys r p Keep j = None
 timer_change sys r p Clear j = if is_timer_of r (sys.number p) j then Some None else None
-timer_change sys r p (At t) j = if same_key j (timer_key t r (sys.number p)) then Some (Some (Expired p)) else None
+timer_change sys r p (At t) j =
+    if same_key j (timer_key t r (sys.number p)) then Some (Some (Expired p))
+    else if is_timer_of r (sys.number p) j then Some None
+    else None
 
 -- ---- The taking
 
