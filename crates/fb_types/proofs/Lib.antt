@@ -1,0 +1,4 @@
+pub mod KeyLaws
+pub mod PathLaws
+pub mod ReactionLaws
+pub mod TakeLaws

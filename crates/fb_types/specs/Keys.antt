@@ -49,13 +49,13 @@ or_else None other = other
 -- what a list of pairs puts under a key: the last one counts
 abbrev pub found : {X : Type 0} → Key → List (Key × X) → Option X
 found k [] = None
-found k (e ∷ es) = or_else (found k es) (if same_key k e.0 then Some e.1 else None)
+found k (e ∷ es) = or_else (found k es) (if same_key e.0 k then Some e.1 else None)
 
 abbrev pub with_all : {X : Type 0} → List (Key × X) → Map X → Map X
 with_all es m j = or_else (found j es) (m j)
 
 abbrev pub without : {X : Type 0} → Key → Map X → Map X
-without k m j = if same_key j k then None else m j
+without k m j = if same_key k j then None else m j
 
 -- A change of a map: at each key nothing, or what stands there from now on.
 abbrev pub Change : Type 0 → Type 0

@@ -59,7 +59,7 @@ abbrev pub timer_change : System → (resource : ℕ) → Path → TimerAsk → 
 timer_change sys r p Keep j = None
 timer_change sys r p Clear j = if is_timer_of r (sys.number p) j then Some None else None
 timer_change sys r p (At t) j =
-    if same_key j (timer_key t r (sys.number p)) then Some (Some (Expired p))
+    if same_key (timer_key t r (sys.number p)) j then Some (Some (Expired p))
     else if is_timer_of r (sys.number p) j then Some None
     else None
 

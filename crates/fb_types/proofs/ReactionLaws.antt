@@ -1,0 +1,96 @@
+-- What emissions add to the outcome of a reaction, and what they leave.
+use Rattle.std.proofs.Common.{◌≡◌, ℕ, Bool, true, false, cond, eqb, List, [], ◌∷◌, ◌++◌, map, refl, sym, ap, ◌∙◌, append_assoc, Option, Some, None}
+use Rattle.std.specs.Prelude.{flat_map, All}
+use Rattle.std.proofs.lemmas.List.{append-nil}
+use Rattle.std.proofs.lemmas.Bool.{eq-eqb}
+use Rattle.fb_types.specs.Names.{Name, Path, Port, same_path}
+use Rattle.fb_types.specs.Blocks.{Emission}
+use Rattle.fb_types.specs.Systems.{System}
+use Rattle.fb_types.specs.States.{Block, Line}
+use Rattle.fb_types.specs.Reactions.{World, Outcome, Out, Local, emitted, emitted_all, spread, carried_from, with_block}
+use Rattle.fb_types.specs.declared.key.Key.{Key}
+use Rattle.fb_types.specs.declared.value.Value.{Value}
+use Rattle.fb_types.proofs.PathLaws.{same_path_is}
+
+-- ---- A world in which no more than outputs are published
+
+pub record OnlyPublishes (v w : World) : Type 0 where
+  pub memory : (q : Path) → (w.blocks q).memory ≡ (v.blocks q).memory
+  pub variables : (q : Path) → (w.blocks q).variables ≡ (v.blocks q).variables
+  pub slots : (q : Path) → (w.blocks q).slots ≡ (v.blocks q).slots
+  pub held : w.held ≡ v.held
+
+pub publishes_nothing : (w : World) → OnlyPublishes w w
+publishes_nothing w = record { memory = λ q. refl; variables = λ q. refl; slots = λ q. refl; held = refl }
+
+pub publishes_more : (u v w : World) → OnlyPublishes u v → OnlyPublishes v w → OnlyPublishes u w
+publishes_more u v w a b = record {
+  memory = λ q. b.memory q ∙ a.memory q;
+  variables = λ q. b.variables q ∙ a.variables q;
+  slots = λ q. b.slots q ∙ a.slots q;
+  held = b.held ∙ a.held;
+}
+
+-- a part of a block that the change at p keeps
+kept_at : {X : Type 0} (part : Block → X) (p : Path) (b : Block) (blocks : Path → Block) → part b ≡ part (blocks p)
+    → (q : Path) → part (cond (same_path q p) b (blocks q)) ≡ part (blocks q)
+kept_at part p b blocks same q = go (same_path q p) refl
+  where
+    go : (t : Bool) → same_path q p ≡ t → part (cond t b (blocks q)) ≡ part (blocks q)
+    go true e = same ∙ ap (λ (z : Path). part (blocks z)) (sym (same_path_is q p e))
+    go false e = refl
+
+emitted-publishes : (sys : System) (k : Key) (p : Path) (e : Emission) (o : Outcome) → OnlyPublishes o.world (emitted sys k p e o).world
+emitted-publishes sys k p e o = record {
+  memory = kept_at (λ b. b.memory) p _ o.world.blocks refl;
+  variables = kept_at (λ b. b.variables) p _ o.world.blocks refl;
+  slots = kept_at (λ b. b.slots) p _ o.world.blocks refl;
+  held = refl;
+}
+
+pub emitted_all-publishes : (sys : System) (k : Key) (p : Path) (es : List Emission) (o : Outcome) → OnlyPublishes o.world (emitted_all sys k p es o).world
+emitted_all-publishes sys k p [] o = publishes_nothing o.world
+emitted_all-publishes sys k p (e ∷ es) o =
+    publishes_more o.world (emitted sys k p e o).world (emitted_all sys k p es (emitted sys k p e o)).world
+    (emitted-publishes sys k p e o) (emitted_all-publishes sys k p es (emitted sys k p e o))
+
+-- ---- Lines and what goes out
+
+abbrev pub emission_line : Key → Path → Emission → Line
+emission_line k p e = record { key = k; taken = false; at = p; event = e.event; values = e.values }
+
+abbrev pub emission_outs : System → Key → Path → Emission → List Out
+emission_outs sys k p e = spread sys k.resource (carried_from p e.values) (sys.targets (record { at = p; name = e.event }))
+
+pub emitted_all-lines : (sys : System) (k : Key) (p : Path) (es : List Emission) (o : Outcome)
+    → (emitted_all sys k p es o).lines ≡ o.lines ++ map (emission_line k p) es
+emitted_all-lines sys k p [] o = sym (append-nil o.lines)
+emitted_all-lines sys k p (e ∷ es) o =
+    emitted_all-lines sys k p es (emitted sys k p e o) ∙ append_assoc o.lines (emission_line k p e ∷ []) (map (emission_line k p) es)
+
+pub emitted_all-outs : (sys : System) (k : Key) (p : Path) (es : List Emission) (o : Outcome)
+    → (emitted_all sys k p es o).outs ≡ o.outs ++ flat_map (emission_outs sys k p) es
+emitted_all-outs sys k p [] o = sym (append-nil o.outs)
+emitted_all-outs sys k p (e ∷ es) o =
+    emitted_all-outs sys k p es (emitted sys k p e o) ∙ append_assoc o.outs (emission_outs sys k p e) (flat_map (emission_outs sys k p) es)
+
+pub emitted_all-timer : (sys : System) (k : Key) (p : Path) (es : List Emission) (o : Outcome) → (emitted_all sys k p es o).timer ≡ o.timer
+emitted_all-timer sys k p [] o = refl
+emitted_all-timer sys k p (e ∷ es) o = emitted_all-timer sys k p es (emitted sys k p e o)
+
+pub emitted_all-left : (sys : System) (k : Key) (p : Path) (es : List Emission) (o : Outcome) → (emitted_all sys k p es o).left ≡ o.left
+emitted_all-left sys k p [] o = refl
+emitted_all-left sys k p (e ∷ es) o = emitted_all-left sys k p es (emitted sys k p e o)
+
+pub emitted_all-stop : (sys : System) (k : Key) (p : Path) (es : List Emission) (o : Outcome) → (emitted_all sys k p es o).stop ≡ o.stop
+emitted_all-stop sys k p [] o = refl
+emitted_all-stop sys k p (e ∷ es) o = emitted_all-stop sys k p es (emitted sys k p e o)
+
+-- ---- Targets in the same resource
+
+pub spread-local : (sys : System) (r : ℕ) (carried : List (Port × Value)) (ps : List Port) → ((q : Port) → sys.resource q.at ≡ r)
+    → spread sys r carried ps ≡ map Local ps
+spread-local sys r carried [] here = refl
+spread-local sys r carried (q ∷ qs) here =
+    let e : eqb (sys.resource q.at) r ≡ true = eq-eqb (sys.resource q.at) r (here q) in
+    rw (e, spread-local sys r carried qs here) refl
