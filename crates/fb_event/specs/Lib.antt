@@ -1,0 +1,3 @@
+pub mod State
+pub mod Reactions
+pub mod Block

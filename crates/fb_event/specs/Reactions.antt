@@ -1,0 +1,42 @@
+-- Reactions in the terms of the program's calls, where events are places in the lists of the ports (this project's profile, in the manner of IEC 61499-1, Annex A).
+use Rattle.std.specs.Prelude.{ℕ, List, [], ◌∷◌, map, length, ◌≡◌, ◌<◌, IsTrue}
+use Rattle.fb_types.specs.Values.{fits}
+use Rattle.fb_types.specs.Blocks.{ports_of_event_block, variable_names, outputs_with, Emission}
+use Rattle.fb_types.specs.EventBlocks.{Reaction, reaction, expiry, output_of}
+use Rattle.fb_types.specs.Numbers.{event_at, by_place, emission_of}
+use Rattle.fb_types.specs.Reactions.{emissions}
+use Rattle.fb_types.specs.declared.event_kind.EventKind.{EventKind}
+use Rattle.fb_types.specs.declared.library.Ports.{Ports}
+use Rattle.fb_types.specs.declared.library.Variable.{Variable}
+use Rattle.fb_types.specs.declared.run.Emission as run
+use Rattle.fb_types.specs.declared.value.Value.{Value}
+use Rattle.fb_event.specs.State.{State}
+
+-- The values fit the types of the variables at their places.
+abbrev pub FitTheirTypes : List Variable → List Value → Type 0
+FitTheirTypes (x ∷ xs) (v ∷ vs) = IsTrue (fits x.ty v) × FitTheirTypes xs vs
+FitTheirTypes _ _ = Unit {0}
+
+-- the reaction to the event input at a place, with the values of all data inputs in the order of the declaration
+abbrev pub reaction_to : State → (event tick : ℕ) → List Value → Reaction
+reaction_to s event tick inputs =
+    let p = ports_of_event_block s.kind in
+    reaction s.kind s.memory (event_at p.event_inputs event) tick (by_place (variable_names p.inputs) inputs)
+
+-- the reaction to the timer
+abbrev pub expiry_of : State → (tick : ℕ) → Reaction
+expiry_of s tick = expiry s.kind s.memory tick
+
+-- what a reaction of a block of this kind emits
+abbrev pub emissions_of : EventKind → Reaction → List Emission
+emissions_of k r = emissions (ports_of_event_block k) (output_of r.memory) r.emits
+
+-- what emissions by number stand for
+abbrev pub meanings : EventKind → List run.Emission → List Emission
+meanings k es = map (emission_of (ports_of_event_block k)) es
+
+-- The emission is one of an event output, with as many values as there are variables WITH it.
+abbrev pub IsWellFormed : EventKind → run.Emission → Type 0
+IsWellFormed k e =
+    let p = ports_of_event_block k in
+    (e.event < length p.event_outputs) × (length e.values ≡ length (outputs_with p (event_at p.event_outputs e.event)))

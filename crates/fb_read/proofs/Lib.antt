@@ -1,0 +1,10 @@
+pub mod Skips
+pub mod NumberLaws
+pub mod FrontLaws
+pub mod TokenLaws
+pub mod Turns
+pub mod Steps
+pub mod Lists
+pub mod NetworkSound
+pub mod NetworkComplete
+pub mod WholeLaws

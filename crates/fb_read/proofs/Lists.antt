@@ -1,0 +1,163 @@
+-- Lists of items, both ways.
+use Rattle.std.proofs.Common.{◌≡◌, ℕ, zero, suc, ◌<◌, ◌≤◌, Bool, true, false, cond, List, [], ◌∷◌, ◌++◌, length, Ok, Err, refl, sym, ap, subst, ◌∙◌, append_assoc, append-nil, inl, inr, arith}
+use Rattle.std.specs.Prelude.{◌&&◌}
+use Rattle.fb_read.specs.declared.token.Mark.{Mark}
+use Rattle.fb_read.specs.declared.token.Mark.TheVariants as mark
+use Rattle.fb_read.specs.Tokens.{Tokens}
+use Rattle.fb_read.specs.Parser.{Parser, Outcome, too_deep, and_then, sees, after, many, many_from, separated, separated_from}
+use Rattle.fb_read.specs.Grammar.{IsMark, AreMany, no_more, one_more, AreSeparated, last, and_next}
+use Rattle.fb_read.proofs.Steps.{both_ok, pair_is, eaten, done, sees-mark, after-mark, after-unseen, mark-shorter}
+
+-- what a parser reads is in the grammar
+abbrev pub IsSound : {A : Type 0} → Parser A → (A → Tokens → Tokens → Type 0) → Type 0
+IsSound {A = A} p R = (ts : Tokens) (x : A) (rest : Tokens) → p ts ≡ Ok (x, rest) → R x ts rest
+
+-- what the list that is read adds to the items that were found
+pub record Adds {A : Type 0} (R : List A → Tokens → Tokens → Type 0) (found read : List A) (ts rest : Tokens) : Type 0 where
+  pub more : List A
+  pub read_is : read ≡ found ++ more
+  pub derived : R more ts rest
+
+adds-nothing : {A : Type 0} (R : List A → Tokens → Tokens → Type 0) (found read : List A) (ts mid rest : Tokens) → done found mid ≡ done read rest → R [] ts mid → Adds R found read ts rest
+adds-nothing {A = A} R found read ts mid rest h r =
+    let p = pair_is (found, mid) (read, rest) h in
+    subst (λ (q : List A × Tokens). Adds R found q.0 ts q.1) p (record { more = []; read_is = sym (append-nil found); derived = r })
+
+-- nothing was found before
+pub adds-all : {A : Type 0} (R : List A → Tokens → Tokens → Type 0) (read : List A) (ts rest : Tokens) → Adds R [] read ts rest → R read ts rest
+adds-all {A = A} R read ts rest a = subst (λ (xs : List A). R xs ts rest) (sym a.read_is) a.derived
+
+many_from-sound : {A : Type 0} (p : Parser A) (R : A → Tokens → Tokens → Type 0) (end : Mark) (i : IsSound p R) (fuel : ℕ) (found : List A) (ts : Tokens) (read : List A) (rest : Tokens)
+    → many_from p end fuel found ts ≡ Ok (read, rest) → Adds (AreMany R end) found read ts rest
+unfolding many_from
+many_from-sound p R end i zero found ts read rest h = absurd cc
+many_from-sound p R end i (suc fuel) found ts read rest h =
+    elim (eaten end _ _ ts (read, rest) h) [
+      | inl w ↦ adds-nothing (AreMany R end) found read ts (after end ts) rest w.1 (no_more w.0)
+      | inr w ↦
+          let a = both_ok (p ts) _ (read, rest) w.1 in
+          let l = many_from-sound p R end i fuel (found ++ a.0 ∷ []) a.1 read rest a.3 in
+          record { more = a.0 ∷ l.more; read_is = l.read_is ∙ append_assoc found (a.0 ∷ []) l.more; derived = one_more (i ts a.0 a.1 a.2) l.derived }
+    ]
+
+pub many-sound : {A : Type 0} (p : Parser A) (R : A → Tokens → Tokens → Type 0) (end : Mark) (i : IsSound p R) → IsSound (many p end) (AreMany R end)
+unfolding many
+many-sound p R end i ts read rest h = adds-all (AreMany R end) read ts rest (many_from-sound p R end i (length ts) [] ts read rest h)
+
+separated_from-sound : {A : Type 0} (p : Parser A) (R : A → Tokens → Tokens → Type 0) (i : IsSound p R) (fuel : ℕ) (found : List A) (ts : Tokens) (read : List A) (rest : Tokens)
+    → separated_from p fuel found ts ≡ Ok (read, rest) → Adds (AreSeparated R) found read ts rest
+unfolding separated_from
+separated_from-sound p R i zero found ts read rest h = absurd cc
+separated_from-sound {A = A} p R i (suc fuel) found ts read rest h =
+    let a = both_ok (p ts) _ (read, rest) h in
+    elim (eaten mark.Comma _ _ a.1 (read, rest) a.3) [
+      | inl w ↦
+          let l = separated_from-sound p R i fuel (found ++ a.0 ∷ []) (after mark.Comma a.1) read rest w.1 in
+          record { more = a.0 ∷ l.more; read_is = l.read_is ∙ append_assoc found (a.0 ∷ []) l.more; derived = and_next (i ts a.0 a.1 a.2) w.0 l.derived }
+      | inr w ↦
+          let q = pair_is (found ++ a.0 ∷ [], a.1) (read, rest) w.1 in
+          record {
+            more = a.0 ∷ [];
+            read_is = sym (ap (λ (z : List A × Tokens). z.0) q);
+            derived = last (subst (λ (t : Tokens). R a.0 ts t) (ap (λ (z : List A × Tokens). z.1) q) (i ts a.0 a.1 a.2));
+          }
+    ]
+
+pub separated-sound : {A : Type 0} (p : Parser A) (R : A → Tokens → Tokens → Type 0) (i : IsSound p R) → IsSound (separated p) (AreSeparated R)
+unfolding separated
+separated-sound p R i ts read rest h = adds-all (AreSeparated R) read ts rest (separated_from-sound p R i (length ts) [] ts read rest h)
+
+-- read where the test holds, and refused for nesting where it does not
+abbrev pub picked : {A : Type 0} → Bool → A → Tokens → Outcome A
+picked b x rest = cond b (done x rest) (Err too_deep)
+
+pub bind-picked : {A B : Type 0} (b c : Bool) (x : A) (mid : Tokens) (f : A → Parser B) (y : B) (rest : Tokens) → f x mid ≡ picked c y rest → and_then (picked b x mid) f ≡ picked (b && c) y rest
+bind-picked true c x mid f y rest h = h
+bind-picked false c x mid f y rest h = refl
+
+abbrev pub all_fit : {A : Type 0} → (A → Bool) → List A → Bool
+all_fit fit [] = true
+all_fit fit (x ∷ xs) = fit x && all_fit fit xs
+
+-- an item that nests no statements and no expressions
+abbrev pub always : {A : Type 0} → A → Bool
+always x = true
+
+pub all-always : {A : Type 0} (xs : List A) → all_fit always xs ≡ true
+all-always [] = refl
+all-always (x ∷ xs) = all-always xs
+
+-- what the grammar derives before such tokens is read where it fits, and is refused for its nesting where it does not
+abbrev pub IsComplete : {A : Type 0} → Parser A → (A → Tokens → Tokens → Type 0) → (Tokens → Type 0) → (A → Bool) → Type 0
+IsComplete {A = A} p R Before fit = (x : A) (ts rest : Tokens) → R x ts rest → Before rest → p ts ≡ picked (fit x) x rest
+
+abbrev pub Anything : Tokens → Type 0
+Anything ts = Unit {0}
+
+-- an item takes a token
+abbrev pub IsShorter : {A : Type 0} → (A → Tokens → Tokens → Type 0) → Type 0
+IsShorter {A = A} R = (x : A) (ts rest : Tokens) → R x ts rest → length rest < length ts
+
+many-end : {A : Type 0} (p : Parser A) (end : Mark) (fuel : ℕ) (found : List A) (ts rest : Tokens) → IsMark end ts rest → many_from p end (suc fuel) found ts ≡ done found rest
+unfolding many_from
+many-end p end fuel found ts rest k = rw (sees-mark k, after-mark k) refl
+
+many-turn : {A : Type 0} (p : Parser A) (end : Mark) (fuel : ℕ) (found : List A) (x : A) (b c : Bool) (ts mid rest : Tokens) (y : List A) → sees end ts ≡ false → p ts ≡ picked b x mid
+    → many_from p end fuel (found ++ x ∷ []) mid ≡ picked c y rest → many_from p end (suc fuel) found ts ≡ picked (b && c) y rest
+unfolding many_from
+many-turn p end fuel found x b c ts mid rest y begins read go =
+    rw (begins, after-unseen end ts begins, read) (bind-picked b c x mid (λ z. many_from p end fuel (found ++ z ∷ [])) y rest go)
+
+module _ {A : Type 0} (p : Parser A) (R : A → Tokens → Tokens → Type 0) (fit : A → Bool) where
+  many_from-complete : (end : Mark) (i : IsComplete p R Anything fit) (short : IsShorter R) (starts : (x : A) (ts rest : Tokens) → R x ts rest → sees end ts ≡ false)
+      (fuel : ℕ) (found : List A) {xs : List A} {ts rest : Tokens} → AreMany R end xs ts rest → length ts ≤ fuel → many_from p end fuel found ts ≡ picked (all_fit fit xs) (found ++ xs) rest
+  many_from-complete end i short starts zero found (no_more k) long = absurd (omega (arith, mark-shorter k))
+  many_from-complete end i short starts (suc fuel) found {ts = ts} {rest = rest} (no_more k) long = rw (append-nil found) (many-end p end fuel found ts rest k)
+  many_from-complete end i short starts zero found {ts = ts} (one_more {x = x} {mid = mid} r l) long = absurd (omega (arith, short x ts mid r))
+  many_from-complete end i short starts (suc fuel) found {ts = ts} {rest = rest} (one_more {x = x} {xs = xs} {mid = mid} r l) long =
+      let read = many_from-complete end i short starts fuel (found ++ x ∷ []) l (omega (arith, short x ts mid r)) in
+      many-turn p end fuel found x (fit x) (all_fit fit xs) ts mid rest (found ++ x ∷ xs) (starts x ts mid r) (i x ts mid r tt)
+      (read ∙ ap (λ (ys : List A). picked (all_fit fit xs) ys rest) (append_assoc found (x ∷ []) xs))
+
+  pub many-complete : (end : Mark) (i : IsComplete p R Anything fit) (short : IsShorter R) (starts : (x : A) (ts rest : Tokens) → R x ts rest → sees end ts ≡ false)
+      → IsComplete (many p end) (AreMany R end) Anything (all_fit fit)
+  unfolding many
+  many-complete end i short starts xs ts rest l before = many_from-complete end i short starts (length ts) [] l (omega arith)
+
+separated-end : {A : Type 0} (p : Parser A) (fuel : ℕ) (found : List A) (x : A) (b : Bool) (ts rest : Tokens) → p ts ≡ picked b x rest → sees mark.Comma rest ≡ false
+    → separated_from p (suc fuel) found ts ≡ picked (b && true) (found ++ x ∷ []) rest
+unfolding separated_from
+separated-end p fuel found x b ts rest read ends =
+    rw read (bind-picked b true x rest _ (found ++ x ∷ []) rest (rw (ends, after-unseen mark.Comma rest ends) refl))
+
+separated-turn : {A : Type 0} (p : Parser A) (fuel : ℕ) (found : List A) (x : A) (b c : Bool) (ts before behind rest : Tokens) (y : List A) → p ts ≡ picked b x before → IsMark mark.Comma before behind
+    → separated_from p fuel (found ++ x ∷ []) behind ≡ picked c y rest → separated_from p (suc fuel) found ts ≡ picked (b && c) y rest
+unfolding separated_from
+separated-turn p fuel found x b c ts before behind rest y read k go =
+    rw read (bind-picked b c x before _ y rest (rw (sees-mark k, after-mark k) go))
+
+module _ {A : Type 0} (p : Parser A) (R : A → Tokens → Tokens → Type 0) (Before : Tokens → Type 0) (fit : A → Bool) where
+  separated_from-complete : (i : IsComplete p R Before fit) (short : IsShorter R) (comma : (ts rest : Tokens) → IsMark mark.Comma ts rest → Before ts)
+      (fuel : ℕ) (found : List A) {xs : List A} {ts rest : Tokens} → AreSeparated R xs ts rest → Before rest → sees mark.Comma rest ≡ false → length ts ≤ fuel
+      → separated_from p fuel found ts ≡ picked (all_fit fit xs) (found ++ xs) rest
+  separated_from-complete i short comma zero found {ts = ts} {rest = rest} (last {x = x} r) before ends long = absurd (omega (arith, short x ts rest r))
+  separated_from-complete i short comma (suc fuel) found {ts = ts} {rest = rest} (last {x = x} r) before ends long =
+      separated-end p fuel found x (fit x) ts rest (i x ts rest r before) ends
+  separated_from-complete i short comma zero found {ts = ts} (and_next {x = x} {before = here} r k l) before ends long = absurd (omega (arith, short x ts here r))
+  separated_from-complete i short comma (suc fuel) found {ts = ts} {rest = rest} (and_next {x = x} {xs = xs} {before = here} {behind = behind} r k l) before ends long =
+      let read = separated_from-complete i short comma fuel (found ++ x ∷ []) l before ends (omega (arith, short x ts here r, mark-shorter k)) in
+      separated-turn p fuel found x (fit x) (all_fit fit xs) ts here behind rest (found ++ x ∷ xs) (i x ts here r (comma here behind k)) k
+      (read ∙ ap (λ (ys : List A). picked (all_fit fit xs) ys rest) (append_assoc found (x ∷ []) xs))
+
+  pub separated-complete : (i : IsComplete p R Before fit) (short : IsShorter R) (comma : (ts rest : Tokens) → IsMark mark.Comma ts rest → Before ts)
+      → (xs : List A) (ts rest : Tokens) → AreSeparated R xs ts rest → Before rest → sees mark.Comma rest ≡ false → separated p ts ≡ picked (all_fit fit xs) xs rest
+  unfolding separated
+  separated-complete i short comma xs ts rest l before ends = separated_from-complete i short comma (length ts) [] l before ends (omega arith)
+
+pub many-shorter : {A : Type 0} (R : A → Tokens → Tokens → Type 0) (end : Mark) → IsShorter R → {xs : List A} {ts rest : Tokens} → AreMany R end xs ts rest → length rest < length ts
+many-shorter R end short (no_more k) = mark-shorter k
+many-shorter R end short {ts = ts} (one_more {x = x} {mid = mid} r l) = omega (arith, short x ts mid r, many-shorter R end short l)
+
+pub separated-shorter : {A : Type 0} (R : A → Tokens → Tokens → Type 0) → IsShorter R → {xs : List A} {ts rest : Tokens} → AreSeparated R xs ts rest → length rest < length ts
+separated-shorter R short {ts = ts} {rest = rest} (last {x = x} r) = short x ts rest r
+separated-shorter R short {ts = ts} (and_next {x = x} {before = before} r k l) = omega (arith, short x ts before r, mark-shorter k, separated-shorter R short l)

@@ -1,0 +1,180 @@
+-- A text has one list of tokens, or a first fault; what is read of its tokens is the one library that it declares.
+use Rattle.std.proofs.Common.{◌≡◌, ℕ, ◌≤◌, [], ◌∷◌, length, drop, Result, Ok, Err, Some, refl, sym, ap, subst, ◌∙◌}
+use Rattle.std.specs.Prelude.{IfOk, IfErr}
+use Rattle.fb_types.specs.declared.library.Library.{Library}
+use Rattle.fb_read.specs.declared.token.Token.{Token}
+use Rattle.fb_read.specs.declared.error.ReadError.{ReadError}
+use Rattle.fb_read.specs.declared.error.ReadError.TheVariants as error
+use Rattle.fb_read.specs.Blank.{Text, skip, start}
+use Rattle.fb_read.specs.Front.{TokenFault, bad_byte, Found, front}
+use Rattle.fb_read.specs.Tokens.{Tokens, behind_mark, AreTokens, no_more, then_token, IsFirstFault, open_comment, is_here, is_later}
+use Rattle.fb_read.specs.Parser.{Outcome, RuleFault, syntax, too_deep}
+use Rattle.fb_read.specs.Network.{library}
+use Rattle.fb_read.specs.NetworkGrammar.{IsLibrary}
+use Rattle.fb_read.specs.Whole.{most_bytes, IsLibraryText, HasTokenFault, HasTokens, RefusesWhere, IsMemory, IsGrammarFault, Parses, ended, DeclaresOne}
+use Rattle.fb_read.proofs.NetworkSound.{library-sound}
+use Rattle.fb_read.proofs.NetworkComplete.{library-complete}
+
+abbrev at_token : Token × ℕ → Found
+at_token p = Ok p
+
+same_token : (p q : Token × ℕ) → at_token p ≡ at_token q → p ≡ q
+same_token p q e = cc
+
+-- two readings of one text go on alike
+record Alike (t u : Token) (a b : Text) : Type 0 where
+  token_is : t ≡ u
+  rest_is : a ≡ b
+
+alike : (z h k a b : Text) (t u : Token) (m n : ℕ) → skip start z ≡ Some h → skip start z ≡ Some k → front h ≡ Ok (t, m) → front k ≡ Ok (u, n) → drop m h ≡ a → drop n k ≡ b → Alike t u a b
+alike z h k a b t u m n eh ek et eu da db =
+    let here : h ≡ k = cc in
+    let p : (t, m) ≡ (u, n) = same_token (t, m) (u, n) (sym et ∙ ap front here ∙ eu) in
+    let step : m ≡ n = ap (λ (q : Token × ℕ). q.1) p in
+    record { token_is = ap (λ (q : Token × ℕ). q.0) p; rest_is = sym da ∙ (rw (step, here) db) }
+
+no_front : (p : Token × ℕ) (f : TokenFault) (o : Found) → o ≡ Ok p → o ≡ Err f → ⊥
+no_front p f o e g = cc
+
+front_empty : front [] ≡ Err bad_byte
+unfolding front
+front_empty = refl
+
+-- a text that is at its end has no token
+end-not-token : (z here : Text) (t : Token) (n : ℕ) → skip start z ≡ Some [] → skip start z ≡ Some here → front here ≡ Ok (t, n) → ⊥
+end-not-token z here t n h k e = let none : here ≡ [] = cc in no_front (t, n) bad_byte (front []) (rw none at e) front_empty
+
+tokens-unique : {ts us : Tokens} {z : Text} → AreTokens ts z → AreTokens us z → ts ≡ us
+tokens-unique (no_more h) (no_more k) = refl
+tokens-unique {z = z} (no_more h) (then_token {t = t} {n = n} {here = here} k e d a) = absurd (end-not-token z here t n h k e)
+tokens-unique {z = z} (then_token {t = t} {n = n} {here = here} h e d a) (no_more k) = absurd (end-not-token z here t n k h e)
+tokens-unique {z = z} (then_token {t = t} {n = m} {ts = ts} {here = p} {rest = a} h e d r) (then_token {t = u} {n = n} {ts = us} {here = q} {rest = b} k f g s) =
+    let w = alike z p q a b t u m n h k e f d g in
+    let more : ts ≡ us = tokens-unique r (subst (λ (x : Text). AreTokens us x) (sym w.rest_is) s) in
+    rw (w.token_is, more) refl
+
+no-fault : {ts : Tokens} {z : Text} {f : TokenFault} → AreTokens ts z → IsFirstFault f z → ⊥
+no-fault (no_more h) (open_comment f k) = cc
+no-fault (no_more h) (is_here k g) = cc
+no-fault {z = z} (no_more h) (is_later {t = t} {n = n} {here = here} k e d l) = end-not-token z here t n h k e
+no-fault (then_token h e d a) (open_comment f k) = cc
+no-fault {z = z} {f = f} (then_token {t = t} {n = n} {here = p} h e d a) (is_here {b = b} {here = q} k g) =
+    let here : p ≡ b ∷ q = cc in no_front (t, n) f (front (b ∷ q)) (rw here at e) g
+no-fault {z = z} {f = f} (then_token {t = t} {n = m} {here = p} {rest = a} h e d r) (is_later {t = u} {n = n} {here = q} {rest = b} k g c l) =
+    let w = alike z p q a b t u m n h k e g d c in no-fault r (subst (λ (x : Text). IsFirstFault f x) (sym w.rest_is) l)
+
+same_fault : (f g : TokenFault) (o : Found) → o ≡ Err f → o ≡ Err g → f ≡ g
+same_fault f g o h k = cc
+
+fault-unique : {f g : TokenFault} {z : Text} → IsFirstFault f z → IsFirstFault g z → f ≡ g
+fault-unique (open_comment a h) (open_comment b k) = a ∙ sym b
+fault-unique (open_comment a h) (is_here k e) = absurd cc
+fault-unique (open_comment a h) (is_later k e d l) = absurd cc
+fault-unique (is_here h e) (open_comment b k) = absurd cc
+fault-unique {f = f} {g = g} (is_here {b = a} {here = p} h e) (is_here {b = b} {here = q} k d) =
+    let here : a ∷ p ≡ b ∷ q = cc in same_fault f g (front (b ∷ q)) (rw here at e) d
+fault-unique {f = f} (is_here {b = a} {here = p} h e) (is_later {t = t} {n = n} {here = q} k d r l) =
+    let here : q ≡ a ∷ p = cc in absurd (no_front (t, n) f (front (a ∷ p)) (rw here at d) e)
+fault-unique (is_later h e d l) (open_comment b k) = absurd cc
+fault-unique {g = g} (is_later {t = t} {n = n} {here = q} k d r l) (is_here {b = a} {here = p} h e) =
+    let here : q ≡ a ∷ p = cc in absurd (no_front (t, n) g (front (a ∷ p)) (rw here at d) e)
+fault-unique {g = g} {z = z} (is_later {t = t} {n = m} {here = p} {rest = a} h e d l) (is_later {t = u} {n = n} {here = q} {rest = b} k f c r) =
+    let w = alike z p q a b t u m n h k e f d c in fault-unique l (subst (λ (x : Text). IsFirstFault g x) (sym w.rest_is) r)
+
+-- ---- what is parsed of the tokens
+
+ended-ok : (o : Outcome Library) (x : Library) → ended o ≡ Ok x → o ≡ Ok (x, [])
+ended-ok (Ok (y, [])) x e = let same : y ≡ x = cc in rw same refl
+ended-ok (Ok (y, (t ∷ ts))) x e = absurd cc
+ended-ok (Err fault) x e = absurd cc
+
+parsed-sound : (ts : Tokens) (x : Library) → ended (library ts) ≡ Ok x → IsLibrary x ts []
+parsed-sound ts x h = library-sound ts x [] (ended-ok (library ts) x h)
+
+parsed-complete : (ts : Tokens) (x : Library) → IsLibrary x ts [] → ended (library ts) ≡ Ok x
+parsed-complete ts x l = ap ended (library-complete x ts [] l)
+
+abbrev answer : Library → Result Library RuleFault
+answer x = Ok x
+
+same_answer : (x y : Library) → answer x ≡ answer y → x ≡ y
+same_answer x y e = cc
+
+library-unique : (ts : Tokens) (x y : Library) → IsLibrary x ts [] → IsLibrary y ts [] → x ≡ y
+library-unique ts x y l m = same_answer x y (sym (parsed-complete ts x l) ∙ parsed-complete ts y m)
+
+pub declares-one : DeclaresOne
+declares-one text x y a b = library-unique a.tokens x y a.derived (subst (λ (ts : Tokens). IsLibrary y ts []) (sym (tokens-unique a.read b.read)) b.derived)
+
+-- ---- what a refusal says
+
+not_parsed : (ts : Tokens) (f : RuleFault) (x : Library) → ended (library ts) ≡ Err f → IsLibrary x ts [] → ⊥
+not_parsed ts f x h l = go (ended (library ts)) h (parsed-complete ts x l)
+  where
+    go : (o : Result Library RuleFault) → o ≡ Err f → o ≡ Ok x → ⊥
+    go o e g = cc
+
+abbrev Nothing : Text → Type 0
+Nothing text = (x : Library) → IsLibraryText text x → ⊥
+
+nothing-parsed : (text : Text) (ts : Tokens) (f : RuleFault) → AreTokens ts (behind_mark text) → ended (library ts) ≡ Err f → Nothing text
+nothing-parsed text ts f a h x l = not_parsed ts f x h (subst (λ (us : Tokens). IsLibrary x us []) (tokens-unique l.read a) l.derived)
+
+pub nothing-faulty : (text : Text) (f : TokenFault) → IsFirstFault f (behind_mark text) → Nothing text
+nothing-faulty text f h x l = no-fault l.read h
+
+-- ---- the answer, where the text has tokens
+
+module _ (text : Text) (ts : Tokens) (short : length text ≤ most_bytes) (a : AreTokens ts (behind_mark text)) where
+  pub is-declared : (r : Result Library ReadError) → Parses r (ended (library ts)) → IfOk r (λ x. IsLibraryText text x)
+  is-declared (Ok x) h = record { short = short; tokens = ts; read = a; derived = parsed-sound ts x h }
+  is-declared (Err e) h = tt
+
+  pub is-none : (r : Result Library ReadError) → Parses r (ended (library ts)) → IfErr r (λ e. ¬ IsMemory e → (x : Library) → IsLibraryText text x → ⊥)
+  is-none (Ok x) h = tt
+  is-none (Err error.Memory) h = λ n. absurd (n tt)
+  is-none (Err error.Byte) h = absurd h
+  is-none (Err error.Token) h = absurd h
+  is-none (Err (error.Syntax line)) h = λ n. nothing-parsed text ts syntax a h
+  is-none (Err error.TooLong) h = absurd h
+  is-none (Err error.Nesting) h = λ n. nothing-parsed text ts too_deep a h
+
+  pub is-parsed : (r : Result Library ReadError) → IfErr r (λ e. IsGrammarFault e → HasTokens text)
+  is-parsed (Ok x) = tt
+  is-parsed (Err e) = λ g. record { short = short; tokens = ts; read = a }
+
+  pub no-token-fault : (r : Result Library ReadError) (e : ReadError) (f : TokenFault) → (r ≡ Err e → ⊥) → RefusesWhere r e (HasTokenFault f text)
+  no-token-fault r e f other = record { only = λ h. absurd (other h); always = λ h. absurd (no-fault a h.first) }
+
+  pub not-byte : (r : Result Library ReadError) → Parses r (ended (library ts)) → r ≡ Err error.Byte → ⊥
+  not-byte (Ok x) h e = cc
+  not-byte (Err error.Memory) h e = cc
+  not-byte (Err error.Byte) h e = h
+  not-byte (Err error.Token) h e = cc
+  not-byte (Err (error.Syntax line)) h e = cc
+  not-byte (Err error.TooLong) h e = cc
+  not-byte (Err error.Nesting) h e = cc
+
+  pub not-token : (r : Result Library ReadError) → Parses r (ended (library ts)) → r ≡ Err error.Token → ⊥
+  not-token (Ok x) h e = cc
+  not-token (Err error.Memory) h e = cc
+  not-token (Err error.Byte) h e = cc
+  not-token (Err error.Token) h e = h
+  not-token (Err (error.Syntax line)) h e = cc
+  not-token (Err error.TooLong) h e = cc
+  not-token (Err error.Nesting) h e = cc
+
+  pub not-too-long : (r : Result Library ReadError) → Parses r (ended (library ts)) → r ≡ Err error.TooLong → ⊥
+  not-too-long (Ok x) h e = cc
+  not-too-long (Err error.Memory) h e = cc
+  not-too-long (Err error.Byte) h e = cc
+  not-too-long (Err error.Token) h e = cc
+  not-too-long (Err (error.Syntax line)) h e = cc
+  not-too-long (Err error.TooLong) h e = h
+  not-too-long (Err error.Nesting) h e = cc
+
+-- ---- the answer, where it has a fault
+
+-- another fault than the first one
+pub other-fault : (text : Text) (e : ReadError) (r : Result Library ReadError) (f g : TokenFault) → IsFirstFault f (behind_mark text) → (f ≡ g → ⊥) → (r ≡ Err e → ⊥) → RefusesWhere r e (HasTokenFault g text)
+other-fault text e r f g h apart other = record { only = λ k. absurd (other k); always = λ k. absurd (apart (fault-unique h k.first)) }

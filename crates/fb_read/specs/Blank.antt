@@ -1,0 +1,43 @@
+-- Blanks and comments, which stand between tokens.
+use Rattle.std.specs.Prelude.{ℕ, Bool, true, false, ◌&&◌, ◌||◌, if◌then◌else◌, ◌==◌, List, [], ◌∷◌, Option, Some, None, slice_index}
+use Rattle.fb_read.specs.declared.blank.Place.{Place}
+use Rattle.fb_read.specs.declared.blank.Place.TheVariants.{Between, Opening, Inside, Closing, Line}
+
+abbrev pub Text : Type 0
+Text = List ℕ
+
+-- the byte at a place, and 0 past the end
+abbrev pub at : Text → ℕ → ℕ
+at = slice_index
+
+abbrev pub start : Place
+start = Between
+
+abbrev pub is_blank : ℕ → Bool
+is_blank b = b == 32 || (b == 9 || (b == 13 || b == 10))
+
+-- where a byte leads to, by the byte after it; None where a token begins
+abbrev pub step : Place → ℕ → ℕ → Option Place
+step Between b next =
+    if is_blank b then Some Between else (if b == 40 && next == 42 then Some Opening else (if b == 47 && next == 47 then Some Line else None))
+step Opening b next = Some Inside
+step Inside b next = if b == 42 && next == 41 then Some Closing else Some Inside
+step Closing b next = Some Between
+step Line b next = if b == 10 then Some Between else Some Line
+
+-- a text may end here
+abbrev pub may_end : Place → Bool
+may_end Between = true
+may_end Opening = false
+may_end Inside = false
+may_end Closing = false
+may_end Line = true
+
+abbrev pub stepped : (Place → Option Text) → Text → Option Place → Option Text
+stepped go here None = Some here
+stepped go here (Some place) = go place
+
+-- the text from its next token on; None where a comment isn't closed
+unfoldable pub skip : Place → Text → Option Text
+skip place [] = if may_end place then Some [] else None
+skip place (b ∷ bs) = stepped (λ next. skip next bs) (b ∷ bs) (step place b (at bs 0))

@@ -1,0 +1,13 @@
+pub mod Limits
+pub mod Blank
+pub mod Words
+pub mod Numbers
+pub mod Durations
+pub mod Front
+pub mod Tokens
+pub mod Nodes
+pub mod Parser
+pub mod Network
+pub mod Grammar
+pub mod NetworkGrammar
+pub mod Whole

@@ -1,0 +1,118 @@
+-- The steps that every rule of the parser is made of.
+use Rattle.std.specs.Prelude.{◌≡◌, ℕ, zero, suc, ℤ, pos, Bool, false, true, if◌then◌else◌, List, [], ◌∷◌, ◌++◌, length, Result, Ok, Err}
+use denote.Enum.Bare.{sameb}
+use Rattle.fb_types.specs.Names.{Name}
+use Rattle.fb_read.specs.contracts.token.Mark.{the_type}
+use Rattle.fb_read.specs.declared.token.Mark.{Mark}
+use Rattle.fb_read.specs.declared.token.Mark.TheVariants as mark
+use Rattle.fb_read.specs.declared.token.Token.{Token}
+use Rattle.fb_read.specs.declared.token.Token.TheVariants as token
+use Rattle.fb_read.specs.declared.fault.ParseFault.{ParseFault}
+use Rattle.fb_read.specs.declared.fault.ParseFault.TheVariants as fault
+use Rattle.fb_read.specs.Tokens.{Tokens}
+
+-- the two marks are one
+unfoldable pub same_mark : Mark → Mark → Bool
+same_mark = sameb the_type
+
+abbrev pub is_mark : Mark → Token → Bool
+is_mark k (token.Mark other) = same_mark other k
+is_mark k _ = false
+
+abbrev pub sees : Mark → Tokens → Bool
+sees k [] = false
+sees k (t ∷ ts) = is_mark k t
+
+abbrev pub sees_name : Tokens → Bool
+sees_name (token.Name text ∷ ts) = true
+sees_name _ = false
+
+abbrev pub rest_of : Tokens → Tokens
+rest_of [] = []
+rest_of (t ∷ ts) = ts
+
+-- why a rule refuses
+pub data RuleFault : Type 0 where
+  syntax : RuleFault
+  too_deep : RuleFault
+
+abbrev pub Outcome : Type 0 → Type 0
+Outcome A = Result (A × Tokens) RuleFault
+
+abbrev pub Parser : Type 0 → Type 0
+Parser A = Tokens → Outcome A
+
+abbrev pub and_then : {A B : Type 0} → Outcome A → (A → Parser B) → Outcome B
+and_then (Ok p) f = f p.0 p.1
+and_then (Err e) f = Err e
+
+infixl 10 ◌>>=◌
+abbrev pub ◌>>=◌ : {A B : Type 0} → Parser A → (A → Parser B) → Parser B
+p >>= f = λ ts. and_then (p ts) f
+
+infixl 10 ◌>>◌
+abbrev pub ◌>>◌ : {A B : Type 0} → Parser A → Parser B → Parser B
+p >> q = p >>= (λ _. q)
+
+abbrev pub pure : {A : Type 0} → A → Parser A
+pure a = λ ts. Ok (a, ts)
+
+abbrev pub refuse : {A : Type 0} → Parser A
+refuse = λ ts. Err syntax
+
+unfoldable pub after : Mark → Tokens → Tokens
+after k ts = if sees k ts then rest_of ts else ts
+
+-- takes this mark, if it comes next
+abbrev pub eat : Mark → Parser Bool
+eat k = λ ts. Ok (sees k ts, after k ts)
+
+unfoldable pub expect : Mark → Parser (Unit {0})
+expect k = λ ts. if sees k ts then Ok (tt, rest_of ts) else Err syntax
+
+unfoldable pub name : Parser Name
+name [] = Err syntax
+name (token.Name text ∷ ts) = Ok (text, ts)
+name (_ ∷ ts) = Err syntax
+
+unfoldable pub whole : Parser ℕ
+whole [] = Err syntax
+whole (token.Whole n ∷ ts) = Ok (n, ts)
+whole (_ ∷ ts) = Err syntax
+
+-- a whole or a time literal
+unfoldable pub literal : Parser ℤ
+literal [] = Err syntax
+literal (token.Whole n ∷ ts) = Ok (pos n, ts)
+literal (token.Time ticks ∷ ts) = Ok (ticks, ts)
+literal (_ ∷ ts) = Err syntax
+
+-- the items up to a mark, and the mark; by the number of turns that are left and the items so far
+unfoldable pub many_from : {A : Type 0} → Parser A → Mark → ℕ → List A → Parser (List A)
+many_from item end zero found = refuse
+many_from item end (suc n) found = do
+  ended ← eat end
+  if ended then pure found else (do
+    x ← item
+    many_from item end n (found ++ x ∷ []))
+
+unfoldable pub many : {A : Type 0} → Parser A → Mark → Parser (List A)
+many item end = λ ts. many_from item end (length ts) [] ts
+
+-- one or more items with commas between them
+unfoldable pub separated_from : {A : Type 0} → Parser A → ℕ → List A → Parser (List A)
+separated_from item zero found = refuse
+separated_from item (suc n) found = do
+  x ← item
+  more ← eat mark.Comma
+  if more then separated_from item n (found ++ x ∷ []) else pure (found ++ x ∷ [])
+
+unfoldable pub separated : {A : Type 0} → Parser A → Parser (List A)
+separated item = λ ts. separated_from item (length ts) [] ts
+
+-- what a function that reads a rule ensures: the parser's outcome, unless memory fails
+abbrev pub Reads : {A : Type 0} → Outcome A → Result A ParseFault → Tokens → Type 0
+Reads outcome (Ok a) new = outcome ≡ Ok (a, new)
+Reads outcome (Err fault.Memory) new = Unit {0}
+Reads outcome (Err fault.Syntax) new = outcome ≡ Err syntax
+Reads outcome (Err fault.Nesting) new = outcome ≡ Err too_deep

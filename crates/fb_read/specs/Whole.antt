@@ -1,0 +1,74 @@
+-- The library that a whole text declares (this project's profile, in the manner of IEC 61499-1, Annex B).
+use Rattle.std.specs.Prelude.{◌≡◌, ◌≤◌, ◌⊎◌, ℕ, [], ◌∷◌, length, Result, Ok, Err}
+use Rattle.fb_types.specs.declared.library.Library.{Library}
+use Rattle.fb_read.specs.declared.error.ReadError.{ReadError}
+use Rattle.fb_read.specs.declared.error.ReadError.TheVariants as error
+use Rattle.fb_read.specs.Blank.{Text}
+use Rattle.fb_read.specs.Front.{TokenFault}
+use Rattle.fb_read.specs.Tokens.{Tokens, behind_mark, AreTokens, IsFirstFault}
+use Rattle.fb_read.specs.Parser.{Outcome, RuleFault, syntax, too_deep}
+use Rattle.fb_read.specs.NetworkGrammar.{IsLibrary}
+
+-- the greatest length of a text, in bytes
+abbrev pub most_bytes : ℕ
+most_bytes = 1048576
+
+-- This text declares this library: its tokens are derived by the grammar, with nothing left.
+pub record IsLibraryText (text : Text) (library : Library) : Type 0 where
+  pub short : length text ≤ most_bytes
+  pub tokens : Tokens
+  pub read : AreTokens tokens (behind_mark text)
+  pub derived : IsLibrary library tokens []
+
+-- nothing may be left
+abbrev pub ended : Outcome Library → Result Library RuleFault
+ended (Ok (x, [])) = Ok x
+ended (Ok (x, (t ∷ ts))) = Err syntax
+ended (Err fault) = Err fault
+
+abbrev pub IsMemory : ReadError → Type 0
+IsMemory error.Memory = Unit {0}
+IsMemory error.Byte = ⊥
+IsMemory error.Token = ⊥
+IsMemory (error.Syntax line) = ⊥
+IsMemory error.TooLong = ⊥
+IsMemory error.Nesting = ⊥
+
+-- the text is short, and a byte or a token is the first that is at fault
+pub record HasTokenFault (fault : TokenFault) (text : Text) : Type 0 where
+  pub short : length text ≤ most_bytes
+  pub first : IsFirstFault fault (behind_mark text)
+
+-- the text is short, and has tokens
+pub record HasTokens (text : Text) : Type 0 where
+  pub short : length text ≤ most_bytes
+  pub tokens : Tokens
+  pub read : AreTokens tokens (behind_mark text)
+
+-- A result is this refusal exactly where the fact holds, unless memory is wanting.
+pub record RefusesWhere (result : Result Library ReadError) (e : ReadError) (P : Type 0) : Type 0 where
+  pub only : result ≡ Err e → P
+  pub always : P → (result ≡ Err e) ⊎ (result ≡ Err error.Memory)
+
+-- the refusal is one of the grammar's
+abbrev pub IsGrammarFault : ReadError → Type 0
+IsGrammarFault error.Memory = ⊥
+IsGrammarFault error.Byte = ⊥
+IsGrammarFault error.Token = ⊥
+IsGrammarFault (error.Syntax line) = Unit {0}
+IsGrammarFault error.TooLong = ⊥
+IsGrammarFault error.Nesting = Unit {0}
+
+-- a function that reads all tokens answers this, unless memory is wanting
+abbrev pub Parses : Result Library ReadError → Result Library RuleFault → Type 0
+Parses (Ok x) outcome = outcome ≡ Ok x
+Parses (Err error.Memory) outcome = Unit {0}
+Parses (Err error.Byte) outcome = ⊥
+Parses (Err error.Token) outcome = ⊥
+Parses (Err (error.Syntax line)) outcome = outcome ≡ Err syntax
+Parses (Err error.TooLong) outcome = ⊥
+Parses (Err error.Nesting) outcome = outcome ≡ Err too_deep
+
+-- a text declares at most one library
+abbrev pub DeclaresOne : Type 0
+DeclaresOne = (text : Text) (x y : Library) → IsLibraryText text x → IsLibraryText text y → x ≡ y

@@ -1,0 +1,25 @@
+//! Why a declaration text is refused.
+
+use thiserror::Error;
+
+/// Why a declaration text is refused. `Memory` has no number.
+#[derive(Debug, Drop, Error)]
+pub enum ReadError {
+    #[error("out of memory")]
+    Memory,
+    /// E01: a byte that may stand in comments alone.
+    #[error("a byte that may stand in comments alone")]
+    Byte,
+    /// E02: a comment that is not closed, a faulty literal, or a character that begins no token.
+    #[error("a faulty token")]
+    Token,
+    /// E03: no rule of the grammar goes on with what stands on this line.
+    #[error("a syntax fault in line {line}")]
+    Syntax { line: u32 },
+    /// E04: more than 1,048,576 bytes.
+    #[error("the text is too long")]
+    TooLong,
+    /// E05: an expression or a statement nests more than 64 deep.
+    #[error("an expression or a statement nests too deep")]
+    Nesting,
+}

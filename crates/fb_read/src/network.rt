@@ -1,0 +1,165 @@
+//! Networks and the application.
+
+ghost use Rattle.std.specs.Prelude.{◌≡◌, [], IfOk};
+ghost use Rattle.fb_read.specs.Parser.{Reads};
+ghost use Rattle.fb_read.specs.Network as spec;
+
+use crate::cursor::Cursor;
+use crate::fault::ParseFault;
+use crate::rule::{Rule, many, separated};
+use crate::token::Mark;
+use fb_types::items::Items;
+use fb_types::library::{Application, Connection, Instance, Library, Network, Parameter, PortName};
+use fb_types::value::Value;
+use std::alloc::Global;
+
+impl Rule for PortName {
+    ghost parser = { spec.port };
+
+    #[tactic(auto, unfolding(crate::specs::Network::port))]
+    fn read(alloc: Global, cursor: &mut Cursor<'_>) -> Result<PortName, ParseFault> {
+        let first = cursor.name(alloc)?;
+        if cursor.eat(Mark::Dot) {
+            let port = cursor.name(alloc)?;
+            Ok(PortName {
+                component: Some(first),
+                port,
+            })
+        } else {
+            Ok(PortName {
+                component: None,
+                port: first,
+            })
+        }
+    }
+}
+
+impl Rule for Connection {
+    ghost parser = { spec.connection };
+
+    #[tactic(auto, unfolding(crate::specs::Network::connection))]
+    fn read(alloc: Global, cursor: &mut Cursor<'_>) -> Result<Connection, ParseFault> {
+        let from = PortName::read(alloc, cursor)?;
+        cursor.expect(Mark::To)?;
+        let to = PortName::read(alloc, cursor)?;
+        cursor.expect(Mark::Semicolon)?;
+        Ok(Connection { from, to })
+    }
+}
+
+/// A constant: a truth value, or a whole number.
+#[tactic(auto, unfolding(crate::specs::Network::constant))]
+pub fn constant(cursor: &mut Cursor<'_>) -> Result<Value, ParseFault>
+    ensures { Reads (spec.constant cursor.old) result cursor.new }
+{
+    if cursor.eat(Mark::True) {
+        Ok(Value::Bool(true))
+    } else if cursor.eat(Mark::False) {
+        Ok(Value::Bool(false))
+    } else if cursor.eat(Mark::Minus) {
+        Ok(Value::Whole(cursor.whole()?.negative()))
+    } else {
+        Ok(Value::Whole(cursor.literal()?))
+    }
+}
+
+impl Rule for Parameter {
+    ghost parser = { spec.parameter };
+
+    #[tactic(auto, unfolding(crate::specs::Network::parameter))]
+    fn read(alloc: Global, cursor: &mut Cursor<'_>) -> Result<Parameter, ParseFault> {
+        let name = cursor.name(alloc)?;
+        cursor.expect(Mark::Assign)?;
+        let value = constant(cursor)?;
+        Ok(Parameter { name, value })
+    }
+}
+
+#[tactic(auto, unfolding(crate::specs::Network::parameters))]
+fn parameters(alloc: Global, cursor: &mut Cursor<'_>) -> Result<Items<Parameter>, ParseFault>
+    ensures { Reads (spec.parameters cursor.old) result cursor.new }
+{
+    if cursor.eat(Mark::Open) {
+        let found = separated::<Parameter>(alloc, cursor)?;
+        cursor.expect(Mark::Close)?;
+        Ok(found)
+    } else {
+        Ok(Items::new(alloc))
+    }
+}
+
+impl Rule for Instance {
+    ghost parser = { spec.instance };
+
+    #[tactic(auto, unfolding(crate::specs::Network::instance))]
+    fn read(alloc: Global, cursor: &mut Cursor<'_>) -> Result<Instance, ParseFault> {
+        let name = cursor.name(alloc)?;
+        cursor.expect(Mark::Colon)?;
+        let block_type = cursor.name(alloc)?;
+        let parameters = parameters(alloc, cursor)?;
+        cursor.expect(Mark::Semicolon)?;
+        Ok(Instance {
+            name,
+            block_type,
+            parameters,
+        })
+    }
+}
+
+/// The connections of the section that the mark begins, where there is one.
+#[tactic(auto, unfolding(crate::specs::Network::connections))]
+fn connections(
+    alloc: Global,
+    cursor: &mut Cursor<'_>,
+    mark: Mark,
+) -> Result<Items<Connection>, ParseFault>
+    ensures { Reads (spec.connections mark cursor.old) result cursor.new }
+{
+    if cursor.eat(mark) {
+        many::<Connection>(alloc, cursor, Mark::EndConnections)
+    } else {
+        Ok(Items::new(alloc))
+    }
+}
+
+impl Rule for Network {
+    ghost parser = { spec.network };
+
+    #[tactic(auto, unfolding(crate::specs::Network::network))]
+    fn read(alloc: Global, cursor: &mut Cursor<'_>) -> Result<Network, ParseFault> {
+        cursor.expect(Mark::Fbs)?;
+        let instances = many::<Instance>(alloc, cursor, Mark::EndFbs)?;
+        let event_connections = connections(alloc, cursor, Mark::EventConnections)?;
+        Ok(Network {
+            instances,
+            event_connections,
+            data_connections: Items::new(alloc),
+        })
+    }
+}
+
+impl Rule for Application {
+    ghost parser = { spec.application };
+
+    #[tactic(auto, unfolding(crate::specs::Network::application))]
+    fn read(alloc: Global, cursor: &mut Cursor<'_>) -> Result<Application, ParseFault> {
+        cursor.expect(Mark::Application)?;
+        let name = cursor.name(alloc)?;
+        let network = Network::read(alloc, cursor)?;
+        cursor.expect(Mark::EndApplication)?;
+        Ok(Application { name, network })
+    }
+}
+
+impl Rule for Library {
+    ghost parser = { spec.library };
+
+    #[tactic(auto, unfolding(crate::specs::Network::library))]
+    fn read(alloc: Global, cursor: &mut Cursor<'_>) -> Result<Library, ParseFault> {
+        let application = Application::read(alloc, cursor)?;
+        Ok(Library {
+            blocks: Items::new(alloc),
+            application,
+        })
+    }
+}

@@ -1,0 +1,81 @@
+//! Whole declaration texts.
+
+ghost use Rattle.std.specs.Prelude.{◌≡◌, ◌+◌, ◌≤◌, ◌<◌, ◌==◌, ◌↔◌, length, take, count_by, IfOk, IfErr, IsErrOf};
+ghost use Rattle.fb_types.specs.declared.library.Library.{Library};
+ghost use Rattle.fb_read.specs.Front.{bad_byte, bad_token};
+ghost use Rattle.fb_read.specs.Network.{library};
+ghost use Rattle.fb_read.specs.Tokens.{tokens_of};
+ghost use Rattle.fb_read.specs.Whole.{IsLibraryText, HasTokenFault, HasTokens, RefusesWhere, IsMemory, IsGrammarFault, Parses, ended, most_bytes};
+
+use crate::cursor::Cursor;
+use crate::error::ReadError;
+use crate::fault::ParseFault;
+use crate::front::LexFault;
+use crate::rule::Rule;
+use crate::token::Placed;
+use crate::tokens::lex;
+use fb_types::library::Library;
+use std::alloc::Global;
+
+/// The greatest length of a text, in bytes. A byte order mark counts.
+const MOST_BYTES: usize = 1_048_576;
+
+/// The line of a place, counted from 1 by line feeds.
+fn line_of(text: &[u8], place: usize) -> u32
+    requires { length text.now ≤ most_bytes }
+    ensures { result ≡ 1 + count_by (λ b. b == 10) (take place text.now) }
+{
+    let before = if place < text.len() {
+        &text[..place]
+    } else {
+        text
+    };
+    1 + before.iter().filter(|b| **b == b'\n').count() as u32
+}
+
+/// The library that all of the tokens are.
+fn parse(alloc: Global, text: &[u8], tokens: &[Placed]) -> Result<Library, ReadError>
+    requires { length text.now ≤ most_bytes }
+    ensures { Parses result (ended (library (tokens_of tokens.now))) }
+{
+    let mut cursor = Cursor::new(tokens, text.len());
+    match Library::read(alloc, &mut cursor) {
+        Ok(library) => {
+            if cursor.left() == 0 {
+                Ok(library)
+            } else {
+                Err(ReadError::Syntax {
+                    line: line_of(text, cursor.place()),
+                })
+            }
+        }
+        Err(ParseFault::Memory) => Err(ReadError::Memory),
+        Err(ParseFault::Syntax) => Err(ReadError::Syntax {
+            line: line_of(text, cursor.place()),
+        }),
+        Err(ParseFault::Nesting) => Err(ReadError::Nesting),
+    }
+}
+
+/// The library that a declaration text declares.
+pub fn read_library(alloc: Global, text: &[u8]) -> Result<Library, ReadError>
+    // What is read is what the text declares.
+    ensures declared { IfOk result (λ library. IsLibraryText text.now library) }
+    // A text that is refused, but for memory, declares nothing.
+    ensures none { IfErr result (λ e. ¬ IsMemory e → (library : Library) → IsLibraryText text.now library → ⊥) }
+
+    ensures too_long { IsErrOf result ReadError.TooLong ↔ (most_bytes < length text.now) }
+    ensures byte { RefusesWhere result ReadError.Byte (HasTokenFault bad_byte text.now) }
+    ensures token { RefusesWhere result ReadError.Token (HasTokenFault bad_token text.now) }
+    ensures grammar { IfErr result (λ e. IsGrammarFault e → HasTokens text.now) }
+{
+    if text.len() > MOST_BYTES {
+        return Err(ReadError::TooLong);
+    }
+    match lex(alloc, text) {
+        Ok(tokens) => parse(alloc, text, tokens.as_slice()),
+        Err(LexFault::Memory) => Err(ReadError::Memory),
+        Err(LexFault::Byte) => Err(ReadError::Byte),
+        Err(LexFault::Token) => Err(ReadError::Token),
+    }
+}

@@ -1,0 +1,51 @@
+//! Rules of the grammar, and lists of what they read.
+
+ghost use Rattle.fb_read.specs.Parser.{Parser, Reads};
+ghost use Rattle.fb_read.specs.Parser as spec;
+
+use crate::cursor::Cursor;
+use crate::fault::ParseFault;
+use crate::token::Mark;
+use fb_types::items::Items;
+use std::alloc::Global;
+
+/// What a rule of the grammar reads. The cursor begins at the rule's first token and is left behind its
+/// last one, or at the token that the rule refuses.
+pub trait Rule: Drop {
+    ghost parser: { Parser Self };
+
+    fn read(alloc: Global, cursor: &mut Cursor<'_>) -> Result<Self, ParseFault>
+        ensures { Reads (parser cursor.old) result cursor.new };
+}
+
+/// What the rule reads up to a mark, and that mark. Each turn takes a token, so there are enough turns.
+pub fn many<T: Rule>(
+    alloc: Global,
+    cursor: &mut Cursor<'_>,
+    end: Mark,
+) -> Result<Items<T>, ParseFault>
+    ensures { Reads (spec.many T.parser end cursor.old) result cursor.new }
+{
+    let mut found = Items::new(alloc);
+    for _turn in 0..cursor.left() {
+        if cursor.eat(end) {
+            return Ok(found);
+        }
+        found.push(T::read(alloc, cursor)?)?;
+    }
+    Err(ParseFault::Syntax)
+}
+
+/// What the rule reads, once or more, with commas between. Each turn takes a token.
+pub fn separated<T: Rule>(alloc: Global, cursor: &mut Cursor<'_>) -> Result<Items<T>, ParseFault>
+    ensures { Reads (spec.separated T.parser cursor.old) result cursor.new }
+{
+    let mut found = Items::new(alloc);
+    for _turn in 0..cursor.left() {
+        found.push(T::read(alloc, cursor)?)?;
+        if !cursor.eat(Mark::Comma) {
+            return Ok(found);
+        }
+    }
+    Err(ParseFault::Syntax)
+}

@@ -1,0 +1,159 @@
+//! Tokens of the declaration text.
+
+use fb_types::name::Name;
+use std::marker::Model;
+
+/// A keyword or a sign.
+#[derive(Clone, Copy, Debug, PartialEq, Eq)]
+pub enum Mark {
+    FunctionBlock,
+    EndFunctionBlock,
+    Application,
+    EndApplication,
+    EventInput,
+    EventOutput,
+    EndEvent,
+    With,
+    VarInput,
+    VarOutput,
+    Var,
+    EndVar,
+    Fbs,
+    EndFbs,
+    EventConnections,
+    DataConnections,
+    EndConnections,
+    EcStates,
+    EndStates,
+    EcTransitions,
+    EndTransitions,
+    Algorithm,
+    EndAlgorithm,
+    To,
+    Bool,
+    Sint,
+    Int,
+    Dint,
+    Lint,
+    Usint,
+    Uint,
+    Udint,
+    Ulint,
+    Time,
+    True,
+    False,
+    If,
+    Then,
+    Elsif,
+    Else,
+    EndIf,
+    Case,
+    Of,
+    EndCase,
+    For,
+    By,
+    Do,
+    EndFor,
+    While,
+    EndWhile,
+    Repeat,
+    Until,
+    EndRepeat,
+    Exit,
+    Return,
+    And,
+    Or,
+    Xor,
+    Not,
+    Mod,
+    Semicolon,
+    Colon,
+    Comma,
+    Dot,
+    DotDot,
+    Open,
+    Close,
+    OpenSquare,
+    CloseSquare,
+    Assign,
+    Arrow,
+    Equal,
+    NotEqual,
+    Less,
+    Greater,
+    LessOrEqual,
+    GreaterOrEqual,
+    Plus,
+    Minus,
+    Star,
+    Slash,
+    Ampersand,
+}
+
+#[derive(Drop)]
+pub enum Token {
+    Mark(Mark),
+    Name(Name),
+    Whole(Magnitude),
+    /// In ticks.
+    Time(i128),
+}
+
+/// A token, and the place in the text at which it begins.
+#[derive(Drop)]
+pub struct Placed {
+    pub token: Token,
+    pub place: usize,
+}
+
+/// The greatest magnitude of a literal.
+pub const MOST: u128 = 170141183460469231731687303715884105727;
+
+/// A whole number of at most [`MOST`]. Contracts see the number.
+#[derive(Drop)]
+pub struct Magnitude {
+    value: u128,
+}
+
+impl Model for Magnitude {
+    ghost use Rattle.std.specs.Prelude.{ℕ, ◌≤◌};
+    ghost use Rattle.fb_read.specs.Limits.{most};
+
+    ghost Value = { ℕ };
+
+    ghost view = { λ m. m.value };
+
+    ghost invariant = { λ m. m.value ≤ most };
+}
+
+impl Magnitude {
+    ghost use Rattle.std.specs.Prelude.{◌≡◌, ◌≤◌, pos, neg_ℤ};
+    ghost use Rattle.fb_read.specs.Limits.{most};
+
+    pub fn new(value: u128) -> Magnitude
+        requires { value ≤ most }
+        ensures { result ≡ value }
+    {
+        Magnitude { value }
+    }
+
+    pub fn copied(&self) -> Magnitude
+        ensures { result ≡ self.now }
+    {
+        Magnitude { value: self.value }
+    }
+
+    /// The number itself.
+    pub fn positive(&self) -> i128
+        ensures { result ≡ pos self.now }
+    {
+        self.value as i128
+    }
+
+    /// Less than 0 by the number.
+    pub fn negative(&self) -> i128
+        ensures { result ≡ neg_ℤ (pos self.now) }
+    {
+        -(self.value as i128)
+    }
+}

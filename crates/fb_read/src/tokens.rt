@@ -1,0 +1,44 @@
+//! The tokens of a whole text.
+
+ghost use Rattle.std.specs.Prelude.{◌≡◌, ◌≤◌, length, IfOk, IfErr};
+ghost use Rattle.fb_read.specs.Tokens as spec;
+ghost use Rattle.fb_read.specs.Tokens.{AreTokens, Tells};
+
+use crate::blank::{at, skip};
+use crate::front::{LexFault, front};
+use crate::token::Placed;
+use fb_types::items::Items;
+use std::alloc::Global;
+
+/// What stands behind one leading byte order mark.
+fn behind_mark(text: &[u8]) -> &[u8]
+    ensures value { result.now ≡ spec.behind_mark text.now }
+    ensures shorter { length result.now ≤ length text.now }
+{
+    if at(text, 0) == 0xEF && at(text, 1) == 0xBB && at(text, 2) == 0xBF {
+        &text[3..]
+    } else {
+        text
+    }
+}
+
+/// The tokens of a text, each with its place.
+pub fn lex(alloc: Global, text: &[u8]) -> Result<Items<Placed>, LexFault>
+    ensures found { IfOk result (λ found. AreTokens (spec.tokens_of found) (spec.behind_mark text.now)) }
+    ensures fault { IfErr result (λ e. Tells e (spec.behind_mark text.now)) }
+{
+    let mut found = Items::new(alloc);
+    let mut rest = behind_mark(text);
+    'tokens: loop {
+        let Some(here) = skip(rest) else {
+            return Err(LexFault::Token);
+        };
+        if here.is_empty() {
+            return Ok(found);
+        }
+        let (token, len) = front(alloc, here)?;
+        let place = text.len() - here.len();
+        found.push(Placed { token, place })?;
+        rest = here.split_at(len).1;
+    }
+}
