@@ -8,6 +8,7 @@ use Rattle.fb_types.specs.Blocks.{Emission}
 use Rattle.fb_types.specs.Systems.{System}
 use Rattle.fb_types.specs.States.{Block, Line}
 use Rattle.fb_types.specs.Reactions.{World, Outcome, Out, Local, emitted, emitted_all, spread, carried_from, with_block}
+use Rattle.fb_types.specs.Posted.{emission_line}
 use Rattle.fb_types.specs.declared.key.Key.{Key}
 use Rattle.fb_types.specs.declared.value.Value.{Value}
 use Rattle.fb_types.proofs.PathLaws.{same_path_is}
@@ -32,7 +33,7 @@ publishes_more u v w a b = record {
 }
 
 -- a part of a block that the change at p keeps
-kept_at : {X : Type 0} (part : Block → X) (p : Path) (b : Block) (blocks : Path → Block) → part b ≡ part (blocks p)
+pub kept_at : {X : Type 0} (part : Block → X) (p : Path) (b : Block) (blocks : Path → Block) → part b ≡ part (blocks p)
     → (q : Path) → part (cond (same_path q p) b (blocks q)) ≡ part (blocks q)
 kept_at part p b blocks same q = go (same_path q p) refl
   where
@@ -56,8 +57,6 @@ emitted_all-publishes sys k p (e ∷ es) o =
 
 -- ---- Lines and what goes out
 
-abbrev pub emission_line : Key → Path → Emission → Line
-emission_line k p e = record { key = k; taken = false; at = p; event = e.event; values = e.values }
 
 abbrev pub emission_outs : System → Key → Path → Emission → List Out
 emission_outs sys k p e = spread sys k.resource (carried_from p e.values) (sys.targets (record { at = p; name = e.event }))

@@ -7,12 +7,9 @@ use Rattle.fb_types.specs.Systems.{System}
 use Rattle.fb_types.specs.States.{Event, Raised}
 use Rattle.fb_types.specs.Reactions.{Out, Local}
 use Rattle.fb_types.specs.Takes.{Posts, post, post_all}
+use Rattle.fb_types.specs.Posted.{numbered}
 use Rattle.fb_types.specs.declared.key.Key.{Key}
 
--- local events, numbered from n
-abbrev pub numbered : Key → ℕ → List Port → List (Key × Event)
-numbered k n [] = []
-numbered k n (q ∷ qs) = (local_key k.tick k.resource n, Raised q) ∷ numbered k (n + 1) qs
 
 pub post_all-raised : (sys : System) (k : Key) (qs : List Port) (x : Posts)
     → (post_all sys k (map Local qs) x).raised ≡ x.raised ++ numbered k x.locals qs

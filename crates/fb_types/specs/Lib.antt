@@ -24,3 +24,4 @@ pub mod Joined
 pub mod Mapped
 pub mod Accepted
 pub mod Headline
+pub mod Posted
