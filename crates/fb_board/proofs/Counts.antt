@@ -1,5 +1,5 @@
 -- Sums and counts over a list, and how they change with one element.
-use Rattle.std.proofs.Common.{◌≡◌, ◌≢◌, ℕ, zero, suc, ◌+◌, ◌<◌, ◌≤◌, ◌⊎◌, cond, List, [], ◌∷◌, ◌++◌, length, get_or, set, sum_by, count_by, slice_get, Option, Some, None, option_to_list, ◌==◌, if◌then◌else◌, nat_lt, Contains, sym, refl, ap, ◌∙◌, inl, inr, ⊎_elim, arith, lt-ltb, le-ltb, eq-eqb, ne_eqb, lt_of_not-le}
+use Rattle.std.proofs.Common.{◌≡◌, ◌≢◌, ℕ, zero, suc, ◌+◌, ◌<◌, ◌≤◌, ◌⊎◌, cond, List, [], ◌∷◌, ◌++◌, length, get_or, set, sum_by, count_by, slice_get, Some, ◌==◌, if◌then◌else◌, nat_lt, Contains, sym, refl, ap, ◌∙◌, inl, inr, ⊎_elim, arith, lt-ltb, le-ltb, eq-eqb, ne_eqb, lt_of_not-le}
 use Rattle.std.proofs.lemmas.List.Sums.{sum_by-cons, sum_by-set, sum_by_push}
 use Rattle.std.specs.List.{AllZip}
 use mathlib.Core.Option.{some, some-injective, some-ne-none}
@@ -8,6 +8,7 @@ use native.Mathlib.Decide.{dec_le, ℕ_discrete}
 use lib.ListN.{get_elem?}
 
 module _ {A : Type 0} where
+  -- what is there lies within the list
   pub within : (l : List A) (i : ℕ) (a : A) → get_elem? l i ≡ some a → i < length l
   within [] i a e = absurd (some-ne-none a (sym e))
   within (x ∷ xs) zero a e = omega arith
@@ -18,17 +19,21 @@ module _ {A : Type 0} where
   get_or_at (x ∷ xs) zero a d e = some-injective x a e
   get_or_at (x ∷ xs) (suc i) a d e = get_or_at xs i a d e
 
+  -- one element changes the sum by as much as itself
   pub sum_set : (f : A → ℕ) (l : List A) (i : ℕ) (v w : A) → get_elem? l i ≡ some v → sum_by f (set l i w) + f v ≡ sum_by f l + f w
-  sum_set f l i v w e = let h = sum_by-set f l i w v (within l i v e) in let g : f (get_or l i v) ≡ f v = ap f (get_or_at l i v v e) in omega arith
+  sum_set f l i v w e =
+      let step = sum_by-set f l i w v (within l i v e) in let was : f (get_or l i v) ≡ f v = ap f (get_or_at l i v v e) in omega arith
 
   -- nothing changes where f does not tell the old from the new
   pub sum_keep : (f : A → ℕ) (l : List A) (i : ℕ) (v w : A) → get_elem? l i ≡ some v → f w ≡ f v → sum_by f (set l i w) ≡ sum_by f l
   sum_keep f l i v w e same = let h = sum_set f l i v w e in omega arith
 
+  -- a sum of sums is the sum of both
   pub sum_split : (f g h : A → ℕ) (l : List A) → ((i : ℕ) (v : A) → get_elem? l i ≡ some v → f v ≡ g v + h v) → sum_by f l ≡ sum_by g l + sum_by h l
   sum_split f g h [] each = refl
-  sum_split f g h (x ∷ xs) each = let here = each zero x refl in let rest = sum_split f g h xs (λ i v e. each (suc i) v e) in
-      let a = sum_by-cons f x xs in let b = sum_by-cons g x xs in let c = sum_by-cons h x xs in omega arith
+  sum_split f g h (x ∷ xs) each =
+      let here = each zero x refl in let rest = sum_split f g h xs (λ i v e. each (suc i) v e) in
+      let all = sum_by-cons f x xs in let left = sum_by-cons g x xs in let right = sum_by-cons h x xs in omega arith
 
   -- one element is no more than all
   pub sum_at : (f : A → ℕ) (l : List A) (i : ℕ) (v : A) → get_elem? l i ≡ some v → f v ≤ sum_by f l
@@ -40,20 +45,29 @@ module _ {A : Type 0} where
   pub sum_two : (f : A → ℕ) (l : List A) (i j : ℕ) (v w : A) → i ≢ j → get_elem? l i ≡ some v → get_elem? l j ≡ some w → f v + f w ≤ sum_by f l
   sum_two f [] i j v w ne a b = absurd (some-ne-none v (sym a))
   sum_two f (x ∷ xs) zero zero v w ne a b = absurd (ne refl)
-  sum_two f (x ∷ xs) zero (suc j) v w ne a b = let h : f x ≡ f v = ap f (some-injective x v a) in let k = sum_at f xs j w b in let c = sum_by-cons f x xs in omega arith
-  sum_two f (x ∷ xs) (suc i) zero v w ne a b = let h : f x ≡ f w = ap f (some-injective x w b) in let k = sum_at f xs i v a in let c = sum_by-cons f x xs in omega arith
-  sum_two f (x ∷ xs) (suc i) (suc j) v w ne a b = let h = sum_two f xs i j v w (λ e. ne (ap suc e)) a b in let c = sum_by-cons f x xs in omega arith
+  sum_two f (x ∷ xs) zero (suc j) v w ne a b =
+      let mine : f x ≡ f v = ap f (some-injective x v a) in let theirs = sum_at f xs j w b in let all = sum_by-cons f x xs in omega arith
+  sum_two f (x ∷ xs) (suc i) zero v w ne a b =
+      let theirs : f x ≡ f w = ap f (some-injective x w b) in let mine = sum_at f xs i v a in let all = sum_by-cons f x xs in omega arith
+  sum_two f (x ∷ xs) (suc i) (suc j) v w ne a b =
+      let both = sum_two f xs i j v w (λ e. ne (ap suc e)) a b in let all = sum_by-cons f x xs in omega arith
 
   -- the sum is 0 where each element has 0
   pub sum_none : (f : A → ℕ) (l : List A) → ((i : ℕ) (v : A) → get_elem? l i ≡ some v → f v ≡ 0) → sum_by f l ≡ 0
   sum_none f [] each = refl
-  sum_none f (x ∷ xs) each = let here = each zero x refl in let rest = sum_none f xs (λ i v e. each (suc i) v e) in let a = sum_by-cons f x xs in omega arith
+  sum_none f (x ∷ xs) each =
+      let here = each zero x refl in let rest = sum_none f xs (λ i v e. each (suc i) v e) in let all = sum_by-cons f x xs in omega arith
 
   -- one element has the sum where each other has 0
-  pub sum_sole : (f : A → ℕ) (l : List A) (i : ℕ) (v : A) → get_elem? l i ≡ some v → ((j : ℕ) (w : A) → j ≢ i → get_elem? l j ≡ some w → f w ≡ 0) → sum_by f l ≡ f v
+  pub sum_sole : (f : A → ℕ) (l : List A) (i : ℕ) (v : A) → get_elem? l i ≡ some v → ((j : ℕ) (w : A) → j ≢ i → get_elem? l j ≡ some w → f w ≡ 0)
+      → sum_by f l ≡ f v
   sum_sole f [] i v e others = absurd (some-ne-none v (sym e))
-  sum_sole f (x ∷ xs) zero v e others = let h : f x ≡ f v = ap f (some-injective x v e) in let rest = sum_none f xs (λ j w at. others (suc j) w (λ p. omega arith) at) in let a = sum_by-cons f x xs in omega arith
-  sum_sole f (x ∷ xs) (suc i) v e others = let here = others zero x (λ p. omega arith) refl in let rest = sum_sole f xs i v e (λ j w ne at. others (suc j) w (λ p. ne (omega arith)) at) in let a = sum_by-cons f x xs in omega arith
+  sum_sole f (x ∷ xs) zero v e others =
+      let here : f x ≡ f v = ap f (some-injective x v e) in
+      let rest = sum_none f xs (λ j w at. others (suc j) w (λ p. omega arith) at) in let all = sum_by-cons f x xs in omega arith
+  sum_sole f (x ∷ xs) (suc i) v e others =
+      let here = others zero x (λ p. omega arith) refl in
+      let rest = sum_sole f xs i v e (λ j w ne at. others (suc j) w (λ p. ne (omega arith)) at) in let all = sum_by-cons f x xs in omega arith
 
   -- where the sum is 1, one element has it
   pub find_one : (f : A → ℕ) (l : List A) → sum_by f l ≡ 1 → (i : ℕ) × (v : A) × (get_elem? l i ≡ some v) × (f v ≡ 1)
@@ -62,6 +76,7 @@ module _ {A : Type 0} where
       (λ none_here. let h = find_one f xs (omega arith) in (suc h.0, h.1, h.2, h.3))
       (λ here. (zero, x, refl, omega arith))
 
+  -- the sum of ones and zeros is at most the length
   pub sum_few : (f : A → ℕ) → ((v : A) → f v ≤ 1) → (l : List A) → sum_by f l ≤ length l
   sum_few f one [] = omega arith
   sum_few f one (x ∷ xs) = let h = one x in let k = sum_few f one xs in let a = sum_by-cons f x xs in omega arith
@@ -85,6 +100,7 @@ module _ {A : Type 0} where
   is_there (x ∷ xs) zero h = (x, refl)
   is_there (x ∷ xs) (suc i) h = is_there xs i (omega arith)
 
+  -- what stands in a longer list stood there before, or is the new element
   pub at_push : (l : List A) (a b : A) (j : ℕ) → get_elem? (l ++ a ∷ []) j ≡ some b → (get_elem? l j ≡ some b) ⊎ ((j ≡ length l) × (a ≡ b))
   at_push [] a b zero e = inr (refl, some-injective a b e)
   at_push [] a b (suc j) e = absurd (some-ne-none b (sym e))

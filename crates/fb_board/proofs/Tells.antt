@@ -1,21 +1,21 @@
--- What each step tells the seat that takes it: it may be taken in every state that meets the rule, and what it tells holds afterwards.
-use Rattle.std.proofs.Common.{◌≡◌, ℕ, ◌+◌, ◌%◌, ◌^◌, ◌<◌, ◌≤◌, Bool, false, List, [], ◌∷◌, ◌++◌, length, set, slice_get, Some, None, Contains, IsTrue, sym, refl, ap, ◌∙◌, subst, arith, lt_of_not-le}
+-- Each step may be taken in every state that meets the rule, and what it tells its seat holds afterwards.
+use Rattle.std.proofs.Common.{◌≡◌, ℕ, ◌+◌, ◌%◌, ◌^◌, ◌<◌, ◌≤◌, Bool, false, List, [], ◌∷◌, length, set, slice_get, Some, None, sym, refl, ap, ◌∙◌, subst, arith, lt_of_not-le}
 use Rattle.std.proofs.lemmas.List.Elements.{Contains-push}
 use mathlib.Core.Logic.{dite}
 use mathlib.Core.Option.{some, none}
 use native.Mathlib.Decide.{dec_le}
 use lib.ListN.{get_elem?}
-use Rattle.atomic_table.specs.Table.{Me, step, keeps, takes, gives, rest, stepped, Allows, Splits}
+use Rattle.atomic_table.specs.Table.{Me, Act, step, keeps, takes, gives, rest, stepped, carried_after, Valid, Allows, Splits}
 use Rattle.atomic_table.specs.Seated.{TableId}
 use Rattle.atomic_table.proofs.Lists.{set_here}
 use Rattle.fb_board.specs.declared.rule.Place.{Place}
 use Rattle.fb_board.specs.declared.rule.Place.TheVariants.{Waiting, Home}
 use Rattle.fb_board.specs.declared.rule.View.{View}
 use Rattle.fb_board.specs.View.{view_after_split, split_off_view, view_after_draw, view_after_dry_draw, view_after_put_back}
-use Rattle.fb_board.specs.Claims.{BoardState, Knows, MeetsRule, draw_count, flag}
-use Rattle.fb_board.specs.Moment.{Moment, IsAlone, IsAllDrawn, IsHome, Draws, PutsBack, PutsBackDone, IsSound, slots_with}
+use Rattle.fb_board.specs.Claims.{BoardState, Knows, MeetsRule, draw_count}
+use Rattle.fb_board.specs.Moment.{IsAlone, IsAllDrawn, IsHome, Draws, PutsBack, PutsBackDone, IsSound, slots_with}
 use Rattle.fb_board.specs.Models.{SeatModel, seat_model}
-use Rattle.fb_board.proofs.Counts.{within, is_there, at_from_slice_get}
+use Rattle.fb_board.proofs.Counts.{within, is_there}
 use Rattle.fb_board.proofs.Follows.{undrawn, drawn_few, alone, all_drawn, slip_drawn, back_raised}
 use Rattle.fb_board.proofs.Keeps.{draw_keeps, dry_draw_keeps, put_back_keeps, split_keeps}
 
@@ -24,40 +24,79 @@ pub begins : {A : Type 0} (l tail : List (ℕ × A)) (k : ℕ) (a : A) → l ≡
 begins l tail k a e = e ∙ ap (λ m. (k, a) ∷ rest m) (sym e)
 
 module _ {J D : Type 0} (does : J → D → Type 0) (jobs : List J) where
-  abbrev M : Type 0
-  M = Me (Place J D) (View J)
-
   -- a seat has its new view after a step
   sits : (s : BoardState J D) (rule : MeetsRule does jobs s) (seat : ℕ) (v w : View J) → Knows s seat v → w.seat ≡ v.seat → get_elem? (set s.views seat w) w.seat ≡ some w
-  sits s rule seat v w at same = subst (λ i. get_elem? (set s.views seat w) i ≡ some w) (sym (same ∙ rule.numbered seat v at)) (set_here s.views seat w (within s.views seat v at))
+  sits s rule seat v w at same = subst (λ i. get_elem? (set s.views seat w) i ≡ some w) (sym (same ∙ rule.seats.numbered seat v at))
+      (set_here s.views seat w (within s.views seat v at))
 
-  pub draws : (slots seat : ℕ) (me : M) → me.0.slip ≡ None → me.0.dry ≡ false → Allows (MeetsRule does jobs) slots seat me 0 (λ n. (n + 1) % 2 ^ 64) (Draws does (step 0 0 0 0 none) me)
-  draws slots seat me idle wet s rule _ at _ =
-      let v : View J = me.0 in let k : ℕ = draw_count s in let told = rule.told seat v at in let few : length v.jobs ≡ length jobs = ap length told in
-      dite (dec_le (length jobs) k)
-      (λ none_left. let w : View J = view_after_dry_draw v in let t : BoardState J D = stepped s 0 ((k + 1) % 2 ^ 64) seat me.1 w keeps in
-        let kept : MeetsRule does jobs t = dry_draw_keeps s rule seat v at me.1 wet none_left in
+  module _ (s : BoardState J D) (rule : MeetsRule does jobs s) (seat : ℕ) (me : Me (Place J D) (View J))
+      (at : Knows s seat me.0) (idle : me.0.slip ≡ None) (wet : me.0.dry ≡ false) where
+    abbrev AfterDraw : View J → Act (Place J D) → BoardState J D
+    AfterDraw w act = stepped s 0 ((draw_count s + 1) % 2 ^ 64) seat me.1 w act
+
+    -- what the seat may do with the number that it finds, and what it is told
+    abbrev Drawn : Type 0
+    Drawn = (w : View J) × (act : Act (Place J D)) × Valid s.homes me.1 act × MeetsRule does jobs (AfterDraw w act)
+        × Draws does (step 0 0 0 0 none) me (draw_count s) (w, carried_after me.1 act)
+
+    draws_none : length jobs ≤ draw_count s → Drawn
+    draws_none none_left =
+        let v : View J = me.0 in let w : View J = view_after_dry_draw v in let told = rule.seats.told seat v at in
+        let count : length v.jobs ≡ length jobs = ap length told in
+        let kept : MeetsRule does jobs (AfterDraw w keeps) = dry_draw_keeps s rule seat v at me.1 wet none_left in
         let all : IsAllDrawn does jobs w = record {
-          moment = record { state = t; kept = kept; here = sits s rule seat v w at refl };
-          each = λ m x l. all_drawn m.state m.kept w.seat w m.here refl x l;
-        } in
-        (w, keeps, tt, kept, ((λ l. absurd (omega arith)), λ _. record { view = refl; slots = refl; all = subst (λ l. IsAllDrawn does l w) (sym told) all })))
-      (λ no. let room : k < length jobs = lt_of_not-le no in let job = is_there jobs k room in
-        let w : View J = view_after_draw v k in let t : BoardState J D = stepped s 0 ((k + 1) % 2 ^ 64) seat me.1 w (takes k (Waiting job.0)) in
-        let kept : MeetsRule does jobs t = draw_keeps s rule seat v at me.1 job.0 idle wet room in let here = sits s rule seat v w at refl in
-        let one : IsAlone does jobs w k = record {
-          moment = record { state = t; kept = kept; here = here };
-          others = λ m. alone m.state m.kept w.seat w k m.here (Contains-push v.drawn k);
-        } in
-        (w, takes k (Waiting job.0), rule.waiting k job.0 job.1 (omega arith), kept, ((λ _. record {
-          view = refl;
-          job = job.0;
-          there = subst (λ l. slice_get l k ≡ Some job.0) (sym told) job.1;
-          slot = refl;
-          fresh = undrawn s rule seat v k at (omega arith);
-          few = (let a = drawn_few t kept w.seat w here in omega arith);
-          alone = subst (λ l. IsAlone does l w k) (sym told) one;
-        }), λ l. absurd (omega arith))))
+          moment = record { state = AfterDraw w keeps; kept = kept; here = sits s rule seat v w at refl };
+          each = λ m. all_drawn m.state m.kept w.seat w m.here refl;
+        } in (
+          w,
+          keeps,
+          tt,
+          kept,
+          (
+            (λ room. absurd (omega arith)),
+            λ _. record {
+              view = refl;
+              slots = refl;
+              all = subst (λ l. IsAllDrawn does l w) (sym told) all;
+            },
+          ),
+        )
+
+    draws_job : draw_count s < length jobs → Drawn
+    draws_job room =
+        let v : View J = me.0 in let k : ℕ = draw_count s in let w : View J = view_after_draw v k in let told = rule.seats.told seat v at in
+        let count : length v.jobs ≡ length jobs = ap length told in let job = is_there jobs k room in
+        let act : Act (Place J D) = takes k (Waiting job.0) in
+        let kept : MeetsRule does jobs (AfterDraw w act) = draw_keeps s rule seat v at me.1 wet job.0 idle room in
+        let here = sits s rule seat v w at refl in
+        let alone_with : IsAlone does jobs w k = record {
+          moment = record { state = AfterDraw w act; kept = kept; here = here };
+          others = λ m. alone m.state m.kept w.seat w m.here k (Contains-push v.drawn k);
+        } in (
+          w,
+          act,
+          rule.waiting k job.0 job.1 (omega arith),
+          kept,
+          (
+            (λ _. record {
+              view = refl;
+              job = job.0;
+              there = subst (λ l. slice_get l k ≡ Some job.0) (sym told) job.1;
+              slot = refl;
+              fresh = undrawn s rule seat v at k (omega arith);
+              few = (let few = drawn_few (AfterDraw w act) kept w.seat w here in omega arith);
+              alone = subst (λ l. IsAlone does l w k) (sym told) alone_with;
+            }),
+            λ none_left. absurd (omega arith),
+          ),
+        )
+
+  -- the step of a draw
+  pub draws : (slots seat : ℕ) (me : Me (Place J D) (View J)) → me.0.slip ≡ None → me.0.dry ≡ false
+      → Allows (MeetsRule does jobs) slots seat me 0 (λ n. (n + 1) % 2 ^ 64) (Draws does (step 0 0 0 0 none) me)
+  draws slots seat me idle wet s rule _ at _ = dite (dec_le (length jobs) (draw_count s))
+      (λ none_left. draws_none s rule seat me at idle wet none_left)
+      (λ no. draws_job s rule seat me at idle wet (lt_of_not-le no))
 
   done_or : D → Place J D → D
   done_or d (Home done) = done
@@ -74,25 +113,34 @@ module _ {J D : Type 0} (does : J → D → Type 0) (jobs : List J) where
   puts_back_plain : (slots seat : ℕ) (v : View J) (k : ℕ) (done : D) → v.slip ≡ Some k → ((job : J) → slice_get jobs k ≡ Some job → does job done)
       → Allows (MeetsRule does jobs) slots seat (v, (k, Home done) ∷ []) (k + 1) (λ _. 1) (λ _. PutsBack does (step 0 0 0 0 none) (v, (k, Home done) ∷ []) 1)
   puts_back_plain slots seat v k done out right s rule _ at _ =
-      let told = rule.told seat v at in let w : View J = view_after_put_back v k in let t : BoardState J D = stepped s (k + 1) 1 seat ((k, Home done) ∷ []) w gives in
-      let kept : MeetsRule does jobs t = put_back_keeps s rule seat v at k done out right in
-      let room = slip_drawn s rule seat v k at out in let home : IsHome does jobs w k done = record {
-        moment = record { state = t; kept = kept; here = sits s rule seat v w at refl };
-        came = set_here s.homes k (some (Home done)) (let a = rule.slots in omega arith);
-        stays = λ m. back_raised m.state m.kept w.seat w k m.here (Contains-push v.back k);
-      } in
-      (w, gives, tt, kept, λ k' done' out' is. (let p : k ≡ k' = cc in let q : done ≡ done' = one_done k k' done done' is in record {
-        view = ap (view_after_put_back v) p;
-        slots = refl;
-        home = subst (λ l. IsHome does l w k' done') (sym told) (subst (λ (z : ℕ × D). IsHome does jobs w z.0 z.1) (λ i. (p i, q i)) home);
-      }))
+      let told = rule.seats.told seat v at in let w : View J = view_after_put_back v k in
+      let after : BoardState J D = stepped s (k + 1) 1 seat ((k, Home done) ∷ []) w gives in
+      let kept : MeetsRule does jobs after = put_back_keeps s rule seat v at k done out right in let drawn = slip_drawn s rule seat v at k out in
+      let home : IsHome does jobs w k done = record {
+        moment = record { state = after; kept = kept; here = sits s rule seat v w at refl };
+        came = set_here s.homes k (some (Home done)) (let slots = rule.slots in omega arith);
+        stays = λ m. back_raised m.state m.kept w.seat w m.here k (Contains-push v.back k);
+      } in (
+        w,
+        gives,
+        tt,
+        kept,
+        λ k' done' out' slot. (let number : k ≡ k' = cc in let value : done ≡ done' = one_done k k' done done' slot in record {
+          view = ap (view_after_put_back v) number;
+          slots = refl;
+          home = subst (λ l. IsHome does l w k' done') (sym told) (subst (λ (z : ℕ × D). IsHome does jobs w z.0 z.1) (λ i. (number i, value i)) home);
+        }),
+      )
 
-  -- the seat's slot has the done value
-  pub puts_back : (slots seat : ℕ) (me : M) (k : ℕ) (done : D) → me.1 ≡ (k, Home done) ∷ [] → me.0.slip ≡ Some k → ((job : J) → slice_get jobs k ≡ Some job → does job done)
+  -- the step of putting back, where the seat's slot has the done value
+  puts_back : (slots seat : ℕ) (me : Me (Place J D) (View J)) (k : ℕ) (done : D) → me.1 ≡ (k, Home done) ∷ [] → me.0.slip ≡ Some k
+      → ((job : J) → slice_get jobs k ≡ Some job → does job done)
       → Allows (MeetsRule does jobs) slots seat me (k + 1) (λ _. 1) (λ _. PutsBack does (step 0 0 0 0 none) me 1)
-  puts_back slots seat me k done is out right = subst (λ (m : M). Allows (MeetsRule does jobs) slots seat m (k + 1) (λ _. 1) (λ _. PutsBack does (step 0 0 0 0 none) m 1))
-      (λ i. (me.0, sym is i)) (puts_back_plain slots seat me.0 k done out right)
+  puts_back slots seat me k done has out right =
+      subst (λ (m : Me (Place J D) (View J)). Allows (MeetsRule does jobs) slots seat m (k + 1) (λ _. 1) (λ _. PutsBack does (step 0 0 0 0 none) m 1))
+      (λ i. (me.0, sym has i)) (puts_back_plain slots seat me.0 k done out right)
 
+  -- the step that splits a seat off the opener
   pub splits : (seat : ℕ) (v : View J) → 0 < v.spare → Splits (MeetsRule does jobs) seat v (view_after_split v) (split_off_view v)
   splits seat v more s rule at = split_keeps s rule seat v at more
 
@@ -133,7 +181,8 @@ module _ {J D : Type 0} {does : J → D → Type 0} {dry : Bool} (before written
     }
 
 -- the same as contracts see it: the board and the view of the seat, which was `old`
-pub model_after : {J : Type 0} (old : SeatModel J) (board after_board : TableId) (v after : View J) (k slip : ℕ) → seat_model board v ≡ old → after_board ≡ board → after ≡ view_after_put_back v k → k ≡ slip
+pub model_after : {J : Type 0} (old : SeatModel J) (board after_board : TableId) (v after : View J) (k slip : ℕ)
+    → seat_model board v ≡ old → after_board ≡ board → after ≡ view_after_put_back v k → k ≡ slip
     → seat_model after_board after ≡ record old { knows = view_after_put_back old.knows slip }
 model_after old board after_board v after k slip was same told number =
     let whose : after_board ≡ old.board = same ∙ ap (λ s. s.board) was in

@@ -1,4 +1,5 @@
--- The rule of a claim board: what holds of its words, of the values in its slots and of the views of its seats between any two steps.
+-- The rule of a claim board: what holds of its words, of the values in its slots and of the views of its seats
+-- between any two steps.
 -- This project's own profile: no clause of IEC 61499 speaks of a claim board.
 --
 -- A board with n jobs has n + 1 words and n slots. Word 0 counts the draws. Word k + 1 is the flag of the number k.
@@ -17,10 +18,14 @@ abbrev pub BoardState : Type 0 → Type 0 → Type 0
 BoardState J D = State (Place J D) (View J)
 
 module _ {J D : Type 0} (s : BoardState J D) where
-  -- how many draws there were
+  -- how many draws there were, and how many of them found one of the jobs
   abbrev pub draw_count : ℕ
   draw_count = slice_index s.words 0
 
+  abbrev pub drawn_count : List J → ℕ
+  drawn_count jobs = min (length jobs) draw_count
+
+  -- the flag of the number k
   abbrev pub flag : ℕ → ℕ
   flag k = slice_index s.words (k + 1)
 
@@ -32,29 +37,32 @@ module _ {J D : Type 0} (s : BoardState J D) where
   abbrev pub SlotHas : ℕ → Place J D → Type 0
   SlotHas k place = get_elem? s.homes k ≡ some (some place)
 
+-- Seats are numbered as they come, and only seat 0, the opener, may have more split off.
+-- Each seat knows the jobs that the board was opened with
+pub record AreSeats {J : Type 0} (jobs : List J) (views : List (View J)) : Type 0 where
+  pub few : length views + sum_by (λ v. v.spare) views ≡ MAX_SEATS + 1
+  pub numbered : (seat : ℕ) (v : View J) → get_elem? views seat ≡ some v → v.seat ≡ seat
+  pub one_opener : (seat : ℕ) (v : View J) → get_elem? views seat ≡ some v → 0 < v.spare → seat ≡ 0
+  pub told : (seat : ℕ) (v : View J) → get_elem? views seat ≡ some v → v.jobs ≡ jobs
+
 pub record MeetsRule {J D : Type 0} (does : J → D → Type 0) (jobs : List J) (s : BoardState J D) : Type 0 where
   pub words : length s.words ≡ length jobs + 1
   pub slots : length s.homes ≡ length jobs
   pub few_jobs : length jobs ≤ MAX_JOBS
-
-  -- Seats are numbered as they come. Only the opener, seat 0, may have more split off, and each knows the jobs that the board was opened with
-  pub few_seats : length s.views + sum_by (λ v. v.spare) s.views ≡ MAX_SEATS + 1
-  pub numbered : (seat : ℕ) (v : View J) → Knows s seat v → v.seat ≡ seat
-  pub one_opener : (seat : ℕ) (v : View J) → Knows s seat v → 0 < v.spare → seat ≡ 0
-  pub told : (seat : ℕ) (v : View J) → Knows s seat v → v.jobs ≡ jobs
-
-  -- 1. Word 0 is at most the number of jobs and of dry seats together, and at least the number of jobs where a seat is dry
+  pub seats : AreSeats jobs s.views
+  -- 1. Word 0 is at most the number of jobs and of dry seats together.
+  -- Where a seat is dry, it is at least the number of jobs
   pub at_most : draw_count s ≤ length jobs + sum_by dryness s.views
   pub at_least : (seat : ℕ) (v : View J) → Knows s seat v → IsTrue v.dry → length jobs ≤ draw_count s
-
-  -- 2. Each number below both the number of jobs and word 0 stands once in one seat's list of drawn numbers, and no other number in any. So the lists have that many numbers together
-  pub once : (k : ℕ) → sum_by (times_drawn k) s.views ≡ (if nat_lt k (min (length jobs) (draw_count s)) then 1 else 0)
-  pub together : sum_by (λ v. length v.drawn) s.views ≡ min (length jobs) (draw_count s)
-
+  -- 2. Each number below both the number of jobs and word 0 stands in one seat's list of drawn numbers, once.
+  -- No other number stands in any, so the lists together have as many numbers as were drawn
+  pub once : (k : ℕ) → sum_by (times_drawn k) s.views ≡ (if nat_lt k (drawn_count s jobs) then 1 else 0)
+  pub together : sum_by (λ v. length v.drawn) s.views ≡ drawn_count s jobs
   -- 3. What a seat drew is its slip or among the numbers that it put back, and not both
   pub parted : (seat : ℕ) (v : View J) → Knows s seat v → (k : ℕ) → times_drawn k v ≡ times_back k v + times_out k v
-
-  -- 4. The flag of a number is 1 where some seat put it back, and else 0. At 1 the number's slot has a done value that does its job, and the slot of a number that nobody drew has its job
+  -- 4. The flag of a number is 1 where some seat put it back, and else 0.
+  -- Where it is 1, the number's slot has a done value that does its job.
+  -- The slot of a number that nobody drew has its job
   pub flags : (k : ℕ) → k < length jobs → flag s k ≡ sum_by (times_back k) s.views
   pub home : (k : ℕ) (job : J) → slice_get jobs k ≡ Some job → flag s k ≡ 1 → (done : D) × SlotHas s k (Home done) × does job done
   pub waiting : (k : ℕ) (job : J) → slice_get jobs k ≡ Some job → draw_count s ≤ k → SlotHas s k (Waiting job)

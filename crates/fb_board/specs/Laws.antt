@@ -1,6 +1,6 @@
 -- What the rule of a claim board means for each number.
 -- This project's own profile: no clause of IEC 61499 speaks of a claim board.
-use Rattle.std.specs.Prelude.{◌≡◌, ◌≢◌, ◌⊎◌, ℕ, ◌≤◌, List, slice_get, Some, Contains}
+use Rattle.std.specs.Prelude.{◌≡◌, ◌≢◌, ◌⊎◌, ℕ, List, slice_get, Some, Contains}
 use Rattle.fb_board.specs.declared.rule.Place.TheVariants.{Waiting, Home}
 use Rattle.fb_board.specs.declared.rule.View.{View}
 use Rattle.fb_board.specs.View.{times_drawn}
@@ -19,6 +19,7 @@ module _ {J D : Type 0} (s : BoardState J D) (k : ℕ) where
     pub seat : ℕ
     pub view : View J
     pub here : Knows s seat view
+    pub drawn : Contains view.drawn k
     pub slip : view.slip ≡ Some k
     pub others : (other : ℕ) (w : View J) → other ≢ seat → Knows s other w → ¬ Contains w.drawn k
 
@@ -28,6 +29,7 @@ module _ {J D : Type 0} (s : BoardState J D) (k : ℕ) where
     pub seat : ℕ
     pub view : View J
     pub here : Knows s seat view
+    pub drawn : Contains view.drawn k
     pub back : Contains view.back k
     pub others : (other : ℕ) (w : View J) → other ≢ seat → Knows s other w → ¬ Contains w.drawn k
     pub done : D
@@ -35,10 +37,12 @@ module _ {J D : Type 0} (s : BoardState J D) (k : ℕ) where
     pub does_job : does job done
 
 module _ {J D : Type 0} (does : J → D → Type 0) where
+  -- each number waits, is out with one seat, or is home
   abbrev pub EachNumberHasAPlace : Type 0
-  EachNumberHasAPlace = (jobs : List J) (s : BoardState J D) (k : ℕ) (job : J) → MeetsRule does jobs s → slice_get jobs k ≡ Some job
-      → IsWaiting s k job ⊎ (IsOut s k ⊎ IsBack s k does job)
+  EachNumberHasAPlace = (jobs : List J) (s : BoardState J D) (k : ℕ) (job : J) → MeetsRule does jobs s
+      → slice_get jobs k ≡ Some job → IsWaiting s k job ⊎ (IsOut s k ⊎ IsBack s k does job)
 
+  -- two seats that drew one number are one seat, which drew it once
   abbrev pub EachNumberHasOneSeat : Type 0
-  EachNumberHasOneSeat = (jobs : List J) (s : BoardState J D) (k seat other : ℕ) (v w : View J) → MeetsRule does jobs s → Knows s seat v → Knows s other w
-      → Contains v.drawn k → Contains w.drawn k → (seat ≡ other) × (times_drawn k v ≡ 1)
+  EachNumberHasOneSeat = (jobs : List J) (s : BoardState J D) (k seat other : ℕ) (v w : View J) → MeetsRule does jobs s
+      → Knows s seat v → Knows s other w → Contains v.drawn k → Contains w.drawn k → (seat ≡ other) × (times_drawn k v ≡ 1)

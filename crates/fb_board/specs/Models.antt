@@ -35,15 +35,15 @@ module _ {J : Type 0} where
   abbrev pub IsSeatOf : BoardModel J → SeatModel J → Type 0
   IsSeatOf board seat = (seat.board ≡ board.id) × (seat.knows.jobs ≡ board.jobs)
 
-  -- and holds no slip
+  -- it is one of this board's, and holds no slip
   abbrev pub IsIdleSeatOf : BoardModel J → SeatModel J → Type 0
   IsIdleSeatOf board seat = (seat.board ≡ board.id) × (seat.knows.jobs ≡ board.jobs) × (seat.knows.slip ≡ None)
 
-  -- and is dry
+  -- it is one of this board's, holds no slip, and is dry
   abbrev pub IsDrySeatOf : BoardModel J → SeatModel J → Type 0
   IsDrySeatOf board seat = (seat.board ≡ board.id) × (seat.knows.jobs ≡ board.jobs) × (seat.knows.slip ≡ None) × IsTrue seat.knows.dry
 
-  -- or took no step yet
+  -- it is one of this board's, and took no step yet
   abbrev pub IsNewSeatOf : BoardModel J → SeatModel J → Type 0
   IsNewSeatOf board seat = (seat.board ≡ board.id) × (seat.knows ≡ new_seat_view seat.knows.seat board.jobs)
 

@@ -1,8 +1,9 @@
 -- What one step at a claim board tells the seat that took it.
 -- This project's own profile: no clause of IEC 61499 speaks of a claim board.
 --
--- A contract sees one seat, and not the board as it is at some time. So it speaks of moments: the states of the board in which a seat has a view.
--- What holds at each moment of a seat's view holds of the board from the seat's last step until its next, since the rule is kept all along.
+-- A contract sees one seat, and not the whole board as it is at some time. So it speaks of moments: the states that
+-- meet the board's rule and in which the seat has its view. What holds at each moment of a seat's view holds of the board
+-- from the seat's last step until its next one, since the rule is kept all along and no other seat changes that view.
 use Rattle.std.specs.Prelude.{◌≡◌, ◌≢◌, ℕ, ◌<◌, ◌≤◌, Bool, List, [], ◌∷◌, length, slice_get, Option, Some, None, Contains, IsTrue}
 use Rattle.atomic_table.specs.Table.{Me, Step}
 use Rattle.fb_board.specs.declared.rule.Place.{Place}
@@ -21,14 +22,16 @@ module _ {J D : Type 0} (does : J → D → Type 0) (jobs : List J) where
   -- no other seat has ever drawn k
   pub record IsAlone (v : View J) (k : ℕ) : Type 0 where
     pub moment : Moment does jobs v
-    pub others : (m : Moment does jobs v) (other : ℕ) (w : View J) → other ≢ v.seat → Knows m.state other w → ¬ Contains w.drawn k
+    pub others : (m : Moment does jobs v) (other : ℕ) (w : View J) → other ≢ v.seat → Knows m.state other w
+        → ¬ Contains w.drawn k
 
   -- every number was drawn
   pub record IsAllDrawn (v : View J) : Type 0 where
     pub moment : Moment does jobs v
-    pub each : (m : Moment does jobs v) (k : ℕ) → k < length jobs → (seat : ℕ) × (w : View J) × Knows m.state seat w × Contains w.drawn k
+    pub each : (m : Moment does jobs v) (k : ℕ) → k < length jobs
+        → (seat : ℕ) × (w : View J) × Knows m.state seat w × Contains w.drawn k
 
-  -- the number k came home with this done value, and from then on is home
+  -- the number k came home with this done value, and it is home at each moment: its flag is up
   pub record IsHome (v : View J) (k : ℕ) (done : D) : Type 0 where
     pub moment : Moment does jobs v
     pub came : SlotHas moment.state k (Home done)
@@ -41,7 +44,7 @@ module _ {J D : Type 0} (does : J → D → Type 0) (jobs : List J) where
     pub least : (i : ℕ) → i < k → flag moment.state i ≡ 1
 
 module _ {J D : Type 0} where
-  -- the slots that a seat has: that of its slip, which it emptied
+  -- the slots that a seat has: the one of its slip, whose job it took out
   abbrev pub slots_with : Option ℕ → List (ℕ × Place J D)
   slots_with None = []
   slots_with (Some k) = (k, Out) ∷ []
@@ -65,16 +68,19 @@ module _ {J D : Type 0} (does : J → D → Type 0) where
 
   -- what a draw tells, by the number that it found in word 0
   abbrev pub Draws : Step (Place J D) → Me (Place J D) (View J) → ℕ → Me (Place J D) (View J) → Type 0
-  Draws _ before found after = (found < length before.0.jobs → DrawsJob before found after) × (length before.0.jobs ≤ found → DrawsNone before after)
+  Draws _ before found after =
+      (found < length before.0.jobs → DrawsJob before found after) × (length before.0.jobs ≤ found → DrawsNone before after)
 
+  -- a seat that put the number k back, with this done value
   pub record PutsBackDone (before : Me (Place J D) (View J)) (k : ℕ) (done : D) (after : Me (Place J D) (View J)) : Type 0 where
     pub view : after.0 ≡ view_after_put_back before.0 k
     pub slots : after.1 ≡ []
     pub home : IsHome does before.0.jobs after.0 k done
 
-  -- what putting back tells
+  -- what putting back tells, by the done value that the seat wrote into its slot
   abbrev pub PutsBack : Step (Place J D) → Me (Place J D) (View J) → ℕ → Me (Place J D) (View J) → Type 0
-  PutsBack _ before _ after = (k : ℕ) (done : D) → before.0.slip ≡ Some k → before.1 ≡ (k, Home done) ∷ [] → PutsBackDone before k done after
+  PutsBack _ before _ after =
+      (k : ℕ) (done : D) → before.0.slip ≡ Some k → before.1 ≡ (k, Home done) ∷ [] → PutsBackDone before k done after
 
 -- What holds of a seat between its steps: its flag `dry` tells whether it is dry, and it has the slot of its slip
 pub record IsSound {J D : Type 0} (does : J → D → Type 0) (dry : Bool) (me : Me (Place J D) (View J)) : Type 0 where

@@ -1,0 +1,2 @@
+-- The contracts of the scoped workers cite the words of the claim board, so nothing is defined here.
+-- This project's own profile: no clause of IEC 61499 speaks of workers.
