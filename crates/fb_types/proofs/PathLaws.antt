@@ -1,5 +1,5 @@
 -- Names and paths that the tests do not tell apart are one.
-use Rattle.std.proofs.Common.{◌≡◌, ℕ, Bool, true, false, ◌&&◌, List, [], ◌∷◌, refl, nat_eq}
+use Rattle.std.proofs.Common.{◌≡◌, Bool, true, List, [], ◌∷◌, refl, nat_eq}
 use Rattle.std.specs.Cmp.{first_so, second_so}
 use Rattle.std.proofs.lemmas.Bool.{eqb-true, eq-eqb}
 use Rattle.fb_types.specs.Names.{Name, Path, Port, alike, same_name, same_path, same_port}

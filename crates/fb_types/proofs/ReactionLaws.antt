@@ -1,13 +1,13 @@
 -- What emissions add to the outcome of a reaction, and what they leave.
-use Rattle.std.proofs.Common.{◌≡◌, ℕ, Bool, true, false, cond, eqb, List, [], ◌∷◌, ◌++◌, map, refl, sym, ap, ◌∙◌, append_assoc, Option, Some, None}
-use Rattle.std.specs.Prelude.{flat_map, All}
+use Rattle.std.proofs.Common.{◌≡◌, ℕ, Bool, true, false, cond, eqb, List, [], ◌∷◌, ◌++◌, map, refl, sym, ap, ◌∙◌, append_assoc}
+use Rattle.std.specs.Prelude.{flat_map}
 use Rattle.std.proofs.lemmas.List.{append-nil}
 use Rattle.std.proofs.lemmas.Bool.{eq-eqb}
-use Rattle.fb_types.specs.Names.{Name, Path, Port, same_path}
+use Rattle.fb_types.specs.Names.{Path, Port, same_path}
 use Rattle.fb_types.specs.Blocks.{Emission}
 use Rattle.fb_types.specs.Systems.{System}
-use Rattle.fb_types.specs.States.{Block, Line}
-use Rattle.fb_types.specs.Reactions.{World, Outcome, Out, Local, emitted, emitted_all, spread, carried_from, with_block}
+use Rattle.fb_types.specs.States.{Block}
+use Rattle.fb_types.specs.Reactions.{World, Outcome, Out, Local, emitted, emitted_all, spread, carried_from}
 use Rattle.fb_types.specs.Posted.{emission_line}
 use Rattle.fb_types.specs.declared.key.Key.{Key}
 use Rattle.fb_types.specs.declared.value.Value.{Value}
@@ -56,7 +56,6 @@ emitted_all-publishes sys k p (e ∷ es) o =
     (emitted-publishes sys k p e o) (emitted_all-publishes sys k p es (emitted sys k p e o))
 
 -- ---- Lines and what goes out
-
 
 abbrev pub emission_outs : System → Key → Path → Emission → List Out
 emission_outs sys k p e = spread sys k.resource (carried_from p e.values) (sys.targets (record { at = p; name = e.event }))

@@ -1,15 +1,14 @@
 -- What local events come to on the agenda.
-use Rattle.std.proofs.Common.{◌≡◌, ℕ, zero, suc, ◌+◌, Bool, true, false, cond, List, [], ◌∷◌, ◌++◌, length, map, refl, sym, ap, ◌∙◌, append_assoc, add_assoc, Option, Some, None, arith}
+use Rattle.std.proofs.Common.{◌≡◌, ℕ, suc, ◌+◌, Bool, true, false, cond, List, [], ◌∷◌, ◌++◌, length, map, refl, sym, ap, ◌∙◌, append_assoc, Some, None, arith}
 use Rattle.std.proofs.lemmas.List.{append-nil}
 use Rattle.fb_types.specs.Names.{Port}
 use Rattle.fb_types.specs.Keys.{or_else, found, same_key, local_key}
 use Rattle.fb_types.specs.Systems.{System}
-use Rattle.fb_types.specs.States.{Event, Raised}
-use Rattle.fb_types.specs.Reactions.{Out, Local}
+use Rattle.fb_types.specs.States.{Raised}
+use Rattle.fb_types.specs.Reactions.{Local}
 use Rattle.fb_types.specs.Takes.{Posts, post, post_all}
 use Rattle.fb_types.specs.Posted.{numbered}
 use Rattle.fb_types.specs.declared.key.Key.{Key}
-
 
 pub post_all-raised : (sys : System) (k : Key) (qs : List Port) (x : Posts)
     → (post_all sys k (map Local qs) x).raised ≡ x.raised ++ numbered k x.locals qs

@@ -1,4 +1,4 @@
-use Rattle.std.proofs.Common.{◌≡◌, refl, sym, ◌∙◌}
+use Rattle.std.proofs.Common.{sym, ◌∙◌}
 use Rattle.fb_types.proofs.event_ports.kind_named.Goals as goal
 
 pub returns-else-is-7 : goal.returns-else-is-7
