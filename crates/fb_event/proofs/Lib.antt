@@ -1,1 +1,4 @@
 pub mod Places
+pub mod Events
+pub mod Emissions
+pub mod Inputs

@@ -1,10 +1,11 @@
 -- Where a name stands in a list, and names that no list has.
-use Rattle.std.proofs.Common.{◌≡◌, ◌<◌, ℕ, Bool, true, false, ◌&&◌, not, cond, option_map, ◌≤◌, List, [], ◌∷◌, map, position, Option, Some, None, nat_lt, refl, ap, arith, length}
+use Rattle.std.proofs.Common.{◌≡◌, ◌<◌, ℕ, Bool, true, false, ◌&&◌, not, option_map, ◌≤◌, List, [], ◌∷◌, map, position, None, refl, arith, rules, length}
 use Rattle.std.specs.List.{prefix_len}
 use Rattle.std.proofs.lemmas.List.{length-map}
-use Rattle.fb_types.specs.Names.{Name, alike, same_name}
+use Rattle.fb_types.specs.Names.{Name, same_name}
 use Rattle.fb_types.specs.Blocks.{named, event_blocks}
 
+-- how far a test passes in a list of images
 prefix_len-map : {A B : Type 0} (p : B → Bool) (f : A → B) (xs : List A) → prefix_len p (map f xs) ≡ prefix_len (λ x. p (f x)) xs
 prefix_len-map p f [] = refl
 prefix_len-map p f (x ∷ xs) = rw (prefix_len-map p f xs)
@@ -39,7 +40,6 @@ named-longer name_of name (x ∷ xs) h = rw (same_name-longer (name_of x) name h
 -- no event block has a name of ten letters or more
 pub kind_named-longer : (name : Name) → 10 ≤ length name → None ≡ option_map (λ b. b.1) (named (λ b. b.0) name event_blocks)
 kind_named-longer name h =
-    let lt : (n : ℕ) → n < 10 → n < length name = λ n l. omega arith in
-    rw (named-longer (λ b. b.0) name event_blocks ?)
+    let shorter : AreShorter (λ b. b.0) (length name) event_blocks = search rules in rw (named-longer (λ b. b.0) name event_blocks shorter)
 
 pub ruleset long_names = kind_named-longer

@@ -1,5 +1,7 @@
 -- What the program's own form of an event block stands for (this project's profile).
-use Rattle.std.specs.Prelude.{ℕ, ◌<◌, ◌^◌, false}
+use Rattle.std.specs.Prelude.{◌<◌, ◌^◌, pos, ◌<ℤ◌}
+use Rattle.fb_types.specs.Values.{whole}
+use Rattle.fb_types.specs.declared.value.Value.{Value}
 use Rattle.fb_types.specs.EventBlocks.{Memory, Idle, Marks, Flag, Running, Count}
 use Rattle.fb_types.specs.declared.event_kind.EventKind.{EventKind}
 use Rattle.fb_types.specs.declared.event_kind.EventKind.TheVariants as kind
@@ -9,13 +11,16 @@ use Rattle.fb_event.specs.declared.state.Timer.TheVariants as timer
 use Rattle.fb_event.specs.declared.state.Block.{Block}
 use Rattle.fb_event.specs.declared.state.Block.TheVariants.{Restart, Split, Merge, Rendezvous, Permit, Select, Switch, Delay, Cycle, SetReset, DataLatch, RisingEdge, FallingEdge, CountUp}
 
+-- an event block of this kind that remembers this
 abbrev pub state : EventKind → Memory → State
 state k m = record { kind = k; memory = m }
 
+-- what a block with this timer remembers
 abbrev pub memory_of_timer : Timer → Memory
 memory_of_timer timer.Idle = Idle
 memory_of_timer (timer.Running time) = Running time
 
+-- what a block of the program stands for
 abbrev pub state_of : Block → State
 state_of Restart = state kind.Restart Idle
 state_of Split = state kind.Split Idle
@@ -37,7 +42,14 @@ abbrev pub IsTimeInRange : Timer → Type 0
 IsTimeInRange timer.Idle = Unit {0}
 IsTimeInRange (timer.Running time) = time < 2 ^ 63
 
+-- a block whose timer, if it has one and it runs, has a time in range
 abbrev pub IsInRange : Block → Type 0
 IsInRange (Delay t) = IsTimeInRange t
 IsInRange (Cycle t) = IsTimeInRange t
 IsInRange _ = Unit {0}
+
+-- an input that a timer is set by has the range of TIME
+abbrev pub IsInTime : Block → Value → Type 0
+IsInTime (Delay t) dt = whole dt <ℤ pos (2 ^ 63)
+IsInTime (Cycle t) dt = whole dt <ℤ pos (2 ^ 63)
+IsInTime _ dt = Unit {0}

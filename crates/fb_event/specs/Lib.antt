@@ -1,3 +1,5 @@
 pub mod State
 pub mod Reactions
 pub mod Block
+pub mod Step
+pub mod Emissions

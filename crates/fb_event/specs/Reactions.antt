@@ -3,10 +3,10 @@ use Rattle.std.specs.Prelude.{ℕ, List, [], ◌∷◌, map, length, ◌≡◌, 
 use Rattle.fb_types.specs.Values.{fits}
 use Rattle.fb_types.specs.Blocks.{ports_of_event_block, variable_names, outputs_with, Emission}
 use Rattle.fb_types.specs.EventBlocks.{Reaction, reaction, expiry, output_of}
+use Rattle.fb_types.specs.Flat.{zero_value}
 use Rattle.fb_types.specs.Numbers.{event_at, by_place, emission_of}
 use Rattle.fb_types.specs.Reactions.{emissions}
 use Rattle.fb_types.specs.declared.event_kind.EventKind.{EventKind}
-use Rattle.fb_types.specs.declared.library.Ports.{Ports}
 use Rattle.fb_types.specs.declared.library.Variable.{Variable}
 use Rattle.fb_types.specs.declared.run.Emission as run
 use Rattle.fb_types.specs.declared.value.Value.{Value}
@@ -16,6 +16,11 @@ use Rattle.fb_event.specs.State.{State}
 abbrev pub FitTheirTypes : List Variable → List Value → Type 0
 FitTheirTypes (x ∷ xs) (v ∷ vs) = IsTrue (fits x.ty v) × FitTheirTypes xs vs
 FitTheirTypes _ _ = Unit {0}
+
+-- the value of the first variable
+abbrev pub first_value : List Value → Value
+first_value [] = zero_value
+first_value (v ∷ vs) = v
 
 -- the reaction to the event input at a place, with the values of all data inputs in the order of the declaration
 abbrev pub reaction_to : State → (event tick : ℕ) → List Value → Reaction
@@ -35,8 +40,12 @@ emissions_of k r = emissions (ports_of_event_block k) (output_of r.memory) r.emi
 abbrev pub meanings : EventKind → List run.Emission → List Emission
 meanings k es = map (emission_of (ports_of_event_block k)) es
 
+-- The place is one of an event output.
+abbrev pub IsEventOutput : EventKind → ℕ → Type 0
+IsEventOutput k place = place < length (ports_of_event_block k).event_outputs
+
 -- The emission is one of an event output, with as many values as there are variables WITH it.
 abbrev pub IsWellFormed : EventKind → run.Emission → Type 0
 IsWellFormed k e =
     let p = ports_of_event_block k in
-    (e.event < length p.event_outputs) × (length e.values ≡ length (outputs_with p (event_at p.event_outputs e.event)))
+    IsEventOutput k e.event × (length e.values ≡ length (outputs_with p (event_at p.event_outputs e.event)))

@@ -2,7 +2,9 @@
 //! manner of IEC 61499-1, Annex A; a tick is a millisecond of virtual time.
 #![tactic(auto)]
 
+mod emission;
 pub mod ports;
 pub mod reaction;
 pub mod state;
+mod step;
 mod tables;

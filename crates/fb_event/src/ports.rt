@@ -179,3 +179,6 @@ pub fn carries(kind: EventKind, event: u32) -> bool
         | EventKind::FallingEdge => false,
     }
 }
+
+#[cfg(test)]
+mod tests;

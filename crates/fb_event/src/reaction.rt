@@ -1,10 +1,14 @@
 //! The reactions of event blocks, to an event and to their timer.
 
-ghost use Rattle.std.specs.Prelude.{◌≡◌, ◌++◌, ◌≤◌, ◌^◌, All, IfErr, OnOk};
+ghost use Rattle.std.specs.Prelude.{◌≡◌, ◌++◌, ◌≤◌, ◌^◌, [], All, IfErr, IsOk, OnOk, map};
 ghost use Rattle.fb_types.specs.Blocks.{ports_of_event_block};
-ghost use Rattle.fb_event.specs.Reactions.{FitTheirTypes, reaction_to, expiry_of, emissions_of, meanings, IsWellFormed};
+ghost use Rattle.fb_event.specs.Block.{state_of, IsInRange};
+ghost use Rattle.fb_event.specs.Emissions.{emission_at};
+ghost use Rattle.fb_event.specs.Reactions.{FitTheirTypes, reaction_to, expiry_of, emissions_of, first_value, meanings, IsEventOutput, IsWellFormed};
 
+use crate::emission::emit_all;
 use crate::state::EventState;
+use crate::step::{Step, expiry, reaction};
 use fb_types::run::{Emits, Halt, TimerAsk};
 use fb_types::value::Value;
 
@@ -13,7 +17,9 @@ use fb_types::value::Value;
 /// after the sampling. What it emits is put behind the other emissions, by the allocator that these keep.
 ///
 /// # Errors
-/// `Halt::Memory` where memory ran out, and never a stop. The state is then of no further use.
+/// `Halt::Memory` where memory ran out, and never a stop. Nothing is said of what the block remembers then.
+/// A reaction that emits nothing takes no memory.
+#[tactic(auto, using(crate::proofs::Inputs::inputs, crate::proofs::Emissions::step_emissions))]
 pub fn react(
     state: &mut EventState,
     event: u32,
@@ -24,24 +30,31 @@ pub fn react(
 ) -> Result<(), Halt>
     requires early { tick ≤ 10 ^ 12 }
     requires typed { FitTheirTypes (ports_of_event_block state.old.kind).inputs inputs.now }
-    ensures memory { OnOk result (state.new.memory ≡ (reaction_to state.old event tick inputs.now).memory) }
-    ensures timer { OnOk result (ask.new ≡ (reaction_to state.old event tick inputs.now).timer) }
-    ensures emitted { OnOk result (meanings state.old.kind emits.new ≡ meanings state.old.kind emits.old
-        ++ emissions_of state.old.kind (reaction_to state.old event tick inputs.now)) }
+    ensures memory { let reaction = reaction_to state.old event tick inputs.now in
+        OnOk result (state.new.memory ≡ reaction.memory) }
+    ensures timer { let reaction = reaction_to state.old event tick inputs.now in
+        OnOk result (ask.new ≡ reaction.timer) }
+    ensures emitted { let reaction = reaction_to state.old event tick inputs.now in
+        OnOk result (meanings state.old.kind emits.new
+        ≡ meanings state.old.kind emits.old ++ emissions_of state.old.kind reaction) }
 
     // Also where memory runs out.
     ensures kind { state.new.kind ≡ state.old.kind }
-    ensures well_formed { All (IsWellFormed state.old.kind) emits.old → All (IsWellFormed state.old.kind) emits.new }
+    ensures well_formed { let IsFit = IsWellFormed state.old.kind in All IsFit emits.old → All IsFit emits.new }
     ensures only_memory { IfErr result (λ halt. halt ≡ Halt.Memory) }
+    ensures silent { (reaction_to state.old event tick inputs.now).emits ≡ [] → IsOk result }
 {
-    Err(Halt::Memory)
+    let step = reaction(state.block, event, tick, first(inputs));
+    perform(&step, state, emits, ask)
 }
 
 /// The reaction of an event block to its timer, which goes off in a tick that is at most 10^12. It reads no
 /// input. What it emits is put behind the other emissions, by the allocator that these keep.
 ///
 /// # Errors
-/// `Halt::Memory` where memory ran out, and never a stop. The state is then of no further use.
+/// `Halt::Memory` where memory ran out, and never a stop. Nothing is said of what the block remembers then.
+/// A reaction that emits nothing takes no memory.
+#[tactic(auto, using(crate::proofs::Emissions::step_emissions))]
 pub fn expire(
     state: &mut EventState,
     tick: u64,
@@ -51,13 +64,55 @@ pub fn expire(
     requires early { tick ≤ 10 ^ 12 }
     ensures memory { OnOk result (state.new.memory ≡ (expiry_of state.old tick).memory) }
     ensures timer { OnOk result (ask.new ≡ (expiry_of state.old tick).timer) }
-    ensures emitted { OnOk result (meanings state.old.kind emits.new
-        ≡ meanings state.old.kind emits.old ++ emissions_of state.old.kind (expiry_of state.old tick)) }
+    ensures emitted { let reaction = expiry_of state.old tick in
+        OnOk result (meanings state.old.kind emits.new
+        ≡ meanings state.old.kind emits.old ++ emissions_of state.old.kind reaction) }
 
     // Also where memory runs out.
     ensures kind { state.new.kind ≡ state.old.kind }
-    ensures well_formed { All (IsWellFormed state.old.kind) emits.old → All (IsWellFormed state.old.kind) emits.new }
+    ensures well_formed { let IsFit = IsWellFormed state.old.kind in All IsFit emits.old → All IsFit emits.new }
     ensures only_memory { IfErr result (λ halt. halt ≡ Halt.Memory) }
+    ensures silent { (expiry_of state.old tick).emits ≡ [] → IsOk result }
 {
-    Err(Halt::Memory)
+    let step = expiry(state.block, tick);
+    perform(&step, state, emits, ask)
 }
+
+/// Emits what the step emits, and then makes the block and the timer what the step says.
+fn perform(
+    step: &Step,
+    state: &mut EventState,
+    emits: &mut Emits,
+    ask: &mut TimerAsk,
+) -> Result<(), Halt>
+    requires in_range { IsInRange step.now.block }
+    requires events { All (IsEventOutput (state_of step.now.block).kind) step.now.emits.now }
+    requires kind { (state_of step.now.block).kind ≡ state.old.kind }
+    ensures state { OnOk result (state.new ≡ state_of step.now.block) }
+    ensures timer { OnOk result (ask.new ≡ step.now.ask) }
+    ensures emitted { OnOk result (emits.new ≡ emits.old ++ map (emission_at step.now.block) step.now.emits.now) }
+    ensures kind { state.new.kind ≡ state.old.kind }
+    ensures well_formed { let IsFit = IsWellFormed state.old.kind in All IsFit emits.old → All IsFit emits.new }
+    ensures only_memory { IfErr result (λ halt. halt ≡ Halt.Memory) }
+    ensures silent { step.now.emits.now ≡ [] → IsOk result }
+{
+    if emit_all(step.block, step.emits, emits).is_err() {
+        return Err(Halt::Memory);
+    }
+    state.block = step.block;
+    *ask = step.ask;
+    Ok(())
+}
+
+/// The value of the data input, if there is one.
+fn first(inputs: &[Value]) -> Value
+    ensures { result ≡ first_value inputs.now }
+{
+    match inputs {
+        [] => Value::Whole(0),
+        [value, ..] => *value,
+    }
+}
+
+#[cfg(test)]
+mod tests;

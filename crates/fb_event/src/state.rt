@@ -40,7 +40,7 @@ pub(crate) enum Block {
 }
 
 /// An event block: its kind, and what it remembers from one reaction to the next.
-#[derive(Drop)]
+#[derive(Clone, Debug, Drop)]
 pub struct EventState {
     pub(crate) block: Block,
 }
@@ -88,6 +88,7 @@ impl EventState {
         EventState { block }
     }
 
+    /// The kind of the block, which never changes.
     pub fn kind(&self) -> EventKind
         ensures { result ≡ self.now.kind }
     {

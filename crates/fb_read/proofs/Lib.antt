@@ -8,3 +8,5 @@ pub mod Lists
 pub mod NetworkSound
 pub mod NetworkComplete
 pub mod WholeLaws
+pub mod ByteLaws
+pub mod LongestLaws

@@ -11,3 +11,4 @@ pub mod Network
 pub mod Grammar
 pub mod NetworkGrammar
 pub mod Whole
+pub mod Longest

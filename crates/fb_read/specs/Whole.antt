@@ -59,6 +59,14 @@ IsGrammarFault (error.Syntax line) = Unit {0}
 IsGrammarFault error.TooLong = ⊥
 IsGrammarFault error.Nesting = Unit {0}
 
+abbrev pub IsSyntax : ReadError → Type 0
+IsSyntax error.Memory = ⊥
+IsSyntax error.Byte = ⊥
+IsSyntax error.Token = ⊥
+IsSyntax (error.Syntax line) = Unit {0}
+IsSyntax error.TooLong = ⊥
+IsSyntax error.Nesting = ⊥
+
 -- a function that reads all tokens answers this, unless memory is wanting
 abbrev pub Parses : Result Library ReadError → Result Library RuleFault → Type 0
 Parses (Ok x) outcome = outcome ≡ Ok x

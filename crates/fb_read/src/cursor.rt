@@ -1,6 +1,6 @@
 //! A place in a list of tokens.
 
-ghost use Rattle.std.specs.Prelude.{◌≡◌, length, map, pos};
+ghost use Rattle.std.specs.Prelude.{◌≡◌, ◌↔◌, [], length, IsNone};
 ghost use Rattle.fb_read.specs.Parser as spec;
 ghost use Rattle.fb_read.specs.Parser.{Reads};
 ghost use Rattle.fb_read.specs.Tokens.{tokens_of};
@@ -15,8 +15,6 @@ use std::marker::Model;
 #[derive(Drop)]
 pub struct Cursor<'a> {
     rest: &'a [Placed],
-    /// Where the text ends.
-    end: usize,
 }
 
 impl<'a> Model for Cursor<'a> {
@@ -31,10 +29,10 @@ impl<'a> Model for Cursor<'a> {
 impl<'a> Cursor<'a> {
     ghost use Rattle.fb_read.specs.Tokens.{tokens_of};
 
-    pub fn new(rest: &'a [Placed], end: usize) -> Cursor<'a>
+    pub fn new(rest: &'a [Placed]) -> Cursor<'a>
         ensures { result ≡ tokens_of rest.now }
     {
-        Cursor { rest, end }
+        Cursor { rest }
     }
 
     /// How many tokens are left.
@@ -44,11 +42,13 @@ impl<'a> Cursor<'a> {
         self.rest.len()
     }
 
-    /// Where the next token begins, or the end of the text.
-    pub fn place(&self) -> usize {
+    /// Where the next token begins, if there is one.
+    pub fn place(&self) -> Option<usize>
+        ensures { IsNone result ↔ (self.now ≡ []) }
+    {
         match self.rest {
-            [first, ..] => first.place,
-            [] => self.end,
+            [first, ..] => Some(first.place),
+            [] => None,
         }
     }
 

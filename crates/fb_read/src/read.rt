@@ -5,7 +5,7 @@ ghost use Rattle.fb_types.specs.declared.library.Library.{Library};
 ghost use Rattle.fb_read.specs.Front.{bad_byte, bad_token};
 ghost use Rattle.fb_read.specs.Network.{library};
 ghost use Rattle.fb_read.specs.Tokens.{tokens_of};
-ghost use Rattle.fb_read.specs.Whole.{IsLibraryText, HasTokenFault, HasTokens, RefusesWhere, IsMemory, IsGrammarFault, Parses, ended, most_bytes};
+ghost use Rattle.fb_read.specs.Whole.{IsLibraryText, HasTokenFault, HasTokens, RefusesWhere, IsMemory, IsGrammarFault, IsSyntax, Parses, ended, most_bytes};
 
 use crate::cursor::Cursor;
 use crate::error::ReadError;
@@ -33,26 +33,33 @@ fn line_of(text: &[u8], place: usize) -> u32
     1 + before.iter().filter(|b| **b == b'\n').count() as u32
 }
 
+/// The refusal of the next token, or of the end of the text.
+fn syntax_fault(text: &[u8], cursor: &Cursor<'_>) -> ReadError
+    requires { length text.now ≤ most_bytes }
+    ensures { IsSyntax result }
+{
+    let place = cursor.place().unwrap_or(text.len());
+    ReadError::Syntax {
+        line: line_of(text, place),
+    }
+}
+
 /// The library that all of the tokens are.
 fn parse(alloc: Global, text: &[u8], tokens: &[Placed]) -> Result<Library, ReadError>
     requires { length text.now ≤ most_bytes }
     ensures { Parses result (ended (library (tokens_of tokens.now))) }
 {
-    let mut cursor = Cursor::new(tokens, text.len());
+    let mut cursor = Cursor::new(tokens);
     match Library::read(alloc, &mut cursor) {
         Ok(library) => {
             if cursor.left() == 0 {
                 Ok(library)
             } else {
-                Err(ReadError::Syntax {
-                    line: line_of(text, cursor.place()),
-                })
+                Err(syntax_fault(text, &cursor))
             }
         }
         Err(ParseFault::Memory) => Err(ReadError::Memory),
-        Err(ParseFault::Syntax) => Err(ReadError::Syntax {
-            line: line_of(text, cursor.place()),
-        }),
+        Err(ParseFault::Syntax) => Err(syntax_fault(text, &cursor)),
         Err(ParseFault::Nesting) => Err(ReadError::Nesting),
     }
 }

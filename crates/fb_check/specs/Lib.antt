@@ -1,0 +1,9 @@
+pub mod Stands
+pub mod Refusals
+pub mod Indexes
+pub mod Interfaces
+pub mod Parameters
+pub mod Checks
+pub mod Wires
+pub mod Rows
+pub mod Resolved

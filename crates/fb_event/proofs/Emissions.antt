@@ -1,0 +1,95 @@
+-- What emissions by number stand for.
+use Rattle.std.proofs.Common.{◌≡◌, ℕ, zero, suc, List, [], ◌∷◌, ◌++◌, All, map, length, refl, arith, sym, ap, subst, ◌∙◌}
+use Rattle.std.proofs.lemmas.List.{length-map, map-append}
+use Rattle.std.proofs.lemmas.List.Elements.{All-head, All-tail, All-push}
+use Rattle.fb_types.specs.Names.{Name}
+use Rattle.fb_types.specs.Values.{Values}
+use Rattle.fb_types.specs.Blocks.{ports_of_event_block, variable_names, outputs_with, bound}
+use Rattle.fb_types.specs.EventBlocks.{Reaction, output_of}
+use Rattle.fb_types.specs.Numbers.{event_at, emission_of, pair_up}
+use Rattle.fb_types.specs.Reactions.{emissions}
+use Rattle.fb_types.specs.declared.run.Emission as run
+use Rattle.fb_types.specs.declared.event_kind.EventKind.{EventKind}
+use Rattle.fb_types.specs.declared.event_kind.EventKind.TheVariants.{SetReset, DataLatch, CountUp}
+use Rattle.fb_event.specs.Block.{state, state_of}
+use Rattle.fb_event.specs.Emissions.{emission_at}
+use Rattle.fb_event.specs.Reactions.{IsEventOutput, IsWellFormed, emissions_of, meanings}
+use Rattle.fb_event.specs.State.{State}
+use Rattle.fb_event.specs.Step.{Performs}
+use Rattle.fb_event.specs.declared.step.Step.{Step}
+use Rattle.fb_event.specs.declared.state.Block.{Block}
+
+-- every event output is WITH all data outputs
+outputs_with-all : (k : EventKind) (place : ℕ) → IsEventOutput k place
+    → outputs_with (ports_of_event_block k) (event_at (ports_of_event_block k).event_outputs place) ≡ variable_names (ports_of_event_block k).outputs
+outputs_with-all SetReset zero h = refl
+outputs_with-all SetReset (suc place) h = absurd (omega arith)
+outputs_with-all DataLatch zero h = refl
+outputs_with-all DataLatch (suc place) h = absurd (omega arith)
+outputs_with-all CountUp zero h = refl
+outputs_with-all CountUp (suc zero) h = refl
+outputs_with-all CountUp (suc (suc place)) h = absurd (omega arith)
+outputs_with-all _ place h = refl
+
+-- an event output with the values of all data outputs is a well-formed emission
+emission_at-IsWellFormed : (b : Block) (place : ℕ) → IsEventOutput (state_of b).kind place
+    → IsWellFormed (state_of b).kind (emission_at b place)
+emission_at-IsWellFormed b place h =
+    (h, length-map _ _ ∙ sym (ap length (outputs_with-all (state_of b).kind place h)))
+
+-- values in the order of the names are the values of the names
+pair_up-map : (vars : Values) (ns : List Name) → pair_up ns (map vars ns) ≡ bound ns vars
+pair_up-map vars [] = refl
+pair_up-map vars (n ∷ ns) = rw (pair_up-map vars ns)
+
+-- what an emission by number stands for
+emission_of-emission_at : (b : Block) (place : ℕ) → IsEventOutput (state_of b).kind place
+    → emission_of (ports_of_event_block (state_of b).kind) (emission_at b place)
+    ≡ record {
+      event = event_at (ports_of_event_block (state_of b).kind).event_outputs place;
+      values = bound (outputs_with (ports_of_event_block (state_of b).kind) (event_at (ports_of_event_block (state_of b).kind).event_outputs place)) (output_of (state_of b).memory);
+    }
+emission_of-emission_at b place h = rw (outputs_with-all (state_of b).kind place h) (rw (pair_up-map (output_of (state_of b).memory) _))
+
+-- what emissions by number stand for, by the state of the block
+meanings-emission_at : (b : Block) (places : List ℕ) → All (IsEventOutput (state_of b).kind) places
+    → meanings (state_of b).kind (map (emission_at b) places)
+    ≡ emissions (ports_of_event_block (state_of b).kind) (output_of (state_of b).memory)
+    (map (event_at (ports_of_event_block (state_of b).kind).event_outputs) places)
+meanings-emission_at b [] h = refl
+meanings-emission_at b (place ∷ places) h =
+    let here : IsEventOutput (state_of b).kind place = All-head (IsEventOutput (state_of b).kind) place places h in
+    let rest : All (IsEventOutput (state_of b).kind) places = All-tail (IsEventOutput (state_of b).kind) place places h in
+    rw (emission_of-emission_at b place here) (rw (meanings-emission_at b places rest))
+
+-- .. and so for a block in a known state
+meanings-state : (b : Block) (s : State) → state_of b ≡ s → (places : List ℕ) → All (IsEventOutput s.kind) places
+    → meanings s.kind (map (emission_at b) places)
+    ≡ emissions (ports_of_event_block s.kind) (output_of s.memory) (map (event_at (ports_of_event_block s.kind).event_outputs) places)
+meanings-state b s e places =
+    subst (λ (t : State). All (IsEventOutput t.kind) places → meanings t.kind (map (emission_at b) places)
+    ≡ emissions (ports_of_event_block t.kind) (output_of t.memory) (map (event_at (ports_of_event_block t.kind).event_outputs) places))
+    e (meanings-emission_at b places)
+
+-- a well-formed list stays so where an event output is emitted
+pub push-IsWellFormed : (b : Block) (emits : List run.Emission) (place : ℕ) → All (IsWellFormed (state_of b).kind) emits
+    → IsEventOutput (state_of b).kind place → All (IsWellFormed (state_of b).kind) (emits ++ emission_at b place ∷ [])
+push-IsWellFormed b emits place all here = All-push (IsWellFormed (state_of b).kind) _ _ all (emission_at-IsWellFormed b place here)
+
+-- what a step emits is what its reaction emits
+pub emissions-Performs : (s : State) (r : Reaction) (step : Step) (old new : List run.Emission) → Performs s r step
+    → new ≡ old ++ map (emission_at step.block) step.emits.now → meanings s.kind new ≡ meanings s.kind old ++ emissions_of s.kind r
+emissions-Performs s r step old new h e =
+    let sent = meanings-state step.block (state s.kind r.memory) h.block step.emits.now h.within in
+    rw e (map-append _ old _ ∙ ap (λ es. meanings s.kind old ++ es) (sent ∙ ap (emissions (ports_of_event_block s.kind) (output_of r.memory)) h.emits))
+
+-- no list but the empty one has no images
+map-nil : {A B : Type 0} (f : A → B) (xs : List A) → map f xs ≡ [] → xs ≡ []
+map-nil f [] e = refl
+map-nil f (x ∷ xs) e = cc
+
+-- a step emits nothing where its reaction does
+pub silent-Performs : (s : State) (r : Reaction) (step : Step) → Performs s r step → r.emits ≡ [] → step.emits.now ≡ []
+silent-Performs s r step h e = map-nil _ step.emits.now (h.emits ∙ e)
+
+pub ruleset step_emissions = (emissions-Performs, silent-Performs)

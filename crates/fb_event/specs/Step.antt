@@ -1,0 +1,38 @@
+-- What a step of the program stands for (this project's profile).
+use Rattle.std.specs.Prelude.{◌≡◌, ℕ, [], map, All}
+use Rattle.fb_types.specs.Blocks.{ports_of_event_block}
+use Rattle.fb_types.specs.EventBlocks.{Reaction, reaction, timed}
+use Rattle.fb_types.specs.Numbers.{event_at}
+use Rattle.fb_types.specs.declared.value.Value.{Value}
+use Rattle.fb_event.specs.State.{State}
+use Rattle.fb_event.specs.Reactions.{IsEventOutput}
+use Rattle.fb_types.specs.declared.event_kind.EventKind.TheVariants.{Delay}
+use Rattle.fb_types.specs.declared.run.TimerAsk.{TimerAsk}
+use Rattle.fb_event.specs.Block.{state, state_of, memory_of_timer, IsInRange, IsTimeInRange}
+use Rattle.fb_event.specs.declared.state.Timer.{Timer}
+use Rattle.fb_event.specs.declared.step.Step.{Step}
+
+-- The step is this reaction of a block in this state.
+pub record Performs (s : State) (r : Reaction) (step : Step) : Type 0 where
+  pub block : state_of step.block ≡ state s.kind r.memory
+  pub in_range : IsInRange step.block
+  pub emits : map (event_at (ports_of_event_block s.kind).event_outputs) step.emits.now ≡ r.emits
+  pub within : All (IsEventOutput s.kind) step.emits.now
+  pub ask : step.ask ≡ r.timer
+
+-- the reaction to the event input at a place, where every data input has this value
+abbrev pub reaction_with : State → (event tick : ℕ) → Value → Reaction
+reaction_with s event tick input =
+    reaction s.kind s.memory (event_at (ports_of_event_block s.kind).event_inputs event) tick (λ n. input)
+
+-- The timer and what is asked of it are those of this reaction, which emits nothing.
+pub record IsTimerAfter (r : Reaction) (after : Timer) (asked : TimerAsk) : Type 0 where
+  pub memory : memory_of_timer after ≡ r.memory
+  pub in_range : IsTimeInRange after
+  pub emits : r.emits ≡ []
+  pub ask : asked ≡ r.timer
+
+-- the reaction of E_DELAY or E_CYCLE to the event input at a place, with this DT
+abbrev pub timed_with : Timer → (event tick : ℕ) → Value → Reaction
+timed_with timer event tick dt =
+    timed (memory_of_timer timer) (event_at (ports_of_event_block Delay).event_inputs event) tick (λ n. dt)

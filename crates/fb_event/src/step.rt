@@ -1,0 +1,235 @@
+//! What a reaction comes to, before anything is emitted.
+
+ghost use Rattle.std.specs.Prelude.{false, ◌≡◌, ◌≤◌, ◌<◌, ◌^◌, [], ◌∷◌, pos, if◌then◌else◌, ◌<ℤ◌};
+ghost use Rattle.fb_types.specs.Values.{truth, whole as whole_of};
+ghost use Rattle.fb_types.specs.EventBlocks.{ticks as ticks_of};
+ghost use Rattle.fb_event.specs.Block.{state_of, IsInRange, IsInTime, IsTimeInRange};
+ghost use Rattle.fb_event.specs.Reactions.{expiry_of};
+ghost use Rattle.fb_event.specs.Step.{IsTimerAfter, Performs, reaction_with, timed_with};
+
+use crate::state::{Block, Timer};
+use fb_types::run::TimerAsk;
+use fb_types::value::Value;
+
+// Places of event inputs.
+const EI0_OF_SELECT: u32 = 0;
+
+const EI1_OF_RENDEZVOUS: u32 = 0;
+
+const EI2_OF_RENDEZVOUS: u32 = 1;
+
+const R_OF_RENDEZVOUS: u32 = 2;
+
+const START: u32 = 0;
+
+const S_OF_SET_RESET: u32 = 0;
+
+const R_OF_COUNT_UP: u32 = 1;
+
+/// What an event block is after a reaction, the places of the event outputs that it emits, in order, and what
+/// it asks of its timer.
+#[derive(Clone, Copy)]
+pub(crate) struct Step {
+    pub block: Block,
+    pub emits: &'static [u32],
+    pub ask: TimerAsk,
+}
+
+impl Step {
+    /// Nothing is emitted, and the timer stays as it is.
+    fn silent(block: Block) -> Step
+        ensures block { result.block ≡ block }
+        ensures emits { result.emits.now ≡ [] }
+        ensures ask { result.ask ≡ TimerAsk.Keep }
+    {
+        Step::emitting(block, &[])
+    }
+
+    /// The event outputs at these places are emitted, in order. The timer stays as it is.
+    fn emitting(block: Block, emits: &'static [u32]) -> Step
+        ensures block { result.block ≡ block }
+        ensures emits { result.emits.now ≡ emits.now }
+        ensures ask { result.ask ≡ TimerAsk.Keep }
+    {
+        Step {
+            block,
+            emits,
+            ask: TimerAsk::Keep,
+        }
+    }
+
+    /// The first event output is emitted if the condition holds. The timer stays as it is.
+    fn emitting_if(condition: bool, block: Block) -> Step
+        ensures block { result.block ≡ block }
+        ensures emits { result.emits.now ≡ (if condition then 0 ∷ [] else []) }
+        ensures ask { result.ask ≡ TimerAsk.Keep }
+    {
+        if condition {
+            Step::emitting(block, &[0])
+        } else {
+            Step::silent(block)
+        }
+    }
+}
+
+/// The reaction to the event input at a place, with the value of the data input, if the block has one.
+#[tactic(auto, using(crate::proofs::Events::places_of_events))]
+pub(crate) fn reaction(block: Block, event: u32, tick: u64, input: Value) -> Step
+    requires early { tick ≤ 10 ^ 12 }
+    requires running { IsInRange block }
+    requires in_range { IsInTime block input }
+    ensures { Performs (state_of block) (reaction_with (state_of block) event tick input) result }
+{
+    match block {
+        Block::Restart => Step::silent(block),
+        Block::Split => Step::emitting(block, &[0, 1]),
+        Block::Merge => Step::emitting(block, &[0]),
+        Block::Rendezvous { first, second } => rendezvous(first, second, event),
+        Block::Permit => Step::emitting_if(is_true(input), block),
+        Block::Select => Step::emitting_if((event == EI0_OF_SELECT) != is_true(input), block),
+        Block::Switch => Step::emitting(block, if is_true(input) { &[1] } else { &[0] }),
+        Block::Delay(timer) => {
+            let (timer, ask) = timed(timer, event, tick, input);
+            Step {
+                ask,
+                ..Step::silent(Block::Delay(timer))
+            }
+        }
+        Block::Cycle(timer) => {
+            let (timer, ask) = timed(timer, event, tick, input);
+            Step {
+                ask,
+                ..Step::silent(Block::Cycle(timer))
+            }
+        }
+        Block::SetReset(q) => {
+            let set = event == S_OF_SET_RESET;
+            Step::emitting_if(q != set, Block::SetReset(set))
+        }
+        Block::DataLatch(q) => {
+            let d = is_true(input);
+            Step::emitting_if(q != d, Block::DataLatch(d))
+        }
+        Block::RisingEdge(before) => {
+            let now = is_true(input);
+            Step::emitting_if(!before && now, Block::RisingEdge(now))
+        }
+        Block::FallingEdge(before) => {
+            let now = is_true(input);
+            Step::emitting_if(before && !now, Block::FallingEdge(now))
+        }
+        Block::CountUp { count, reached } => count_up(count, reached, event, input),
+    }
+}
+
+/// The reaction to the timer.
+pub(crate) fn expiry(block: Block, tick: u64) -> Step
+    requires early { tick ≤ 10 ^ 12 }
+    requires running { IsInRange block }
+    ensures { Performs (state_of block) (expiry_of (state_of block) tick) result }
+{
+    match block {
+        Block::Restart => Step::emitting(block, &[0]),
+        Block::Delay(_) => Step::emitting(Block::Delay(Timer::Idle), &[0]),
+        Block::Cycle(Timer::Running(time)) => Step {
+            block,
+            emits: &[0],
+            ask: TimerAsk::At(tick + time),
+        },
+        _ => Step::silent(block),
+    }
+}
+
+/// E_REND emits EO when both events have come, and R clears both marks.
+fn rendezvous(first: bool, second: bool, event: u32) -> Step
+    ensures { let before = Block.Rendezvous first second in
+        Performs (state_of before) (reaction_with (state_of before) event 0 (Value.Bool false)) result }
+{
+    if event == R_OF_RENDEZVOUS {
+        return Step::silent(Block::Rendezvous {
+            first: false,
+            second: false,
+        });
+    }
+    let first = first || event == EI1_OF_RENDEZVOUS;
+    let second = second || event == EI2_OF_RENDEZVOUS;
+    if first && second {
+        Step::emitting(
+            Block::Rendezvous {
+                first: false,
+                second: false,
+            },
+            &[0],
+        )
+    } else {
+        Step::silent(Block::Rendezvous { first, second })
+    }
+}
+
+/// The timer of E_DELAY and E_CYCLE after START or STOP, and what is asked of it.
+fn timed(timer: Timer, event: u32, tick: u64, input: Value) -> (Timer, TimerAsk)
+    requires early { tick ≤ 10 ^ 12 }
+    requires running { IsTimeInRange timer }
+    requires in_range { whole_of input <ℤ pos (2 ^ 63) }
+    ensures { IsTimerAfter (timed_with timer event tick input) result.0 result.1 }
+{
+    if event != START {
+        return (Timer::Idle, TimerAsk::Clear);
+    }
+    match timer {
+        Timer::Running(_) => (timer, TimerAsk::Keep),
+        Timer::Idle => {
+            let time = ticks(whole(input));
+            (Timer::Running(time), TimerAsk::At(tick + time))
+        }
+    }
+}
+
+/// E_CTU counts up to 65535, and R sets it to 0.
+fn count_up(count: u16, reached: bool, event: u32, input: Value) -> Step
+    ensures { let before = Block.CountUp count reached in
+        Performs (state_of before) (reaction_with (state_of before) event 0 input) result }
+{
+    if event == R_OF_COUNT_UP {
+        return Step::emitting(
+            Block::CountUp {
+                count: 0,
+                reached: false,
+            },
+            &[1],
+        );
+    }
+    if count == u16::MAX {
+        return Step::silent(Block::CountUp { count, reached });
+    }
+    let count = count + 1;
+    let reached = whole(input) <= count as i128;
+    Step::emitting(Block::CountUp { count, reached }, &[0])
+}
+
+/// A time in ticks. Below 1 it counts as 1.
+fn ticks(time: i128) -> u64
+    requires { time <ℤ pos (2 ^ 63) }
+    ensures value { result ≡ ticks_of time }
+    ensures in_range { result < 2 ^ 63 }
+{
+    if time < 1 { 1 } else { time as u64 }
+}
+
+fn is_true(value: Value) -> bool
+    ensures { result ≡ truth value }
+{
+    match value {
+        Value::Bool(is_true) => is_true,
+        Value::Whole(_) => false,
+    }
+}
+
+fn whole(value: Value) -> i128
+    ensures { result ≡ whole_of value }
+{
+    match value {
+        Value::Bool(_) => 0,
+        Value::Whole(whole) => whole,
+    }
+}

@@ -1,0 +1,12 @@
+pub mod BegunIs
+pub mod Outcomes
+pub mod PublishLaws
+pub mod RaiseLaws
+pub mod ReactLaws
+pub mod ReactionIs
+pub mod StepIs
+pub mod RunIs
+pub mod SteppedLaws
+pub mod TakeIs
+pub mod TakenLaws
+pub mod TimerLaws

@@ -1,0 +1,6 @@
+pub mod Agendas
+pub mod Lines
+pub mod Machines
+pub mod Reacts
+pub mod Settled
+pub mod Runs

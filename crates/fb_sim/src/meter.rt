@@ -1,0 +1,32 @@
+//! What is counted in one tick.
+
+ghost use Rattle.std.specs.Prelude.{◌≡◌, Some};
+ghost use Rattle.fb_types.specs.Takes.{begun};
+ghost use Rattle.fb_sim.specs.Machines.{meter_of, IsMetered};
+
+/// The steps that are left in the tick of the last event that was taken, and how many local events were
+/// raised in it.
+#[derive(Clone, Copy, Debug, PartialEq, Eq)]
+pub(crate) struct Meter {
+    pub(crate) tick: Option<u64>,
+    pub(crate) left: u64,
+    pub(crate) locals: u128,
+}
+
+impl Meter {
+    /// Counts afresh where the tick is another one.
+    pub(crate) fn begin(&mut self, limit: u64, tick: u64)
+        requires { IsMetered limit self.old }
+        ensures begun { meter_of self.new ≡ begun limit tick (meter_of self.old) }
+        ensures metered { IsMetered limit self.new }
+        ensures tick { self.new.tick ≡ Some tick }
+    {
+        if self.tick != Some(tick) {
+            *self = Meter {
+                tick: Some(tick),
+                left: limit,
+                locals: 0,
+            };
+        }
+    }
+}

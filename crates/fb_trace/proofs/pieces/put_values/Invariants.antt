@@ -1,0 +1,11 @@
+use Rattle.std.proofs.Common.{length, take, map}
+use Rattle.fb_types.specs.Numbers.{pair_up}
+use Rattle.fb_types.specs.Text.{values_text}
+use Rattle.fb_check.specs.Stands.{variable_at}
+use Rattle.fb_trace.specs.Progress.{Puts}
+use Rattle.fb_trace.proofs.pieces.put_values.Given as goal
+
+abbrev pub invariant-loop-place : goal.invariant-loop-place
+invariant-loop-place g l =
+    Puts (g.W.Write.contents l.initial.out) (g.W.Write.contents l.out) l.initial.page l.page
+    (values_text (take (length l.yielded) (pair_up (map (variable_at l.variables) l.places) l.values)))

@@ -1,0 +1,4 @@
+pub mod Page
+pub mod Progress
+pub mod Lines
+pub mod End

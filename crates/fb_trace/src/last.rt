@@ -1,0 +1,100 @@
+//! The last line of a trace.
+
+ghost use Rattle.std.specs.Prelude.{◌≡◌, ◌<◌, length, IfErr, OnOk};
+ghost use Rattle.std.specs.Io.KnownBytes.{Appends};
+ghost use Rattle.fb_types.specs.Headline.{system_of};
+ghost use Rattle.fb_types.specs.Simulation.{AtHorizon, AtStop};
+ghost use Rattle.fb_types.specs.Text.{last_line, reason_text};
+ghost use Rattle.fb_trace.specs.End.{ending_of, EndsIn};
+ghost use Rattle.fb_trace.specs.Progress.{Gathers, IsPartWritten};
+
+use crate::fault::WriteFault;
+use crate::page::Page;
+use crate::pieces::put_place;
+use fb_check::system::System;
+use fb_types::run::StopMark;
+use fb_types::value::Reason;
+use std::io::Write;
+
+/// How a run ends.
+#[derive(Clone, Copy, Debug, PartialEq, Eq)]
+pub enum End {
+    /// It came to its horizon, the tick at which it was to end.
+    Horizon(u64),
+    /// A resource stopped before.
+    Stop(StopMark),
+}
+
+fn put_horizon<W: Write>(
+    page: &mut Page,
+    out: &mut W,
+    system: &System,
+    horizon: u64,
+) -> Result<(), WriteFault>
+    ensures { Gathers (W.contents out.old) (W.contents out.new) page.old page.new
+        (last_line (system_of system.now) (AtHorizon horizon)) result }
+{
+    page.put(out, b"end ")?;
+    page.put_number(out, horizon as u128)?;
+    page.put(out, b"\n")
+}
+
+fn reason_name(reason: Reason) -> &'static [u8]
+    ensures { result.now ≡ reason_text reason }
+{
+    match reason {
+        Reason::Steps => b"steps",
+        Reason::Divide => b"divide",
+        Reason::Range => b"range",
+    }
+}
+
+fn put_stop<W: Write>(
+    page: &mut Page,
+    out: &mut W,
+    system: &System,
+    mark: &StopMark,
+) -> Result<(), WriteFault>
+    requires { mark.now.resource < length (system_of system.now).resource_names }
+    ensures { Gathers (W.contents out.old) (W.contents out.new) page.old page.new
+        (last_line (system_of system.now) (AtStop mark.now.tick mark.now.resource mark.now.reason)) result }
+{
+    page.put(out, b"stop ")?;
+    put_place(page, out, system, mark.tick, mark.resource)?;
+    page.put(out, b" ")?;
+    page.put(out, reason_name(mark.reason))?;
+    page.put(out, b"\n")
+}
+
+fn put_last<W: Write>(
+    page: &mut Page,
+    out: &mut W,
+    system: &System,
+    end: &End,
+) -> Result<(), WriteFault>
+    requires { EndsIn (system_of system.now) end.now }
+    ensures { Gathers (W.contents out.old) (W.contents out.new) page.old page.new
+        (last_line (system_of system.now) (ending_of end.now)) result }
+{
+    match end {
+        End::Horizon(horizon) => put_horizon(page, out, system, *horizon),
+        End::Stop(mark) => put_stop(page, out, system, mark),
+    }
+}
+
+/// Writes the last line of a trace of the system. It takes no memory.
+///
+/// # Errors
+/// The writer gave an error or took no byte. It has then got the first bytes of the line, but not all, and
+/// the fault says how many.
+pub fn write_last<W: Write>(out: &mut W, system: &System, end: End) -> Result<(), WriteFault>
+    requires { EndsIn (system_of system.now) end }
+    ensures whole { OnOk result
+        (Appends (W.contents out.old) (W.contents out.new) (last_line (system_of system.now) (ending_of end))) }
+    ensures part { IfErr result (λ fault. IsPartWritten (W.contents out.old) (W.contents out.new)
+        (last_line (system_of system.now) (ending_of end)) fault.written) }
+{
+    let mut page = Page::new();
+    put_last(&mut page, out, system, &end)?;
+    page.flush(out)
+}

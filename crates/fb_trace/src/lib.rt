@@ -1,0 +1,12 @@
+//! The text of a trace, written line by line.
+#![tactic(auto)]
+
+pub mod fault;
+pub mod last;
+pub mod lines;
+mod names;
+mod number;
+mod page;
+mod pieces;
+#[cfg(test)]
+mod tests;

@@ -1,0 +1,76 @@
+//! The lines of a trace.
+
+ghost use Rattle.std.specs.Prelude.{◌≡◌, map, All, IfErr, OnOk, codes, if◌then◌else◌};
+ghost use Rattle.std.specs.Io.KnownBytes.{Appends};
+ghost use Rattle.fb_types.specs.Headline.{system_of};
+ghost use Rattle.fb_types.specs.Numbers.{line_of};
+ghost use Rattle.fb_types.specs.Text.{line_text, lines_text};
+ghost use Rattle.fb_trace.specs.Lines.{BelongsTo};
+ghost use Rattle.fb_trace.specs.Progress.{Gathers, IsPartWritten};
+
+use crate::fault::WriteFault;
+use crate::names::names_of;
+use crate::page::Page;
+use crate::pieces::{put_key, put_place, put_values};
+use fb_check::system::System;
+use fb_types::run::{Form, Line};
+use std::io::Write;
+
+/// What stands before the path: the sign of an event that was taken, or of one that was emitted.
+fn sign(taken: bool) -> &'static [u8]
+    ensures { result.now ≡ (if taken then codes " > " else codes " < ") }
+{
+    if taken { b" > " } else { b" < " }
+}
+
+fn put_line<W: Write>(
+    page: &mut Page,
+    out: &mut W,
+    system: &System,
+    form: Form,
+    line: &Line,
+) -> Result<(), WriteFault>
+    requires { BelongsTo (system_of system.now) line.now }
+    ensures { Gathers (W.contents out.old) (W.contents out.new) page.old page.new
+        (let sys = system_of system.now in line_text form sys (line_of sys line.now)) result }
+{
+    let names = names_of(system, line);
+    put_key(page, out, form, &line.key)?;
+    put_place(page, out, system, line.key.tick, line.key.resource)?;
+    page.put(out, sign(line.taken))?;
+    page.put(out, system.path(line.instance as usize))?;
+    page.put(out, b".")?;
+    page.put(out, names.event)?;
+    put_values(
+        page,
+        out,
+        names.variables,
+        names.places,
+        line.values.as_slice(),
+    )?;
+    page.put(out, b"\n")
+}
+
+/// Writes the text of lines that belong to the system. It takes no memory.
+///
+/// # Errors
+/// The writer gave an error or took no byte. It has then got the first bytes of the text, but not all, and
+/// the fault says how many.
+pub fn write_lines<W: Write>(
+    out: &mut W,
+    system: &System,
+    form: Form,
+    lines: &[Line],
+) -> Result<(), WriteFault>
+    requires { All (BelongsTo (system_of system.now)) lines.now }
+    ensures whole { OnOk result (let sys = system_of system.now in
+        Appends (W.contents out.old) (W.contents out.new) (lines_text form sys (map (line_of sys) lines.now))) }
+    ensures part { IfErr result (λ fault. let sys = system_of system.now in
+        IsPartWritten (W.contents out.old) (W.contents out.new) (lines_text form sys (map (line_of sys) lines.now)) fault.written) }
+{
+    let mut page = Page::new();
+    for line in lines {
+        put_line(&mut page, out, system, form, line)?;
+    }
+    page.flush(out)
+}

@@ -1,0 +1,124 @@
+//! A page that gathers text, so that a long trace is not a write a line.
+
+ghost use Rattle.std.specs.Prelude.{◌≡◌, ◌+◌, ◌-◌, ◌^◌, ◌<◌, ◌≤◌, [], ◌++◌, length, min, take, decimal, IfOk, IfErr, OnOk};
+ghost use Rattle.std.specs.Io.KnownBytes.{Appends};
+ghost use Rattle.fb_trace.specs.Progress.{Gathers, Fails, bounded};
+
+use crate::fault::WriteFault;
+use crate::number::{MOST_DIGITS, write_digits};
+use std::io::Write;
+use std::marker::Model;
+
+/// How many bytes wait at most.
+const SIZE: usize = 8192;
+
+/// Text that waits to be written, and how many bytes were written before it.
+#[derive(Drop)]
+pub(crate) struct Page {
+    bytes: [u8; SIZE],
+    used: usize,
+    written: u128,
+}
+
+impl Model for Page {
+    ghost use Rattle.fb_trace.specs.Page as spec;
+    ghost use Rattle.std.specs.Prelude.{take, ◌≤◌};
+
+    ghost Value = { spec.Page };
+
+    ghost view = { λ p. record { waiting = take p.used p.bytes; written = p.written } };
+
+    ghost use Rattle.fb_trace.specs.declared.page.TheConstants.{SIZE};
+
+    ghost invariant = { λ p. p.used ≤ SIZE };
+}
+
+/// Writes as many of the bytes as the writer takes before it fails, and tells how many.
+fn write_out<W: Write>(out: &mut W, bytes: &[u8]) -> usize
+    ensures within { result ≤ length bytes.now }
+    ensures got { Appends (W.contents out.old) (W.contents out.new) (take result bytes.now) }
+{
+    let mut taken = 0;
+    while taken < bytes.len() {
+        match out.write(&bytes[taken..]) {
+            Ok(0) | Err(_) => return taken,
+            Ok(count) => taken += count,
+        }
+    }
+    taken
+}
+
+/// Writes all the bytes. `written` counts those that went before, and the answer those together.
+fn write_all<W: Write>(out: &mut W, bytes: &[u8], written: u128) -> Result<u128, WriteFault>
+    ensures got { OnOk result (Appends (W.contents out.old) (W.contents out.new) bytes.now) }
+    ensures counted { IfOk result (λ n. n ≡ bounded (written + length bytes.now)) }
+    ensures part { IfErr result (λ f. Fails (W.contents out.old) (W.contents out.new)
+        (record { waiting = []; written = written }) bytes.now f.written) }
+{
+    let taken = write_out(out, bytes);
+    let written = written.saturating_add(taken as u128);
+    if taken < bytes.len() {
+        return Err(WriteFault { written });
+    }
+    Ok(written)
+}
+
+impl Page {
+    /// An empty page, before which nothing was written.
+    pub(crate) fn new() -> Page
+        ensures { result ≡ record { waiting = []; written = 0 } }
+    {
+        Page {
+            bytes: [0; SIZE],
+            used: 0,
+            written: 0,
+        }
+    }
+
+    /// Writes all that waits.
+    pub(crate) fn flush<W: Write>(&mut self, out: &mut W) -> Result<(), WriteFault>
+        ensures text { Gathers (W.contents out.old) (W.contents out.new) self.old self.new [] result }
+        ensures empty { OnOk result (self.new.waiting ≡ []) }
+    {
+        self.written = write_all(out, &self.bytes[..self.used], self.written)?;
+        self.used = 0;
+        Ok(())
+    }
+
+    /// Puts bytes behind those that wait. Where they do not fit, all that waits is written first.
+    pub(crate) fn put<W: Write>(&mut self, out: &mut W, bytes: &[u8]) -> Result<(), WriteFault>
+        ensures { Gathers (W.contents out.old) (W.contents out.new) self.old self.new bytes.now result }
+    {
+        if bytes.len() > SIZE - self.used {
+            self.flush(out)?;
+            if bytes.len() > SIZE {
+                self.written = write_all(out, bytes, self.written)?;
+                return Ok(());
+            }
+        }
+        self.append(bytes);
+        Ok(())
+    }
+
+    fn append(&mut self, bytes: &[u8])
+        requires { length self.old.waiting + length bytes.now ≤ SIZE }
+        ensures { self.new ≡ record self.old { waiting = self.old.waiting ++ bytes.now } }
+    {
+        let end = self.used + bytes.len();
+        self.bytes[self.used..end].copy_from_slice(bytes);
+        self.used = end;
+    }
+
+    /// Puts the decimal digits of a number.
+    pub(crate) fn put_number<W: Write>(
+        &mut self,
+        out: &mut W,
+        number: u128,
+    ) -> Result<(), WriteFault>
+        ensures { Gathers (W.contents out.old) (W.contents out.new) self.old self.new (decimal number) result }
+    {
+        let mut digits = [0; MOST_DIGITS];
+        let start = write_digits(number, &mut digits);
+        self.put(out, &digits[start..])
+    }
+}
