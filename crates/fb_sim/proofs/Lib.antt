@@ -1,9 +1,12 @@
 pub mod BegunIs
+pub mod FactsAre
+pub mod OpenIs
 pub mod Outcomes
 pub mod PublishLaws
 pub mod RaiseLaws
 pub mod ReactLaws
 pub mod ReactionIs
+pub mod SerialIs
 pub mod StepIs
 pub mod RunIs
 pub mod SteppedLaws

@@ -4,3 +4,4 @@ pub mod Machines
 pub mod Reacts
 pub mod Settled
 pub mod Runs
+pub mod Serial

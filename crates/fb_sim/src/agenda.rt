@@ -1,6 +1,6 @@
 //! The events that wait, by their keys.
 
-ghost use Rattle.std.specs.Prelude.{◌≡◌, ◌<◌, if◌then◌else◌, Some, None, IfSome, IfNone, OnOk, vec_len, slice_set};
+ghost use Rattle.std.specs.Prelude.{◌≡◌, ◌<◌, [], if◌then◌else◌, Some, None, IfSome, IfNone, OnOk, vec_len, slice_set};
 ghost use Rattle.fb_types.specs.Keys.{Precedes, same_key, changed_to, timer_key};
 ghost use Rattle.fb_types.specs.Takes.{is_timer_of};
 ghost use Rattle.fb_sim.specs.Agendas.{waiting, IsTimed, timer_set};
@@ -8,7 +8,7 @@ ghost use Rattle.fb_sim.specs.declared.agenda.Event.TheVariants.{Timer};
 
 use fb_types::key::Key;
 use fb_types::run::TimerAsk;
-use std::alloc::AllocError;
+use std::alloc::{AllocError, Global};
 use std::collections::BTreeMap;
 
 /// An event that waits, in a resource of event blocks.
@@ -28,7 +28,8 @@ pub(crate) struct Agenda {
     pub(crate) due: Vec<u64>,
 }
 
-fn key_of_timer(tick: u64, instance: u32) -> Key
+/// The key under which the timer of an instance goes off.
+pub(crate) fn key_of_timer(tick: u64, instance: u32) -> Key
     ensures { result ≡ timer_key tick 0 instance }
 {
     Key {
@@ -41,6 +42,17 @@ fn key_of_timer(tick: u64, instance: u32) -> Key
 }
 
 impl Agenda {
+    /// Nothing waits, and there are no instances.
+    pub(crate) fn new(alloc: Global) -> Agenda
+        ensures empty { (j : Key) → waiting result j ≡ None }
+        ensures due { result.due.items ≡ [] }
+    {
+        Agenda {
+            events: BTreeMap::new(alloc),
+            due: Vec::new(alloc),
+        }
+    }
+
     /// The event under the least key, if its tick is below the horizon. It leaves the agenda.
     pub(crate) fn take_least(&mut self, horizon: u64) -> Option<(Key, Event)>
         ensures found { IfSome result (λ r. waiting self.old r.0 ≡ Some r.1) }

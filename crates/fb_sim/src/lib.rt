@@ -5,4 +5,9 @@ mod agenda;
 mod line;
 mod machine;
 mod meter;
+pub mod options;
+pub mod outcome;
 mod react;
+pub mod serial;
+#[cfg(test)]
+mod tests;

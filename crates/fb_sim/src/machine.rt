@@ -1,6 +1,6 @@
 //! The state of a run, and the taking of one event.
 
-ghost use Rattle.std.specs.Prelude.{◌≡◌, ◌+◌, ◌*◌, ◌^◌, ◌<◌, ◌≤◌, ◌++◌, [], ◌∷◌, map, length, All, IfOk, None, OnOk, vec_len};
+ghost use Rattle.std.specs.Prelude.{ℕ, ◌≡◌, ◌+◌, ◌*◌, ◌^◌, ◌<◌, ◌≤◌, ◌++◌, [], ◌∷◌, map, length, All, IfOk, None, OnOk, vec_len};
 ghost use Rattle.fb_types.specs.Headline.{system_of};
 ghost use Rattle.fb_types.specs.Numbers.{path_at, ports_at, port_of};
 ghost use Rattle.fb_check.specs.Stands.{IsTarget};
@@ -8,7 +8,8 @@ ghost use Rattle.fb_types.specs.States.{Config};
 ghost use Rattle.fb_trace.specs.End.{EndsIn};
 ghost use Rattle.fb_trace.specs.Lines.{BelongsTo};
 ghost use Rattle.fb_sim.specs.Machines.{tick_of};
-ghost use Rattle.fb_sim.specs.Runs.{Completes};
+ghost use Rattle.fb_types.specs.Simulation.{opening_state, opening_agenda};
+ghost use Rattle.fb_sim.specs.Runs.{Completes, HasOpened};
 ghost use Rattle.fb_sim.specs.Agendas.{IsTimed, IsLater};
 ghost use Rattle.fb_types.specs.Keys.{without};
 ghost use Rattle.fb_types.specs.States.{State};
@@ -17,17 +18,18 @@ ghost use Rattle.fb_sim.specs.Machines.{AllMayWait, event_of, IsAt, IsEvent, IsR
 ghost use Rattle.fb_sim.specs.Settled.{IsSettled, IsStepped};
 ghost use Rattle.fb_sim.specs.Reacts.{expiring, reacting_to, taken_line};
 
-use crate::agenda::{Agenda, Event};
+use crate::agenda::{Agenda, Event, key_of_timer};
 use crate::line::{Head, add_line};
 use crate::meter::Meter;
 use crate::react::{Reacted, react_to_event, react_to_timer};
 use fb_check::system::System;
 use fb_event::state::EventState;
 use fb_trace::last::End;
+use fb_types::event_kind::EventKind;
 use fb_types::key::Key;
 use fb_types::run::{Emits, Line, StopMark, Target};
 use fb_types::value::Reason;
-use std::alloc::AllocError;
+use std::alloc::{AllocError, Global};
 
 /// The agenda, the event blocks by the numbers of their instances, and the counts of the tick.
 #[derive(Drop)]
@@ -104,6 +106,41 @@ fn publish(
 }
 
 impl Machine {
+    /// What the next instance opens with: its block, and the timer of an E_RESTART at tick 0.
+    fn open_instance(&mut self, system: &System, instance: u32) -> Result<(), AllocError>
+        requires one { IsOne (system_of system.now) }
+        requires instance { instance < length (system_of system.now).paths }
+        requires opened { HasOpened (system_of system.now) instance self.old }
+        ensures { OnOk result (HasOpened (system_of system.now) (instance + 1) self.new) }
+    {
+        let kind = system.kind(instance as usize);
+        self.blocks.push(EventState::new(kind))?;
+        self.agenda.due.push(0)?;
+        if let EventKind::Restart = kind {
+            self.agenda
+                .put(key_of_timer(0, instance), Event::Timer(instance))?;
+        }
+        Ok(())
+    }
+
+    /// The opening state: every block as it begins, and the timer of each E_RESTART at tick 0.
+    pub(crate) fn open(alloc: Global, system: &System) -> Result<Machine, AllocError>
+        requires one { IsOne (system_of system.now) }
+        ensures ready { IfOk result (λ m. (limit : ℕ) → IsReady (system_of system.now) limit (tick_of m.meter) m) }
+        ensures at { IfOk result (IsAt (system_of system.now) (opening_state (system_of system.now)) (opening_agenda (system_of system.now) [])) }
+    {
+        system.facts();
+        let mut machine = Machine {
+            agenda: Agenda::new(alloc),
+            blocks: Vec::new(alloc),
+            meter: Meter::new(),
+        };
+        for instance in 0..system.count() {
+            machine.open_instance(system, instance as u32)?;
+        }
+        Ok(machine)
+    }
+
     /// Sets the timer of an instance and publishes its emissions, as its reaction asks.
     fn settle(
         &mut self,

@@ -1,6 +1,6 @@
 //! What is counted in one tick.
 
-ghost use Rattle.std.specs.Prelude.{◌≡◌, Some};
+ghost use Rattle.std.specs.Prelude.{◌≡◌, Some, None};
 ghost use Rattle.fb_types.specs.Takes.{begun};
 ghost use Rattle.fb_sim.specs.Machines.{meter_of, IsMetered};
 
@@ -14,6 +14,17 @@ pub(crate) struct Meter {
 }
 
 impl Meter {
+    /// Nothing was taken yet.
+    pub(crate) fn new() -> Meter
+        ensures { result ≡ record { tick = None; left = 0; locals = 0 } }
+    {
+        Meter {
+            tick: None,
+            left: 0,
+            locals: 0,
+        }
+    }
+
     /// Counts afresh where the tick is another one.
     pub(crate) fn begin(&mut self, limit: u64, tick: u64)
         requires { IsMetered limit self.old }

@@ -66,7 +66,8 @@ fn put_stop<W: Write>(
     page.put(out, b"\n")
 }
 
-fn put_last<W: Write>(
+/// Puts the last line.
+pub(crate) fn put_last<W: Write>(
     page: &mut Page,
     out: &mut W,
     system: &System,

@@ -10,3 +10,4 @@ mod page;
 mod pieces;
 #[cfg(test)]
 mod tests;
+pub mod trace;

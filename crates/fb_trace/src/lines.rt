@@ -51,6 +51,24 @@ fn put_line<W: Write>(
     page.put(out, b"\n")
 }
 
+/// Puts the text of lines.
+pub(crate) fn put_lines<W: Write>(
+    page: &mut Page,
+    out: &mut W,
+    system: &System,
+    form: Form,
+    lines: &[Line],
+) -> Result<(), WriteFault>
+    requires { All (BelongsTo (system_of system.now)) lines.now }
+    ensures { Gathers (W.contents out.old) (W.contents out.new) page.old page.new
+        (let sys = system_of system.now in lines_text form sys (map (line_of sys) lines.now)) result }
+{
+    for line in lines {
+        put_line(page, out, system, form, line)?;
+    }
+    Ok(())
+}
+
 /// Writes the text of lines that belong to the system. It takes no memory.
 ///
 /// # Errors
@@ -69,8 +87,6 @@ pub fn write_lines<W: Write>(
         IsPartWritten (W.contents out.old) (W.contents out.new) (lines_text form sys (map (line_of sys) lines.now)) fault.written) }
 {
     let mut page = Page::new();
-    for line in lines {
-        put_line(&mut page, out, system, form, line)?;
-    }
+    put_lines(&mut page, out, system, form, lines)?;
     page.flush(out)
 }
