@@ -24,4 +24,15 @@ pub mod Joined
 pub mod Mapped
 pub mod Accepted
 pub mod Headline
+pub mod Examples
+pub mod ExampleInputs
+pub mod ExampleBodies
+pub mod ExampleRuns
+pub mod ExampleValues
 pub mod Posted
+pub mod Machines
+pub mod Parts
+pub mod Histories
+pub mod Merges
+pub mod Cores
+pub mod Schedules

@@ -8,6 +8,7 @@ pub mod event_ports;
 pub mod items;
 pub mod key;
 pub mod latency;
+pub mod laws;
 pub mod library;
 pub mod name;
 pub mod reference;

@@ -1,0 +1,5 @@
+use Rattle.fb_types.proofs.ExamplesAccepted.{accepted-examples}
+use Rattle.fb_types.proofs.laws.worked_acceptance.Goals as goal
+
+pub returns : goal.returns
+returns c = accepted-examples

@@ -1,0 +1,5 @@
+use Rattle.fb_types.proofs.Cycle.{cycle-trace}
+use Rattle.fb_types.proofs.laws.worked_cycle.Goals as goal
+
+pub returns : goal.returns
+returns c = cycle-trace

@@ -1,0 +1,7 @@
+use Rattle.fb_types.proofs.Delay.{delay-trace}
+use Rattle.fb_types.proofs.ShortDelay.{short-delay-trace}
+use Rattle.fb_types.proofs.StoppedDelay.{stopped-delay-trace}
+use Rattle.fb_types.proofs.laws.worked_delay.Goals as goal
+
+pub returns : goal.returns
+returns c = record { restarted = delay-trace; stopped = stopped-delay-trace; short = short-delay-trace }

@@ -1,0 +1,5 @@
+use Rattle.fb_types.proofs.Calc.{divide-trace, range-trace}
+use Rattle.fb_types.proofs.laws.worked_faults.Goals as goal
+
+pub returns : goal.returns
+returns c = record { range = range-trace; divide = divide-trace }

@@ -1,0 +1,5 @@
+use Rattle.fb_types.proofs.HeldCopy.{held-copy-trace}
+use Rattle.fb_types.proofs.laws.worked_held_copy.Goals as goal
+
+pub returns : goal.returns
+returns c = held-copy-trace

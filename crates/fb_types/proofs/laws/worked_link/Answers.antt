@@ -1,0 +1,5 @@
+use Rattle.fb_types.proofs.Link.{link-trace}
+use Rattle.fb_types.proofs.laws.worked_link.Goals as goal
+
+pub returns : goal.returns
+returns c = link-trace

@@ -1,0 +1,5 @@
+use Rattle.fb_types.proofs.TwoLinks.{two-links-trace}
+use Rattle.fb_types.proofs.laws.worked_two_links.Goals as goal
+
+pub returns : goal.returns
+returns c = two-links-trace
