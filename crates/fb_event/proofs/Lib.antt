@@ -1,4 +1,3 @@
-pub mod Places
 pub mod Events
 pub mod Emissions
 pub mod Inputs

@@ -6,10 +6,11 @@ ghost use Rattle.fb_types.specs.Blocks.{ports_of_event_block};
 ghost use Rattle.fb_event.specs.Reactions.{FitTheirTypes};
 
 use super::*;
-use crate::ports::{data_input_type, event_input_named, event_output_name};
 use crate::state::Block;
 use fb_types::event_kind::EventKind;
+use fb_types::event_ports::ports_of;
 use fb_types::items::Items;
+use fb_types::library::{EventPort, Ports};
 use fb_types::run::Emission;
 use fb_types::value::Ty;
 use std::process::Abort;
@@ -95,12 +96,13 @@ fn run_from(
 fn check(rt: &(impl Abort + AllocGlobal), state: &mut EventState, case: &Case) -> Result<(), Fail> {
     let mut emits = Items::new(rt.alloc());
     let mut ask = TimerAsk::At(77);
-    let fit = fit(state.kind(), case.inputs);
+    let ports = ports_of(rt.alloc(), state.kind())?;
+    let fit = fit(&ports, case.inputs);
     assert!(rt; fit);
     assert!(rt; case.tick <= LATEST);
     match case.event {
         Some(name) => {
-            let event = event_input_named(state.kind(), name.as_bytes()).ok_or("no such event")?;
+            let event = place_of(ports.event_inputs.as_slice(), name).ok_or("no such event")?;
             react(state, event, case.tick, case.inputs, &mut emits, &mut ask)?;
         }
         None => expire(state, case.tick, &mut emits, &mut ask)?,
@@ -108,19 +110,32 @@ fn check(rt: &(impl Abort + AllocGlobal), state: &mut EventState, case: &Case) -
     assert_eq!(rt; ask, case.ask);
     assert_eq!(rt; emits.len(), case.emitted.len());
     for (emission, (name, values)) in emits.as_slice().iter().zip(case.emitted) {
-        assert_eq!(rt; event_output_name(state.kind(), emission.event), *name);
+        let event = place_of(ports.event_outputs.as_slice(), name);
+        assert_eq!(rt; event, Some(emission.event));
         assert_eq!(rt; emission.values.as_slice(), *values);
     }
     Ok(())
 }
 
+/// The place of an event among the event inputs, or outputs, of a block.
+fn place_of(events: &[EventPort], name: &str) -> Option<u32> {
+    let place = events
+        .iter()
+        .position(|event| event.name.as_bytes() == name.as_bytes())?;
+    u32::try_from(place).ok()
+}
+
 /// Whether the values are of the types of the data inputs.
-fn fit(kind: EventKind, inputs: &[Value]) -> bool
-    ensures { IsTrue result → FitTheirTypes (ports_of_event_block kind).inputs inputs.now }
+fn fit(ports: &Ports, inputs: &[Value]) -> bool
+    ensures { IsTrue result → FitTheirTypes ports.now.inputs inputs.now }
 {
-    match inputs {
+    match ports.inputs.as_slice() {
         [] => true,
-        [value, ..] => data_input_type(kind, 0).is_none_or(|ty| fits(ty, *value)),
+        [variable] => match inputs {
+            [] => true,
+            [value, ..] => fits(variable.ty, *value),
+        },
+        _ => false,
     }
 }
 
