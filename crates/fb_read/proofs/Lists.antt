@@ -1,12 +1,13 @@
 -- Lists of items, both ways.
 use Rattle.std.proofs.Common.{◌≡◌, ℕ, zero, suc, ◌<◌, ◌≤◌, Bool, true, false, cond, List, [], ◌∷◌, ◌++◌, length, Ok, Err, refl, sym, ap, subst, ◌∙◌, append_assoc, append-nil, inl, inr, arith}
 use Rattle.std.specs.Prelude.{◌&&◌}
+use Rattle.std.specs.List.{list_all}
 use Rattle.fb_read.specs.declared.token.Mark.{Mark}
 use Rattle.fb_read.specs.declared.token.Mark.TheVariants as mark
 use Rattle.fb_read.specs.Tokens.{Tokens}
-use Rattle.fb_read.specs.Parser.{Parser, Outcome, too_deep, and_then, sees, after, many, many_from, separated, separated_from}
-use Rattle.fb_read.specs.Grammar.{IsMark, AreMany, no_more, one_more, AreSeparated, last, and_next}
-use Rattle.fb_read.proofs.Steps.{both_ok, pair_is, eaten, done, sees-mark, after-mark, after-unseen, mark-shorter}
+use Rattle.fb_read.specs.Parser.{Parser, Outcome, too_deep, and_then, same_mark, sees, after, many, many_from, many_after, section, run_after, run_from, separated, separated_from}
+use Rattle.fb_read.specs.Grammar.{IsMark, is_mark, AreMany, no_more, one_more, AreSeparated, last, and_next, AreAll, none, and_more, IsSection, no_section, is_section}
+use Rattle.fb_read.proofs.Steps.{both_ok, pair_is, eaten, chosen, made, done, sees-mark, after-mark, after-unseen, mark-shorter}
 
 -- what a parser reads is in the grammar
 abbrev pub IsSound : {A : Type 0} → Parser A → (A → Tokens → Tokens → Type 0) → Type 0
@@ -44,6 +45,11 @@ pub many-sound : {A : Type 0} (p : Parser A) (R : A → Tokens → Tokens → Ty
 unfolding many
 many-sound p R end i ts read rest h = adds-all (AreMany R end) read ts rest (many_from-sound p R end i (length ts) [] ts read rest h)
 
+pub many_after-sound : {A : Type 0} (p : Parser A) (R : A → Tokens → Tokens → Type 0) (end : Mark) (i : IsSound p R) (found : List A) (ts : Tokens) (read : List A) (rest : Tokens)
+    → many_after p end found ts ≡ Ok (read, rest) → Adds (AreMany R end) found read ts rest
+unfolding many_after
+many_after-sound p R end i found ts read rest h = many_from-sound p R end i (length ts) found ts read rest h
+
 separated_from-sound : {A : Type 0} (p : Parser A) (R : A → Tokens → Tokens → Type 0) (i : IsSound p R) (fuel : ℕ) (found : List A) (ts : Tokens) (read : List A) (rest : Tokens)
     → separated_from p fuel found ts ≡ Ok (read, rest) → Adds (AreSeparated R) found read ts rest
 unfolding separated_from
@@ -75,9 +81,13 @@ pub bind-picked : {A B : Type 0} (b c : Bool) (x : A) (mid : Tokens) (f : A → 
 bind-picked true c x mid f y rest h = h
 bind-picked false c x mid f y rest h = refl
 
+-- a step that ends a rule
+pub pass-picked : {A B : Type 0} (b : Bool) (x : A) (mid : Tokens) (f : A → Parser B) (y : B) (rest : Tokens) → f x mid ≡ done y rest → and_then (picked b x mid) f ≡ picked b y rest
+pass-picked true x mid f y rest h = h
+pass-picked false x mid f y rest h = refl
+
 abbrev pub all_fit : {A : Type 0} → (A → Bool) → List A → Bool
-all_fit fit [] = true
-all_fit fit (x ∷ xs) = fit x && all_fit fit xs
+all_fit fit xs = list_all fit xs
 
 -- an item that nests no statements and no expressions
 abbrev pub always : {A : Type 0} → A → Bool
@@ -124,6 +134,11 @@ module _ {A : Type 0} (p : Parser A) (R : A → Tokens → Tokens → Type 0) (f
   unfolding many
   many-complete end i short starts xs ts rest l before = many_from-complete end i short starts (length ts) [] l (omega arith)
 
+  pub many_after-complete : (end : Mark) (i : IsComplete p R Anything fit) (short : IsShorter R) (starts : (x : A) (ts rest : Tokens) → R x ts rest → sees end ts ≡ false)
+      → (found xs : List A) (ts rest : Tokens) → AreMany R end xs ts rest → many_after p end found ts ≡ picked (all_fit fit xs) (found ++ xs) rest
+  unfolding many_after
+  many_after-complete end i short starts found xs ts rest l = many_from-complete end i short starts (length ts) found l (omega arith)
+
 separated-end : {A : Type 0} (p : Parser A) (fuel : ℕ) (found : List A) (x : A) (b : Bool) (ts rest : Tokens) → p ts ≡ picked b x rest → sees mark.Comma rest ≡ false
     → separated_from p (suc fuel) found ts ≡ picked (b && true) (found ++ x ∷ []) rest
 unfolding separated_from
@@ -161,3 +176,74 @@ many-shorter R end short {ts = ts} (one_more {x = x} {mid = mid} r l) = omega (a
 pub separated-shorter : {A : Type 0} (R : A → Tokens → Tokens → Type 0) → IsShorter R → {xs : List A} {ts rest : Tokens} → AreSeparated R xs ts rest → length rest < length ts
 separated-shorter R short {ts = ts} {rest = rest} (last {x = x} r) = short x ts rest r
 separated-shorter R short {ts = ts} (and_next {x = x} {before = before} r k l) = omega (arith, short x ts before r, mark-shorter k, separated-shorter R short l)
+
+-- ---- a section, where there is one
+
+pub section-sound : {A : Type 0} (p : Parser A) (R : A → Tokens → Tokens → Type 0) (begin end : Mark) (i : IsSound p R) → IsSound (section p begin end) (IsSection R begin end)
+unfolding section
+section-sound p R begin end i ts x rest h =
+    elim (eaten begin _ _ ts (x, rest) h) [
+      | inl w ↦ is_section w.0 (many-sound p R end i (after begin ts) x rest w.1)
+      | inr w ↦ made (IsSection R begin end) [] x ts ts rest w.1 no_section
+    ]
+
+pub section-complete : {A : Type 0} (p : Parser A) (R : A → Tokens → Tokens → Type 0) (fit : A → Bool) (begin end : Mark) (i : IsComplete (many p end) (AreMany R end) Anything (all_fit fit))
+    → (xs : List A) (ts rest : Tokens) → IsSection R begin end xs ts rest → sees begin rest ≡ false → section p begin end ts ≡ picked (all_fit fit xs) xs rest
+unfolding section
+section-complete p R fit begin end i xs ts rest no_section ends = rw (ends, after-unseen begin ts ends) refl
+section-complete p R fit begin end i xs ts rest (is_section {a = a} m l) ends = rw (sees-mark m, after-mark m) (i xs a rest l tt)
+
+-- what begins no section comes behind it
+pub section-starts : {A : Type 0} {R : A → Tokens → Tokens → Type 0} {begin end : Mark} {xs : List A} {ts rest : Tokens} (k : Mark) → IsSection R begin end xs ts rest → same_mark begin k ≡ false → sees k rest ≡ false → sees k ts ≡ false
+section-starts k no_section other ends = ends
+section-starts k (is_section is_mark l) other ends = other
+
+pub section-shorter : {A : Type 0} {R : A → Tokens → Tokens → Type 0} {begin end : Mark} → IsShorter R → {xs : List A} {ts rest : Tokens} → IsSection R begin end xs ts rest → length rest ≤ length ts
+section-shorter short no_section = omega arith
+section-shorter {R = R} {end = end} short (is_section k l) = omega (arith, mark-shorter k, many-shorter R end short l)
+
+-- ---- the items as long as a mark comes next
+
+run_from-sound : {A : Type 0} (p : Parser A) (R : A → Tokens → Tokens → Type 0) (begin : Mark) (i : IsSound p R) (fuel : ℕ) (found : List A) (ts : Tokens) (read : List A) (rest : Tokens)
+    → run_from p begin fuel found ts ≡ Ok (read, rest) → Adds (AreAll R) found read ts rest
+unfolding run_from
+run_from-sound p R begin i zero found ts read rest h = adds-nothing (AreAll R) found read ts ts rest h none
+run_from-sound p R begin i (suc fuel) found ts read rest h =
+    elim (chosen (sees begin ts) _ _ (Ok (read, rest)) h) [
+      | inl w ↦
+          let a = both_ok (p ts) _ (read, rest) w.1 in
+          let l = run_from-sound p R begin i fuel (found ++ a.0 ∷ []) a.1 read rest a.3 in
+          record { more = a.0 ∷ l.more; read_is = l.read_is ∙ append_assoc found (a.0 ∷ []) l.more; derived = and_more (i ts a.0 a.1 a.2) l.derived }
+      | inr w ↦ adds-nothing (AreAll R) found read ts ts rest w.1 none
+    ]
+
+pub run-sound : {A : Type 0} (p : Parser A) (R : A → Tokens → Tokens → Type 0) (begin : Mark) (i : IsSound p R) (found : List A) (ts : Tokens) (read : List A) (rest : Tokens)
+    → run_after p begin found ts ≡ Ok (read, rest) → Adds (AreAll R) found read ts rest
+unfolding run_after
+run-sound p R begin i found ts read rest h = run_from-sound p R begin i (length ts) found ts read rest h
+
+run-end : {A : Type 0} (p : Parser A) (begin : Mark) (fuel : ℕ) (found : List A) (ts : Tokens) → sees begin ts ≡ false → run_from p begin fuel found ts ≡ done found ts
+unfolding run_from
+run-end p begin zero found ts ends = refl
+run-end p begin (suc fuel) found ts ends = rw ends refl
+
+run-turn : {A : Type 0} (p : Parser A) (begin : Mark) (fuel : ℕ) (found : List A) (x : A) (b c : Bool) (ts mid rest : Tokens) (y : List A) → sees begin ts ≡ true → p ts ≡ picked b x mid
+    → run_from p begin fuel (found ++ x ∷ []) mid ≡ picked c y rest → run_from p begin (suc fuel) found ts ≡ picked (b && c) y rest
+unfolding run_from
+run-turn p begin fuel found x b c ts mid rest y begins read go =
+    rw (begins, read) (bind-picked b c x mid (λ z. run_from p begin fuel (found ++ z ∷ [])) y rest go)
+
+module _ {A : Type 0} (p : Parser A) (R : A → Tokens → Tokens → Type 0) (fit : A → Bool) where
+  run_from-complete : (begin : Mark) (i : IsComplete p R Anything fit) (short : IsShorter R) (starts : (x : A) (ts rest : Tokens) → R x ts rest → sees begin ts ≡ true)
+      (fuel : ℕ) (found : List A) {xs : List A} {ts rest : Tokens} → AreAll R xs ts rest → sees begin rest ≡ false → length ts ≤ fuel → run_from p begin fuel found ts ≡ picked (all_fit fit xs) (found ++ xs) rest
+  run_from-complete begin i short starts fuel found {ts = ts} none ends long = rw (append-nil found) (run-end p begin fuel found ts ends)
+  run_from-complete begin i short starts zero found {ts = ts} (and_more {x = x} {mid = mid} r l) ends long = absurd (omega (arith, short x ts mid r))
+  run_from-complete begin i short starts (suc fuel) found {ts = ts} {rest = rest} (and_more {x = x} {xs = xs} {mid = mid} r l) ends long =
+      let read = run_from-complete begin i short starts fuel (found ++ x ∷ []) l ends (omega (arith, short x ts mid r)) in
+      run-turn p begin fuel found x (fit x) (all_fit fit xs) ts mid rest (found ++ x ∷ xs) (starts x ts mid r) (i x ts mid r tt)
+      (read ∙ ap (λ (ys : List A). picked (all_fit fit xs) ys rest) (append_assoc found (x ∷ []) xs))
+
+  pub run-complete : (begin : Mark) (i : IsComplete p R Anything fit) (short : IsShorter R) (starts : (x : A) (ts rest : Tokens) → R x ts rest → sees begin ts ≡ true)
+      (found xs : List A) (ts rest : Tokens) → AreAll R xs ts rest → sees begin rest ≡ false → run_after p begin found ts ≡ picked (all_fit fit xs) (found ++ xs) rest
+  unfolding run_after
+  run-complete begin i short starts found xs ts rest l ends = run_from-complete begin i short starts (length ts) found l ends (omega arith)

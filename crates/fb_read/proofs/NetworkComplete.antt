@@ -7,17 +7,16 @@ use Rattle.fb_types.specs.declared.library.Parameter.{Parameter}
 use Rattle.fb_types.specs.declared.library.Instance.{Instance}
 use Rattle.fb_types.specs.declared.library.Network.{Network}
 use Rattle.fb_types.specs.declared.library.Application.{Application}
-use Rattle.fb_types.specs.declared.library.Library.{Library}
 use Rattle.fb_read.specs.declared.token.Mark.{Mark}
 use Rattle.fb_read.specs.declared.token.Mark.TheVariants as mark
 use Rattle.fb_read.specs.declared.token.Token.TheVariants as token
 use Rattle.fb_read.specs.Tokens.{Tokens}
-use Rattle.fb_read.specs.Parser.{same_mark, sees, after, name, whole, literal, expect, many}
-use Rattle.fb_read.specs.Network.{port, connection, constant, parameter, parameters, instance, connections, network, application, library}
-use Rattle.fb_read.specs.Grammar.{is_mark, is_name, is_whole, is_time, AreMany}
-use Rattle.fb_read.specs.NetworkGrammar.{IsConstant, is_true, is_false, is_number, is_negative, is_duration, IsParameter, is_parameter, AreParameters, no_parameters, some_parameters, IsInstance, is_instance, IsPort, of_boundary, of_component, IsConnection, is_connection, AreConnections, no_connections, some_connections, IsNetwork, is_network, IsApplication, is_application, IsLibrary, is_library}
-use Rattle.fb_read.proofs.Steps.{done, after-unseen, sees-mark, after-mark, mark-shorter, name-shorter, whole-shorter, time-shorter}
-use Rattle.fb_read.proofs.Lists.{IsComplete, IsShorter, Anything, always, all-always, picked, many-complete, separated-complete, separated-shorter}
+use Rattle.fb_read.specs.Parser.{same_mark, sees, after, name, whole, literal, expect, many, section}
+use Rattle.fb_read.specs.Network.{port, connection, constant, parameter, parameters, instance, network, application}
+use Rattle.fb_read.specs.Grammar.{is_mark, is_name, is_whole, is_time, AreMany, IsSection}
+use Rattle.fb_read.specs.NetworkGrammar.{IsConstant, is_true, is_false, is_number, is_negative, is_duration, IsParameter, is_parameter, AreParameters, no_parameters, some_parameters, IsInstance, is_instance, IsPort, of_boundary, of_component, IsConnection, is_connection, IsNetwork, is_network, IsApplication, is_application}
+use Rattle.fb_read.proofs.Steps.{done, mark-shorter, name-shorter, whole-shorter, time-shorter}
+use Rattle.fb_read.proofs.Lists.{IsComplete, IsShorter, Anything, always, all-always, picked, many-complete, separated-complete, separated-shorter, many-shorter, section-complete, section-starts, section-shorter}
 
 port-complete : (x : PortName) (ts rest : Tokens) → IsPort x ts rest → sees mark.Dot rest ≡ false → port ts ≡ done x rest
 unfolding port name after same_mark
@@ -43,7 +42,7 @@ port-starts (of_component is_name d n) k = refl
 connection-starts : (k : Mark) (x : Connection) (ts rest : Tokens) → IsConnection x ts rest → sees k ts ≡ false
 connection-starts k x ts rest (is_connection from t to l) = port-starts from k
 
-constant-complete : (x : Value) (ts rest : Tokens) → IsConstant x ts rest → constant ts ≡ done x rest
+pub constant-complete : (x : Value) (ts rest : Tokens) → IsConstant x ts rest → constant ts ≡ done x rest
 unfolding constant whole literal after same_mark
 constant-complete x ts rest (is_true is_mark) = refl
 constant-complete x ts rest (is_false is_mark) = refl
@@ -51,7 +50,7 @@ constant-complete x ts rest (is_number is_whole) = refl
 constant-complete x ts rest (is_negative is_mark is_whole) = refl
 constant-complete x ts rest (is_duration is_time) = refl
 
-constant-shorter : {x : Value} {ts rest : Tokens} → IsConstant x ts rest → length rest < length ts
+pub constant-shorter : {x : Value} {ts rest : Tokens} → IsConstant x ts rest → length rest < length ts
 constant-shorter (is_true k) = mark-shorter k
 constant-shorter (is_false k) = mark-shorter k
 constant-shorter (is_number n) = whole-shorter n
@@ -90,22 +89,32 @@ instances-complete : (xs : List Instance) (ts rest : Tokens) → AreMany IsInsta
 instances-complete xs ts rest l =
     many-complete instance IsInstance always mark.EndFbs instance-complete instance-shorter (instance-starts mark.EndFbs) xs ts rest l tt ∙ ap (λ (b : Bool). picked b xs rest) (all-always xs)
 
-connections-complete : (k : Mark) (xs : List Connection) (ts rest : Tokens) → AreConnections k xs ts rest → sees k rest ≡ false → connections k ts ≡ done xs rest
-unfolding connections
-connections-complete k xs ts rest no_connections ends = rw (ends, after-unseen k ts ends) refl
-connections-complete k xs ts rest (some_connections {a = a} m l) ends =
-    rw (sees-mark m, after-mark m) (many-complete connection IsConnection always mark.EndConnections connection-complete connection-shorter (connection-starts mark.EndConnections) xs a rest l tt ∙ ap (λ (b : Bool). picked b xs rest) (all-always xs))
+connections-complete : (begin : Mark) (xs : List Connection) (ts rest : Tokens) → IsSection IsConnection begin mark.EndConnections xs ts rest → sees begin rest ≡ false → section connection begin mark.EndConnections ts ≡ done xs rest
+connections-complete begin xs ts rest l ends =
+    section-complete connection IsConnection always begin mark.EndConnections
+    (many-complete connection IsConnection always mark.EndConnections connection-complete connection-shorter (connection-starts mark.EndConnections)) xs ts rest l ends
+    ∙ ap (λ (b : Bool). picked b xs rest) (all-always xs)
 
-network-complete : (x : Network) (ts rest : Tokens) → IsNetwork x ts rest → sees mark.EventConnections rest ≡ false → network ts ≡ done x rest
+pub network-complete : (x : Network) (ts rest : Tokens) → IsNetwork x ts rest → sees mark.EventConnections rest ≡ false → sees mark.DataConnections rest ≡ false → network ts ≡ done x rest
 unfolding network expect same_mark
-network-complete x ts rest (is_network {xs = xs} {es = es} {a = a} {b = b} is_mark l c) ends =
-    rw (instances-complete xs a b l, connections-complete mark.EventConnections es b rest c ends) refl
+network-complete x ts rest (is_network {xs = xs} {es = es} {ds = ds} {a = a} {b = b} {c = c} is_mark l e d) no_events no_values =
+    rw (
+      instances-complete xs a b l,
+      connections-complete mark.EventConnections es b c e (section-starts mark.EventConnections d refl no_events),
+      connections-complete mark.DataConnections ds c rest d no_values,
+    ) refl
 
-application-complete : (x : Application) (ts rest : Tokens) → IsApplication x ts rest → application ts ≡ done x rest
+pub network-starts : {x : Network} {ts rest : Tokens} (k : Mark) → IsNetwork x ts rest → sees k ts ≡ same_mark mark.Fbs k
+network-starts k (is_network is_mark l e d) = refl
+
+pub network-shorter : {x : Network} {ts rest : Tokens} → IsNetwork x ts rest → length rest < length ts
+network-shorter (is_network k l e d) =
+    omega (arith, mark-shorter k, many-shorter IsInstance mark.EndFbs instance-shorter l, section-shorter connection-shorter e, section-shorter connection-shorter d)
+
+pub application-complete : (x : Application) (ts rest : Tokens) → IsApplication x ts rest → application ts ≡ done x rest
 unfolding application name expect same_mark
 application-complete x ts rest (is_application {w = w} {b = b} is_mark is_name n is_mark) =
-    rw (network-complete w b (token.Mark mark.EndApplication ∷ rest) n refl) refl
+    rw (network-complete w b (token.Mark mark.EndApplication ∷ rest) n refl refl) refl
 
-pub library-complete : (x : Library) (ts rest : Tokens) → IsLibrary x ts rest → library ts ≡ done x rest
-unfolding library
-library-complete x ts rest (is_library {x = a} h) = rw (application-complete a ts rest h) refl
+pub application-starts : {x : Application} {ts rest : Tokens} (k : Mark) → IsApplication x ts rest → sees k ts ≡ same_mark mark.Application k
+application-starts k (is_application is_mark n w e) = refl

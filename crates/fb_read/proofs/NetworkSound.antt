@@ -2,15 +2,15 @@
 use Rattle.std.proofs.Common.{ℤ, pos, true, false, [], Some, None, inl, inr}
 use Rattle.std.proofs.Math.IntN.{neg_ℤ}
 use Rattle.fb_types.specs.declared.value.Value.TheVariants as value
-use Rattle.fb_read.specs.declared.token.Mark.{Mark}
 use Rattle.fb_read.specs.declared.token.Mark.TheVariants as mark
-use Rattle.fb_read.specs.Nodes.{port_of, connection_of, parameter_of, instance_of, network_of, application_of, library_of}
+use Rattle.fb_read.specs.Nodes.{port_of, connection_of, parameter_of, instance_of, network_of, application_of}
 use Rattle.fb_read.specs.Tokens.{Tokens}
-use Rattle.fb_read.specs.Parser.{name, whole, literal, expect, after, many, separated}
-use Rattle.fb_read.specs.Network.{port, connection, constant, parameter, parameters, instance, connections, network, application, library}
-use Rattle.fb_read.specs.NetworkGrammar.{IsConstant, is_true, is_false, is_number, is_negative, is_duration, IsParameter, is_parameter, AreParameters, no_parameters, some_parameters, IsInstance, is_instance, IsPort, of_boundary, of_component, IsConnection, is_connection, AreConnections, no_connections, some_connections, IsNetwork, is_network, IsApplication, is_application, IsLibrary, is_library}
+use Rattle.fb_read.specs.Parser.{name, whole, literal, expect, after, many, section, separated}
+use Rattle.fb_read.specs.Network.{port, connection, constant, parameter, parameters, instance, network, application}
+use Rattle.fb_read.specs.NetworkGrammar.{IsConstant, is_true, is_false, is_number, is_negative, is_duration, IsParameter, is_parameter, AreParameters, no_parameters, some_parameters, IsInstance, is_instance, IsPort, of_boundary, of_component, IsConnection, is_connection, IsNetwork, is_network, IsApplication, is_application}
+use Rattle.fb_read.specs.Grammar.{IsSection}
 use Rattle.fb_read.proofs.Steps.{both_ok, made, eaten, expected, named, counted, written, IsLiteral, of_whole, of_time}
-use Rattle.fb_read.proofs.Lists.{IsSound, many-sound, separated-sound}
+use Rattle.fb_read.proofs.Lists.{IsSound, many-sound, separated-sound, section-sound}
 
 port-sound : IsSound port IsPort
 unfolding port
@@ -38,7 +38,7 @@ constant-of : (n : ℤ) (ts rest : Tokens) → IsLiteral n ts rest → IsConstan
 constant-of n ts rest (of_whole w) = is_number w
 constant-of n ts rest (of_time t) = is_duration t
 
-constant-sound : IsSound constant IsConstant
+pub constant-sound : IsSound constant IsConstant
 unfolding constant
 constant-sound ts x rest h =
     elim (eaten mark.True _ _ ts (x, rest) h) [
@@ -87,24 +87,23 @@ instance-sound ts x rest h =
     made IsInstance (instance_of a.0 c.0 d.0) x ts e.1 rest e.3
     (is_instance (named ts a.0 a.1 a.2) (expected mark.Colon a.1 b.1 b.2) (named b.1 c.0 c.1 c.2) (parameters-sound c.1 d.0 d.1 d.2) (expected mark.Semicolon d.1 e.1 e.2))
 
-connections-sound : (k : Mark) → IsSound (connections k) (AreConnections k)
-unfolding connections
-connections-sound k ts x rest h =
-    elim (eaten k _ _ ts (x, rest) h) [
-      | inl w ↦ some_connections w.0 (many-sound connection IsConnection mark.EndConnections connection-sound (after k ts) x rest w.1)
-      | inr w ↦ made (AreConnections k) [] x ts ts rest w.1 no_connections
-    ]
+events-sound : IsSound (section connection mark.EventConnections mark.EndConnections) (IsSection IsConnection mark.EventConnections mark.EndConnections)
+events-sound = section-sound connection IsConnection mark.EventConnections mark.EndConnections connection-sound
 
-network-sound : IsSound network IsNetwork
+values-sound : IsSound (section connection mark.DataConnections mark.EndConnections) (IsSection IsConnection mark.DataConnections mark.EndConnections)
+values-sound = section-sound connection IsConnection mark.DataConnections mark.EndConnections connection-sound
+
+pub network-sound : IsSound network IsNetwork
 unfolding network
 network-sound ts x rest h =
     let a = both_ok (expect mark.Fbs ts) _ (x, rest) h in
     let b = both_ok (many instance mark.EndFbs a.1) _ (x, rest) a.3 in
-    let c = both_ok (connections mark.EventConnections b.1) _ (x, rest) b.3 in
-    made IsNetwork (network_of b.0 c.0 []) x ts c.1 rest c.3
-    (is_network (expected mark.Fbs ts a.1 a.2) (many-sound instance IsInstance mark.EndFbs instance-sound a.1 b.0 b.1 b.2) (connections-sound mark.EventConnections b.1 c.0 c.1 c.2))
+    let c = both_ok (section connection mark.EventConnections mark.EndConnections b.1) _ (x, rest) b.3 in
+    let d = both_ok (section connection mark.DataConnections mark.EndConnections c.1) _ (x, rest) c.3 in
+    made IsNetwork (network_of b.0 c.0 d.0) x ts d.1 rest d.3
+    (is_network (expected mark.Fbs ts a.1 a.2) (many-sound instance IsInstance mark.EndFbs instance-sound a.1 b.0 b.1 b.2) (events-sound b.1 c.0 c.1 c.2) (values-sound c.1 d.0 d.1 d.2))
 
-application-sound : IsSound application IsApplication
+pub application-sound : IsSound application IsApplication
 unfolding application
 application-sound ts x rest h =
     let a = both_ok (expect mark.Application ts) _ (x, rest) h in
@@ -113,9 +112,3 @@ application-sound ts x rest h =
     let d = both_ok (expect mark.EndApplication c.1) _ (x, rest) c.3 in
     made IsApplication (application_of b.0 c.0) x ts d.1 rest d.3
     (is_application (expected mark.Application ts a.1 a.2) (named a.1 b.0 b.1 b.2) (network-sound b.1 c.0 c.1 c.2) (expected mark.EndApplication c.1 d.1 d.2))
-
-pub library-sound : IsSound library IsLibrary
-unfolding library
-library-sound ts x rest h =
-    let a = both_ok (application ts) _ (x, rest) h in
-    made IsLibrary (library_of [] a.0) x ts a.1 rest a.3 (is_library (application-sound ts a.0 a.1 a.2))

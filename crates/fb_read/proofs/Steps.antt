@@ -1,19 +1,27 @@
 -- The steps of a parser: what was read is what the grammar says.
-use Rattle.std.proofs.Common.{◌≡◌, ℕ, ℤ, pos, ◌<◌, Bool, true, false, cond, [], ◌∷◌, length, Ok, Err, refl, ap, subst, inl, inr, ◌⊎◌, arith, rules}
-use Rattle.std.proofs.lemmas.Bool.{eq-eqb}
+use Rattle.std.proofs.Common.{◌≡◌, ℕ, ℤ, pos, ◌<◌, Bool, true, false, cond, eqb, [], ◌∷◌, length, Option, Some, None, Ok, Err, refl, ap, subst, inl, inr, ◌⊎◌, arith, rules}
+use Rattle.std.specs.Str.{bytes_eq}
+use Rattle.std.proofs.lemmas.Bool.{eq-eqb, eqb-true}
+use Rattle.std.proofs.lemmas.Slice.Eq.{bytes_eq-Decides}
 use denote.Enum.Bare.{same_true}
 use Rattle.fb_types.specs.Names.{Name}
+use Rattle.fb_types.specs.declared.value.Ty.{Ty}
 use Rattle.fb_read.specs.contracts.token.Mark.{the_type}
 use Rattle.fb_read.specs.declared.token.Mark.{Mark}
 use Rattle.fb_read.specs.declared.token.Token.TheVariants as token
 use Rattle.fb_read.specs.Tokens.{Tokens}
-use Rattle.fb_read.specs.Parser.{Parser, Outcome, syntax, and_then, same_mark, sees, rest_of, after, expect, name, whole, literal}
-use Rattle.fb_read.specs.Grammar.{IsMark, is_mark, IsName, is_name, IsWhole, is_whole, IsTime, is_time}
+use Rattle.fb_read.specs.Parser.{Parser, Outcome, syntax, and_then, same_mark, sees, rest_of, after, expect, name, ty_of, typed, ty_name, word, whole, one, literal}
+use Rattle.fb_read.specs.Grammar.{IsMark, is_mark, IsName, is_name, IsWhole, is_whole, IsTime, is_time, IsType, is_type}
 
 -- which way a test went
 pub chosen : {A : Type 0} (b : Bool) (x y z : A) → cond b x y ≡ z → ((b ≡ true) × (x ≡ z)) ⊎ ((b ≡ false) × (y ≡ z))
 chosen true x y z e = inl (refl, e)
 chosen false x y z e = inr (refl, e)
+
+-- which way a rule went
+pub went : {A : Type 0} (b : Bool) (p q : Parser A) (ts : Tokens) (z : A × Tokens) → (cond b p q) ts ≡ Ok z → ((b ≡ true) × (p ts ≡ Ok z)) ⊎ ((b ≡ false) × (q ts ≡ Ok z))
+went true p q ts z e = inl (refl, e)
+went false p q ts z e = inr (refl, e)
 
 -- two steps that did not fail
 pub both_ok : {A B : Type 0} (r : Outcome A) (f : A → Parser B) (y : B × Tokens) → and_then r f ≡ Ok y → (x : A) × (mid : Tokens) × (r ≡ Ok (x, mid)) × (f x mid ≡ Ok y)
@@ -87,6 +95,37 @@ named (token.Mark k ∷ ts) t rest h = absurd cc
 named (token.Whole n ∷ ts) t rest h = absurd cc
 named (token.Time n ∷ ts) t rest h = absurd cc
 
+pub spelled : (text : Name) (ts rest : Tokens) → word text ts ≡ Ok (tt, rest) → IsName text ts rest
+unfolding word
+spelled text [] rest h = absurd cc
+spelled text (token.Name t ∷ ts) rest h =
+    elim (chosen (bytes_eq t text) (Ok (tt, ts)) (Err syntax) (Ok (tt, rest)) h) [
+      | inl w ↦
+          let same : t ≡ text = (bytes_eq-Decides t text).0 w.0 in
+          let left : ts ≡ rest = ap (λ (p : Unit {0} × Tokens). p.1) (pair_is (tt, ts) (tt, rest) w.1) in
+          rw (same, left) is_name
+      | inr w ↦ absurd cc
+    ]
+spelled text (token.Mark k ∷ ts) rest h = absurd cc
+spelled text (token.Whole n ∷ ts) rest h = absurd cc
+spelled text (token.Time n ∷ ts) rest h = absurd cc
+
+pub typed_by : (ts : Tokens) (t : Ty) (rest : Tokens) → ty_name ts ≡ Ok (t, rest) → IsType t ts rest
+unfolding ty_name
+typed_by [] t rest h = absurd cc
+typed_by (token.Mark k ∷ ts) t rest h = go (ty_of k) refl h
+  where
+    go : (o : Option Ty) → ty_of k ≡ o → typed o ts ≡ Ok (t, rest) → IsType t (token.Mark k ∷ ts) rest
+    go (Some u) e r = made IsType u t (token.Mark k ∷ ts) ts rest r (is_type e is_mark)
+    go None e r = absurd cc
+typed_by (token.Name s ∷ ts) t rest h = absurd cc
+typed_by (token.Whole n ∷ ts) t rest h = absurd cc
+typed_by (token.Time n ∷ ts) t rest h = absurd cc
+
+pub type-complete : (t : Ty) (ts rest : Tokens) → IsType t ts rest → ty_name ts ≡ done t rest
+unfolding ty_name
+type-complete t ts rest (is_type e is_mark) = rw e refl
+
 pub counted : (ts : Tokens) (n : ℕ) (rest : Tokens) → whole ts ≡ Ok (n, rest) → IsWhole n ts rest
 unfolding whole
 counted [] n rest h = absurd cc
@@ -94,6 +133,21 @@ counted (token.Whole m ∷ ts) n rest h = made IsWhole m n (token.Whole m ∷ ts
 counted (token.Mark k ∷ ts) n rest h = absurd cc
 counted (token.Name t ∷ ts) n rest h = absurd cc
 counted (token.Time t ∷ ts) n rest h = absurd cc
+
+pub alone : (ts rest : Tokens) → one ts ≡ Ok (tt, rest) → IsWhole 1 ts rest
+unfolding one
+alone [] rest h = absurd cc
+alone (token.Whole n ∷ ts) rest h =
+    elim (chosen (eqb n 1) (Ok (tt, ts)) (Err syntax) (Ok (tt, rest)) h) [
+      | inl w ↦
+          let same : n ≡ 1 = eqb-true n 1 w.0 in
+          let left : ts ≡ rest = ap (λ (p : Unit {0} × Tokens). p.1) (pair_is (tt, ts) (tt, rest) w.1) in
+          rw (same, left) is_whole
+      | inr w ↦ absurd cc
+    ]
+alone (token.Mark k ∷ ts) rest h = absurd cc
+alone (token.Name t ∷ ts) rest h = absurd cc
+alone (token.Time t ∷ ts) rest h = absurd cc
 
 -- a whole or a time literal
 pub data IsLiteral : ℤ → Tokens → Tokens → Type 0 where
@@ -107,6 +161,9 @@ written (token.Whole m ∷ ts) n rest h = made IsLiteral (pos m) n (token.Whole 
 written (token.Time t ∷ ts) n rest h = made IsLiteral t n (token.Time t ∷ ts) ts rest h (of_time is_time)
 written (token.Mark k ∷ ts) n rest h = absurd cc
 written (token.Name t ∷ ts) n rest h = absurd cc
+
+pub type-shorter : {t : Ty} {ts rest : Tokens} → IsType t ts rest → length rest < length ts
+type-shorter (is_type e is_mark) = omega arith
 
 pub mark-shorter : {k : Mark} {ts rest : Tokens} → IsMark k ts rest → length rest < length ts
 mark-shorter is_mark = omega arith

@@ -1,5 +1,5 @@
 -- A text has one list of tokens, or a first fault; what is read of its tokens is the one library that it declares.
-use Rattle.std.proofs.Common.{◌≡◌, ℕ, ◌≤◌, [], ◌∷◌, length, drop, Result, Ok, Err, Some, refl, sym, ap, subst, ◌∙◌}
+use Rattle.std.proofs.Common.{◌≡◌, ℕ, ◌≤◌, Bool, true, false, cond, [], ◌∷◌, length, drop, Result, Ok, Err, Some, refl, sym, ap, subst, ◌∙◌}
 use Rattle.std.specs.Prelude.{IfOk, IfErr}
 use Rattle.fb_types.specs.declared.library.Library.{Library}
 use Rattle.fb_read.specs.declared.token.Token.{Token}
@@ -9,11 +9,13 @@ use Rattle.fb_read.specs.Blank.{Text, skip, start}
 use Rattle.fb_read.specs.Front.{TokenFault, bad_byte, Found, front}
 use Rattle.fb_read.specs.Tokens.{Tokens, behind_mark, AreTokens, no_more, then_token, IsFirstFault, open_comment, is_here, is_later}
 use Rattle.fb_read.specs.Parser.{Outcome, RuleFault, syntax, too_deep}
-use Rattle.fb_read.specs.Network.{library}
-use Rattle.fb_read.specs.NetworkGrammar.{IsLibrary}
-use Rattle.fb_read.specs.Whole.{most_bytes, IsLibraryText, HasTokenFault, HasTokens, RefusesWhere, IsMemory, IsGrammarFault, Parses, ended, DeclaresOne}
-use Rattle.fb_read.proofs.NetworkSound.{library-sound}
-use Rattle.fb_read.proofs.NetworkComplete.{library-complete}
+use Rattle.fb_read.specs.Blocks.{library}
+use Rattle.fb_read.specs.BlocksGrammar.{IsLibrary}
+use Rattle.fb_read.specs.Fits.{fits_library}
+use Rattle.fb_read.specs.Whole.{most_bytes, IsDerived, IsLibraryText, IsNesting, HasTokenFault, HasTokens, RefusesWhere, IsMemory, IsGrammarFault, Parses, ended, DeclaresOne}
+use Rattle.fb_read.proofs.BlocksSound.{library-sound}
+use Rattle.fb_read.proofs.BlocksComplete.{library-complete}
+use Rattle.fb_read.proofs.Lists.{picked}
 
 abbrev at_token : Token × ℕ → Found
 at_token p = Ok p
@@ -88,46 +90,81 @@ ended-ok (Ok (y, [])) x e = let same : y ≡ x = cc in rw same refl
 ended-ok (Ok (y, (t ∷ ts))) x e = absurd cc
 ended-ok (Err fault) x e = absurd cc
 
-parsed-sound : (ts : Tokens) (x : Library) → ended (library ts) ≡ Ok x → IsLibrary x ts []
-parsed-sound ts x h = library-sound ts x [] (ended-ok (library ts) x h)
+abbrev answer : Bool → Library → Result Library RuleFault
+answer b x = cond b (Ok x) (Err too_deep)
 
-parsed-complete : (ts : Tokens) (x : Library) → IsLibrary x ts [] → ended (library ts) ≡ Ok x
-parsed-complete ts x l = ap ended (library-complete x ts [] l)
+-- what is derived is parsed where it keeps the limit of nesting, and refused for its nesting where it does not
+parsed : (ts : Tokens) (x : Library) → IsLibrary x ts [] → ended (library ts) ≡ answer (fits_library x) x
+parsed ts x l = rw (library-complete x ts [] l refl) (go (fits_library x))
+  where
+    go : (b : Bool) → ended (picked b x []) ≡ answer b x
+    go true = refl
+    go false = refl
 
-abbrev answer : Library → Result Library RuleFault
-answer x = Ok x
+parsed-derived : (ts : Tokens) (x : Library) → ended (library ts) ≡ Ok x → IsLibrary x ts []
+parsed-derived ts x h = library-sound ts x [] (ended-ok (library ts) x h)
 
-same_answer : (x y : Library) → answer x ≡ answer y → x ≡ y
+parsed-fits : (ts : Tokens) (x : Library) → ended (library ts) ≡ Ok x → fits_library x ≡ true
+parsed-fits ts x h = go (fits_library x) (sym (parsed ts x (parsed-derived ts x h)) ∙ h)
+  where
+    go : (b : Bool) → answer b x ≡ Ok x → b ≡ true
+    go true e = refl
+    go false e = absurd cc
+
+parsed-complete : (ts : Tokens) (x : Library) → IsLibrary x ts [] → fits_library x ≡ true → ended (library ts) ≡ answer true x
+parsed-complete ts x l fits = parsed ts x l ∙ ap (λ (b : Bool). answer b x) fits
+
+same_answer : (x y : Library) → answer true x ≡ answer true y → x ≡ y
 same_answer x y e = cc
 
-library-unique : (ts : Tokens) (x y : Library) → IsLibrary x ts [] → IsLibrary y ts [] → x ≡ y
-library-unique ts x y l m = same_answer x y (sym (parsed-complete ts x l) ∙ parsed-complete ts y m)
-
 pub declares-one : DeclaresOne
-declares-one text x y a b = library-unique a.tokens x y a.derived (subst (λ (ts : Tokens). IsLibrary y ts []) (sym (tokens-unique a.read b.read)) b.derived)
+declares-one text x y a b =
+    let same = tokens-unique a.derived.read b.derived.read in
+    let other : IsLibrary y a.derived.tokens [] = subst (λ (ts : Tokens). IsLibrary y ts []) (sym same) b.derived.derived in
+    same_answer x y (sym (parsed-complete a.derived.tokens x a.derived.derived a.fits) ∙ parsed-complete a.derived.tokens y other b.fits)
 
 -- ---- what a refusal says
 
-not_parsed : (ts : Tokens) (f : RuleFault) (x : Library) → ended (library ts) ≡ Err f → IsLibrary x ts [] → ⊥
-not_parsed ts f x h l = go (ended (library ts)) h (parsed-complete ts x l)
+not_parsed : (ts : Tokens) (f : RuleFault) (x : Library) → ended (library ts) ≡ Err f → IsLibrary x ts [] → f ≡ too_deep
+not_parsed ts f x h l = go (fits_library x) (sym h ∙ parsed ts x l)
   where
-    go : (o : Result Library RuleFault) → o ≡ Err f → o ≡ Ok x → ⊥
-    go o e g = cc
+    go : (b : Bool) → Err f ≡ answer b x → f ≡ too_deep
+    go true e = absurd cc
+    go false e = cc
+
+not_fitting : (ts : Tokens) (f : RuleFault) (x : Library) → ended (library ts) ≡ Err f → IsLibrary x ts [] → fits_library x ≡ true → ⊥
+not_fitting ts f x h l fits = go (sym h ∙ parsed-complete ts x l fits)
+  where
+    go : Err f ≡ answer true x → ⊥
+    go e = cc
 
 abbrev Nothing : Text → Type 0
 Nothing text = (x : Library) → IsLibraryText text x → ⊥
 
+-- nothing is derived
+abbrev Barren : Text → Type 0
+Barren text = (x : Library) → IsDerived text x → ⊥
+
+at-tokens : (text : Text) (ts : Tokens) (x : Library) → AreTokens ts (behind_mark text) → IsDerived text x → IsLibrary x ts []
+at-tokens text ts x a l = subst (λ (us : Tokens). IsLibrary x us []) (tokens-unique l.read a) l.derived
+
 nothing-parsed : (text : Text) (ts : Tokens) (f : RuleFault) → AreTokens ts (behind_mark text) → ended (library ts) ≡ Err f → Nothing text
-nothing-parsed text ts f a h x l = not_parsed ts f x h (subst (λ (us : Tokens). IsLibrary x us []) (tokens-unique l.read a) l.derived)
+nothing-parsed text ts f a h x l = not_fitting ts f x h (at-tokens text ts x a l.derived) l.fits
+
+too-deep : (text : Text) (ts : Tokens) (f : RuleFault) (x : Library) → AreTokens ts (behind_mark text) → ended (library ts) ≡ Err f → IsDerived text x → f ≡ too_deep
+too-deep text ts f x a h l = not_parsed ts f x h (at-tokens text ts x a l)
+
+pub barren-faulty : (text : Text) (f : TokenFault) → IsFirstFault f (behind_mark text) → Barren text
+barren-faulty text f h x l = no-fault l.read h
 
 pub nothing-faulty : (text : Text) (f : TokenFault) → IsFirstFault f (behind_mark text) → Nothing text
-nothing-faulty text f h x l = no-fault l.read h
+nothing-faulty text f h x l = no-fault l.derived.read h
 
 -- ---- the answer, where the text has tokens
 
 module _ (text : Text) (ts : Tokens) (short : length text ≤ most_bytes) (a : AreTokens ts (behind_mark text)) where
   pub is-declared : (r : Result Library ReadError) → Parses r (ended (library ts)) → IfOk r (λ x. IsLibraryText text x)
-  is-declared (Ok x) h = record { short = short; tokens = ts; read = a; derived = parsed-sound ts x h }
+  is-declared (Ok x) h = record { derived = record { short = short; tokens = ts; read = a; derived = parsed-derived ts x h }; fits = parsed-fits ts x h }
   is-declared (Err e) h = tt
 
   pub is-none : (r : Result Library ReadError) → Parses r (ended (library ts)) → IfErr r (λ e. ¬ IsMemory e → (x : Library) → IsLibraryText text x → ⊥)
@@ -138,6 +175,15 @@ module _ (text : Text) (ts : Tokens) (short : length text ≤ most_bytes) (a : A
   is-none (Err (error.Syntax line)) h = λ n. nothing-parsed text ts syntax a h
   is-none (Err error.TooLong) h = absurd h
   is-none (Err error.Nesting) h = λ n. nothing-parsed text ts too_deep a h
+
+  pub is-nesting : (r : Result Library ReadError) → Parses r (ended (library ts)) → IfErr r (λ e. ¬ IsMemory e → (x : Library) → IsDerived text x → IsNesting e)
+  is-nesting (Ok x) h = tt
+  is-nesting (Err error.Memory) h = λ n. absurd (n tt)
+  is-nesting (Err error.Byte) h = absurd h
+  is-nesting (Err error.Token) h = absurd h
+  is-nesting (Err (error.Syntax line)) h = λ n x l. absurd (let e = too-deep text ts syntax x a h l in cc)
+  is-nesting (Err error.TooLong) h = absurd h
+  is-nesting (Err error.Nesting) h = λ n x l. tt
 
   pub is-parsed : (r : Result Library ReadError) → IfErr r (λ e. IsGrammarFault e → HasTokens text)
   is-parsed (Ok x) = tt

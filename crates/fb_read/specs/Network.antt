@@ -8,11 +8,9 @@ use Rattle.fb_types.specs.declared.library.Parameter.{Parameter}
 use Rattle.fb_types.specs.declared.library.Instance.{Instance}
 use Rattle.fb_types.specs.declared.library.Network.{Network}
 use Rattle.fb_types.specs.declared.library.Application.{Application}
-use Rattle.fb_types.specs.declared.library.Library.{Library}
-use Rattle.fb_read.specs.declared.token.Mark.{Mark}
 use Rattle.fb_read.specs.declared.token.Mark.TheVariants as mark
-use Rattle.fb_read.specs.Nodes.{port_of, connection_of, parameter_of, instance_of, network_of, application_of, library_of}
-use Rattle.fb_read.specs.Parser.{Parser, ◌>>=◌, ◌>>◌, pure, eat, expect, name, whole, literal, many, separated}
+use Rattle.fb_read.specs.Nodes.{port_of, connection_of, parameter_of, instance_of, network_of, application_of}
+use Rattle.fb_read.specs.Parser.{Parser, ◌>>=◌, ◌>>◌, pure, eat, expect, name, whole, literal, many, separated, section}
 
 unfoldable pub port : Parser PortName
 port = do
@@ -70,18 +68,13 @@ instance = do
   expect mark.Semicolon
   pure (instance_of first block_type given)
 
--- the connections of a section that this mark begins
-unfoldable pub connections : Mark → Parser (List Connection)
-connections k = do
-  some ← eat k
-  if some then many connection mark.EndConnections else pure []
-
 unfoldable pub network : Parser Network
 network = do
   expect mark.Fbs
   instances ← many instance mark.EndFbs
-  events ← connections mark.EventConnections
-  pure (network_of instances events [])
+  events ← section connection mark.EventConnections mark.EndConnections
+  values ← section connection mark.DataConnections mark.EndConnections
+  pure (network_of instances events values)
 
 unfoldable pub application : Parser Application
 application = do
@@ -90,8 +83,3 @@ application = do
   body ← network
   expect mark.EndApplication
   pure (application_of first body)
-
-unfoldable pub library : Parser Library
-library = do
-  found ← application
-  pure (library_of [] found)

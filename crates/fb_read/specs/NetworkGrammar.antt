@@ -10,12 +10,10 @@ use Rattle.fb_types.specs.declared.library.Parameter.{Parameter}
 use Rattle.fb_types.specs.declared.library.Instance.{Instance}
 use Rattle.fb_types.specs.declared.library.Network.{Network}
 use Rattle.fb_types.specs.declared.library.Application.{Application}
-use Rattle.fb_types.specs.declared.library.Library.{Library}
-use Rattle.fb_read.specs.declared.token.Mark.{Mark}
 use Rattle.fb_read.specs.declared.token.Mark.TheVariants as mark
-use Rattle.fb_read.specs.Nodes.{port_of, connection_of, parameter_of, instance_of, network_of, application_of, library_of}
+use Rattle.fb_read.specs.Nodes.{port_of, connection_of, parameter_of, instance_of, network_of, application_of}
 use Rattle.fb_read.specs.Tokens.{Tokens}
-use Rattle.fb_read.specs.Grammar.{IsMark, IsName, IsWhole, IsTime, AreMany, AreSeparated}
+use Rattle.fb_read.specs.Grammar.{IsMark, IsName, IsWhole, IsTime, AreMany, AreSeparated, IsSection}
 
 -- constant = TRUE | FALSE | [ "-" ] whole | time
 pub data IsConstant : Value → Tokens → Tokens → Type 0 where
@@ -51,22 +49,14 @@ pub data IsConnection : Connection → Tokens → Tokens → Type 0 where
   is_connection : {p q : PortName} {ts a b c rest : Tokens} → IsPort p ts a → IsMark mark.To a b → IsPort q b c → IsMark mark.Semicolon c rest
       → IsConnection (connection_of p q) ts rest
 
--- [ keyword { connection } END_CONNECTIONS ]
-pub data AreConnections (k : Mark) : List Connection → Tokens → Tokens → Type 0 where
-  no_connections : {ts : Tokens} → AreConnections k [] ts ts
-  some_connections : {xs : List Connection} {ts a rest : Tokens} → IsMark k ts a → AreMany IsConnection mark.EndConnections xs a rest
-      → AreConnections k xs ts rest
-
 -- network = FBS { instance } END_FBS [ EVENT_CONNECTIONS { connection } END_CONNECTIONS ]
+--           [ DATA_CONNECTIONS { connection } END_CONNECTIONS ]
 pub data IsNetwork : Network → Tokens → Tokens → Type 0 where
-  is_network : {xs : List Instance} {es : List Connection} {ts a b rest : Tokens} → IsMark mark.Fbs ts a → AreMany IsInstance mark.EndFbs xs a b
-      → AreConnections mark.EventConnections es b rest → IsNetwork (network_of xs es []) ts rest
+  is_network : {xs : List Instance} {es ds : List Connection} {ts a b c rest : Tokens} → IsMark mark.Fbs ts a → AreMany IsInstance mark.EndFbs xs a b
+      → IsSection IsConnection mark.EventConnections mark.EndConnections es b c → IsSection IsConnection mark.DataConnections mark.EndConnections ds c rest
+      → IsNetwork (network_of xs es ds) ts rest
 
 -- application = APPLICATION name network END_APPLICATION
 pub data IsApplication : Application → Tokens → Tokens → Type 0 where
   is_application : {n : Name} {w : Network} {ts a b c rest : Tokens} → IsMark mark.Application ts a → IsName n a b → IsNetwork w b c
       → IsMark mark.EndApplication c rest → IsApplication (application_of n w) ts rest
-
--- library = application
-pub data IsLibrary : Library → Tokens → Tokens → Type 0 where
-  is_library : {x : Application} {ts rest : Tokens} → IsApplication x ts rest → IsLibrary (library_of [] x) ts rest

@@ -1,7 +1,10 @@
 -- The steps that every rule of the parser is made of.
-use Rattle.std.specs.Prelude.{◌≡◌, ℕ, zero, suc, ℤ, pos, Bool, false, true, if◌then◌else◌, List, [], ◌∷◌, ◌++◌, length, Result, Ok, Err}
+use Rattle.std.specs.Prelude.{◌≡◌, ℕ, zero, suc, ℤ, pos, Bool, false, true, if◌then◌else◌, ◌==◌, List, [], ◌∷◌, ◌++◌, length, Option, Some, None, Result, Ok, Err}
+use Rattle.std.specs.Str.{bytes_eq}
 use denote.Enum.Bare.{sameb}
 use Rattle.fb_types.specs.Names.{Name}
+use Rattle.fb_types.specs.declared.value.Ty.{Ty}
+use Rattle.fb_types.specs.declared.value.Ty.TheVariants as ty
 use Rattle.fb_read.specs.contracts.token.Mark.{the_type}
 use Rattle.fb_read.specs.declared.token.Mark.{Mark}
 use Rattle.fb_read.specs.declared.token.Mark.TheVariants as mark
@@ -75,10 +78,50 @@ name [] = Err syntax
 name (token.Name text ∷ ts) = Ok (text, ts)
 name (_ ∷ ts) = Err syntax
 
+-- the next token, if it is a name
+unfoldable pub name_if : Parser (Option Name)
+name_if (token.Name text ∷ ts) = Ok (Some text, ts)
+name_if ts = Ok (None, ts)
+
+-- a name with this spelling
+unfoldable pub word : Name → Parser (Unit {0})
+word text [] = Err syntax
+word text (token.Name found ∷ ts) = if bytes_eq found text then Ok (tt, ts) else Err syntax
+word text (_ ∷ ts) = Err syntax
+
+-- the elementary type that a keyword names
+abbrev pub ty_of : Mark → Option Ty
+ty_of mark.Bool = Some ty.Bool
+ty_of mark.Sint = Some ty.Sint
+ty_of mark.Int = Some ty.Int
+ty_of mark.Dint = Some ty.Dint
+ty_of mark.Lint = Some ty.Lint
+ty_of mark.Usint = Some ty.Usint
+ty_of mark.Uint = Some ty.Uint
+ty_of mark.Udint = Some ty.Udint
+ty_of mark.Ulint = Some ty.Ulint
+ty_of mark.Time = Some ty.Time
+ty_of _ = None
+
+abbrev pub typed : Option Ty → Parser Ty
+typed (Some t) = pure t
+typed None = refuse
+
+unfoldable pub ty_name : Parser Ty
+ty_name [] = Err syntax
+ty_name (token.Mark k ∷ ts) = typed (ty_of k) ts
+ty_name (_ ∷ ts) = Err syntax
+
 unfoldable pub whole : Parser ℕ
 whole [] = Err syntax
 whole (token.Whole n ∷ ts) = Ok (n, ts)
 whole (_ ∷ ts) = Err syntax
+
+-- a whole literal whose value is 1
+unfoldable pub one : Parser (Unit {0})
+one [] = Err syntax
+one (token.Whole n ∷ ts) = if n == 1 then Ok (tt, ts) else Err syntax
+one (_ ∷ ts) = Err syntax
 
 -- a whole or a time literal
 unfoldable pub literal : Parser ℤ
@@ -96,8 +139,25 @@ many_from item end (suc n) found = do
     x ← item
     many_from item end n (found ++ x ∷ []))
 
+unfoldable pub many_after : {A : Type 0} → Parser A → Mark → List A → Parser (List A)
+many_after item end found = λ ts. many_from item end (length ts) found ts
+
 unfoldable pub many : {A : Type 0} → Parser A → Mark → Parser (List A)
 many item end = λ ts. many_from item end (length ts) [] ts
+
+-- the items of a section, if its first mark comes next
+unfoldable pub section : {A : Type 0} → Parser A → Mark → Mark → Parser (List A)
+section item begin end = do
+  some ← eat begin
+  if some then many item end else pure []
+
+-- the items as long as this mark comes next
+unfoldable pub run_from : {A : Type 0} → Parser A → Mark → ℕ → List A → Parser (List A)
+run_from item begin zero found = pure found
+run_from item begin (suc n) found = λ ts. if sees begin ts then (item >>= (λ x. run_from item begin n (found ++ x ∷ []))) ts else Ok (found, ts)
+
+unfoldable pub run_after : {A : Type 0} → Parser A → Mark → List A → Parser (List A)
+run_after item begin found = λ ts. run_from item begin (length ts) found ts
 
 -- one or more items with commas between them
 unfoldable pub separated_from : {A : Type 0} → Parser A → ℕ → List A → Parser (List A)

@@ -1,5 +1,5 @@
 -- The library that a whole text declares (this project's profile, in the manner of IEC 61499-1, Annex B).
-use Rattle.std.specs.Prelude.{◌≡◌, ◌≤◌, ◌⊎◌, ℕ, [], ◌∷◌, length, Result, Ok, Err}
+use Rattle.std.specs.Prelude.{◌≡◌, ◌≤◌, ◌⊎◌, ℕ, true, [], ◌∷◌, length, Result, Ok, Err}
 use Rattle.fb_types.specs.declared.library.Library.{Library}
 use Rattle.fb_read.specs.declared.error.ReadError.{ReadError}
 use Rattle.fb_read.specs.declared.error.ReadError.TheVariants as error
@@ -7,18 +7,24 @@ use Rattle.fb_read.specs.Blank.{Text}
 use Rattle.fb_read.specs.Front.{TokenFault}
 use Rattle.fb_read.specs.Tokens.{Tokens, behind_mark, AreTokens, IsFirstFault}
 use Rattle.fb_read.specs.Parser.{Outcome, RuleFault, syntax, too_deep}
-use Rattle.fb_read.specs.NetworkGrammar.{IsLibrary}
+use Rattle.fb_read.specs.BlocksGrammar.{IsLibrary}
+use Rattle.fb_read.specs.Fits.{fits_library}
 
 -- the greatest length of a text, in bytes
 abbrev pub most_bytes : ℕ
 most_bytes = 1048576
 
--- This text declares this library: its tokens are derived by the grammar, with nothing left.
-pub record IsLibraryText (text : Text) (library : Library) : Type 0 where
+-- The tokens of this text are derived as this library by the grammar, with nothing left. There is no limit of nesting.
+pub record IsDerived (text : Text) (library : Library) : Type 0 where
   pub short : length text ≤ most_bytes
   pub tokens : Tokens
   pub read : AreTokens tokens (behind_mark text)
   pub derived : IsLibrary library tokens []
+
+-- This text declares this library: it is derived, and nothing in it nests too deep.
+pub record IsLibraryText (text : Text) (library : Library) : Type 0 where
+  pub derived : IsDerived text library
+  pub fits : fits_library library ≡ true
 
 -- nothing may be left
 abbrev pub ended : Outcome Library → Result Library RuleFault
@@ -33,6 +39,15 @@ IsMemory error.Token = ⊥
 IsMemory (error.Syntax line) = ⊥
 IsMemory error.TooLong = ⊥
 IsMemory error.Nesting = ⊥
+
+-- an expression or a statement nests too deep
+abbrev pub IsNesting : ReadError → Type 0
+IsNesting error.Memory = ⊥
+IsNesting error.Byte = ⊥
+IsNesting error.Token = ⊥
+IsNesting (error.Syntax line) = ⊥
+IsNesting error.TooLong = ⊥
+IsNesting error.Nesting = Unit {0}
 
 -- the text is short, and a byte or a token is the first that is at fault
 pub record HasTokenFault (fault : TokenFault) (text : Text) : Type 0 where

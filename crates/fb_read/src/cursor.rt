@@ -4,10 +4,15 @@ ghost use Rattle.std.specs.Prelude.{◌≡◌, ◌↔◌, [], length, IsNone};
 ghost use Rattle.fb_read.specs.Parser as spec;
 ghost use Rattle.fb_read.specs.Parser.{Reads};
 ghost use Rattle.fb_read.specs.Tokens.{tokens_of};
+ghost use Rattle.fb_read.specs.Operators.{next_operator, begins_expression};
+ghost use Rattle.fb_read.specs.Statements.{begins_statement, begins_label, sees_whole};
 
 use crate::fault::ParseFault;
+use crate::operator::operator_of;
 use crate::token::{Magnitude, Mark, Placed, Token};
 use fb_types::name::Name;
+use fb_types::text::BinaryOperator;
+use fb_types::value::Ty;
 use std::alloc::Global;
 use std::marker::Model;
 
@@ -24,6 +29,25 @@ impl<'a> Model for Cursor<'a> {
     ghost Value = { List Token };
 
     ghost view = { λ c. map (λ p. p.token) c.rest.now };
+}
+
+/// The elementary type that a keyword names.
+fn ty_of(mark: Mark) -> Option<Ty>
+    ensures { result ≡ spec.ty_of mark }
+{
+    match mark {
+        Mark::Bool => Some(Ty::Bool),
+        Mark::Sint => Some(Ty::Sint),
+        Mark::Int => Some(Ty::Int),
+        Mark::Dint => Some(Ty::Dint),
+        Mark::Lint => Some(Ty::Lint),
+        Mark::Usint => Some(Ty::Usint),
+        Mark::Uint => Some(Ty::Uint),
+        Mark::Udint => Some(Ty::Udint),
+        Mark::Ulint => Some(Ty::Ulint),
+        Mark::Time => Some(Ty::Time),
+        _ => None,
+    }
 }
 
 impl<'a> Cursor<'a> {
@@ -116,6 +140,65 @@ impl<'a> Cursor<'a> {
         }
     }
 
+    /// Takes the next token, if it is a name.
+    #[tactic(auto, unfolding(crate::specs::Parser::name_if))]
+    pub fn name_if(&mut self, alloc: Global) -> Result<Option<Name>, ParseFault>
+        ensures { Reads (spec.name_if self.old) result self.new }
+    {
+        match self.rest {
+            [first, rest @ ..] => match &first.token {
+                Token::Name(name) => {
+                    let name = name.try_clone(alloc)?;
+                    self.rest = rest;
+                    Ok(Some(name))
+                }
+                _ => Ok(None),
+            },
+            [] => Ok(None),
+        }
+    }
+
+    /// A name with this spelling, in upper case.
+    #[tactic(auto, unfolding(crate::specs::Parser::word))]
+    pub fn word(&mut self, text: &[u8]) -> Result<(), ParseFault>
+        ensures { Reads (spec.word text.now self.old) result self.new }
+    {
+        match self.rest {
+            [first, rest @ ..] => match &first.token {
+                Token::Name(name) => {
+                    if name.as_bytes() == text {
+                        self.rest = rest;
+                        Ok(())
+                    } else {
+                        Err(ParseFault::Syntax)
+                    }
+                }
+                _ => Err(ParseFault::Syntax),
+            },
+            [] => Err(ParseFault::Syntax),
+        }
+    }
+
+    /// The elementary type that the next keyword names.
+    #[tactic(auto, unfolding(crate::specs::Parser::ty_name))]
+    pub fn ty(&mut self) -> Result<Ty, ParseFault>
+        ensures { Reads (spec.ty_name self.old) result self.new }
+    {
+        match self.rest {
+            [first, rest @ ..] => match &first.token {
+                Token::Mark(mark) => match ty_of(*mark) {
+                    Some(ty) => {
+                        self.rest = rest;
+                        Ok(ty)
+                    }
+                    None => Err(ParseFault::Syntax),
+                },
+                _ => Err(ParseFault::Syntax),
+            },
+            [] => Err(ParseFault::Syntax),
+        }
+    }
+
     #[tactic(auto, unfolding(crate::specs::Parser::whole))]
     pub fn whole(&mut self) -> Result<Magnitude, ParseFault>
         ensures { Reads (spec.whole self.old) result self.new }
@@ -125,6 +208,27 @@ impl<'a> Cursor<'a> {
                 Token::Whole(value) => {
                     self.rest = rest;
                     Ok(value.copied())
+                }
+                _ => Err(ParseFault::Syntax),
+            },
+            [] => Err(ParseFault::Syntax),
+        }
+    }
+
+    /// A whole literal whose value is 1.
+    #[tactic(auto, unfolding(crate::specs::Parser::one))]
+    pub fn one(&mut self) -> Result<(), ParseFault>
+        ensures { Reads (spec.one self.old) result self.new }
+    {
+        match self.rest {
+            [first, rest @ ..] => match &first.token {
+                Token::Whole(value) => {
+                    if value.positive() == 1 {
+                        self.rest = rest;
+                        Ok(())
+                    } else {
+                        Err(ParseFault::Syntax)
+                    }
                 }
                 _ => Err(ParseFault::Syntax),
             },
@@ -151,5 +255,90 @@ impl<'a> Cursor<'a> {
             },
             [] => Err(ParseFault::Syntax),
         }
+    }
+
+    pub fn sees_name(&self) -> bool
+        ensures { result ≡ spec.sees_name self.now }
+    {
+        match self.rest {
+            [first, ..] => match &first.token {
+                Token::Name(_) => true,
+                _ => false,
+            },
+            [] => false,
+        }
+    }
+
+    /// Whether an expression may begin here.
+    pub fn begins_expression(&self) -> bool
+        ensures { result ≡ begins_expression self.now }
+    {
+        match self.rest {
+            [first, ..] => match &first.token {
+                Token::Mark(mark) => match *mark {
+                    Mark::Minus | Mark::Not | Mark::Open | Mark::True | Mark::False => true,
+                    _ => false,
+                },
+                _ => true,
+            },
+            [] => false,
+        }
+    }
+
+    /// The operator of this level that comes next.
+    pub fn operator(&self, level: u8) -> Option<BinaryOperator>
+        ensures { result ≡ next_operator level self.now }
+    {
+        let [first, ..] = self.rest else {
+            return None;
+        };
+        let Token::Mark(mark) = &first.token else {
+            return None;
+        };
+        match operator_of(*mark) {
+            Some((found, operator)) => { if found == level { Some(operator) } else { None } }
+            None => None,
+        }
+    }
+    /// Whether a statement may begin here.
+    pub fn begins_statement(&self) -> bool
+        ensures { result ≡ begins_statement self.now }
+    {
+        match self.rest {
+            [first, ..] => match &first.token {
+                Token::Mark(mark) => match *mark {
+                    Mark::Semicolon
+                    | Mark::Exit
+                    | Mark::Return
+                    | Mark::If
+                    | Mark::Case
+                    | Mark::For
+                    | Mark::While
+                    | Mark::Repeat => true,
+                    _ => false,
+                },
+                _ => self.sees_name(),
+            },
+            [] => false,
+        }
+    }
+
+    fn sees_whole(&self) -> bool
+        ensures { result ≡ sees_whole self.now }
+    {
+        match self.rest {
+            [first, ..] => match &first.token {
+                Token::Whole(_) => true,
+                _ => false,
+            },
+            [] => false,
+        }
+    }
+
+    /// Whether a label may begin here.
+    pub fn begins_label(&self) -> bool
+        ensures { result ≡ begins_label self.now }
+    {
+        self.sees(Mark::Minus) || self.sees_whole()
     }
 }

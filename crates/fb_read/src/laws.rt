@@ -2,6 +2,7 @@
 
 ghost use Rattle.fb_read.specs.Longest.{TakesLongest};
 ghost use Rattle.fb_read.specs.Whole.{DeclaresOne};
+ghost use Rattle.fb_read.specs.ReadsExactly.{ReadsExpressions, ReadsBodies};
 
 /// At each place the longest token is taken, and no letter, digit or underscore follows a literal.
 pub fn takes_longest()
@@ -11,4 +12,16 @@ pub fn takes_longest()
 /// A text declares at most one library.
 pub fn declares_one()
     ensures { DeclaresOne }
+{}
+
+/// What is read as an expression is one by the grammar that nests at most 64 deep, what is one is read,
+/// and one that nests deeper is refused for its nesting.
+pub fn reads_expressions()
+    ensures { ReadsExpressions }
+{}
+
+/// What is read as the statements of an algorithm is so by the grammar, with statements and expressions that
+/// nest at most 64 deep, such statements are read, and those that nest deeper are refused for their nesting.
+pub fn reads_bodies()
+    ensures { ReadsBodies }
 {}

@@ -2,16 +2,22 @@
 #![tactic(auto)]
 
 mod blank;
+mod block;
+mod chart;
 mod cursor;
 pub mod error;
+mod expression;
 mod fault;
 mod front;
 mod keyword;
 pub mod laws;
 mod network;
 mod number;
+mod operator;
+mod ports;
 pub mod read;
 mod rule;
+mod statement;
 #[cfg(test)]
 mod tests;
 mod time;

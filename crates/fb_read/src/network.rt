@@ -6,10 +6,10 @@ ghost use Rattle.fb_read.specs.Network as spec;
 
 use crate::cursor::Cursor;
 use crate::fault::ParseFault;
-use crate::rule::{Rule, many, separated};
+use crate::rule::{Rule, many, section, separated};
 use crate::token::Mark;
 use fb_types::items::Items;
-use fb_types::library::{Application, Connection, Instance, Library, Network, Parameter, PortName};
+use fb_types::library::{Application, Connection, Instance, Network, Parameter, PortName};
 use fb_types::value::Value;
 use std::alloc::Global;
 
@@ -106,22 +106,6 @@ impl Rule for Instance {
     }
 }
 
-/// The connections of the section that the mark begins, where there is one.
-#[tactic(auto, unfolding(crate::specs::Network::connections))]
-fn connections(
-    alloc: Global,
-    cursor: &mut Cursor<'_>,
-    mark: Mark,
-) -> Result<Items<Connection>, ParseFault>
-    ensures { Reads (spec.connections mark cursor.old) result cursor.new }
-{
-    if cursor.eat(mark) {
-        many::<Connection>(alloc, cursor, Mark::EndConnections)
-    } else {
-        Ok(Items::new(alloc))
-    }
-}
-
 impl Rule for Network {
     ghost parser = { spec.network };
 
@@ -129,11 +113,22 @@ impl Rule for Network {
     fn read(alloc: Global, cursor: &mut Cursor<'_>) -> Result<Network, ParseFault> {
         cursor.expect(Mark::Fbs)?;
         let instances = many::<Instance>(alloc, cursor, Mark::EndFbs)?;
-        let event_connections = connections(alloc, cursor, Mark::EventConnections)?;
+        let event_connections = section::<Connection>(
+            alloc,
+            cursor,
+            Mark::EventConnections,
+            Mark::EndConnections,
+        )?;
+        let data_connections = section::<Connection>(
+            alloc,
+            cursor,
+            Mark::DataConnections,
+            Mark::EndConnections,
+        )?;
         Ok(Network {
             instances,
             event_connections,
-            data_connections: Items::new(alloc),
+            data_connections,
         })
     }
 }
@@ -148,18 +143,5 @@ impl Rule for Application {
         let network = Network::read(alloc, cursor)?;
         cursor.expect(Mark::EndApplication)?;
         Ok(Application { name, network })
-    }
-}
-
-impl Rule for Library {
-    ghost parser = { spec.library };
-
-    #[tactic(auto, unfolding(crate::specs::Network::library))]
-    fn read(alloc: Global, cursor: &mut Cursor<'_>) -> Result<Library, ParseFault> {
-        let application = Application::read(alloc, cursor)?;
-        Ok(Library {
-            blocks: Items::new(alloc),
-            application,
-        })
     }
 }

@@ -3,9 +3,9 @@
 ghost use Rattle.std.specs.Prelude.{◌≡◌, ◌+◌, ◌≤◌, ◌<◌, ◌==◌, ◌↔◌, length, take, count_by, IfOk, IfErr, IsErrOf};
 ghost use Rattle.fb_types.specs.declared.library.Library.{Library};
 ghost use Rattle.fb_read.specs.Front.{bad_byte, bad_token};
-ghost use Rattle.fb_read.specs.Network.{library};
+ghost use Rattle.fb_read.specs.Blocks.{library};
 ghost use Rattle.fb_read.specs.Tokens.{tokens_of};
-ghost use Rattle.fb_read.specs.Whole.{IsLibraryText, HasTokenFault, HasTokens, RefusesWhere, IsMemory, IsGrammarFault, IsSyntax, Parses, ended, most_bytes};
+ghost use Rattle.fb_read.specs.Whole.{IsDerived, IsLibraryText, IsNesting, HasTokenFault, HasTokens, RefusesWhere, IsMemory, IsGrammarFault, IsSyntax, Parses, ended, most_bytes};
 
 use crate::cursor::Cursor;
 use crate::error::ReadError;
@@ -70,6 +70,8 @@ pub fn read_library(alloc: Global, text: &[u8]) -> Result<Library, ReadError>
     ensures declared { IfOk result (λ library. IsLibraryText text.now library) }
     // A text that is refused, but for memory, declares nothing.
     ensures none { IfErr result (λ e. ¬ IsMemory e → (library : Library) → IsLibraryText text.now library → ⊥) }
+    // What would be a library without the limit of nesting is refused for its nesting.
+    ensures nesting { IfErr result (λ e. ¬ IsMemory e → (library : Library) → IsDerived text.now library → IsNesting e) }
 
     ensures too_long { IsErrOf result ReadError.TooLong ↔ (most_bytes < length text.now) }
     ensures byte { RefusesWhere result ReadError.Byte (HasTokenFault bad_byte text.now) }

@@ -18,15 +18,17 @@ pub trait Rule: Drop {
         ensures { Reads (parser cursor.old) result cursor.new };
 }
 
-/// What the rule reads up to a mark, and that mark. Each turn takes a token, so there are enough turns.
-pub fn many<T: Rule>(
+/// What the rule reads up to a mark, behind the items that were found, and that mark. Each turn takes a
+/// token, so there are enough turns.
+pub fn many_after<T: Rule>(
     alloc: Global,
     cursor: &mut Cursor<'_>,
     end: Mark,
+    found: Items<T>,
 ) -> Result<Items<T>, ParseFault>
-    ensures { Reads (spec.many T.parser end cursor.old) result cursor.new }
+    ensures { Reads (spec.many_after T.parser end found cursor.old) result cursor.new }
 {
-    let mut found = Items::new(alloc);
+    let mut found = found;
     for _turn in 0..cursor.left() {
         if cursor.eat(end) {
             return Ok(found);
@@ -34,6 +36,54 @@ pub fn many<T: Rule>(
         found.push(T::read(alloc, cursor)?)?;
     }
     Err(ParseFault::Syntax)
+}
+
+/// What the rule reads up to a mark, and that mark.
+#[tactic(auto, unfolding(crate::specs::Parser::many, crate::specs::Parser::many_after))]
+pub fn many<T: Rule>(
+    alloc: Global,
+    cursor: &mut Cursor<'_>,
+    end: Mark,
+) -> Result<Items<T>, ParseFault>
+    ensures { Reads (spec.many T.parser end cursor.old) result cursor.new }
+{
+    many_after(alloc, cursor, end, Items::new(alloc))
+}
+
+/// The items of the section that begins and ends with these marks, where there is one.
+#[tactic(auto, unfolding(crate::specs::Parser::section))]
+pub fn section<T: Rule>(
+    alloc: Global,
+    cursor: &mut Cursor<'_>,
+    begin: Mark,
+    end: Mark,
+) -> Result<Items<T>, ParseFault>
+    ensures { Reads (spec.section T.parser begin end cursor.old) result cursor.new }
+{
+    if cursor.eat(begin) {
+        many::<T>(alloc, cursor, end)
+    } else {
+        Ok(Items::new(alloc))
+    }
+}
+
+/// What the rule reads as long as this mark comes next, behind the items that were found.
+pub fn run_after<T: Rule>(
+    alloc: Global,
+    cursor: &mut Cursor<'_>,
+    begin: Mark,
+    found: Items<T>,
+) -> Result<Items<T>, ParseFault>
+    ensures { Reads (spec.run_after T.parser begin found cursor.old) result cursor.new }
+{
+    let mut found = found;
+    for _turn in 0..cursor.left() {
+        if !cursor.sees(begin) {
+            return Ok(found);
+        }
+        found.push(T::read(alloc, cursor)?)?;
+    }
+    Ok(found)
 }
 
 /// What the rule reads, once or more, with commas between. Each turn takes a token.

@@ -1,2 +1,6 @@
+mod blocks;
+mod charts;
+mod expressions;
 mod refusals;
+mod statements;
 mod texts;

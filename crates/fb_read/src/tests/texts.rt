@@ -9,11 +9,11 @@ use std::alloc::Global;
 use std::process::Abort;
 use std::test::Fail;
 
-fn is_name(name: &Name, text: &str) -> bool {
+pub fn is_name(name: &Name, text: &str) -> bool {
     name.as_bytes() == text.as_bytes()
 }
 
-fn is_port(port: &PortName, component: &str, name: &str) -> bool {
+pub fn is_port(port: &PortName, component: &str, name: &str) -> bool {
     match &port.component {
         Some(found) => is_name(found, component) && is_name(&port.port, name),
         None => component.is_empty() && is_name(&port.port, name),

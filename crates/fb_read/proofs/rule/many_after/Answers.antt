@@ -1,11 +1,11 @@
 use Rattle.std.proofs.Common.{rules, arith}
 use Rattle.std.proofs.lemmas.Grind.{common_steps}
-use Rattle.fb_read.specs.Parser.{many, many_from}
+use Rattle.fb_read.specs.Parser.{many_after, many_from}
 use Rattle.fb_read.proofs.Turns.{one_more, no_more}
-use Rattle.fb_read.proofs.rule.many.Goals as goal
+use Rattle.fb_read.proofs.rule.many_after.Goals as goal
 
 pub loop-turn-init : goal.loop-turn-init
-unfolding many
+unfolding many_after
 loop-turn-init g c = first_of (search rules, grind (arith, common_steps))
 
 pub returns-then-eat : goal.returns-then-eat

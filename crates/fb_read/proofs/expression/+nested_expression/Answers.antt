@@ -1,0 +1,12 @@
+use Rattle.std.proofs.Common.{◌≡◌, ap, arith}
+use Rattle.fb_read.specs.Expressions.{nested_expression}
+use Rattle.fb_read.proofs.Turns.{deeper}
+use Rattle.fb_read.proofs.expression.+nested_expression.Goals as goal
+
+pub returns-then-depth-eq0 : goal.returns-then-depth-eq0
+unfolding nested_expression
+returns-then-depth-eq0 t c = let none : c.args.depth ≡ 0 = omega arith in ap (λ n. nested_expression n c.args.level c.args.cursor.now) none
+
+pub returns : goal.returns
+unfolding nested_expression
+returns t c = rw (deeper (λ n. nested_expression n c.args.level c.args.cursor.now) c.args.depth (omega arith)) c.level.ensures

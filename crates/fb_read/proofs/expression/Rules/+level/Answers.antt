@@ -1,0 +1,65 @@
+use Rattle.std.proofs.Common.{◌≡◌, ◌<◌, ◌-◌, ℕ, suc, length, ap, ◌∙◌, rules, arith}
+use Rattle.std.proofs.lemmas.Grind.{common_steps}
+use Rattle.fb_read.specs.Tokens.{Tokens}
+use Rattle.fb_read.specs.Parser.{Parser, and_then}
+use Rattle.fb_read.specs.declared.expression.Nested.{Nested}
+use Rattle.fb_read.specs.Expressions.{nested_expression, level_at, climb}
+use Rattle.fb_read.proofs.Turns.{one_more, no_more, deeper}
+use Rattle.fb_read.proofs.expression.Rules.+level.Goals as goal
+
+level_above : (below : ℕ) (inner : ℕ → Parser Nested) (n : ℕ) (ts : Tokens) → 0 < n
+    → level_at below inner n ts ≡ and_then (level_at below inner (n - 1) ts) (λ first rest. climb below inner n (inner (n - 1)) (length rest) first rest)
+unfolding level_at
+level_above below inner n ts some =
+    let e : suc (n - 1) ≡ n = omega arith in
+    deeper (λ n. level_at below inner n ts) n some ∙ ap (λ m. and_then (level_at below inner (n - 1) ts) (λ first rest. climb below inner m (inner (n - 1)) (length rest) first rest)) e
+
+pub returns-then-level-eq0 : goal.returns-then-level-eq0
+unfolding level_at
+returns-then-level-eq0 g t c = let none : c.args.level ≡ 0 = omega arith in rw none c.unary.ensures
+
+pub returns-in_err-left : goal.returns-in_err-left
+returns-in_err-left g t c =
+    let e = level_above c.args.self.now.below (nested_expression c.args.self.now.below) c.args.level c.args.cursor.now (omega arith) in
+    first_of (search rules, grind (arith, common_steps))
+
+pub loop-turn-init : goal.loop-turn-init
+loop-turn-init g t c =
+    let e = level_above c.args.self.now.below (nested_expression c.args.self.now.below) c.args.level c.args.cursor.now (omega arith) in
+    first_of (search rules, grind (arith, common_steps))
+
+pub returns-in_default : goal.returns-in_default
+unfolding climb
+returns-in_default g t c =
+    let e = one_more (λ n. climb c.args.self.now.below (nested_expression c.args.self.now.below) c.args.level (nested_expression c.args.self.now.below (c.args.level - 1)) n c.loop-turn.left c.loop-turn.cursor) _ c.loop-turn._turn c.loop-turn-test.true c.loop-turn.invariant in
+    first_of (search rules, grind (arith, common_steps))
+
+pub returns-then-left-self : goal.returns-then-left-self
+unfolding climb
+returns-then-left-self g t c =
+    let e = one_more (λ n. climb c.args.self.now.below (nested_expression c.args.self.now.below) c.args.level (nested_expression c.args.self.now.below (c.args.level - 1)) n c.loop-turn.left c.loop-turn.cursor) _ c.loop-turn._turn c.loop-turn-test.true c.loop-turn.invariant in
+    first_of (search rules, grind (arith, common_steps))
+
+pub returns-in_err-right : goal.returns-in_err-right
+unfolding climb
+returns-in_err-right g t c =
+    let e = one_more (λ n. climb c.args.self.now.below (nested_expression c.args.self.now.below) c.args.level (nested_expression c.args.self.now.below (c.args.level - 1)) n c.loop-turn.left c.loop-turn.cursor) _ c.loop-turn._turn c.loop-turn-test.true c.loop-turn.invariant in
+    first_of (search rules, grind (arith, common_steps))
+
+pub returns-in_err-left-2 : goal.returns-in_err-left-2
+unfolding climb
+returns-in_err-left-2 g t c =
+    let e = one_more (λ n. climb c.args.self.now.below (nested_expression c.args.self.now.below) c.args.level (nested_expression c.args.self.now.below (c.args.level - 1)) n c.loop-turn.left c.loop-turn.cursor) _ c.loop-turn._turn c.loop-turn-test.true c.loop-turn.invariant in
+    first_of (search rules, grind (arith, common_steps))
+
+pub loop-turn-preserved : goal.loop-turn-preserved
+unfolding climb
+loop-turn-preserved g t c =
+    let e = one_more (λ n. climb c.args.self.now.below (nested_expression c.args.self.now.below) c.args.level (nested_expression c.args.self.now.below (c.args.level - 1)) n c.loop-turn.left c.loop-turn.cursor) _ c.loop-turn._turn c.loop-turn-test.true c.loop-turn.invariant in
+    first_of (search rules, grind (arith, common_steps))
+
+pub returns : goal.returns
+unfolding climb
+returns g t c =
+    let e = no_more (λ n. climb c.args.self.now.below (nested_expression c.args.self.now.below) c.args.level (nested_expression c.args.self.now.below (c.args.level - 1)) n c.loop-turn.left c.loop-turn.cursor) _ c.loop-turn._turn c.loop-turn-test.false c.loop-turn.invariant in
+    first_of (search rules, grind (arith, common_steps))

@@ -1,0 +1,5 @@
+use Rattle.fb_read.proofs.TextLaws.{reads-bodies}
+use Rattle.fb_read.proofs.laws.reads_bodies.Goals as goal
+
+pub returns : goal.returns
+returns c = reads-bodies

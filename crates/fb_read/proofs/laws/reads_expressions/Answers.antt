@@ -1,0 +1,5 @@
+use Rattle.fb_read.proofs.TextLaws.{reads-expressions}
+use Rattle.fb_read.proofs.laws.reads_expressions.Goals as goal
+
+pub returns : goal.returns
+returns c = reads-expressions

@@ -1,0 +1,33 @@
+use Rattle.std.proofs.Common.{rules, arith}
+use Rattle.std.proofs.lemmas.Grind.{common_steps}
+use Rattle.fb_read.specs.Parser.{run_after, run_from}
+use Rattle.fb_read.proofs.Turns.{one_more, no_more}
+use Rattle.fb_read.proofs.rule.run_after.Goals as goal
+
+pub loop-turn-init : goal.loop-turn-init
+unfolding run_after
+loop-turn-init g c = first_of (search rules, grind (arith, common_steps))
+
+pub returns-then-not-sees : goal.returns-then-not-sees
+unfolding run_from
+returns-then-not-sees g c =
+    let e = one_more (λ n. run_from g.T.Rule.parser c.args.begin n c.loop-turn.found c.loop-turn.cursor) _ c.loop-turn._turn c.loop-turn-test.true c.loop-turn.invariant in
+    first_of (search rules, grind (arith, common_steps))
+
+pub returns-in_err-read : goal.returns-in_err-read
+unfolding run_from
+returns-in_err-read g c =
+    let e = one_more (λ n. run_from g.T.Rule.parser c.args.begin n c.loop-turn.found c.loop-turn.cursor) _ c.loop-turn._turn c.loop-turn-test.true c.loop-turn.invariant in
+    first_of (search rules, grind (arith, common_steps))
+
+pub loop-turn-preserved : goal.loop-turn-preserved
+unfolding run_from
+loop-turn-preserved g c =
+    let e = one_more (λ n. run_from g.T.Rule.parser c.args.begin n c.loop-turn.found c.loop-turn.cursor) _ c.loop-turn._turn c.loop-turn-test.true c.loop-turn.invariant in
+    first_of (search rules, grind (arith, common_steps))
+
+pub returns : goal.returns
+unfolding run_from
+returns g c =
+    let e = no_more (λ n. run_from g.T.Rule.parser c.args.begin n c.loop-turn.found c.loop-turn.cursor) _ c.loop-turn._turn c.loop-turn-test.false c.loop-turn.invariant in
+    first_of (search rules, grind (arith, common_steps))

@@ -1,0 +1,33 @@
+use Rattle.std.proofs.Common.{rules, arith}
+use Rattle.std.proofs.lemmas.Grind.{common_steps}
+use Rattle.fb_read.specs.Statements.{nested_statement, block, begins_statement, several, several_from}
+use Rattle.fb_read.proofs.Turns.{one_more, no_more}
+use Rattle.fb_read.proofs.statement.Rules.block.Goals as goal
+
+pub loop-turn-init : goal.loop-turn-init
+unfolding block several
+loop-turn-init g c = first_of (search rules, grind (arith, common_steps))
+
+pub returns-then-not-begins_statement : goal.returns-then-not-begins_statement
+unfolding several_from
+returns-then-not-begins_statement g c =
+    let e = one_more (λ n. several_from begins_statement (nested_statement c.args.self.now.below) n c.loop-turn.found c.loop-turn.cursor) _ c.loop-turn._turn c.loop-turn-test.true c.loop-turn.invariant in
+    first_of (search rules, grind (arith, common_steps))
+
+pub returns-in_err-inner : goal.returns-in_err-inner
+unfolding several_from
+returns-in_err-inner g c =
+    let e = one_more (λ n. several_from begins_statement (nested_statement c.args.self.now.below) n c.loop-turn.found c.loop-turn.cursor) _ c.loop-turn._turn c.loop-turn-test.true c.loop-turn.invariant in
+    first_of (search rules, grind (arith, common_steps))
+
+pub loop-turn-preserved : goal.loop-turn-preserved
+unfolding several_from
+loop-turn-preserved g c =
+    let e = one_more (λ n. several_from begins_statement (nested_statement c.args.self.now.below) n c.loop-turn.found c.loop-turn.cursor) _ c.loop-turn._turn c.loop-turn-test.true c.loop-turn.invariant in
+    first_of (search rules, grind (arith, common_steps))
+
+pub returns : goal.returns
+unfolding several_from
+returns g c =
+    let e = no_more (λ n. several_from begins_statement (nested_statement c.args.self.now.below) n c.loop-turn.found c.loop-turn.cursor) _ c.loop-turn._turn c.loop-turn-test.false c.loop-turn.invariant in
+    first_of (search rules, grind (arith, common_steps))

@@ -1,0 +1,105 @@
+//! Block types and whole libraries.
+
+ghost use Rattle.fb_read.specs.Parser.{Reads};
+ghost use Rattle.fb_read.specs.Blocks as spec;
+
+use crate::chart::{algorithms, states, transitions};
+use crate::cursor::Cursor;
+use crate::fault::ParseFault;
+use crate::ports::variables;
+use crate::rule::{Rule, run_after};
+use crate::token::Mark;
+use fb_types::items::Items;
+use fb_types::library::{
+    Application, BasicType, BlockType, CompositeType, Library, Network, Ports,
+};
+use fb_types::name::Name;
+use std::alloc::Global;
+
+/// What stands behind the name and the ports of a basic type.
+#[tactic(auto, unfolding(crate::specs::Blocks::basic))]
+fn basic(
+    alloc: Global,
+    cursor: &mut Cursor<'_>,
+    name: Name,
+    ports: Ports,
+) -> Result<BlockType, ParseFault>
+    ensures { Reads (spec.basic name ports cursor.old) result cursor.new }
+{
+    let internals = variables(alloc, cursor, Mark::Var)?;
+    let states = states(alloc, cursor)?;
+    let transitions = transitions(alloc, cursor)?;
+    let algorithms = algorithms(alloc, cursor)?;
+    Ok(BlockType::Basic(BasicType {
+        name,
+        ports,
+        internals,
+        states,
+        transitions,
+        algorithms,
+    }))
+}
+
+/// What stands behind the name and the ports of a composite type.
+#[tactic(auto, unfolding(crate::specs::Blocks::composite))]
+fn composite(
+    alloc: Global,
+    cursor: &mut Cursor<'_>,
+    name: Name,
+    ports: Ports,
+) -> Result<BlockType, ParseFault>
+    ensures { Reads (spec.composite name ports cursor.old) result cursor.new }
+{
+    let network = Network::read(alloc, cursor)?;
+    Ok(BlockType::Composite(CompositeType {
+        name,
+        ports,
+        network,
+    }))
+}
+
+/// What stands behind the name and the ports of a type. A network begins with FBS.
+#[tactic(auto, unfolding(crate::specs::Blocks::body))]
+fn body(
+    alloc: Global,
+    cursor: &mut Cursor<'_>,
+    name: Name,
+    ports: Ports,
+) -> Result<BlockType, ParseFault>
+    ensures { Reads (spec.body name ports cursor.old) result cursor.new }
+{
+    if cursor.sees(Mark::Fbs) {
+        composite(alloc, cursor, name, ports)
+    } else {
+        basic(alloc, cursor, name, ports)
+    }
+}
+
+impl Rule for BlockType {
+    ghost parser = { spec.block };
+
+    #[tactic(auto, unfolding(crate::specs::Blocks::block))]
+    fn read(alloc: Global, cursor: &mut Cursor<'_>) -> Result<BlockType, ParseFault> {
+        cursor.expect(Mark::FunctionBlock)?;
+        let name = cursor.name(alloc)?;
+        let ports = Ports::read(alloc, cursor)?;
+        let found = body(alloc, cursor, name, ports)?;
+        cursor.expect(Mark::EndFunctionBlock)?;
+        Ok(found)
+    }
+}
+
+impl Rule for Library {
+    ghost parser = { spec.library };
+
+    #[tactic(auto, unfolding(crate::specs::Blocks::library))]
+    fn read(alloc: Global, cursor: &mut Cursor<'_>) -> Result<Library, ParseFault> {
+        let before = run_after::<BlockType>(alloc, cursor, Mark::FunctionBlock, Items::new(alloc))?;
+        let application = Application::read(alloc, cursor)?;
+        let blocks = run_after(alloc, cursor, Mark::FunctionBlock, before)?;
+        Ok(Library {
+            blocks,
+            application,
+        })
+    }
+}

@@ -1,0 +1,253 @@
+//! Expressions (IEC 61131-3, 7.3.2).
+
+ghost use Rattle.std.specs.Prelude.{◌≡◌, ◌≤◌, ◌<◌, IfOk};
+ghost use Rattle.fb_read.specs.Parser.{Reads};
+ghost use Rattle.fb_read.specs.Expressions as spec;
+ghost use Rattle.fb_read.specs.Nests.{Nests};
+
+use crate::cursor::Cursor;
+use crate::fault::ParseFault;
+use crate::token::Mark;
+use fb_types::boxed::Boxed;
+use fb_types::items::Items;
+use fb_types::name::Name;
+use fb_types::reference::Reference;
+use fb_types::text::{BinaryOperator, Expr, UnaryOperator};
+use std::alloc::{AllocError, Global};
+
+/// How deep an expression may nest.
+const MOST_NESTING: u32 = 64;
+
+/// The level of the operators that bind loosest.
+const LOOSEST: u8 = 7;
+
+/// An expression, and how deep it nests.
+#[derive(Drop)]
+pub struct Nested {
+    pub expr: Expr,
+    pub nesting: u32,
+}
+
+fn leaf(expr: Expr) -> Nested
+    ensures { result ≡ spec.leaf expr }
+{
+    Nested { expr, nesting: 1 }
+}
+
+/// The expression whose deepest part nests `depth` deep.
+#[tactic(auto, unfolding(crate::specs::Expressions::around))]
+fn around(below: u32, depth: u32, expr: Expr, cursor: &Cursor<'_>) -> Result<Nested, ParseFault>
+    requires { below < 64 }
+    ensures { Reads (spec.around below depth expr cursor.now) result cursor.now }
+{
+    if depth <= below {
+        Ok(Nested {
+            expr,
+            nesting: depth + 1,
+        })
+    } else {
+        Err(ParseFault::Nesting)
+    }
+}
+
+fn group_of(alloc: Global, x: Expr) -> Result<Expr, AllocError>
+    ensures { IfOk result (λ e. e ≡ Expr.Group x) }
+{
+    Ok(Expr::Group(Boxed::new(alloc, x)?))
+}
+
+fn unary_of(alloc: Global, operator: UnaryOperator, x: Expr) -> Result<Expr, AllocError>
+    ensures { IfOk result (λ e. e ≡ Expr.Unary operator x) }
+{
+    Ok(Expr::Unary(operator, Boxed::new(alloc, x)?))
+}
+
+fn binary_of(alloc: Global, operator: BinaryOperator, x: Expr, y: Expr) -> Result<Expr, AllocError>
+    ensures { IfOk result (λ e. e ≡ Expr.Binary operator x y) }
+{
+    Ok(Expr::Binary(operator, Boxed::new(alloc, x)?, Boxed::new(alloc, y)?))
+}
+
+/// The rules that hold expressions take the reader of those as a parameter, so that each is proved by itself.
+#[derive(Clone, Copy)]
+struct Rules<F> {
+    alloc: Global,
+    /// How deep the parts may nest.
+    below: u32,
+    inner: F,
+}
+
+impl<F: Fn(Global, &mut Cursor<'_>, u32, u8) -> Result<Nested, ParseFault>> Rules<F> {
+    /// A part, whose operators have at most this level.
+    fn part(&self, cursor: &mut Cursor<'_>, level: u8) -> Result<Nested, ParseFault>
+        requires { Nests self.now.below (F.pre self.now.inner) (F.post self.now.inner) }
+        ensures { Reads (spec.nested_expression self.now.below level cursor.old) result cursor.new }
+    {
+        (self.inner)(self.alloc, cursor, self.below, level)
+    }
+
+    /// What stands behind an opening parenthesis, and the closing one.
+    #[tactic(auto, unfolding(crate::specs::Expressions::group))]
+    fn group(&self, cursor: &mut Cursor<'_>) -> Result<Nested, ParseFault>
+        requires { Nests self.now.below (F.pre self.now.inner) (F.post self.now.inner) }
+        ensures { Reads (spec.group self.now.below (spec.nested_expression self.now.below) cursor.old) result cursor.new }
+    {
+        let x = self.part(cursor, LOOSEST)?;
+        cursor.expect(Mark::Close)?;
+        around(self.below, x.nesting, group_of(self.alloc, x.expr)?, cursor)
+    }
+
+    /// The operand of a unary operator.
+    #[tactic(auto, unfolding(crate::specs::Expressions::prefixed))]
+    fn prefixed(
+        &self,
+        cursor: &mut Cursor<'_>,
+        operator: UnaryOperator,
+    ) -> Result<Nested, ParseFault>
+        requires { Nests self.now.below (F.pre self.now.inner) (F.post self.now.inner) }
+        ensures { Reads (spec.prefixed self.now.below (spec.nested_expression self.now.below) operator cursor.old) result cursor.new }
+    {
+        let x = self.part(cursor, 0)?;
+        let expr = unary_of(self.alloc, operator, x.expr)?;
+        around(self.below, x.nesting, expr, cursor)
+    }
+
+    /// The arguments of a call, and how deep the deepest nests. Each turn takes a token.
+    fn arguments(&self, cursor: &mut Cursor<'_>) -> Result<(Items<Expr>, u32), ParseFault>
+        requires { Nests self.now.below (F.pre self.now.inner) (F.post self.now.inner) }
+        ensures { Reads (spec.arguments self.now.below (spec.nested_expression self.now.below) cursor.old) result cursor.new }
+    {
+        // What begins no expression is no argument, however deep arguments may nest.
+        if !cursor.begins_expression() {
+            return Err(ParseFault::Syntax);
+        }
+        let mut found = Items::new(self.alloc);
+        let mut depth = 0;
+        for _turn in 0..cursor.left() {
+            let x = self.part(cursor, LOOSEST)?;
+            found.push(x.expr)?;
+            depth = depth.max(x.nesting);
+            if !cursor.eat(Mark::Comma) {
+                return Ok((found, depth));
+            }
+        }
+        Err(ParseFault::Syntax)
+    }
+
+    /// What stands behind the opening parenthesis of a call, and the closing one.
+    #[tactic(auto, unfolding(crate::specs::Expressions::call))]
+    fn call(&self, cursor: &mut Cursor<'_>, function: Name) -> Result<Nested, ParseFault>
+        requires { Nests self.now.below (F.pre self.now.inner) (F.post self.now.inner) }
+        ensures { Reads (spec.call self.now.below (spec.nested_expression self.now.below) function cursor.old) result cursor.new }
+    {
+        if cursor.eat(Mark::Close) {
+            return Ok(leaf(Expr::Call(function, Items::new(self.alloc))));
+        }
+        let (found, depth) = self.arguments(cursor)?;
+        cursor.expect(Mark::Close)?;
+        around(self.below, depth, Expr::Call(function, found), cursor)
+    }
+
+    /// A variable or a call.
+    #[tactic(auto, unfolding(crate::specs::Expressions::named))]
+    fn named(&self, cursor: &mut Cursor<'_>) -> Result<Nested, ParseFault>
+        requires { Nests self.now.below (F.pre self.now.inner) (F.post self.now.inner) }
+        ensures { Reads (spec.named self.now.below (spec.nested_expression self.now.below) cursor.old) result cursor.new }
+    {
+        let first = cursor.name(self.alloc)?;
+        if cursor.eat(Mark::Open) {
+            self.call(cursor, first)
+        } else {
+            Ok(leaf(Expr::Variable(Reference::new(first))))
+        }
+    }
+
+    #[tactic(auto, unfolding(crate::specs::Expressions::primary))]
+    fn primary(&self, cursor: &mut Cursor<'_>) -> Result<Nested, ParseFault>
+        requires { Nests self.now.below (F.pre self.now.inner) (F.post self.now.inner) }
+        ensures { Reads (spec.primary self.now.below (spec.nested_expression self.now.below) cursor.old) result cursor.new }
+    {
+        if cursor.eat(Mark::Open) {
+            self.group(cursor)
+        } else if cursor.eat(Mark::True) {
+            Ok(leaf(Expr::Truth(true)))
+        } else if cursor.eat(Mark::False) {
+            Ok(leaf(Expr::Truth(false)))
+        } else if cursor.sees_name() {
+            self.named(cursor)
+        } else {
+            Ok(leaf(Expr::Whole(cursor.literal()?)))
+        }
+    }
+
+    #[tactic(auto, unfolding(crate::specs::Expressions::unary))]
+    fn unary(&self, cursor: &mut Cursor<'_>) -> Result<Nested, ParseFault>
+        requires { Nests self.now.below (F.pre self.now.inner) (F.post self.now.inner) }
+        ensures { Reads (spec.unary self.now.below (spec.nested_expression self.now.below) cursor.old) result cursor.new }
+    {
+        if cursor.eat(Mark::Minus) {
+            self.prefixed(cursor, UnaryOperator::Negate)
+        } else if cursor.eat(Mark::Not) {
+            self.prefixed(cursor, UnaryOperator::Not)
+        } else {
+            self.primary(cursor)
+        }
+    }
+
+    /// An expression of this level: operands of the level below it, and its operators between them. Each
+    /// turn takes a token.
+    fn level(&self, cursor: &mut Cursor<'_>, level: u8) -> Result<Nested, ParseFault>
+        requires { Nests self.now.below (F.pre self.now.inner) (F.post self.now.inner) }
+        ensures { Reads (spec.level_at self.now.below (spec.nested_expression self.now.below) level cursor.old) result cursor.new }
+    {
+        if level == 0 {
+            return self.unary(cursor);
+        }
+        let mut left = self.level(cursor, level - 1)?;
+        for _turn in 0..cursor.left() {
+            let Some(operator) = cursor.operator(level) else {
+                return Ok(left);
+            };
+            // The operator is one too many, whatever follows it.
+            if left.nesting > self.below {
+                return Err(ParseFault::Nesting);
+            }
+            cursor.take();
+            let right = self.part(cursor, level - 1)?;
+            let depth = left.nesting.max(right.nesting);
+            let longer = binary_of(self.alloc, operator, left.expr, right.expr)?;
+            left = around(self.below, depth, longer, cursor)?;
+        }
+        Ok(left)
+    }
+}
+
+/// An expression of this level that nests no deeper than `depth`.
+fn nested_expression(
+    alloc: Global,
+    cursor: &mut Cursor<'_>,
+    depth: u32,
+    level: u8,
+) -> Result<Nested, ParseFault>
+    requires { depth ≤ 64 }
+    ensures { Reads (spec.nested_expression depth level cursor.old) result cursor.new }
+{
+    if depth == 0 {
+        return Err(ParseFault::Nesting);
+    }
+    Rules {
+        alloc,
+        below: depth - 1,
+        inner: nested_expression,
+    }
+    .level(cursor, level)
+}
+
+/// An expression that nests at most 64 deep. The cursor is left behind it, or at the token at which it is
+/// refused.
+#[tactic(auto, unfolding(crate::specs::Expressions::expression))]
+pub fn expression(alloc: Global, cursor: &mut Cursor<'_>) -> Result<Expr, ParseFault>
+    ensures { Reads (spec.expression cursor.old) result cursor.new }
+{
+    Ok(nested_expression(alloc, cursor, MOST_NESTING, LOOSEST)?.expr)
+}

@@ -1,0 +1,317 @@
+//! Statements (IEC 61131-3, 7.3.3).
+
+ghost use Rattle.std.specs.Prelude.{◌≡◌, [], ◌∷◌};
+ghost use Rattle.fb_read.specs.Parser.{Reads};
+ghost use Rattle.fb_read.specs.Statements as spec;
+ghost use Rattle.fb_read.specs.StatementNests.{StatementNests};
+
+use crate::cursor::Cursor;
+use crate::expression::expression;
+use crate::fault::ParseFault;
+use crate::rule::{Rule, separated};
+use crate::token::Mark;
+use fb_types::items::Items;
+use fb_types::reference::Reference;
+use fb_types::text::{Body, Branch, Choice, Expr, Label, Stmt};
+use std::alloc::Global;
+
+/// How deep a statement may nest.
+const MOST_NESTING: u32 = 64;
+
+/// A bound of a label.
+#[tactic(auto, unfolding(crate::specs::Statements::bound))]
+fn bound(cursor: &mut Cursor<'_>) -> Result<i128, ParseFault>
+    ensures { Reads (spec.bound cursor.old) result cursor.new }
+{
+    if cursor.eat(Mark::Minus) {
+        Ok(cursor.whole()?.negative())
+    } else {
+        Ok(cursor.whole()?.positive())
+    }
+}
+
+impl Rule for Label {
+    ghost parser = { spec.label };
+
+    #[tactic(auto, unfolding(crate::specs::Statements::label))]
+    fn read(_alloc: Global, cursor: &mut Cursor<'_>) -> Result<Label, ParseFault> {
+        let first = bound(cursor)?;
+        let last = if cursor.eat(Mark::DotDot) {
+            bound(cursor)?
+        } else {
+            first
+        };
+        Ok(Label { first, last })
+    }
+}
+
+#[tactic(auto, unfolding(crate::specs::Statements::assignment))]
+fn assignment(alloc: Global, cursor: &mut Cursor<'_>) -> Result<Stmt, ParseFault>
+    ensures { Reads (spec.assignment cursor.old) result cursor.new }
+{
+    let target = cursor.name(alloc)?;
+    cursor.expect(Mark::Assign)?;
+    let value = expression(alloc, cursor)?;
+    cursor.expect(Mark::Semicolon)?;
+    Ok(Stmt::Assign(Reference::new(target), value))
+}
+
+/// The step of a FOR, where it has one.
+#[tactic(auto, unfolding(crate::specs::Statements::step))]
+fn step(alloc: Global, cursor: &mut Cursor<'_>) -> Result<Option<Expr>, ParseFault>
+    ensures { Reads (spec.step cursor.old) result cursor.new }
+{
+    if cursor.eat(Mark::By) {
+        Ok(Some(expression(alloc, cursor)?))
+    } else {
+        Ok(None)
+    }
+}
+
+/// A statement that holds no others.
+#[tactic(auto, unfolding(crate::specs::Statements::simple))]
+fn simple(alloc: Global, cursor: &mut Cursor<'_>) -> Result<Stmt, ParseFault>
+    ensures { Reads (spec.simple cursor.old) result cursor.new }
+{
+    if cursor.eat(Mark::Semicolon) {
+        Ok(Stmt::Empty)
+    } else if cursor.eat(Mark::Exit) {
+        cursor.expect(Mark::Semicolon)?;
+        Ok(Stmt::Exit)
+    } else if cursor.eat(Mark::Return) {
+        cursor.expect(Mark::Semicolon)?;
+        Ok(Stmt::Return)
+    } else {
+        assignment(alloc, cursor)
+    }
+}
+
+/// The rules that hold statements take the reader of those as a parameter, so that each is proved by itself.
+#[derive(Clone, Copy)]
+pub struct Rules<F> {
+    alloc: Global,
+    /// How deep the statements inside may nest.
+    below: u32,
+    inner: F,
+}
+
+impl<F: Fn(Global, &mut Cursor<'_>, u32) -> Result<Stmt, ParseFault>> Rules<F> {
+    /// The statements up to what begins none. Each turn takes a token.
+    fn block(&self, cursor: &mut Cursor<'_>) -> Result<Items<Stmt>, ParseFault>
+        requires { StatementNests self.now.below (F.pre self.now.inner) (F.post self.now.inner) }
+        ensures { Reads (spec.block (spec.nested_statement self.now.below) cursor.old) result cursor.new }
+    {
+        let mut found = Items::new(self.alloc);
+        for _turn in 0..cursor.left() {
+            if !cursor.begins_statement() {
+                return Ok(found);
+            }
+            found.push((self.inner)(self.alloc, cursor, self.below)?)?;
+        }
+        Ok(found)
+    }
+
+    /// A condition, and the statements behind it.
+    #[tactic(auto, unfolding(crate::specs::Statements::choice))]
+    fn choice(&self, cursor: &mut Cursor<'_>) -> Result<Choice, ParseFault>
+        requires { StatementNests self.now.below (F.pre self.now.inner) (F.post self.now.inner) }
+        ensures { Reads (spec.choice (spec.nested_statement self.now.below) cursor.old) result cursor.new }
+    {
+        let condition = expression(self.alloc, cursor)?;
+        cursor.expect(Mark::Then)?;
+        let body = self.block(cursor)?;
+        Ok(Choice { condition, body })
+    }
+
+    #[tactic(auto, unfolding(crate::specs::Statements::elsif))]
+    fn elsif(&self, cursor: &mut Cursor<'_>) -> Result<Choice, ParseFault>
+        requires { StatementNests self.now.below (F.pre self.now.inner) (F.post self.now.inner) }
+        ensures { Reads (spec.elsif (spec.nested_statement self.now.below) cursor.old) result cursor.new }
+    {
+        cursor.expect(Mark::Elsif)?;
+        self.choice(cursor)
+    }
+
+    /// What stands behind IF, with each ELSIF. Each turn takes a token.
+    fn choices(&self, cursor: &mut Cursor<'_>) -> Result<Items<Choice>, ParseFault>
+        requires { StatementNests self.now.below (F.pre self.now.inner) (F.post self.now.inner) }
+        ensures { Reads (spec.choices (spec.nested_statement self.now.below) cursor.old) result cursor.new }
+    {
+        let mut found = Items::new(self.alloc);
+        found.push(self.choice(cursor)?)?;
+        for _turn in 0..cursor.left() {
+            if !cursor.sees(Mark::Elsif) {
+                return Ok(found);
+            }
+            found.push(self.elsif(cursor)?)?;
+        }
+        Ok(found)
+    }
+
+    /// Labels, and the statements behind them.
+    #[tactic(auto, unfolding(crate::specs::Statements::branch))]
+    fn branch(&self, cursor: &mut Cursor<'_>) -> Result<Branch, ParseFault>
+        requires { StatementNests self.now.below (F.pre self.now.inner) (F.post self.now.inner) }
+        ensures { Reads (spec.branch (spec.nested_statement self.now.below) cursor.old) result cursor.new }
+    {
+        let labels = separated::<Label>(self.alloc, cursor)?;
+        cursor.expect(Mark::Colon)?;
+        let body = self.block(cursor)?;
+        Ok(Branch { labels, body })
+    }
+
+    /// The branches of a CASE. Each turn takes a token.
+    fn branches(&self, cursor: &mut Cursor<'_>) -> Result<Items<Branch>, ParseFault>
+        requires { StatementNests self.now.below (F.pre self.now.inner) (F.post self.now.inner) }
+        ensures { Reads (spec.branches (spec.nested_statement self.now.below) cursor.old) result cursor.new }
+    {
+        let mut found = Items::new(self.alloc);
+        found.push(self.branch(cursor)?)?;
+        for _turn in 0..cursor.left() {
+            if !cursor.begins_label() {
+                return Ok(found);
+            }
+            found.push(self.branch(cursor)?)?;
+        }
+        Ok(found)
+    }
+
+    /// The statements behind ELSE, where there is one.
+    #[tactic(auto, unfolding(crate::specs::Statements::others))]
+    fn others(&self, cursor: &mut Cursor<'_>) -> Result<Items<Stmt>, ParseFault>
+        requires { StatementNests self.now.below (F.pre self.now.inner) (F.post self.now.inner) }
+        ensures { Reads (spec.others (spec.nested_statement self.now.below) cursor.old) result cursor.new }
+    {
+        if cursor.eat(Mark::Else) {
+            self.block(cursor)
+        } else {
+            Ok(Items::new(self.alloc))
+        }
+    }
+
+    /// What stands behind IF.
+    #[tactic(auto, unfolding(crate::specs::Statements::if_statement))]
+    fn if_statement(&self, cursor: &mut Cursor<'_>) -> Result<Stmt, ParseFault>
+        requires { StatementNests self.now.below (F.pre self.now.inner) (F.post self.now.inner) }
+        ensures { Reads (spec.if_statement (spec.nested_statement self.now.below) cursor.old) result cursor.new }
+    {
+        let choices = self.choices(cursor)?;
+        let others = self.others(cursor)?;
+        cursor.expect(Mark::EndIf)?;
+        cursor.expect(Mark::Semicolon)?;
+        Ok(Stmt::If(choices, others))
+    }
+
+    /// What stands behind CASE.
+    #[tactic(auto, unfolding(crate::specs::Statements::case_statement))]
+    fn case_statement(&self, cursor: &mut Cursor<'_>) -> Result<Stmt, ParseFault>
+        requires { StatementNests self.now.below (F.pre self.now.inner) (F.post self.now.inner) }
+        ensures { Reads (spec.case_statement (spec.nested_statement self.now.below) cursor.old) result cursor.new }
+    {
+        let selector = expression(self.alloc, cursor)?;
+        cursor.expect(Mark::Of)?;
+        let branches = self.branches(cursor)?;
+        let others = self.others(cursor)?;
+        cursor.expect(Mark::EndCase)?;
+        cursor.expect(Mark::Semicolon)?;
+        Ok(Stmt::Case(selector, branches, others))
+    }
+
+    /// What stands behind FOR.
+    #[tactic(auto, unfolding(crate::specs::Statements::for_statement))]
+    fn for_statement(&self, cursor: &mut Cursor<'_>) -> Result<Stmt, ParseFault>
+        requires { StatementNests self.now.below (F.pre self.now.inner) (F.post self.now.inner) }
+        ensures { Reads (spec.for_statement (spec.nested_statement self.now.below) cursor.old) result cursor.new }
+    {
+        let variable = cursor.name(self.alloc)?;
+        cursor.expect(Mark::Assign)?;
+        let start = expression(self.alloc, cursor)?;
+        cursor.expect(Mark::To)?;
+        let end = expression(self.alloc, cursor)?;
+        let step = step(self.alloc, cursor)?;
+        cursor.expect(Mark::Do)?;
+        let body = self.block(cursor)?;
+        cursor.expect(Mark::EndFor)?;
+        cursor.expect(Mark::Semicolon)?;
+        Ok(Stmt::For(Reference::new(variable), start, end, step, body))
+    }
+
+    /// What stands behind WHILE.
+    #[tactic(auto, unfolding(crate::specs::Statements::while_statement))]
+    fn while_statement(&self, cursor: &mut Cursor<'_>) -> Result<Stmt, ParseFault>
+        requires { StatementNests self.now.below (F.pre self.now.inner) (F.post self.now.inner) }
+        ensures { Reads (spec.while_statement (spec.nested_statement self.now.below) cursor.old) result cursor.new }
+    {
+        let condition = expression(self.alloc, cursor)?;
+        cursor.expect(Mark::Do)?;
+        let body = self.block(cursor)?;
+        cursor.expect(Mark::EndWhile)?;
+        cursor.expect(Mark::Semicolon)?;
+        Ok(Stmt::While(condition, body))
+    }
+
+    /// What stands behind REPEAT.
+    #[tactic(auto, unfolding(crate::specs::Statements::repeat_statement))]
+    fn repeat_statement(&self, cursor: &mut Cursor<'_>) -> Result<Stmt, ParseFault>
+        requires { StatementNests self.now.below (F.pre self.now.inner) (F.post self.now.inner) }
+        ensures { Reads (spec.repeat_statement (spec.nested_statement self.now.below) cursor.old) result cursor.new }
+    {
+        let body = self.block(cursor)?;
+        cursor.expect(Mark::Until)?;
+        let condition = expression(self.alloc, cursor)?;
+        cursor.expect(Mark::EndRepeat)?;
+        cursor.expect(Mark::Semicolon)?;
+        Ok(Stmt::Repeat(body, condition))
+    }
+
+    #[tactic(auto, unfolding(crate::specs::Statements::statement))]
+    fn statement(&self, cursor: &mut Cursor<'_>) -> Result<Stmt, ParseFault>
+        requires { StatementNests self.now.below (F.pre self.now.inner) (F.post self.now.inner) }
+        ensures { Reads (spec.statement (spec.nested_statement self.now.below) cursor.old) result cursor.new }
+    {
+        if cursor.eat(Mark::If) {
+            self.if_statement(cursor)
+        } else if cursor.eat(Mark::Case) {
+            self.case_statement(cursor)
+        } else if cursor.eat(Mark::For) {
+            self.for_statement(cursor)
+        } else if cursor.eat(Mark::While) {
+            self.while_statement(cursor)
+        } else if cursor.eat(Mark::Repeat) {
+            self.repeat_statement(cursor)
+        } else {
+            simple(self.alloc, cursor)
+        }
+    }
+}
+
+/// A statement that nests no deeper than `depth`.
+fn nested_statement(alloc: Global, cursor: &mut Cursor<'_>, depth: u32) -> Result<Stmt, ParseFault>
+    ensures { Reads (spec.nested_statement depth cursor.old) result cursor.new }
+{
+    if depth == 0 {
+        return Err(ParseFault::Nesting);
+    }
+    Rules {
+        alloc,
+        below: depth - 1,
+        inner: nested_statement,
+    }
+    .statement(cursor)
+}
+
+/// The statements of an algorithm, each of which nests at most 64 deep, and END_ALGORITHM. The cursor is
+/// left behind it, or at the token that is refused.
+#[tactic(auto, unfolding(crate::specs::Statements::body))]
+pub fn body(alloc: Global, cursor: &mut Cursor<'_>) -> Result<Body, ParseFault>
+    ensures { Reads (spec.body cursor.old) result cursor.new }
+{
+    let rules = Rules {
+        alloc,
+        below: MOST_NESTING,
+        inner: nested_statement,
+    };
+    let statements = rules.block(cursor)?;
+    cursor.expect(Mark::EndAlgorithm)?;
+    Ok(Body { statements })
+}
