@@ -1,0 +1,14 @@
+-- Lists of which each element may fail.
+use Rattle.std.specs.Prelude.{List, [], ◌∷◌, Option, Some, None, option_and_then}
+
+infixl 10 ◌>>=◌
+abbrev pub ◌>>=◌ : {A B : Type 0} → Option A → (A → Option B) → Option B
+o >>= f = option_and_then f o
+
+-- what a function gives for each of the elements, where it gives something for all of them
+unfoldable pub each : {A B : Type 0} → (A → Option B) → List A → Option (List B)
+each f [] = Some []
+each f (x ∷ xs) = do
+  y ← f x
+  ys ← each f xs
+  Some (y ∷ ys)

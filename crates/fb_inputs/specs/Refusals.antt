@@ -1,0 +1,56 @@
+-- What a definition says of an input, and what a function that reads it may answer (this project's profile).
+use Rattle.std.specs.Prelude.{◌≡◌, ℕ, Option, Some, None, IfSome, Result, Ok, Err}
+use Rattle.fb_inputs.specs.declared.error.InputError.{InputError}
+use Rattle.fb_inputs.specs.declared.error.InputError.TheVariants.{Memory, Document, Shape, Latency, Row, Number, Limit, Table}
+
+-- The numbers of the refusals: bytes that are no document, a deployment's shape, a latency, a row's shape, a tick
+-- or a value, a limit, and a table of latencies.
+abbrev pub no_document : ℕ
+no_document = 10
+
+abbrev pub bad_shape : ℕ
+bad_shape = 11
+
+abbrev pub bad_latency : ℕ
+bad_latency = 12
+
+abbrev pub bad_row : ℕ
+bad_row = 13
+
+abbrev pub bad_number : ℕ
+bad_number = 14
+
+abbrev pub over_limit : ℕ
+over_limit = 15
+
+abbrev pub bad_table : ℕ
+bad_table = 16
+
+abbrev pub number_of : InputError → Option ℕ
+number_of Memory = None
+number_of Document = Some no_document
+number_of Shape = Some bad_shape
+number_of Latency = Some bad_latency
+number_of Row = Some bad_row
+number_of Number = Some bad_number
+number_of Limit = Some over_limit
+number_of Table = Some bad_table
+
+-- A value, or the number of the refusal.
+abbrev pub Outcome : Type 0 → Type 0
+Outcome A = Result A ℕ
+
+infixl 10 ◌>>=◌
+abbrev pub ◌>>=◌ : {A B : Type 0} → Outcome A → (A → Outcome B) → Outcome B
+Ok x >>= f = f x
+Err n >>= f = Err n
+
+-- the value, where there is one, or this refusal
+abbrev pub or_refuse : {A : Type 0} → ℕ → Option A → Outcome A
+or_refuse n (Some x) = Ok x
+or_refuse n None = Err n
+
+-- A function answers this outcome, of which contracts see so much, unless memory is wanting.
+abbrev pub Answers : {X Y : Type 0} → (X → Y) → Outcome Y → Result X InputError → Type 0
+Answers seen outcome (Ok x) = outcome ≡ Ok (seen x)
+Answers seen outcome (Err e) = IfSome (number_of e) (λ n. outcome ≡ Err n)

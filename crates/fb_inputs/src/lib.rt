@@ -1,0 +1,18 @@
+//! The readers of deployments and stimuli.
+#![tactic(auto)]
+
+pub mod deployment;
+mod document;
+pub mod error;
+mod keyword;
+mod number;
+mod row;
+pub mod stimuli;
+mod table;
+#[cfg(test)]
+mod tests;
+mod text;
+
+pub use deployment::read_deploy;
+pub use error::InputError;
+pub use stimuli::read_stimuli;

@@ -1,0 +1,110 @@
+//! Rows of stimuli.
+
+ghost use Rattle.std.specs.Prelude.{◌≡◌, ◌++◌, [], ◌∷◌, length, not, ◌==◌, if◌then◌else◌, IfOk, option_map};
+ghost use Rattle.fb_inputs.specs.Lists.{each};
+ghost use Rattle.fb_inputs.specs.Rows as spec;
+
+use crate::number::value_of;
+use crate::text::{name, parted};
+use fb_types::deploy::Setting;
+use fb_types::items::Items;
+use fb_types::name::Name;
+use fb_types::value::Value;
+use std::alloc::{AllocError, Global};
+
+/// A variable, and the value that a row gives it, where it is one.
+#[derive(Drop)]
+pub struct Word {
+    pub variable: Name,
+    pub value: Option<Value>,
+}
+
+/// A row of the right shape, but for its tick.
+#[derive(Drop)]
+pub struct Draft {
+    pub instance: Name,
+    pub event: Name,
+    pub words: Items<Word>,
+}
+
+/// The instance and the event that `INSTANCE.EVENT` names.
+#[tactic(auto, unfolding(crate::specs::Rows::event))]
+fn event(alloc: Global, text: &[u8]) -> Result<Option<(Name, Name)>, AllocError>
+    ensures { IfOk result (λ r. r ≡ spec.event text.now) }
+{
+    let Some((before, behind)) = parted(text, b'.') else {
+        return Ok(None);
+    };
+    let Some(instance) = name(alloc, before)? else {
+        return Ok(None);
+    };
+    let Some(event) = name(alloc, behind)? else {
+        return Ok(None);
+    };
+    Ok(Some((instance, event)))
+}
+
+/// The word `NAME=VALUE`.
+#[tactic(auto, unfolding(crate::specs::Rows::word))]
+fn word_of(alloc: Global, text: &[u8]) -> Result<Option<Word>, AllocError>
+    ensures { IfOk result (λ r. r ≡ spec.word text.now) }
+{
+    let Some((before, behind)) = parted(text, b'=') else {
+        return Ok(None);
+    };
+    let Some(variable) = name(alloc, before)? else {
+        return Ok(None);
+    };
+    let value = value_of(behind);
+    Ok(Some(Word { variable, value }))
+}
+
+/// The words that spaces part.
+fn words(alloc: Global, text: &[u8]) -> Result<Option<Items<Word>>, AllocError>
+    ensures { IfOk result (λ r. r ≡ each spec.word (spec.words text.now)) }
+{
+    let mut found = Items::new(alloc);
+    for part in text.split(|b| *b == b' ') {
+        if part.is_empty() {
+            continue;
+        }
+        let Some(word) = word_of(alloc, part)? else {
+            return Ok(None);
+        };
+        found.push(word)?;
+    }
+    Ok(Some(found))
+}
+
+/// What stands in a row, with each value, where it is one.
+#[tactic(auto, unfolding(crate::specs::Rows::draft))]
+pub fn draft_of(alloc: Global, at: &[u8], values: &[u8]) -> Result<Option<Draft>, AllocError>
+    ensures { IfOk result (λ r. r ≡ spec.draft at.now values.now) }
+{
+    let Some((instance, event)) = event(alloc, at)? else {
+        return Ok(None);
+    };
+    let Some(words) = words(alloc, values)? else {
+        return Ok(None);
+    };
+    Ok(Some(Draft {
+        instance,
+        event,
+        words,
+    }))
+}
+
+/// The values for the slots, where all of them are values.
+pub fn settings(alloc: Global, words: Items<Word>) -> Result<Option<Items<Setting>>, AllocError>
+    ensures { IfOk result (λ r. r ≡ each spec.setting words) }
+{
+    let mut found = Items::new(alloc);
+    for word in words.into_vec() {
+        let Word { variable, value } = word;
+        let Some(value) = value else {
+            return Ok(None);
+        };
+        found.push(Setting { variable, value })?;
+    }
+    Ok(Some(found))
+}

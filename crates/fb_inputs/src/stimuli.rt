@@ -1,0 +1,113 @@
+//! Stimuli.
+
+ghost use Rattle.std.specs.Prelude.{◌≡◌, Ok, Err, map, IfOk, IfErr, IfSome, option_map};
+ghost use Rattle.csv.specs.Records.{fields_of};
+ghost use Rattle.fb_inputs.specs.Refusals.{Answers, number_of};
+ghost use Rattle.fb_inputs.specs.Stimuli as spec;
+
+use crate::error::InputError;
+use crate::number::natural;
+use crate::row::{draft_of, settings};
+use csv::{ByteRecord, ReaderBuilder};
+use fb_types::deploy::Stimulus;
+use fb_types::items::Items;
+use std::alloc::Global;
+
+/// The greatest length of the bytes. A byte order mark counts.
+const MOST_BYTES: usize = 16_777_216;
+
+/// The greatest number of stimuli.
+const MOST_ROWS: usize = 100_000;
+
+/// The greatest tick of a stimulus.
+const MOST_TICK: u128 = 1_000_000_000_000;
+
+/// The fields of a record of three.
+#[tactic(auto, using(crate::proofs::Fields::three_fields), unfolding(crate::specs::Stimuli::three))]
+fn three(row: &ByteRecord) -> Option<(&[u8], &[u8], &[u8])>
+    ensures { option_map (λ f. (f.0.now, f.1.now, f.2.now)) result ≡ spec.three (fields_of row.now) }
+{
+    if row.len() != 3 {
+        return None;
+    }
+    Some((row.get(0)?, row.get(1)?, row.get(2)?))
+}
+
+/// Whether the record is `tick,event,values`.
+fn is_head(row: &ByteRecord) -> bool
+    ensures { result ≡ spec.is_head (fields_of row.now) }
+{
+    match three(row) {
+        Some((tick, event, values)) => {
+            tick == b"tick".as_slice()
+                && event == b"event".as_slice()
+                && values == b"values".as_slice()
+        }
+        None => false,
+    }
+}
+
+/// The stimulus of a row, before which so many rows come.
+#[tactic(auto, unfolding(crate::specs::Stimuli::stimulus))]
+fn stimulus(alloc: Global, before: usize, row: &ByteRecord) -> Result<Stimulus, InputError>
+    ensures { Answers (λ s. s) (spec.stimulus before (fields_of row.now)) result }
+{
+    let Some((tick, event, values)) = three(row) else {
+        return Err(InputError::Row);
+    };
+    let Some(draft) = draft_of(alloc, event, values)? else {
+        return Err(InputError::Row);
+    };
+    let Some(tick) = natural(tick, MOST_TICK) else {
+        return Err(InputError::Number);
+    };
+    let Some(settings) = settings(alloc, draft.words)? else {
+        return Err(InputError::Number);
+    };
+    if tick > MOST_TICK || before >= MOST_ROWS {
+        return Err(InputError::Limit);
+    }
+    Ok(Stimulus {
+        tick: tick as u64,
+        instance: draft.instance,
+        event: draft.event,
+        settings,
+    })
+}
+
+/// The stimuli that bytes of CSV give: none without a record, else those of the rows behind the first record,
+/// which is `tick,event,values`. Ticks are milliseconds.
+///
+/// Refused are more than 16 MiB (E15), and else the first row that is faulty: its shape (E13), a tick or a value that
+/// is none (E14), a tick over 10^12 or a row behind 100,000 others (E15).
+#[tactic(auto, unfolding(crate::specs::Stimuli::stimuli_of))]
+pub fn read_stimuli(alloc: Global, bytes: &[u8]) -> Result<Vec<Stimulus>, InputError>
+    ensures { Answers (λ v. v.items) (spec.stimuli_of bytes.now) result }
+{
+    if bytes.len() > MOST_BYTES {
+        return Err(InputError::Limit);
+    }
+    let reader = ReaderBuilder::new()
+        .has_headers(false)
+        .flexible(true)
+        .from_reader(alloc, bytes);
+    let mut rows = reader.into_byte_records();
+    let Some(first) = rows.next() else {
+        return Ok(Vec::new(alloc));
+    };
+    // Over a slice nothing but memory can fail.
+    let Ok(head) = first else {
+        return Err(InputError::Memory);
+    };
+    if !is_head(&head) {
+        return Err(InputError::Row);
+    }
+    let mut found = Items::new(alloc);
+    for next in rows {
+        let Ok(row) = next else {
+            return Err(InputError::Memory);
+        };
+        found.push(stimulus(alloc, found.len(), &row)?)?;
+    }
+    Ok(found.into_vec())
+}

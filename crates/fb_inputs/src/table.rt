@@ -1,0 +1,140 @@
+//! Tables of latencies.
+
+ghost use Rattle.std.specs.Prelude.{◌≡◌, map, true, IfOk};
+ghost use Rattle.fb_inputs.specs.Deployments as spec;
+
+use crate::document::{LinkDraft, Pair};
+use fb_types::deploy::Link;
+use fb_types::items::Items;
+use fb_types::latency::{Entry, Latency};
+use std::alloc::{AllocError, Global};
+
+/// The greatest latency.
+const MOST_TICKS: i64 = 1_000_000;
+
+/// The greatest tick from which on a latency holds.
+const MOST_START: i64 = 1_000_000_000_000;
+
+/// The greatest number of entries of a table.
+const MOST_ENTRIES: usize = 64;
+
+fn is_latency(ticks: i64) -> bool
+    ensures { result ≡ spec.is_latency ticks }
+{
+    1 <= ticks && ticks <= MOST_TICKS
+}
+
+fn has_latencies(table: &[Pair]) -> bool
+    ensures { result ≡ spec.has_latencies table.now }
+{
+    table.iter().all(|p| is_latency(p.ticks))
+}
+
+fn is_after(last: u64, start: i64) -> bool
+    ensures { result ≡ spec.is_after last start }
+{
+    0 <= start && last < start.unsigned_abs() && start <= MOST_START
+}
+
+/// Whether the ticks rise, each from the one before it.
+fn rises_behind_zero(table: &[Pair]) -> bool
+    ensures { result ≡ spec.rises_from 0 table.now }
+{
+    let mut last = 0;
+    for pair in table {
+        if !is_after(last, pair.start) {
+            return false;
+        }
+        last = pair.start.unsigned_abs();
+    }
+    true
+}
+
+fn is_zero(start: i64) -> bool
+    ensures { result ≡ spec.is_zero start }
+{
+    start == 0
+}
+
+/// Whether the ticks begin at 0 and rise.
+fn rises(table: &[Pair]) -> bool
+    ensures { result ≡ spec.rises table.now }
+{
+    match table {
+        [first, rest @ ..] => is_zero(first.start) && rises_behind_zero(rest),
+        [] => false,
+    }
+}
+
+fn is_short(table: &[Pair]) -> bool
+    ensures { result ≡ spec.is_short table.now }
+{
+    table.len() <= MOST_ENTRIES
+}
+
+/// Whether all latencies are within 1 to 1,000,000 ticks.
+pub fn all_have_latencies(links: &[LinkDraft]) -> bool
+    ensures { result ≡ spec.all_tables spec.has_latencies links.now }
+{
+    links.iter().all(|l| has_latencies(l.table.as_slice()))
+}
+
+/// Whether all tables rise from tick 0.
+pub fn all_rise(links: &[LinkDraft]) -> bool
+    ensures { result ≡ spec.all_tables spec.rises links.now }
+{
+    links.iter().all(|l| rises(l.table.as_slice()))
+}
+
+/// Whether no table has too many entries.
+pub fn all_are_short(links: &[LinkDraft]) -> bool
+    ensures { result ≡ spec.all_tables spec.is_short links.now }
+{
+    links.iter().all(|l| is_short(l.table.as_slice()))
+}
+
+fn entry_of(pair: Pair) -> Entry
+    ensures { result ≡ spec.entry pair }
+{
+    Entry {
+        from: pair.start.unsigned_abs(),
+        latency: pair.ticks.unsigned_abs(),
+    }
+}
+
+fn entries_of(alloc: Global, table: &[Pair]) -> Result<Items<Entry>, AllocError>
+    ensures { IfOk result (λ t. t ≡ map spec.entry table.now) }
+{
+    Ok(Items::from_vec(table.iter().map(|p| entry_of(*p)).collect(alloc)?))
+}
+
+/// The latency of a table that was judged.
+fn latency_of(alloc: Global, table: &[Pair]) -> Result<Latency, AllocError>
+    requires latencies { spec.has_latencies table.now ≡ true }
+    requires rising { spec.rises table.now ≡ true }
+    requires short { spec.is_short table.now ≡ true }
+    ensures { IfOk result (λ l. l ≡ map spec.entry table.now) }
+{
+    let entries = entries_of(alloc, table)?;
+    Ok(Latency::new(entries))
+}
+
+/// The links whose tables were judged.
+pub fn links_of(alloc: Global, drafts: Items<LinkDraft>) -> Result<Items<Link>, AllocError>
+    requires latencies { spec.all_tables spec.has_latencies drafts ≡ true }
+    requires rising { spec.all_tables spec.rises drafts ≡ true }
+    requires short { spec.all_tables spec.is_short drafts ≡ true }
+    ensures { IfOk result (λ l. l ≡ map spec.link_of drafts) }
+{
+    let mut found = Items::new(alloc);
+    for draft in drafts.into_vec() {
+        let LinkDraft { start, end, table } = draft;
+        let latency = latency_of(alloc, table.as_slice())?;
+        found.push(Link {
+            from: start,
+            to: end,
+            latency,
+        })?;
+    }
+    Ok(found)
+}

@@ -1,0 +1,5 @@
+mod deployments;
+mod documents;
+mod limits;
+mod stimuli;
+mod values;

@@ -1,0 +1,77 @@
+//! Names, and the parts of a text.
+
+ghost use Rattle.std.specs.Prelude.{◌≡◌, IfOk, option_map};
+ghost use Rattle.std.specs.List.{list_all};
+ghost use Rattle.fb_inputs.specs.Words as spec;
+
+use crate::keyword::is_keyword;
+use fb_types::items::Items;
+use fb_types::name::Name;
+use std::alloc::{AllocError, Global};
+
+fn is_letter(b: u8) -> bool
+    ensures { result ≡ spec.is_letter b }
+{
+    b.is_ascii_alphabetic() || b == b'_'
+}
+
+fn is_word(b: u8) -> bool
+    ensures { result ≡ spec.is_word b }
+{
+    is_letter(b) || b.is_ascii_digit()
+}
+
+fn are_words(text: &[u8]) -> bool
+    ensures { result ≡ list_all spec.is_word text.now }
+{
+    text.iter().all(|b| is_word(*b))
+}
+
+fn is_identifier(text: &[u8]) -> bool
+    ensures { result ≡ spec.is_identifier text.now }
+{
+    match text {
+        [first, rest @ ..] => is_letter(*first) && are_words(rest),
+        [] => false,
+    }
+}
+
+fn upper(b: u8) -> u8
+    ensures { result ≡ spec.upper b }
+{
+    if b.is_ascii_lowercase() { b - 32 } else { b }
+}
+
+fn in_upper(alloc: Global, text: &[u8]) -> Result<Items<u8>, AllocError>
+    ensures { IfOk result (λ t. t ≡ spec.in_upper text.now) }
+{
+    Ok(Items::from_vec(text.iter().map(|b| upper(*b)).collect(alloc)?))
+}
+
+/// The name that a text is, in upper case. A keyword is no name.
+#[tactic(auto, unfolding(crate::specs::Words::name))]
+pub fn name(alloc: Global, text: &[u8]) -> Result<Option<Name>, AllocError>
+    ensures { IfOk result (λ n. n ≡ spec.name text.now) }
+{
+    if !is_identifier(text) {
+        return Ok(None);
+    }
+    let upper = in_upper(alloc, text)?;
+    if is_keyword(upper.as_slice()) {
+        return Ok(None);
+    }
+    Ok(Some(Name::new(upper)))
+}
+
+/// What stands before the first place of a mark, and what stands behind it.
+#[tactic(auto, unfolding(crate::specs::Words::parted))]
+pub fn parted(text: &[u8], mark: u8) -> Option<(&[u8], &[u8])>
+    ensures { option_map (λ p. (p.0.now, p.1.now)) result ≡ spec.parted mark text.now }
+{
+    for at in 0..text.len() {
+        if text[at] == mark {
+            return Some((&text[..at], &text[at + 1..]));
+        }
+    }
+    None
+}
