@@ -1,0 +1,4 @@
+pub mod Arguments
+pub mod Once
+pub mod Places
+pub mod Slots

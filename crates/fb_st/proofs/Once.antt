@@ -1,0 +1,60 @@
+-- A name that is new, behind names that differ.
+use Rattle.std.proofs.Common.{◌≡◌, ◌⊎◌, ◌||◌, Bool, true, false, List, [], ◌∷◌, ◌++◌, map, Contains, refl, sym, ◌∙◌, ap, subst, inl, inr, arith}
+use Rattle.std.specs.List.{list_any}
+use Rattle.std.proofs.lemmas.Bool.{true≢false}
+use Rattle.std.proofs.lemmas.List.Elements.{Contains-append_left, Contains-append_right, Contains-push, Contains-push_cases, Contains-append_cases}
+use Rattle.fb_types.specs.Names.{Name, same_name}
+use Rattle.fb_types.specs.Repeated.{Twice}
+use Rattle.fb_types.proofs.PathLaws.{same_name_itself}
+use Rattle.fb_st.specs.declared.frame.Slot.{Slot}
+use Rattle.fb_st.specs.Frames.{names_of, declared_in, is_declared}
+
+nothing_in : {A : Type 0} (x : A) → ¬ (Contains [] x)
+nothing_in x h = absurd (omega (arith, h.1))
+
+first_or_later : {A : Type 0} (x : A) (xs : List A) (y : A) → Contains (x ∷ xs) y → (x ≡ y) ⊎ Contains xs y
+first_or_later x xs y h =
+    elim (Contains-append_cases (x ∷ []) xs y h) [
+      | inl one ↦ elim (Contains-push_cases [] x y one) [ inl none ↦ absurd (nothing_in y none) | inr e ↦ inl e ]
+      | inr rest ↦ inr rest
+    ]
+
+pub tested : (slots : List Slot) (n : Name) → is_declared (declared_in slots) n ≡ list_any (λ s. same_name n s.name) slots
+tested [] n = refl
+tested (s ∷ slots) n = ap (λ b. same_name n s.name || b) (tested slots n)
+
+declared_from_name : (slots : List Slot) (n : Name) → Contains (names_of slots) n → is_declared (declared_in slots) n ≡ true
+declared_from_name [] n h = absurd (nothing_in n h)
+declared_from_name (s ∷ slots) n h =
+    elim (first_or_later s.name (names_of slots) n h) [
+      | inl e ↦ let same : same_name n s.name ≡ true = subst (λ (k : Name). same_name n k ≡ true) (sym e) (same_name_itself n) in rw same refl
+      | inr rest ↦
+          let later = declared_from_name slots n rest in
+          elim (same_name n s.name) as (λ b. (b || is_declared (declared_in slots) n) ≡ true) [ true ↦ refl | false ↦ later ]
+    ]
+
+twice_pushed : (ns : List Name) (n : Name) → Twice (ns ++ n ∷ []) → Twice ns ⊎ Contains ns n
+twice_pushed [] n (inl h) = inr h
+twice_pushed [] n (inr h) = absurd h
+twice_pushed (m ∷ ns) n (inl h) =
+    elim (Contains-push_cases ns n m h) [
+      | inl there ↦ inl (inl there)
+      | inr e ↦ inr (subst (λ (k : Name). Contains (m ∷ ns) k) (sym e) (Contains-append_left (m ∷ []) ns m (Contains-push [] m)))
+    ]
+twice_pushed (m ∷ ns) n (inr h) =
+    elim (twice_pushed ns n h) [
+      | inl twice ↦ inl (inr twice)
+      | inr there ↦ inr (Contains-append_right (m ∷ []) ns n there)
+    ]
+
+names_pushed : (slots : List Slot) (s : Slot) → names_of (slots ++ s ∷ []) ≡ names_of slots ++ s.name ∷ []
+names_pushed [] s = refl
+names_pushed (t ∷ slots) s = ap (λ ns. t.name ∷ ns) (names_pushed slots s)
+
+pub once_more : (slots : List Slot) (s : Slot) → ¬ (Twice (names_of slots)) → is_declared (declared_in slots) s.name ≡ false → ¬ (Twice (names_of (slots ++ s ∷ [])))
+once_more slots s once new twice =
+    let P : List Name → Type 0 = λ ns. Twice ns in
+    elim (twice_pushed (names_of slots) s.name (subst P (names_pushed slots s) twice)) [
+      | inl before ↦ once before
+      | inr there ↦ true≢false (sym (declared_from_name slots s.name there) ∙ new)
+    ]

@@ -1,0 +1,133 @@
+-- What the variables hold, by the place of a name, and after a write there.
+use Rattle.std.proofs.Common.{◌≡◌, ℕ, zero, suc, ◌<◌, length, get_or, ◌||◌, Bool, true, false, cond, List, [], ◌∷◌, map, set, Option, Some, None, refl, sym, ◌∙◌, ap, subst, arith}
+use Rattle.std.proofs.Math.Path.{fun_ext}
+use Rattle.std.specs.Prelude.{slice_get, option_map, option_and_then, position}
+use Rattle.std.proofs.lemmas.Bool.{true≢false}
+use Rattle.std.proofs.lemmas.List.Quantifiers.{position-Some}
+use Rattle.std.proofs.lemmas.Option.{slice_get_read}
+use Rattle.std.proofs.Math.Seq.{map-set_same}
+use Rattle.fb_types.specs.Names.{Name, same_name, with_value}
+use Rattle.fb_types.specs.Blocks.{named}
+use Rattle.fb_types.specs.declared.value.Value.{Value}
+use Rattle.fb_types.specs.declared.value.Value.TheVariants as value
+use Rattle.fb_types.specs.declared.value.Ty.{Ty}
+use Rattle.fb_types.specs.declared.value.Ty.TheVariants.{Bool as Boolean}
+use Rattle.fb_types.proofs.PathLaws.{same_name_is, same_name_itself}
+use Rattle.fb_st.specs.declared.frame.Slot.{Slot}
+use Rattle.fb_st.specs.Frames.{values_of, names_of, place_of, Declared, declared_in, types_in, is_declared}
+use Rattle.fb_st.proofs.Places.{position-first, position-later, named_at_place, same_name-flip}
+
+abbrev held : Option Slot → Value
+held o = elim o [ None ↦ value.Bool false | Some s ↦ s.value ]
+
+-- ---- Reading
+
+-- the variable at the place of a name is the one with the name
+pub named_here : (slots : List Slot) (n : Name) (i : ℕ) (s : Slot) → place_of n slots ≡ Some i → slice_get slots i ≡ Some s → named (λ t. t.name) n slots ≡ Some s
+named_here slots n i s at is = named_at_place (λ t. t.name) n slots ∙ ap (option_and_then (slice_get slots)) at ∙ is
+
+pub value_here : (slots : List Slot) (n : Name) (i : ℕ) (s : Slot) → place_of n slots ≡ Some i → slice_get slots i ≡ Some s → s.value ≡ values_of slots n
+value_here slots n i s at is = sym (ap held (named_here slots n i s at is))
+
+pub value_nowhere : (slots : List Slot) (n : Name) → place_of n slots ≡ None → value.Bool false ≡ values_of slots n
+value_nowhere slots n at = sym (ap held (named_at_place (λ t. t.name) n slots ∙ ap (option_and_then (slice_get slots)) at))
+
+-- ---- Types
+
+abbrev type_or : Option Declared → Ty
+type_or o = elim o [ None ↦ Boolean | Some d ↦ d.1 ]
+
+named_declared : (slots : List Slot) (n : Name) → named (λ d. d.0) n (declared_in slots) ≡ option_map (λ s. (s.name, s.ty)) (named (λ s. s.name) n slots)
+named_declared [] n = refl
+named_declared (s ∷ slots) n =
+    elim (same_name s.name n) as (λ b. cond b (Some (s.name, s.ty)) (named (λ d. d.0) n (declared_in slots)) ≡ option_map (λ t. (t.name, t.ty)) (cond b (Some s) (named (λ t. t.name) n slots))) [
+      | true ↦ refl
+      | false ↦ named_declared slots n
+    ]
+
+pub type_here : (slots : List Slot) (n : Name) (i : ℕ) (s : Slot) → place_of n slots ≡ Some i → slice_get slots i ≡ Some s → types_in (declared_in slots) n ≡ s.ty
+type_here slots n i s at is =
+    ap type_or (named_declared slots n ∙ ap (option_map (λ t. (t.name, t.ty))) (named_here slots n i s at is))
+
+-- a variable that is declared has a place
+pub declared_somewhere : (slots : List Slot) (n : Name) → is_declared (declared_in slots) n ≡ true → place_of n slots ≡ None → ⊥
+declared_somewhere [] n h at = true≢false (sym h)
+declared_somewhere (s ∷ slots) n h at =
+    elim (same_name n s.name) as (λ b. same_name n s.name ≡ b → (b || is_declared (declared_in slots) n) ≡ true → ⊥) [
+      | true ↦ λ e g. absurd (let f = sym (position-first (λ t. same_name n t.name) s slots e) ∙ at in cc)
+      | false ↦ λ e g. declared_somewhere slots n g
+          (let f = sym (position-later (λ t. same_name n t.name) s slots e) ∙ at in
+          elim (place_of n slots) as (λ o. option_map (λ i. suc i) o ≡ None → o ≡ None) [ None ↦ λ q. refl | Some i ↦ λ q. absurd (cc) ] f)
+    ] refl h
+
+-- ---- Writing
+
+with_first : (v : Value) (s : Slot) (slots : List Slot) (n m : Name) → same_name n s.name ≡ true
+    → values_of ((record s { value = v }) ∷ slots) m ≡ with_value n v (values_of (s ∷ slots)) m
+with_first v s slots n m e =
+    let same : n ≡ s.name = same_name_is n s.name e in
+    let flipped : same_name s.name m ≡ same_name m n = ap (λ k. same_name k m) (sym same) ∙ same_name-flip n m in
+    let P : Bool → Type 0 = λ b. held (cond b (Some (record s { value = v })) (named (λ t. t.name) m slots)) ≡ cond (same_name m n) v (held (cond b (Some s) (named (λ t. t.name) m slots))) in
+    subst P (sym flipped)
+    (elim (same_name m n) as (λ b. held (cond b (Some (record s { value = v })) (named (λ t. t.name) m slots)) ≡ cond b v (held (cond b (Some s) (named (λ t. t.name) m slots)))) [
+      | true ↦ refl
+      | false ↦ refl
+    ])
+
+with_later : (v : Value) (s : Slot) (slots others : List Slot) (n m : Name) → same_name n s.name ≡ false
+    → values_of others m ≡ with_value n v (values_of slots) m
+    → values_of (s ∷ others) m ≡ with_value n v (values_of (s ∷ slots)) m
+with_later v s slots others n m e rest =
+    elim (same_name s.name m) as (λ b. same_name s.name m ≡ b → held (cond b (Some s) (named (λ t. t.name) m others)) ≡ cond (same_name m n) v (held (cond b (Some s) (named (λ t. t.name) m slots)))) [
+      | true ↦ λ f.
+          let other : same_name m n ≡ false = same_name-flip m n ∙ ap (same_name n) (sym (same_name_is s.name m f)) ∙ e in
+          rw other refl
+      | false ↦ λ f. rest
+    ] refl
+
+later_not_first : (o : Option ℕ) → option_map (λ k. suc k) o ≡ Some 0 → ⊥
+later_not_first None p = absurd (cc)
+later_not_first (Some k) p = absurd (let e : suc k ≡ 0 = cc in omega arith)
+
+later_is : (o : Option ℕ) (j : ℕ) → option_map (λ k. suc k) o ≡ Some (suc j) → o ≡ Some j
+later_is None j p = absurd (cc)
+later_is (Some k) j p = let e : suc k ≡ suc j = cc in let f : k ≡ j = omega arith in ap (λ m. Some m) f
+
+set_at : (slots : List Slot) (n m : Name) (i : ℕ) (s : Slot) (v : Value) → place_of n slots ≡ Some i → slice_get slots i ≡ Some s
+    → values_of (set slots i (record s { value = v })) m ≡ with_value n v (values_of slots) m
+set_at [] n m i s v at is = absurd (cc)
+set_at (t ∷ slots) n m i s v at is =
+    elim (same_name n t.name) as (λ b. same_name n t.name ≡ b → values_of (set (t ∷ slots) i (record s { value = v })) m ≡ with_value n v (values_of (t ∷ slots)) m) [
+      | true ↦ λ e. elim i as (λ j. Some 0 ≡ Some j → slice_get (t ∷ slots) j ≡ Some s → values_of (set (t ∷ slots) j (record s { value = v })) m ≡ with_value n v (values_of (t ∷ slots)) m) [
+        | zero ↦ λ p q. let same : t ≡ s = cc in
+            subst (λ (u : Slot). values_of ((record u { value = v }) ∷ slots) m ≡ with_value n v (values_of (t ∷ slots)) m) same (with_first v t slots n m e)
+        | suc j ↦ λ p q. absurd (cc)
+      ] (sym (position-first (λ u. same_name n u.name) t slots e) ∙ at) is
+      | false ↦ λ e. elim i as (λ j. option_map (λ k. suc k) (place_of n slots) ≡ Some j → slice_get (t ∷ slots) j ≡ Some s → values_of (set (t ∷ slots) j (record s { value = v })) m ≡ with_value n v (values_of (t ∷ slots)) m) [
+        | zero ↦ λ p q. absurd (later_not_first (place_of n slots) p)
+        | suc j ↦ λ p q. with_later v t slots (set slots j (record s { value = v })) n m e (set_at slots n m j s v (later_is (place_of n slots) j p) q)
+      ] (sym (position-later (λ u. same_name n u.name) t slots e) ∙ at) is
+    ] refl
+
+-- a write at the place of a name changes the value of that name alone
+pub written : (slots : List Slot) (n : Name) (i : ℕ) (s : Slot) (v : Value) → place_of n slots ≡ Some i → slice_get slots i ≡ Some s
+    → values_of (set slots i (record s { value = v })) ≡ with_value n v (values_of slots)
+written slots n i s v at is = fun_ext (λ m. set_at slots n m i s v at is)
+
+-- ---- A write, as the fields of a frame see it
+
+pub declared_same : (slots : List Slot) (i : ℕ) (s : Slot) (v : Value) → i < length slots → s ≡ get_or slots i s
+    → declared_in (set slots i (record s { value = v })) ≡ declared_in slots
+declared_same slots i s v within is = map-set_same (λ t. (t.name, t.ty)) slots i (record s { value = v }) s (ap (λ t. (t.name, t.ty)) is)
+
+pub names_same : (slots : List Slot) (i : ℕ) (s : Slot) (v : Value) → i < length slots → s ≡ get_or slots i s
+    → names_of (set slots i (record s { value = v })) ≡ names_of slots
+names_same slots i s v within is = map-set_same (λ t. t.name) slots i (record s { value = v }) s (ap (λ t. t.name) is)
+
+pub place_within : (slots : List Slot) (n : Name) (i : ℕ) → place_of n slots ≡ Some i → i < length slots
+place_within [] n i at = absurd (cc)
+place_within (s ∷ slots) n i at = (position-Some (λ t. same_name n t.name) (s ∷ slots) i s at).0
+
+-- what was read of the fields was read of the frame
+pub read_at : (slots : List Slot) (n : Name) (i : ℕ) (s : Slot) → place_of n slots ≡ Some i → s ≡ get_or slots i s → slice_get slots i ≡ Some s
+read_at slots n i s at is = slice_get_read slots (length slots) i s refl (place_within slots n i at) is

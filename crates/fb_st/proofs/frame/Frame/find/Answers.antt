@@ -1,0 +1,18 @@
+use Rattle.std.proofs.Common.{◌≡◌, ◌<◌, ℕ, List, Some, true, sym, ◌∙◌, ap, refl, length, get_or, subst}
+use Rattle.std.proofs.lemmas.Option.{slice_get_read}
+use Rattle.fb_types.specs.Names.{same_name}
+use Rattle.fb_st.specs.declared.frame.Slot.{Slot}
+use Rattle.fb_st.specs.Frames.{place_of}
+use Rattle.fb_st.proofs.Places.{place_of_once}
+use Rattle.fb_st.proofs.frame.Frame.find.Goals as goal
+
+pub returns-in-Some : goal.returns-in-Some
+returns-in-Some c =
+    let xs : List Slot = c.self.inside.slots.items in
+    let i : ℕ = c.place-expected.result in
+    let s : Slot = c.in-Some.slot.now in
+    let Reads : List Slot → Type 0 = λ l. (i < length l) × (s ≡ get_or l i s) in
+    let read : Reads xs = subst Reads c.deref.ensures.value (c.in-Some.ensures.lookup.3.0, c.in-Some.ensures.lookup.1) in
+    let same : same_name c.args.variable.now s.name ≡ true = ap (λ n. same_name n s.name) (sym c.name.ensures) ∙ sym c.is.ensures ∙ c.if-is.true in
+    sym (ap (place_of c.args.variable.now) (sym c.self.view_is)
+    ∙ place_of_once (λ (t : Slot). t.name) c.args.variable.now xs i s c.self.invariant (slice_get_read xs (length xs) i s refl read.0 read.1) same)

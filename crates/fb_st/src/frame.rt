@@ -1,0 +1,121 @@
+//! Variables with their types and values.
+
+ghost use Rattle.std.specs.Prelude.{◌≡◌, [], ◌∷◌, ◌++◌, true, false, not, if◌then◌else◌, IfOk, IfErr, OnOk, OnErr};
+ghost use Rattle.std.specs.List.{list_any};
+ghost use Rattle.fb_types.specs.Names.{same_name, with_value};
+ghost use Rattle.fb_types.specs.Values.{fits};
+ghost use Rattle.fb_st.specs.Frames.{place_of, values_of, declared_in, is_declared, types_in};
+
+use crate::range::is_within;
+use fb_types::name::Name;
+use fb_types::reference::Reference;
+use fb_types::value::{Reason, Ty, Value};
+use std::alloc::{AllocError, Global};
+use std::marker::Model;
+
+/// A variable with its type and its value.
+#[derive(Drop)]
+pub struct Slot {
+    pub name: Name,
+    pub ty: Ty,
+    pub value: Value,
+}
+
+/// The variables that expressions and statements speak of, each with a name of its own.
+#[derive(Drop)]
+pub struct Frame {
+    slots: Vec<Slot>,
+}
+
+impl Model for Frame {
+    ghost use Rattle.std.specs.Prelude.{List};
+    ghost use Rattle.fb_types.specs.Repeated.{Twice};
+    ghost use Rattle.fb_st.specs.declared.frame.Slot.{Slot};
+    ghost use Rattle.fb_st.specs.Frames.{names_of};
+
+    ghost Value = { List Slot };
+
+    ghost view = { λ f. f.slots.items };
+
+    ghost invariant = { λ f. ¬ (Twice (names_of f.slots.items)) };
+}
+
+impl Frame {
+    /// A frame without variables, which takes no memory.
+    pub fn new(alloc: Global) -> Frame
+        ensures { result ≡ [] }
+    {
+        Frame {
+            slots: Vec::new(alloc),
+        }
+    }
+
+    /// Whether there is a variable of the name.
+    pub fn has(&self, name: &Name) -> bool
+        ensures { result ≡ is_declared (declared_in self.now) name.now }
+    {
+        has_name(self.slots.as_slice(), name)
+    }
+
+    /// Adds a variable behind the others, and says whether its name is new. Else the frame stays as it is.
+    pub fn declare(&mut self, name: Name, ty: Ty, value: Value) -> Result<bool, AllocError>
+        ensures new { IfOk result (λ b. b ≡ not (is_declared (declared_in self.old) name)) }
+        ensures ok { IfOk result (λ b. self.new ≡ (if b then self.old ++ record { name = name; ty = ty; value = value } ∷ [] else self.old)) }
+        ensures err { OnErr result (self.new ≡ self.old) }
+    {
+        if self.has(&name) {
+            return Ok(false);
+        }
+        self.slots.push(Slot { name, ty, value })?;
+        Ok(true)
+    }
+
+    /// The value of a variable. One that the frame has not counts as FALSE.
+    pub fn value(&self, variable: &Reference) -> Value
+        ensures { result ≡ values_of self.now variable.now }
+    {
+        match self.find(variable) {
+            Some(place) => self.slots[place].value,
+            None => Value::Bool(false),
+        }
+    }
+
+    /// The place of a variable: the one at which it is expected, or else the one at which it is found.
+    fn find(&self, variable: &Reference) -> Option<usize>
+        ensures { result ≡ place_of variable.now self.now }
+    {
+        let expected = variable.place();
+        match self.slots.get(expected) {
+            Some(slot) if variable.name().is(&slot.name) => Some(expected),
+            _ => self
+                .slots
+                .iter()
+                .position(|slot| variable.name().is(&slot.name)),
+        }
+    }
+
+    /// Gives a variable a value, unless the value is outside the variable's type: then it keeps its own.
+    pub fn assign(&mut self, variable: &Reference, value: Value) -> Result<(), Reason>
+        requires { is_declared (declared_in self.old) variable.now ≡ true }
+        ensures ok { OnOk result ((fits (types_in (declared_in self.old) variable.now) value ≡ true) × (values_of self.new ≡ with_value variable.now value (values_of self.old))) }
+        ensures err { IfErr result (λ r. (r ≡ Reason.Range) × (fits (types_in (declared_in self.old) variable.now) value ≡ false) × (self.new ≡ self.old)) }
+        ensures declared { declared_in self.new ≡ declared_in self.old }
+    {
+        let place = match self.find(variable) {
+            Some(place) => place,
+            None => unreachable!(),
+        };
+        if !is_within(self.slots[place].ty, value) {
+            return Err(Reason::Range);
+        }
+        let slot = &mut self.slots[place];
+        slot.value = value;
+        Ok(())
+    }
+}
+
+fn has_name(slots: &[Slot], name: &Name) -> bool
+    ensures { result ≡ list_any (λ s. same_name name.now s.name) slots.now }
+{
+    slots.iter().any(|slot| name.is(&slot.name))
+}

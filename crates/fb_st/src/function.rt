@@ -1,0 +1,104 @@
+//! Functions (IEC 61131-3, 6.6.2.5). Their arguments go by position.
+
+ghost use Rattle.std.specs.Prelude.{◌≡◌, ◌∷◌, [], option_map, codes};
+ghost use Rattle.std.specs.Int.{int_min, int_max};
+ghost use Rattle.fb_types.specs.Names.{same_name};
+ghost use Rattle.fb_types.specs.Values.{judged, whole, absolute, value_if_known, function_named};
+ghost use Rattle.fb_st.specs.Functions.{meant};
+
+use crate::operator::{negated, truth_value, whole_of};
+use fb_types::name::Name;
+use fb_types::value::{Reason, Value};
+
+#[derive(Clone, Copy, Debug, PartialEq, Eq)]
+pub enum Function {
+    Min,
+    Max,
+    Abs,
+    Limit,
+    Sel,
+}
+
+fn is_named(name: &Name, text: &str) -> bool
+    ensures { result ≡ same_name name.now text.now }
+{
+    name.as_bytes() == text.as_bytes()
+}
+
+/// The function of a name.
+pub fn function_of(name: &Name) -> Option<Function>
+    ensures { option_map meant result ≡ function_named name.now }
+{
+    if is_named(name, "MIN") {
+        Some(Function::Min)
+    } else if is_named(name, "MAX") {
+        Some(Function::Max)
+    } else if is_named(name, "ABS") {
+        Some(Function::Abs)
+    } else if is_named(name, "LIMIT") {
+        Some(Function::Limit)
+    } else if is_named(name, "SEL") {
+        Some(Function::Sel)
+    } else {
+        None
+    }
+}
+
+/// The function ABS.
+fn magnitude(number: i128) -> Result<Value, Reason>
+    ensures { result ≡ judged (absolute number) }
+{
+    if number < 0 {
+        negated(number)
+    } else {
+        Ok(Value::Whole(number))
+    }
+}
+
+/// The function LIMIT: a number that is raised to the least and then cut to the most.
+fn limited(least: i128, number: i128, most: i128) -> Value
+    ensures { result ≡ Value.Whole (int_min (int_max number least) most) }
+{
+    Value::Whole(number.max(least).min(most))
+}
+
+/// A function at one argument. What takes another number of arguments is 0 here, and in no accepted text.
+pub fn call_with_one(function: Option<Function>, value: Value) -> Result<Value, Reason>
+    ensures { result ≡ value_if_known (option_map meant function) (value ∷ []) }
+{
+    match function {
+        Some(Function::Abs) => magnitude(whole_of(value)),
+        _ => Ok(Value::Whole(0)),
+    }
+}
+
+/// A function at two arguments. What takes another number of arguments is 0 here, and in no accepted text.
+pub fn call_with_two(
+    function: Option<Function>,
+    first: Value,
+    second: Value,
+) -> Result<Value, Reason>
+    ensures { result ≡ value_if_known (option_map meant function) (first ∷ second ∷ []) }
+{
+    match function {
+        Some(Function::Min) => Ok(Value::Whole(whole_of(first).min(whole_of(second)))),
+        Some(Function::Max) => Ok(Value::Whole(whole_of(first).max(whole_of(second)))),
+        _ => Ok(Value::Whole(0)),
+    }
+}
+
+/// A function at three arguments. What takes another number of arguments is 0 here, and in no accepted text.
+pub fn call_with_three(
+    function: Option<Function>,
+    first: Value,
+    second: Value,
+    third: Value,
+) -> Result<Value, Reason>
+    ensures { result ≡ value_if_known (option_map meant function) (first ∷ second ∷ third ∷ []) }
+{
+    match function {
+        Some(Function::Limit) => Ok(limited(whole_of(first), whole_of(second), whole_of(third))),
+        Some(Function::Sel) => Ok(if truth_value(first) { third } else { second }),
+        _ => Ok(Value::Whole(0)),
+    }
+}
