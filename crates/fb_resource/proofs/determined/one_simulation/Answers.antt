@@ -1,0 +1,11 @@
+use Rattle.fb_types.specs.Headline.{system_of, stimuli_of}
+use Rattle.fb_resource.proofs.Accepting.{sound_of}
+use Rattle.fb_resource.proofs.Existence.{there_is}
+use Rattle.fb_resource.proofs.OneSimulation.{one_simulation_told}
+use Rattle.fb_resource.proofs.determined.one_simulation.Goals as goal
+
+pub returns : goal.returns
+returns c = record {
+  most = one_simulation_told;
+  there = λ i horizon limit good. there_is (system_of i) (sound_of i good) horizon limit (stimuli_of i);
+}

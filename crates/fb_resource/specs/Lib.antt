@@ -1,0 +1,4 @@
+pub mod Worlds
+pub mod Facts
+pub mod Sound
+pub mod Law

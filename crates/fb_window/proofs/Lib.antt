@@ -1,0 +1,14 @@
+pub mod Start
+pub mod Steps
+pub mod Keeps
+pub mod Reached
+pub mod Complete
+pub mod Merged
+pub mod Mail
+pub mod Exists
+pub mod Final
+pub mod Phase
+pub mod Whole
+pub mod Beginning
+pub mod Orders
+pub mod TellsAll

@@ -1,0 +1,4 @@
+//! Cores of resources, and schedules of their steps.
+#![tactic(auto)]
+
+pub mod laws;
