@@ -6,6 +6,7 @@ pub mod PublishLaws
 pub mod RaiseLaws
 pub mod ReactLaws
 pub mod ReactionIs
+pub mod Refused
 pub mod SerialIs
 pub mod StepIs
 pub mod RunIs

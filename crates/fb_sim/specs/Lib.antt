@@ -4,4 +4,5 @@ pub mod Machines
 pub mod Reacts
 pub mod Settled
 pub mod Runs
+pub mod Given
 pub mod Serial

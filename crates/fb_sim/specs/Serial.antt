@@ -1,21 +1,28 @@
 -- What a run on one thread answers and writes (this project's profile).
-use Rattle.std.specs.Prelude.{◌≡◌, ◌≤◌, ◌^◌, ℕ, List, [], Option, IfSome}
+use Rattle.std.specs.Prelude.{◌≡◌, ◌≤◌, ◌^◌, ℕ, List, [], Option, Some, None, IfSome, Result, Ok, Err}
 use Rattle.std.specs.Io.KnownBytes.{Appends}
 use Rattle.fb_types.specs.Accepted.{IsLeastFault}
 use Rattle.fb_types.specs.Headline.{Inputs, AreAccepted, IsTrace}
-use Rattle.fb_types.specs.Limits.{single}
+use Rattle.fb_types.specs.Limits.{IsWithinLimits, single}
 use Rattle.fb_types.specs.Simulation.{Ending, AtHorizon, AtStop}
+use Rattle.fb_types.specs.declared.deploy.Plan.{Plan}
+use Rattle.fb_types.specs.declared.deploy.Stimulus.{Stimulus}
 use Rattle.fb_types.specs.declared.library.Library.{Library}
 use Rattle.fb_types.specs.declared.run.Form.TheVariants.{One}
-use Rattle.fb_read.specs.Whole.{IsLibraryText, IsMemory}
-use Rattle.fb_read.specs.declared.error.ReadError.{ReadError}
-use Rattle.fb_check.specs.Refusals.{number_of}
+use Rattle.fb_read.specs.Whole.{IsLibraryText}
+use Rattle.fb_inputs.specs.Deployments.{deploy_of}
+use Rattle.fb_inputs.specs.Stimuli.{stimuli_of}
+use Rattle.fb_inputs.specs.Refusals as input
+use Rattle.fb_check.specs.Refusals as check
 use Rattle.fb_trace.specs.Progress.{IsPartWritten}
+use Rattle.fb_sim.specs.Given.{Given}
 use Rattle.fb_sim.specs.declared.options.Options.{Options}
 use Rattle.fb_sim.specs.declared.outcome.Outcome.{Outcome}
 use Rattle.fb_sim.specs.declared.outcome.Outcome.TheVariants.{End, Stop}
+use Rattle.fb_sim.specs.declared.outcome.Refusal.{Refusal}
+use Rattle.fb_sim.specs.declared.outcome.Refusal.TheVariants.{Declaration, Deployment, Stimuli, Check}
 use Rattle.fb_sim.specs.declared.outcome.RunError.{RunError}
-use Rattle.fb_sim.specs.declared.outcome.RunError.TheVariants.{Unread, Refused, Memory, Write, BadOption}
+use Rattle.fb_sim.specs.declared.outcome.RunError.TheVariants.{Refused, Memory, Write, BadOption}
 
 -- each option is in its range
 pub record AreWithin (o : Options) : Type 0 where
@@ -26,60 +33,108 @@ pub record AreWithin (o : Options) : Type 0 where
   pub workers_least : 1 ≤ o.workers
   pub workers_most : o.workers ≤ 64
 
--- a library, with one resource that holds every instance and no stimuli
-abbrev pub alone : Library → Inputs
-alone library = record { library = library; plan = single; stimuli = [] }
+-- ---- What is read
 
--- The text declares what is accepted.
-pub record Declares (text : List ℕ) (inputs : Inputs) : Type 0 where
+-- The plan of a deployment: where none is given, one resource that holds every instance.
+abbrev pub IsPlan : Option (List ℕ) → Plan → Type 0
+IsPlan None plan = plan ≡ single
+IsPlan (Some bytes) plan = deploy_of bytes ≡ Ok plan
+
+-- The stimuli: where none are given, there are none.
+abbrev pub AreStimuli : Option (List ℕ) → List Stimulus → Type 0
+AreStimuli None stimuli = stimuli ≡ []
+AreStimuli (Some bytes) stimuli = stimuli_of bytes ≡ Ok stimuli
+
+-- These bytes are refused under this number.
+abbrev pub Refuses : {A : Type 0} → (List ℕ → Result A ℕ) → Option (List ℕ) → ℕ → Type 0
+Refuses read None n = ⊥
+Refuses read (Some bytes) n = read bytes ≡ Err n
+
+-- The bytes that are given stand for inputs.
+pub record Reads (given : Given) (i : Inputs) : Type 0 where
+  pub library : IsLibraryText given.declaration i.library
+  pub plan : IsPlan given.deploy i.plan
+  pub limits : IsWithinLimits i.plan
+  pub stimuli : AreStimuli given.stimuli i.stimuli
+
+-- The bytes that are given stand for inputs that are accepted.
+pub record Declares (given : Given) (i : Inputs) : Type 0 where
+  pub read : Reads given i
+  pub accepted : AreAccepted i
+
+-- ---- Why nothing is run
+
+-- No library has the text.
+abbrev pub IsNoText : List ℕ → Type 0
+IsNoText text = (library : Library) → IsLibraryText text library → ⊥
+
+-- The text declares a library, and the deployment is refused under this number.
+pub record IsNoPlan (given : Given) (n : ℕ) : Type 0 where
   pub library : Library
-  pub read : IsLibraryText text library
-  pub is : inputs ≡ alone library
-  pub accepted : AreAccepted inputs
+  pub read : IsLibraryText given.declaration library
+  pub refused : Refuses deploy_of given.deploy n
 
--- why nothing is run: no library has the text, or a refusal is the least one that applies to its library
-abbrev pub IsRefusal : (text : List ℕ) → RunError → Type 0
-IsRefusal text (Unread e) = (library : Library) → IsLibraryText text library → ⊥
-IsRefusal text (Refused e) = (library : Library) × IsLibraryText text library × IfSome (number_of e) (λ n. IsLeastFault n library single [])
-IsRefusal text Memory = Unit {0}
-IsRefusal text (Write n) = ⊥
-IsRefusal text BadOption = ⊥
+-- The text declares a library, the deployment is a plan, and the stimuli are refused under this number.
+pub record AreNoStimuli (given : Given) (n : ℕ) : Type 0 where
+  pub library : Library
+  pub read : IsLibraryText given.declaration library
+  pub plan : Plan
+  pub planned : IsPlan given.deploy plan
+  pub refused : Refuses stimuli_of given.stimuli n
 
--- a refusal of the reader, as the run tells it
-abbrev pub IsUnread : ReadError → RunError → Type 0
-IsUnread e (Unread x) = (x ≡ e) × ¬ (IsMemory e)
-IsUnread e (Refused x) = ⊥
-IsUnread e Memory = Unit {0}
-IsUnread e (Write n) = ⊥
-IsUnread e BadOption = ⊥
+-- All is read, and this is the least number that applies.
+pub record AreNotAccepted (given : Given) (n : ℕ) : Type 0 where
+  pub inputs : Inputs
+  pub read : Reads given inputs
+  pub applies : IsLeastFault n inputs.library inputs.plan inputs.stimuli
+
+abbrev pub HasNumber : Option ℕ → (ℕ → Type 0) → Type 0
+HasNumber None holds = ⊥
+HasNumber (Some n) holds = holds n
+
+-- The first of the declaration, the deployment, the stimuli and the check that refuses, does so rightly. What is not
+-- supported yet has no number.
+abbrev pub IsRightly : Given → Refusal → Type 0
+IsRightly given (Declaration e) = IsNoText given.declaration
+IsRightly given (Deployment e) = HasNumber (input.number_of e) (IsNoPlan given)
+IsRightly given (Stimuli e) = HasNumber (input.number_of e) (AreNoStimuli given)
+IsRightly given (Check e) = IfSome (check.number_of e) (AreNotAccepted given)
+
+-- why nothing is run
+abbrev pub IsRefusal : Given → RunError → Type 0
+IsRefusal given (Refused r) = IsRightly given r
+IsRefusal given Memory = Unit {0}
+IsRefusal given (Write n) = ⊥
+IsRefusal given BadOption = ⊥
+
+-- ---- What is written
 
 abbrev pub ending_of : Outcome → Ending
 ending_of (End h) = AtHorizon h
 ending_of (Stop m) = AtStop m.tick m.resource m.reason
 
 -- The bytes are the trace of what the text declares.
-pub record AreTrace (text : List ℕ) (o : Options) (bytes : List ℕ) (end : Ending) : Type 0 where
+pub record AreTrace (given : Given) (o : Options) (bytes : List ℕ) (end : Ending) : Type 0 where
   pub inputs : Inputs
-  pub declared : Declares text inputs
+  pub declared : Declares given inputs
   pub trace : IsTrace inputs One o.horizon o.steps bytes end
 
 -- A writer got the whole trace, and the run ended so.
-pub record Writes (text : List ℕ) (o : Options) (old new : Option (List ℕ)) (end : Ending) : Type 0 where
+pub record Writes (given : Given) (o : Options) (old new : Option (List ℕ)) (end : Ending) : Type 0 where
   pub bytes : List ℕ
   pub got : Appends old new bytes
-  pub trace : AreTrace text o bytes end
+  pub trace : AreTrace given o bytes end
 
 -- A writer got the first bytes of the trace, and so many.
-pub record WritesPart (text : List ℕ) (o : Options) (old new : Option (List ℕ)) (written : ℕ) : Type 0 where
+pub record WritesPart (given : Given) (o : Options) (old new : Option (List ℕ)) (written : ℕ) : Type 0 where
   pub bytes : List ℕ
   pub end : Ending
   pub got : IsPartWritten old new bytes written
-  pub trace : AreTrace text o bytes end
+  pub trace : AreTrace given o bytes end
 
 -- What a writer has where a run failed.
-abbrev pub Fails : (text : List ℕ) → Options → (old new : Option (List ℕ)) → RunError → Type 0
-Fails text o old new BadOption = (AreWithin o → ⊥) × (new ≡ old)
-Fails text o old new (Write n) = WritesPart text o old new n
-Fails text o old new (Unread e) = IsRefusal text (Unread e) × (new ≡ old)
-Fails text o old new (Refused e) = IsRefusal text (Refused e) × (new ≡ old)
-Fails text o old new Memory = new ≡ old
+abbrev pub Fails : Given → Options → (old new : Option (List ℕ)) → RunError → Type 0
+Fails given o old new BadOption = (AreWithin o → ⊥) × (new ≡ old)
+Fails given o old new (Write n) = WritesPart given o old new n
+Fails given o old new (Refused r) = IsRightly given r × (new ≡ old)
+Fails given o old new Memory = new ≡ old

@@ -8,6 +8,7 @@ mod meter;
 pub mod options;
 pub mod outcome;
 mod react;
+mod reading;
 pub mod serial;
 #[cfg(test)]
 mod tests;

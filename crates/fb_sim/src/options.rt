@@ -3,11 +3,26 @@
 ghost use Rattle.std.specs.Prelude.{◌↔◌, IsTrue};
 ghost use Rattle.fb_sim.specs.Serial.{AreWithin};
 
-/// What is read.
-#[derive(Clone, Copy, Debug, PartialEq, Eq)]
+use std::marker::Model;
+
+/// What is read. Contracts see the bytes.
+#[derive(Debug, Drop)]
 pub struct Inputs<'a> {
-    /// The text of the declaration.
+    /// The text of the declaration, at most 1 MiB.
     pub declaration: &'a [u8],
+    /// The deployment in TOML, at most 1 MiB. Without one, one resource `MAIN` holds every instance.
+    pub deploy: Option<&'a [u8]>,
+    /// The stimuli in CSV, at most 16 MiB. Without any there are none.
+    pub stimuli: Option<&'a [u8]>,
+}
+
+impl<'a> Model for Inputs<'a> {
+    ghost use Rattle.std.specs.Prelude.{option_map};
+    ghost use Rattle.fb_sim.specs.Given.{Given};
+
+    ghost Value = { Given };
+
+    ghost view = { λ i. record { declaration = i.declaration.now; deploy = option_map (λ b. b.now) i.deploy; stimuli = option_map (λ b. b.now) i.stimuli } };
 }
 
 /// How a run is made.

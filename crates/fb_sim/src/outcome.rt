@@ -4,6 +4,7 @@ ghost use Rattle.std.specs.Prelude.{◌≡◌};
 ghost use Rattle.fb_sim.specs.declared.outcome.RunError.TheVariants.{Memory};
 
 use fb_check::error::CheckError;
+use fb_inputs::error::InputError;
 use fb_read::error::ReadError;
 use fb_types::run::StopMark;
 use std::alloc::AllocError;
@@ -18,15 +19,29 @@ pub enum Outcome {
     Stop(StopMark),
 }
 
+/// What refuses the inputs: the first of the declaration, the deployment, the stimuli and the check.
+#[derive(Debug, Drop, Error)]
+pub enum Refusal {
+    /// The declaration is no text of the language.
+    #[error("{0}")]
+    Declaration(ReadError),
+    /// The deployment is no plan of resources and links.
+    #[error("{0}")]
+    Deployment(InputError),
+    /// The stimuli are no rows of events.
+    #[error("{0}")]
+    Stimuli(InputError),
+    /// They are not accepted together, or not supported yet.
+    #[error("{0}")]
+    Check(CheckError),
+}
+
 /// Why there is no run, or no whole one.
 #[derive(Debug, Drop, Error)]
 pub enum RunError {
-    /// The declaration is no text of the language.
+    /// The inputs are refused.
     #[error("{0}")]
-    Unread(ReadError),
-    /// The declaration is not accepted.
-    #[error("{0}")]
-    Refused(CheckError),
+    Refused(Refusal),
     #[error("out of memory")]
     Memory,
     /// The writer failed when it had taken so many bytes of the trace.

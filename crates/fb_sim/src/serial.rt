@@ -10,59 +10,29 @@ ghost use Rattle.fb_trace.specs.End as trace;
 ghost use Rattle.fb_trace.specs.Lines.{BelongsTo};
 ghost use Rattle.fb_sim.specs.Runs.{Completes};
 ghost use Rattle.fb_sim.specs.Machines.{IsOne};
-ghost use Rattle.fb_sim.specs.Serial.{AreWithin, Declares, IsRefusal, IsUnread, Writes, Fails, ending_of};
+ghost use Rattle.fb_sim.specs.Serial.{AreWithin, Declares, IsRefusal, Writes, Fails, ending_of};
 
 use crate::machine::Machine;
 use crate::options::{Inputs, Options};
 use crate::outcome::{Outcome, RunError};
-use fb_check::accept::accept;
-use fb_check::error::CheckError;
+use crate::reading::open;
 use fb_check::system::System;
-use fb_read::error::ReadError;
-use fb_read::read::read_library;
 use fb_trace::last::End;
 use fb_trace::trace::write_trace;
-use fb_types::deploy::Deploy;
 use fb_types::run::{Form, Line};
 use std::alloc::{AllocError, Global};
 use std::io::Write;
 
-fn unread(error: ReadError) -> RunError
-    ensures { IsUnread error result }
-{
-    match error {
-        ReadError::Memory => RunError::Memory,
-        error => RunError::Unread(error),
-    }
-}
-
-/// Reads a declaration and checks it, with one resource and no stimuli.
-fn open(alloc: Global, declaration: &[u8]) -> Result<System, RunError>
-    ensures system { IfOk result (Declares declaration.now) }
-    ensures refused { IfErr result (IsRefusal declaration.now) }
-{
-    let library = match read_library(alloc, declaration) {
-        Ok(library) => library,
-        Err(error) => return Err(unread(error)),
-    };
-    let deploy = Deploy::single(alloc)?;
-    match accept(alloc, library, deploy, Vec::new(alloc)) {
-        Ok(system) => Ok(system),
-        Err(CheckError::Memory) => Err(RunError::Memory),
-        Err(error) => Err(RunError::Refused(error)),
-    }
-}
-
-/// Whether a declaration is accepted. `Ok` says that it is.
+/// Whether a declaration, a deployment and stimuli are accepted together. `Ok` says that they are.
 ///
 /// # Errors
-/// `Unread` where the text is none of the language, `Refused` where it is not accepted or not supported yet, and
-/// `Memory`.
+/// `Refused` with the first that refuses: the declaration, the deployment, the stimuli, or the check of them all;
+/// and `Memory`.
 pub fn check(alloc: Global, inputs: &Inputs<'_>) -> Result<(), RunError>
-    ensures accepted { OnOk result ((i : model.Inputs) × Declares inputs.now.declaration.now i) }
-    ensures refused { IfErr result (IsRefusal inputs.now.declaration.now) }
+    ensures accepted { OnOk result ((i : model.Inputs) × Declares inputs.now i) }
+    ensures refused { IfErr result (IsRefusal inputs.now) }
 {
-    open(alloc, inputs.declaration)?;
+    open(alloc, inputs)?;
     Ok(())
 }
 
@@ -88,24 +58,24 @@ fn outcome_of(end: End) -> Outcome
     }
 }
 
-/// Runs the application of a declaration on one thread and writes its trace: the events below the horizon, the
+/// Runs the application of the inputs on one thread and writes its trace: the events below the horizon, the
 /// least key first, up to the first stop. The lines are gathered, and written when the run has ended.
 ///
 /// # Errors
-/// `BadOption` before all else; then `Unread`, `Refused` and `Memory`, after which nothing was written; and `Write`.
+/// `BadOption` before all else; then `Refused` and `Memory`, after which nothing was written; and `Write`.
 pub fn run_serial<W: Write>(
     alloc: Global,
     inputs: &Inputs<'_>,
     options: Options,
     out: &mut W,
 ) -> Result<Outcome, RunError>
-    ensures trace { IfOk result (λ o. Writes inputs.now.declaration.now options (W.contents out.old) (W.contents out.new) (ending_of o)) }
-    ensures failed { IfErr result (Fails inputs.now.declaration.now options (W.contents out.old) (W.contents out.new)) }
+    ensures trace { IfOk result (λ o. Writes inputs.now options (W.contents out.old) (W.contents out.new) (ending_of o)) }
+    ensures failed { IfErr result (Fails inputs.now options (W.contents out.old) (W.contents out.new)) }
 {
     if !options.are_within() {
         return Err(RunError::BadOption);
     }
-    let system = open(alloc, inputs.declaration)?;
+    let system = open(alloc, inputs)?;
     system.facts();
     let mut lines = Vec::new(alloc);
     let end = run(&mut lines, &system, options)?;

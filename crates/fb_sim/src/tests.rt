@@ -1,9 +1,10 @@
 //! Declarations, and the traces that follow from the rules, written out by hand.
 
 use crate::options::{Inputs, Options};
-use crate::outcome::{Outcome, RunError};
+use crate::outcome::{Outcome, Refusal, RunError};
 use crate::serial::{check, run_serial};
 use fb_check::error::CheckError;
+use fb_inputs::error::InputError;
 use fb_read::error::ReadError;
 use fb_types::run::StopMark;
 use fb_types::value::Reason;
@@ -54,6 +55,15 @@ fn with_room(alloc: Global, step: usize, room: usize) -> Narrow {
     }
 }
 
+/// A declaration alone.
+fn declared(declaration: &[u8]) -> Inputs<'_> {
+    Inputs {
+        declaration,
+        deploy: None,
+        stimuli: None,
+    }
+}
+
 fn to(horizon: u64, steps: u64) -> Options {
     Options {
         horizon,
@@ -71,7 +81,7 @@ fn runs(
     outcome: Outcome,
 ) -> bool {
     let mut out = with_room(alloc, 1000, 1000);
-    match run_serial(alloc, &Inputs { declaration }, options, &mut out) {
+    match run_serial(alloc, &declared(declaration), options, &mut out) {
         Ok(found) => found == outcome && out.got.as_slice() == trace,
         Err(_) => false,
     }
@@ -119,7 +129,7 @@ fn a_loop_stops_by_its_steps(rt: HostRuntime) -> Result<(), Fail> {
 #[test]
 fn a_fault_of_the_writer_tells_what_was_written(rt: HostRuntime) -> Result<(), Fail> {
     let alloc = rt.alloc();
-    let inputs = Inputs { declaration: CYCLE };
+    let inputs = declared(CYCLE);
     let mut out = with_room(alloc, 1000, 10);
     let found = run_serial(alloc, &inputs, to(8, 10_000), &mut out);
     assert!(rt; matches!(found, Err(RunError::Write(10))));
@@ -130,7 +140,7 @@ fn a_fault_of_the_writer_tells_what_was_written(rt: HostRuntime) -> Result<(), F
 #[test]
 fn a_slow_writer_gets_the_same_bytes(rt: HostRuntime) -> Result<(), Fail> {
     let alloc = rt.alloc();
-    let inputs = Inputs { declaration: CYCLE };
+    let inputs = declared(CYCLE);
     let mut out = with_room(alloc, 1, 1000);
     let found = run_serial(alloc, &inputs, to(8, 10_000), &mut out);
     assert!(rt; matches!(found, Ok(Outcome::End(8))));
@@ -141,7 +151,7 @@ fn a_slow_writer_gets_the_same_bytes(rt: HostRuntime) -> Result<(), Fail> {
 #[test]
 fn options_out_of_range_come_first(rt: HostRuntime) -> Result<(), Fail> {
     let alloc = rt.alloc();
-    let inputs = Inputs { declaration: b"?" };
+    let inputs = declared(b"?");
     for options in [
         to(0, 1),
         to(1_000_000_000_001, 1),
@@ -160,16 +170,22 @@ fn options_out_of_range_come_first(rt: HostRuntime) -> Result<(), Fail> {
 fn a_refusal_writes_nothing(rt: HostRuntime) -> Result<(), Fail> {
     let alloc = rt.alloc();
     let mut out = with_room(alloc, 1000, 1000);
-    let unread = Inputs {
-        declaration: b"APPLICATION A\nFBS",
-    };
+    let unread = declared(b"APPLICATION A\nFBS");
     let found = run_serial(alloc, &unread, to(1, 1), &mut out);
-    assert!(rt; matches!(found, Err(RunError::Unread(ReadError::Syntax { line: 2 }))));
-    let twice = Inputs {
-        declaration: b"APPLICATION A FBS Ab : E_MERGE; AB : E_MERGE; END_FBS END_APPLICATION",
-    };
+    assert!(rt;
+        matches!(
+            found,
+            Err(RunError::Refused(Refusal::Declaration(ReadError::Syntax { line: 2 })))
+        )
+    );
+    let twice = declared(b"APPLICATION A FBS Ab : E_MERGE; AB : E_MERGE; END_FBS END_APPLICATION");
     let found = run_serial(alloc, &twice, to(1, 1), &mut out);
-    assert!(rt; matches!(found, Err(RunError::Refused(CheckError::NameTwice))));
+    assert!(rt;
+        matches!(
+            found,
+            Err(RunError::Refused(Refusal::Check(CheckError::NameTwice)))
+        )
+    );
     assert!(rt; out.got.is_empty());
     Ok(())
 }
@@ -177,15 +193,106 @@ fn a_refusal_writes_nothing(rt: HostRuntime) -> Result<(), Fail> {
 #[test]
 fn an_accepted_declaration_passes_the_check(rt: HostRuntime) -> Result<(), Fail> {
     let alloc = rt.alloc();
-    assert!(rt; matches!(check(alloc, &Inputs { declaration: CYCLE }), Ok(())));
-    let unknown = Inputs {
-        declaration: b"APPLICATION A FBS X : E_NONE; END_FBS END_APPLICATION",
-    };
+    assert!(rt; matches!(check(alloc, &declared(CYCLE)), Ok(())));
+    let unknown = declared(b"APPLICATION A FBS X : E_NONE; END_FBS END_APPLICATION");
     assert!(rt;
         matches!(
             check(alloc, &unknown),
-            Err(RunError::Refused(CheckError::NameUnknown))
+            Err(RunError::Refused(Refusal::Check(CheckError::NameUnknown)))
         )
     );
+    Ok(())
+}
+
+#[test]
+fn the_first_that_refuses_is_answered(rt: HostRuntime) -> Result<(), Fail> {
+    let alloc = rt.alloc();
+    let twice = b"APPLICATION A FBS S : E_MERGE; S : E_MERGE; END_FBS END_APPLICATION".as_slice();
+    let no_toml = Some(b"[".as_slice());
+    let no_rows = Some(b"tick,event\n".as_slice());
+    let unread = Inputs {
+        declaration: b"?",
+        deploy: no_toml,
+        stimuli: no_rows,
+    };
+    assert!(rt;
+        matches!(
+            check(alloc, &unread),
+            Err(RunError::Refused(Refusal::Declaration(ReadError::Token)))
+        )
+    );
+    let unmapped = Inputs {
+        declaration: twice,
+        deploy: no_toml,
+        stimuli: no_rows,
+    };
+    assert!(rt;
+        matches!(
+            check(alloc, &unmapped),
+            Err(RunError::Refused(Refusal::Deployment(InputError::Document)))
+        )
+    );
+    let unfed = Inputs {
+        declaration: twice,
+        deploy: None,
+        stimuli: no_rows,
+    };
+    assert!(rt;
+        matches!(
+            check(alloc, &unfed),
+            Err(RunError::Refused(Refusal::Stimuli(InputError::Row)))
+        )
+    );
+    assert!(rt;
+        matches!(
+            check(alloc, &declared(twice)),
+            Err(RunError::Refused(Refusal::Check(CheckError::NameTwice)))
+        )
+    );
+    Ok(())
+}
+
+#[test]
+fn what_is_not_taken_yet_is_refused_by_name(rt: HostRuntime) -> Result<(), Fail> {
+    let alloc = rt.alloc();
+    let mapped = Inputs {
+        declaration: CYCLE,
+        deploy: Some(
+            b"[[resource]]\ndevice = \"DEV\"\nname = \"MAIN\"\ninstances = [\"S\", \"C\"]\n",
+        ),
+        stimuli: None,
+    };
+    assert!(rt;
+        matches!(
+            check(alloc, &mapped),
+            Err(RunError::Refused(Refusal::Check(CheckError::Unsupported)))
+        )
+    );
+    let fed = Inputs {
+        declaration: CYCLE,
+        deploy: None,
+        stimuli: Some(b"tick,event,values\n0,C.START,DT=5\n"),
+    };
+    assert!(rt;
+        matches!(
+            check(alloc, &fed),
+            Err(RunError::Refused(Refusal::Check(CheckError::Unsupported)))
+        )
+    );
+    Ok(())
+}
+
+#[test]
+fn stimuli_without_rows_are_none(rt: HostRuntime) -> Result<(), Fail> {
+    let alloc = rt.alloc();
+    let inputs = Inputs {
+        declaration: CYCLE,
+        deploy: None,
+        stimuli: Some(b"tick,event,values\n"),
+    };
+    let mut out = with_room(alloc, 1000, 1000);
+    let outcome = run_serial(alloc, &inputs, to(8, 10_000), &mut out)?;
+    assert_eq!(rt; outcome, Outcome::End(8));
+    assert!(rt; out.got.as_slice() == CYCLE_TO_8);
     Ok(())
 }

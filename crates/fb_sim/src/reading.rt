@@ -1,0 +1,83 @@
+//! What is read before a run, in its order: the declaration, the deployment, the stimuli, and the check of them all.
+
+ghost use Rattle.std.specs.Prelude.{IfOk, IfErr};
+ghost use Rattle.fb_read.specs.Whole.{IsLibraryText};
+ghost use Rattle.fb_sim.specs.Serial.{AreStimuli, Declares, IsPlan, IsRefusal};
+
+use crate::options::Inputs;
+use crate::outcome::{Refusal, RunError};
+use fb_check::accept::accept;
+use fb_check::error::CheckError;
+use fb_check::system::System;
+use fb_inputs::deployment::read_deploy;
+use fb_inputs::error::InputError;
+use fb_inputs::stimuli::read_stimuli;
+use fb_read::error::ReadError;
+use fb_read::read::read_library;
+use fb_types::deploy::{Deploy, Stimulus};
+use fb_types::library::Library;
+use std::alloc::Global;
+
+fn library_of(alloc: Global, inputs: &Inputs<'_>) -> Result<Library, RunError>
+    ensures read { IfOk result (IsLibraryText inputs.now.declaration) }
+    ensures refused { IfErr result (IsRefusal inputs.now) }
+{
+    match read_library(alloc, inputs.declaration) {
+        Ok(library) => Ok(library),
+        Err(error) => match error {
+            ReadError::Memory => Err(RunError::Memory),
+            error => Err(RunError::Refused(Refusal::Declaration(error))),
+        },
+    }
+}
+
+fn deploy_of(alloc: Global, inputs: &Inputs<'_>, library: &Library) -> Result<Deploy, RunError>
+    requires { IsLibraryText inputs.now.declaration library.now }
+    ensures read { IfOk result (IsPlan inputs.now.deploy) }
+    ensures refused { IfErr result (IsRefusal inputs.now) }
+{
+    let Some(bytes) = inputs.deploy else {
+        return Ok(Deploy::single(alloc)?);
+    };
+    match read_deploy(alloc, bytes) {
+        Ok(deploy) => Ok(deploy),
+        Err(InputError::Memory) => Err(RunError::Memory),
+        Err(error) => Err(RunError::Refused(Refusal::Deployment(error))),
+    }
+}
+
+fn stimuli_of(
+    alloc: Global,
+    inputs: &Inputs<'_>,
+    library: &Library,
+    deploy: &Deploy,
+) -> Result<Vec<Stimulus>, RunError>
+    requires library { IsLibraryText inputs.now.declaration library.now }
+    requires plan { IsPlan inputs.now.deploy deploy.now }
+    ensures read { IfOk result (λ stimuli. AreStimuli inputs.now.stimuli stimuli.items) }
+    ensures refused { IfErr result (IsRefusal inputs.now) }
+{
+    let Some(bytes) = inputs.stimuli else {
+        return Ok(Vec::new(alloc));
+    };
+    match read_stimuli(alloc, bytes) {
+        Ok(stimuli) => Ok(stimuli),
+        Err(InputError::Memory) => Err(RunError::Memory),
+        Err(error) => Err(RunError::Refused(Refusal::Stimuli(error))),
+    }
+}
+
+/// Reads what is given, and checks it.
+pub fn open(alloc: Global, inputs: &Inputs<'_>) -> Result<System, RunError>
+    ensures system { IfOk result (Declares inputs.now) }
+    ensures refused { IfErr result (IsRefusal inputs.now) }
+{
+    let library = library_of(alloc, inputs)?;
+    let deploy = deploy_of(alloc, inputs, &library)?;
+    let stimuli = stimuli_of(alloc, inputs, &library, &deploy)?;
+    match accept(alloc, library, deploy, stimuli) {
+        Ok(system) => Ok(system),
+        Err(CheckError::Memory) => Err(RunError::Memory),
+        Err(error) => Err(RunError::Refused(Refusal::Check(error))),
+    }
+}
