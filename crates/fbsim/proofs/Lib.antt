@@ -1,0 +1,2 @@
+pub mod GetterLaws
+pub mod LineLaws

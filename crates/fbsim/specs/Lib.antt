@@ -1,0 +1,5 @@
+pub mod Line
+pub mod Failures
+pub mod Files
+pub mod Texts
+pub mod Command

@@ -1,0 +1,104 @@
+-- The command line (this project's own): the program's commands, and the call that a parse of the words stands for.
+use Rattle.std.specs.Prelude.{◌≡◌, ◌<◌, ◌^◌, ℕ, true, List, [], ◌∷◌, Option, Some, option_map, codes}
+use Rattle.std.specs.Str.Parse.{IsNumeral, digits_value, without_leading_plus}
+use Rattle.clap.specs.Words.{App, Rule, Row, Text, new_app, new_rule, with_rule, with_subcommand, subcommand_of, first_of, one_of, takes, fault_of, IsAmong}
+use Rattle.clap.specs.declared.error.kind.ErrorKind.TheVariants.{DisplayHelp}
+use Rattle.clap.specs.declared.builder.value_parser.ValueParser.{ValueParser}
+use Rattle.clap.specs.declared.builder.value_parser.ValueParser.TheVariants as parser
+use Rattle.fbsim.specs.declared.line.Order.{Order}
+use Rattle.fbsim.specs.declared.line.Order.TheVariants.{Check, Run}
+use Rattle.fbsim.specs.declared.line.Call.{Call}
+use Rattle.fbsim.specs.declared.line.LineFault.{LineFault}
+use Rattle.fbsim.specs.declared.line.LineFault.TheVariants.{Memory, Help, Fault}
+
+-- ---- The commands
+
+-- whole numbers from 1 to `most`
+abbrev pub up_to : ℕ → ValueParser
+up_to most = parser.Unsigned 1 most
+
+-- an option with a value of this kind
+abbrev pub limited : Text → ValueParser → Rule
+limited id values = record (new_rule id) { long = Some id; parser = Some values }
+
+-- an option that takes the name of a file
+abbrev pub file : Text → Rule
+file id = record (new_rule id) { long = Some id }
+
+-- a command with the names of its files
+abbrev pub files : Text → App
+files name =
+    with_rule (with_rule (with_rule (new_app name)
+    (record (new_rule (codes "DECL")) { required = true }))
+    (file (codes "deploy")))
+    (file (codes "stim"))
+
+abbrev pub with_numbers : App → App
+with_numbers a = with_rule (with_rule a
+    (record (limited (codes "horizon") (up_to 1000000000000)) { required = true }))
+    (record (limited (codes "steps") (up_to 10000000)) { defaults = codes "10000" ∷ [] })
+
+abbrev pub simulator : App
+simulator = with_subcommand (with_subcommand
+    (record { top = record (new_app (codes "fbsim")).top { subcommand_required = true }; subs = [] })
+    (with_numbers (files (codes "run"))).top)
+    (files (codes "check")).top
+
+-- ---- The call
+
+abbrev pub command_name : Order → Text
+command_name Check = codes "check"
+command_name (Run horizon steps) = codes "run"
+
+-- the option has one text, a decimal numeral that may begin with a plus, and this is its number
+pub record IsNumber (rows : List Row) (id : Text) (n : ℕ) : Type 0 where
+  pub text : Text
+  pub given : one_of id rows ≡ Some text
+  pub numeral : IsNumeral 10 (without_leading_plus text)
+  pub value : digits_value 10 (without_leading_plus text) ≡ n
+  pub small : n < 2 ^ 64
+
+pub record IsRun (rows : List Row) (horizon steps : ℕ) : Type 0 where
+  pub horizon_is : IsNumber rows (codes "horizon") horizon
+  pub steps_is : IsNumber rows (codes "steps") steps
+
+abbrev pub IsOrder : List Row → Order → Type 0
+IsOrder rows Check = Unit {0}
+IsOrder rows (Run horizon steps) = IsRun rows horizon steps
+
+-- the call has what the rows of its command say
+pub record IsCall (rows : List Row) (c : Call) : Type 0 where
+  pub declaration : first_of (codes "DECL") rows ≡ Some c.declaration.now
+  pub deploy : first_of (codes "deploy") rows ≡ option_map (λ n. n.now) c.deploy
+  pub stimuli : first_of (codes "stim") rows ≡ option_map (λ n. n.now) c.stimuli
+  pub order : IsOrder rows c.order
+
+-- a command's name and its rows make this call
+pub record IsCallOf (found : Option (Text × List Row)) (c : Call) : Type 0 where
+  pub rows : List Row
+  pub is : found ≡ Some (command_name c.order, rows)
+  pub call : IsCall rows c
+
+-- the words name this call
+abbrev pub AreCall : List Text → Call → Type 0
+AreCall words = IsCallOf (subcommand_of simulator words)
+
+-- ---- No call
+
+abbrev pub IsHelp : LineFault → Type 0
+IsHelp Memory = ⊥
+IsHelp (Help text) = Unit {0}
+IsHelp (Fault text) = ⊥
+
+abbrev pub IsFault : LineFault → Type 0
+IsFault Memory = ⊥
+IsFault (Help text) = ⊥
+IsFault (Fault text) = Unit {0}
+
+-- the parser may answer these words with the help
+abbrev pub AskHelp : List Text → Type 0
+AskHelp words = IsAmong DisplayHelp (fault_of simulator words)
+
+-- the parser refuses these words, or they name no call
+abbrev pub AreNoCall : List Text → Type 0
+AreNoCall words = takes simulator words ≡ true → (c : Call) → AreCall words c → ⊥

@@ -1,0 +1,211 @@
+//! The command line.
+
+ghost use Rattle.std.specs.Prelude.{◌≡◌, ◌≢◌, ℕ, IfOk, IfErr, IfSome, IfNone, map, false};
+ghost use Rattle.fbsim.specs.Line as spec;
+ghost use Rattle.fbsim.specs.Line.{AreCall, AreNoCall, AskHelp, IsCall, IsCallOf, IsFault, IsHelp, IsNumber, IsOrder, command_name};
+ghost use Rattle.fbsim.specs.declared.line.LineFault.TheVariants.{Memory};
+ghost use Rattle.fbsim.specs.declared.line.Call.{Call};
+ghost use Rattle.fbsim.specs.declared.line.Order.{Order};
+ghost use Rattle.clap.specs.Words.{app_of, rows_of, found_of, rule_of, kind_of, subcommand_rows_of};
+ghost use Rattle.clap.specs.declared.builder.command.Command.TheViews.{out-Command as fields_of};
+
+use clap::builder::ValueParser;
+use clap::error::ErrorKind;
+use clap::{Arg, ArgMatches, Command, Error, value_parser};
+use std::alloc::{AllocError, Global};
+
+/// What is asked for, and of which files.
+#[derive(Clone, Copy, Debug, PartialEq, Eq)]
+pub struct Call<'a> {
+    pub order: Order,
+    /// The name of the declaration's file; `-` is standard input, here and below.
+    pub declaration: &'a str,
+    /// The name of the deployment's file, where one is given.
+    pub deploy: Option<&'a str>,
+    /// The name of the file with the stimuli, where one is given.
+    pub stimuli: Option<&'a str>,
+}
+
+/// What is asked for.
+#[derive(Clone, Copy, Debug, PartialEq, Eq)]
+pub enum Order {
+    /// Whether the inputs are accepted.
+    Check,
+    /// The trace of a run.
+    Run {
+        /// The tick at which the run ends, 1 to 10^12.
+        horizon: u64,
+        /// The most steps that a resource makes in one tick, 1 to 10,000,000.
+        steps: u64,
+    },
+}
+
+/// Why the words name no call.
+#[derive(Debug, Drop)]
+pub enum LineFault {
+    Memory,
+    /// Help was asked for, and this is its text.
+    Help(String),
+    /// The words are no call, for what this text says.
+    Fault(String),
+}
+
+impl From<AllocError> for LineFault {
+    ghost from_gives = { λ _ e. e ≡ Memory };
+
+    fn from(_error: AllocError) -> LineFault {
+        LineFault::Memory
+    }
+}
+
+/// What is said of words that the parser takes and that name no call all the same.
+const NO_CALL: &str = "error: the words name no call\n";
+
+/// An option that takes the name of a file.
+fn file<'a>(alloc: Global, id: &'a str) -> Arg<'a>
+    ensures rule { rule_of result ≡ spec.file id.entry.now }
+    ensures local { result.global ≡ false }
+{
+    Arg::new(alloc, id).long(id)
+}
+
+/// A command with the names of its files.
+fn files<'a>(alloc: Global, name: &'a str) -> Result<Command<'a>, AllocError>
+    ensures app { IfOk result (λ c. app_of c ≡ spec.files name.entry.now) }
+    ensures globals { IfOk result (λ c. (fields_of c).has_globals ≡ false) }
+{
+    let declaration = Arg::new(alloc, "DECL").required(true);
+    let deploy = file(alloc, "deploy");
+    let stimuli = file(alloc, "stim");
+    Command::new(alloc, name)
+        .arg(declaration)?
+        .arg(deploy)?
+        .arg(stimuli)
+}
+
+/// An option that takes a value of this kind.
+fn limited<'a>(alloc: Global, id: &'a str, values: ValueParser<'a>) -> Arg<'a>
+    ensures rule { rule_of result ≡ spec.limited id.entry.now values.entry }
+    ensures local { result.global ≡ false }
+{
+    Arg::new(alloc, id).long(id).value_parser(values)
+}
+
+fn up_to_horizon<'a>() -> ValueParser<'a>
+    ensures { result ≡ spec.up_to 1000000000000 }
+{
+    value_parser!(u64).range(1..=1_000_000_000_000)
+}
+
+fn up_to_steps<'a>() -> ValueParser<'a>
+    ensures { result ≡ spec.up_to 10000000 }
+{
+    value_parser!(u64).range(1..=10_000_000)
+}
+
+fn with_numbers<'a>(alloc: Global, command: Command<'a>) -> Result<Command<'a>, AllocError>
+    requires { (fields_of command).has_globals ≡ false }
+    ensures app { IfOk result (λ c. app_of c ≡ spec.with_numbers (app_of command.entry)) }
+    ensures globals { IfOk result (λ c. (fields_of c).has_globals ≡ false) }
+{
+    let horizon = limited(alloc, "horizon", up_to_horizon()).required(true);
+    let steps = limited(alloc, "steps", up_to_steps()).default_value("10000");
+    command.arg(horizon)?.arg(steps)
+}
+
+fn simulator<'a>(alloc: Global) -> Result<Command<'a>, AllocError>
+    ensures { IfOk result (λ c. app_of c ≡ spec.simulator) }
+{
+    let run = with_numbers(alloc, files(alloc, "run")?)?;
+    let check = files(alloc, "check")?;
+    Command::new(alloc, "fbsim")
+        .subcommand_required(true)
+        .subcommand(run)?
+        .subcommand(check)
+}
+
+fn number(found: &ArgMatches<'_>, id: &str) -> Option<u64>
+    ensures number { IfSome result (IsNumber (rows_of (found_of found.now)) id.now) }
+    ensures none { IfNone result ((n : ℕ) → IsNumber (rows_of (found_of found.now)) id.now n → ⊥) }
+{
+    found.get_one::<u64>(id)
+}
+
+fn order_of(name: &str, found: &ArgMatches<'_>) -> Option<Order>
+    ensures name { IfSome result (λ o. name.now ≡ command_name o) }
+    ensures numbers { IfSome result (λ o. IsOrder (rows_of (found_of found.now)) o) }
+    ensures none { IfNone result ((o : Order) → name.now ≡ command_name o → IsOrder (rows_of (found_of found.now)) o → ⊥) }
+{
+    if name == "check" {
+        return Some(Order::Check);
+    }
+    if name == "run" {
+        return Some(Order::Run {
+            horizon: number(found, "horizon")?,
+            steps: number(found, "steps")?,
+        });
+    }
+    None
+}
+
+fn call_of<'a>(name: &str, found: &ArgMatches<'a>) -> Option<Call<'a>>
+    ensures name { IfSome result (λ c. name.now ≡ command_name c.order) }
+    ensures rows { IfSome result (λ c. IsCall (rows_of (found_of found.now)) c) }
+    ensures none { IfNone result ((c : Call) → name.now ≡ command_name c.order → IsCall (rows_of (found_of found.now)) c → ⊥) }
+{
+    let declaration = found.get_str("DECL")?;
+    let deploy = found.get_str("deploy");
+    let stimuli = found.get_str("stim");
+    let order = order_of(name, found)?;
+    Some(Call {
+        order,
+        declaration,
+        deploy,
+        stimuli,
+    })
+}
+
+fn fault(alloc: Global, error: &Error) -> LineFault
+    ensures help { IsHelp result → kind_of error.now ≡ ErrorKind.DisplayHelp }
+    ensures fault { IsFault result → kind_of error.now ≢ ErrorKind.OutOfMemory }
+{
+    let kind = error.kind();
+    if kind == ErrorKind::OutOfMemory {
+        return LineFault::Memory;
+    }
+    match format!(in alloc; "{error}") {
+        Err(_) => LineFault::Memory,
+        Ok(text) if kind == ErrorKind::DisplayHelp => LineFault::Help(text),
+        Ok(text) => LineFault::Fault(text),
+    }
+}
+
+/// The call that the matches of the words make.
+fn call_in<'a>(alloc: Global, matches: &ArgMatches<'a>) -> Result<Call<'a>, LineFault>
+    ensures call { IfOk result (IsCallOf (subcommand_rows_of matches.now)) }
+    ensures none { IfErr result (λ e. IsFault e → (c : Call) → IsCallOf (subcommand_rows_of matches.now) c → ⊥) }
+    ensures help { IfErr result (λ e. ¬ (IsHelp e)) }
+{
+    if let Some((name, found)) = matches.subcommand() {
+        if let Some(call) = call_of(name, found) {
+            return Ok(call);
+        }
+    }
+    Err(LineFault::Fault(String::from_str(alloc, NO_CALL)?))
+}
+
+/// The call that the words name, the program's own name first.
+///
+/// # Errors
+/// `Help` where help is asked for, `Fault` where the words are no call, and `Memory`.
+pub fn parse<'a>(alloc: Global, words: &'a [&'a str]) -> Result<Call<'a>, LineFault>
+    ensures call { IfOk result (AreCall (map (λ w. w.now) words.entry.now)) }
+    ensures help { IfErr result (λ e. IsHelp e → AskHelp (map (λ w. w.now) words.entry.now)) }
+    ensures none { IfErr result (λ e. IsFault e → AreNoCall (map (λ w. w.now) words.entry.now)) }
+{
+    let command = simulator(alloc)?;
+    match command.try_get_matches_from(words) {
+        Ok(matches) => call_in(alloc, &matches),
+        Err(error) => Err(fault(alloc, &error)),
+    }
+}

@@ -1,0 +1,112 @@
+//! Command lines. What the parser says of a fault is not compared.
+
+use super::ask;
+use crate::line::{Call, Order, parse};
+use std::alloc::Global;
+use std::test::Fail;
+
+const EMPTY: &[u8] = b"APPLICATION A FBS END_FBS END_APPLICATION";
+
+/// Words that are no call.
+const FAULTS: [&[&str]; 22] = [
+    &[],
+    &["d"],
+    &["walk", "d"],
+    &["check"],
+    &["run"],
+    &["run", "d"],
+    &["run", "--horizon", "8"],
+    &["run", "d", "--horizon"],
+    &["run", "d", "--horizon", "x"],
+    &["run", "d", "--horizon", "-1"],
+    &["run", "d", "--horizon", "0"],
+    &["run", "d", "--horizon", "1000000000001"],
+    &["run", "d", "--horizon", "1", "--steps", "0"],
+    &["run", "d", "--horizon", "1", "--steps", "10000001"],
+    &["run", "d", "--horizon", "1", "--horizon", "1"],
+    &["run", "d", "e", "--horizon", "1"],
+    &["check", "d", "--horizon", "1"],
+    // Options that are not there yet.
+    &["run", "d", "--horizon", "1", "--deploy", "e"],
+    &["run", "d", "--horizon", "1", "--stim", "e"],
+    &["run", "d", "--horizon", "1", "--workers", "1"],
+    &["run", "d", "--horizon", "1", "--serial"],
+    &["run", "d", "--horizon", "1", "--trace", "1"],
+];
+
+#[test]
+fn words_that_are_no_call_are_a_fault(rt: HostRuntime) -> Result<(), Fail> {
+    for words in FAULTS {
+        let answer = ask(rt.alloc(), words, EMPTY)?;
+        assert!(rt; answer.status == 5 && answer.out.is_empty(), "{words:?}");
+        assert!(rt; !answer.err.is_empty(), "{words:?}");
+    }
+    Ok(())
+}
+
+#[test]
+fn numbers_may_be_at_their_limits(rt: HostRuntime) -> Result<(), Fail> {
+    let alloc = rt.alloc();
+    let most = [
+        "run",
+        "d",
+        "--steps",
+        "10000000",
+        "--horizon",
+        "1000000000000",
+    ];
+    let answered = ask(alloc, most.as_slice(), EMPTY)?;
+    assert!(rt; answered.is(0, b"end 1000000000000\n", b""));
+    let least = ["run", "--horizon", "1", "--steps", "1", "d"];
+    let answered = ask(alloc, least.as_slice(), EMPTY)?;
+    assert!(rt; answered.is(0, b"end 1\n", b""));
+    for eight in ["8", "+8", "008"] {
+        let words = ["run", "d", "--horizon", eight];
+        let answered = ask(alloc, words.as_slice(), EMPTY)?;
+        assert!(rt; answered.is(0, b"end 8\n", b""));
+    }
+    Ok(())
+}
+
+#[test]
+fn help_is_no_fault(rt: HostRuntime) -> Result<(), Fail> {
+    for words in [
+        ["--help"].as_slice(),
+        ["help"].as_slice(),
+        ["run", "--help"].as_slice(),
+        ["check", "-h"].as_slice(),
+    ] {
+        let answer = ask(rt.alloc(), words, EMPTY)?;
+        assert!(rt; answer.status == 0 && answer.err.is_empty(), "{words:?}");
+        assert!(rt; !answer.out.is_empty(), "{words:?}");
+    }
+    Ok(())
+}
+
+/// Whether the words are this call.
+fn names(alloc: Global, words: &[&str], call: Call<'_>) -> bool {
+    match parse(alloc, words) {
+        Ok(found) => found == call,
+        Err(_) => false,
+    }
+}
+
+#[test]
+fn words_name_their_call(rt: HostRuntime) -> Result<(), Fail> {
+    let alloc = rt.alloc();
+    let check = Call {
+        order: Order::Check,
+        declaration: "-",
+    };
+    assert!(rt; names(alloc, ["fbsim", "check", "-"].as_slice(), check));
+    let run = Call {
+        order: Order::Run {
+            horizon: 8,
+            steps: 10_000,
+        },
+        declaration: "a.iec",
+    };
+    let words = ["fbsim", "run", "a.iec", "--horizon=8"];
+    assert!(rt; names(alloc, words.as_slice(), run));
+    Ok(())
+}
