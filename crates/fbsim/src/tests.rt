@@ -13,6 +13,24 @@ use std::alloc::{AllocError, Global};
 use std::io;
 use std::io::Write;
 
+/// One file in memory, of this name and these bytes. The file `full` finds no memory.
+#[derive(Drop)]
+struct OneFile<'a> {
+    name: &'a str,
+    bytes: &'a [u8],
+}
+
+impl<'a> Source for OneFile<'a> {
+    ghost gives = { λ old name most result new. Unit {0} };
+
+    fn read(&mut self, alloc: Global, name: &str, most: usize) -> Result<Vec<u8>, SourceFault> {
+        let mut folder = Folder {
+            files: &[(self.name, self.bytes)],
+        };
+        folder.read(alloc, name, most)
+    }
+}
+
 /// A file in memory: its name and its bytes.
 type File<'a> = (&'a str, &'a [u8]);
 

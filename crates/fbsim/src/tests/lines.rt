@@ -26,9 +26,9 @@ const FAULTS: [&[&str]; 22] = [
     &["run", "d", "--horizon", "1", "--horizon", "1"],
     &["run", "d", "e", "--horizon", "1"],
     &["check", "d", "--horizon", "1"],
+    &["run", "d", "--horizon", "1", "--deploy"],
+    &["check", "d", "--stim", "e", "--stim", "e"],
     // Options that are not there yet.
-    &["run", "d", "--horizon", "1", "--deploy", "e"],
-    &["run", "d", "--horizon", "1", "--stim", "e"],
     &["run", "d", "--horizon", "1", "--workers", "1"],
     &["run", "d", "--horizon", "1", "--serial"],
     &["run", "d", "--horizon", "1", "--trace", "1"],
@@ -97,6 +97,8 @@ fn words_name_their_call(rt: HostRuntime) -> Result<(), Fail> {
     let check = Call {
         order: Order::Check,
         declaration: "-",
+        deploy: None,
+        stimuli: None,
     };
     assert!(rt; names(alloc, ["fbsim", "check", "-"].as_slice(), check));
     let run = Call {
@@ -105,8 +107,18 @@ fn words_name_their_call(rt: HostRuntime) -> Result<(), Fail> {
             steps: 10_000,
         },
         declaration: "a.iec",
+        deploy: None,
+        stimuli: None,
     };
     let words = ["fbsim", "run", "a.iec", "--horizon=8"];
     assert!(rt; names(alloc, words.as_slice(), run));
+    let fed = Call {
+        order: Order::Check,
+        declaration: "a.iec",
+        deploy: Some("a.toml"),
+        stimuli: Some("-"),
+    };
+    let words = ["fbsim", "check", "a.iec", "--stim", "-", "--deploy=a.toml"];
+    assert!(rt; names(alloc, words.as_slice(), fed));
     Ok(())
 }
