@@ -1,11 +1,13 @@
 -- Tables of latencies that pass the tests.
-use Rattle.std.proofs.Common.{◌≡◌, ◌==◌, ℕ, zero, suc, ◌+◌, ◌^◌, ◌<◌, ◌≤◌, nat_le, nat_lt, ℤ, pos, negsuc, unsigned_abs, Bool, true, false, ◌&&◌, List, [], ◌∷◌, ◌++◌, map, length, get_or, Some, refl, sym, ap, ◌∙◌, append_assoc, append-nil, arith}
+use Rattle.std.proofs.Common.{◌≡◌, ◌==◌, ℕ, zero, suc, ◌+◌, ◌^◌, ◌<◌, ◌≤◌, nat_le, nat_lt, ℤ, pos, negsuc, unsigned_abs, Bool, true, false, ◌&&◌, List, [], ◌∷◌, ◌++◌, map, length, get_or, Some, refl, sym, ap, ◌∙◌, append_assoc, append-nil, subst, Contains, arith}
 use Rattle.std.specs.List.{All, slice_get}
 use Rattle.std.specs.List.Sorted.{IsStrictlyIncreasing}
 use Rattle.std.proofs.lemmas.Bool.{and_parts, false≢true, leb-true, ltb-true, eqb-true}
 use Rattle.std.proofs.lemmas.List.{length-map}
-use Rattle.std.proofs.lemmas.List.Elements.{All-nil, All-cons}
+use Rattle.std.proofs.lemmas.List.Elements.{All-nil, All-cons, All-contains}
 use Rattle.fb_types.specs.declared.deploy.Link.{Link}
+use Rattle.fb_types.specs.declared.deploy.Resource.{Resource}
+use Rattle.fb_types.specs.Limits.{IsWithinLimits}
 use Rattle.fb_types.specs.declared.latency.Entry.{Entry}
 use Rattle.fb_types.specs.Latencies.{IsLatencyTable}
 use Rattle.fb_inputs.specs.declared.document.LinkDraft.{LinkDraft}
@@ -95,3 +97,31 @@ links_more found d ds rest total split so_far = append_assoc found (link_of d �
 pub links_done : (found : List Link) (rest : List LinkDraft) (total : List Link) → length rest ≤ 0 → found ++ map link_of rest ≡ total → found ≡ total
 links_done found [] total le so_far = sym (append-nil found) ∙ so_far
 links_done found (d ∷ ds) total le so_far = absurd (omega arith)
+
+-- ---- Plans that pass the tests
+
+tables_are :
+    (ds : List LinkDraft) → all_tables has_latencies ds ≡ true → all_tables rises ds ≡ true → all_tables is_short ds ≡ true
+    → All (λ l. IsLatencyTable l.latency) (map link_of ds)
+tables_are [] latencies rise short = All-nil (λ l. IsLatencyTable l.latency)
+tables_are (d ∷ ds) latencies rise short =
+    let (l, ls) = and_parts (has_latencies d.table) (all_tables has_latencies ds) latencies in
+    let (r, rs) = and_parts (rises d.table) (all_tables rises ds) rise in
+    let (s, ss) = and_parts (is_short d.table) (all_tables is_short ds) short in
+    All-cons (λ l. IsLatencyTable l.latency) (link_of d) (map link_of ds) (latency_table d.table l r s) (tables_are ds ls rs ss)
+
+pub within_limits :
+    (resources : List Resource) (links : List Link) (ds : List LinkDraft) → 1 ≤ length resources → length resources ≤ 256 → length ds ≤ 1024
+    → all_tables has_latencies ds ≡ true → all_tables rises ds ≡ true → all_tables is_short ds ≡ true → links ≡ map link_of ds
+    → IsWithinLimits (record { resources = resources; links = links; holds_all = false })
+within_limits resources links ds some few_resources few_links latencies rise short made =
+    let counted : length links ≡ length ds = ap length made ∙ length-map ds link_of in
+    record {
+      some_resource = some;
+      few_resources = few_resources;
+      few_links = omega (arith, counted, few_links);
+      one_holds_all = λ h. absurd (false≢true h);
+      latencies = λ l c.
+          All-contains (λ (l : Link). IsLatencyTable l.latency) (map link_of ds) l (tables_are ds latencies rise short)
+          (subst (λ (ls : List Link). Contains ls l) made c);
+    }
