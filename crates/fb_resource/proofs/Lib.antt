@@ -1,3 +1,5 @@
+pub mod Rising
+pub mod Ahead
 pub mod Lookups
 pub mod Chains
 pub mod Late

@@ -32,7 +32,7 @@ tick_before x y h = earlier_precedes x y h
 pub before_tick : (x y : Key) → Precedes x y → x.tick ≤ y.tick
 before_tick x y h = ⊎_elim (λ l. absurd (before_asym x y h (tick_before y x l))) (λ l. l) (cases_lt y.tick x.tick)
 
-cmp_equal : (x y : ℕ) → x ≡ y → nat_cmp x y ≡ Equal
+pub cmp_equal : (x y : ℕ) → x ≡ y → nat_cmp x y ≡ Equal
 cmp_equal x y e = subst (λ (z : ℕ). nat_cmp x z ≡ Equal) e (tied_itself nat_cmp_total x)
 
 pub resource_before : (x y : Key) → x.tick ≡ y.tick → x.resource < y.resource → Precedes x y

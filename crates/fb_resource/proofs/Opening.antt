@@ -1,5 +1,5 @@
 -- The opening of a system.
-use Rattle.std.proofs.Common.{◌≡◌, ℕ, ◌+◌, ◌<◌, refl, sym, ◌∙◌, ⊎_elim, List, [], ◌∷◌, true, false, Option, Some, None, arith}
+use Rattle.std.proofs.Common.{◌≡◌, ℕ, ◌+◌, ◌<◌, ◌≤◌, refl, sym, ◌∙◌, ⊎_elim, List, [], ◌∷◌, true, false, Option, Some, None, arith}
 use Rattle.std.specs.Prelude.{◌==◌, flat_map}
 use Rattle.fb_types.specs.Names.{Path}
 use Rattle.fb_types.specs.Keys.{found}
@@ -21,17 +21,18 @@ use Rattle.fb_resource.proofs.Bridge.{world_of}
 
 module _ (sys : System) (sound : IsSound sys) (limit : ℕ) where
   -- an event of the opening is of its key's resource, and no arrival
-  record IsOpeningEvent (j : Key) (v : Event) : Type 0 where
-    class : (j.class == 2) ≡ false
-    fits : IsAtResource sys j v
-    counted : j.resource < count_of sys
+  pub record IsOpeningEvent (j : Key) (v : Event) : Type 0 where
+    pub class : (j.class == 2) ≡ false
+    pub low : j.class ≤ 1
+    pub fits : IsAtResource sys j v
+    pub counted : j.resource < count_of sys
 
   abbrev Good : Key × Event → Type 0
   Good e = IsOpeningEvent e.0 e.1
 
   stimuli_good : (row : ℕ) (ss : List Stimulus) → Each Good (stimuli_from sys row ss)
   stimuli_good row [] = tt
-  stimuli_good row (s ∷ ss) = (record { class = refl; fits = refl; counted = sound.counted s.port.at }, stimuli_good (row + 1) ss)
+  stimuli_good row (s ∷ ss) = (record { class = refl; low = omega arith; fits = refl; counted = sound.counted s.port.at }, stimuli_good (row + 1) ss)
 
   restart_good : (p : Path) → Each Good (restart_of sys p)
   restart_good p = go (sys.kind p) refl
@@ -40,7 +41,7 @@ module _ (sys : System) (sound : IsSound sys) (limit : ℕ) where
       go None e = rw (restart_of, e) tt
       go (Some (Basic t)) e = rw (restart_of, e) tt
       go (Some (Composite t)) e = rw (restart_of, e) tt
-      go (Some (EventBlock Restart)) e = rw (restart_of, e) (record { class = refl; fits = refl; counted = sound.counted p }, tt)
+      go (Some (EventBlock Restart)) e = rw (restart_of, e) (record { class = refl; low = omega arith; fits = refl; counted = sound.counted p }, tt)
       go (Some (EventBlock Split)) e = rw (restart_of, e) tt
       go (Some (EventBlock Merge)) e = rw (restart_of, e) tt
       go (Some (EventBlock Rendezvous)) e = rw (restart_of, e) tt
@@ -63,7 +64,7 @@ module _ (sys : System) (sound : IsSound sys) (limit : ℕ) where
     events_good : Each Good (opening_events sys stimuli)
     events_good = each_append Good (stimuli_from sys 0 stimuli) (flat_map (restart_of sys) sys.paths) (stimuli_good 0 stimuli) (restarts_good sys.paths)
 
-    event_good : (j : Key) (v : Event) → (opening sys stimuli).agenda j ≡ Some v → IsOpeningEvent j v
+    pub event_good : (j : Key) (v : Event) → (opening sys stimuli).agenda j ≡ Some v → IsOpeningEvent j v
     event_good j v e =
         ⊎_elim (λ h. each_found IsOpeningEvent (opening_events sys stimuli) events_good j v h) (λ h. absurd (none_some None v refl h))
         (or_else_some (found j (opening_events sys stimuli)) None v e)

@@ -1,14 +1,16 @@
 -- The law of one resource (this project's profile).
-use Rattle.std.specs.Prelude.{◌≡◌, ◌<◌, ◌+◌, ℕ, nat_lt, if◌then◌else◌, Some, List, Contains}
+use Rattle.std.specs.Prelude.{◌≡◌, ◌⊎◌, ◌<◌, ◌+◌, ℕ, nat_lt, if◌then◌else◌, Some, List}
 use Rattle.fb_types.specs.Headline.{Inputs, AreAccepted, system_of, stimuli_of}
 use Rattle.fb_types.specs.Limits.{IsWithinLimits}
 use Rattle.fb_types.specs.Systems.{System}
-use Rattle.fb_types.specs.States.{Line}
+use Rattle.fb_types.specs.Keys.{Precedes, found}
+use Rattle.fb_types.specs.States.{Event, Line}
 use Rattle.fb_types.specs.Simulation.{Stimulus, Taken, IsSimulation, lines_of, AtStop, ending_of}
-use Rattle.fb_types.specs.Machines.{Item, Local, Run, end, lines_of as lines_of_items}
+use Rattle.fb_types.specs.Machines.{Item, Local, Each, Run, end, lines_of as lines_of_items}
 use Rattle.fb_types.specs.Parts.{machine, count_of}
 use Rattle.fb_types.specs.Histories.{IsTold, history, taken, alone, IsSameAt, IsNotBefore}
 use Rattle.fb_types.specs.Merges.{IsMerge, lines_before}
+use Rattle.fb_types.specs.declared.key.Key.{Key}
 use Rattle.fb_types.specs.declared.value.Reason.{Reason}
 
 -- Inputs that are accepted, with a deployment that keeps the limits of its type.
@@ -65,6 +67,19 @@ pub record StopsWithResource (sys : System) (stimuli : List Stimulus) (horizon l
 abbrev pub HasStops : (sys : System) → List Stimulus → (horizon limit : ℕ) → List Taken → Type 0
 HasStops sys stimuli horizon limit ts =
     (m r : ℕ) → m < horizon → IsNotBefore (ending_of horizon ts) m r → StopsWithResource sys stimuli horizon limit ts m r
+
+-- ---- New keys
+
+-- A local event, a timer or a message is put under the key.
+abbrev pub Puts : Taken → Key → Event → Type 0
+Puts t j e = (t.effect.changes j ≡ Some (Some e)) ⊎ (found j t.effect.sent ≡ Some e)
+
+-- Every new key is greater than the one taken.
+abbrev pub PutsLater : Taken → Type 0
+PutsLater t = (j : Key) (e : Event) → Puts t j e → Precedes t.key j
+
+abbrev pub HasRisingKeys : (sys : System) → List Stimulus → (horizon limit : ℕ) → List Taken → Type 0
+HasRisingKeys sys stimuli horizon limit ts = Each PutsLater ts
 
 -- ---- There is a simulation
 
