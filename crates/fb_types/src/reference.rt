@@ -4,14 +4,16 @@ ghost use Rattle.std.specs.Prelude.{◌≡◌};
 
 use crate::name::Name;
 use std::marker::Model;
+use std::sync::atomic::{AtomicUsize, Ordering};
 
 /// The name of a variable, with the place at which the variable is expected in the list of its block's
 /// variables. Contracts see the name alone: who uses the place compares the name that stands there, so a
-/// place that is wrong costs time and nothing else.
+/// place that is wrong costs time and nothing else. The place is noted by who first finds the variable, also
+/// where several threads share the text.
 #[derive(Drop)]
 pub struct Reference {
     name: Name,
-    place: usize,
+    place: AtomicUsize,
 }
 
 impl Model for Reference {
@@ -26,7 +28,10 @@ impl Reference {
     pub fn new(name: Name) -> Reference
         ensures { result ≡ name }
     {
-        Reference { name, place: 0 }
+        Reference {
+            name,
+            place: AtomicUsize::new(0),
+        }
     }
 
     pub fn name(&self) -> &Name
@@ -37,13 +42,11 @@ impl Reference {
 
     /// Where the variable is expected.
     pub fn place(&self) -> usize {
-        self.place
+        self.place.load(Ordering::SeqCst)
     }
 
     /// Says where the variable is to be expected from now on.
-    pub fn expect_at(&mut self, place: usize)
-        ensures { self.new ≡ self.old }
-    {
-        self.place = place;
+    pub fn expect_at(&self, place: usize) {
+        self.place.store(place, Ordering::SeqCst);
     }
 }

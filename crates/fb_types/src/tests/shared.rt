@@ -65,8 +65,8 @@ fn a_name_is_its_bytes(rt: HostRuntime) -> Result<(), Fail> {
 #[test]
 fn a_reference_keeps_its_name_at_each_place(rt: HostRuntime) -> Result<(), Fail> {
     let alloc = rt.alloc();
-    let mut near = Reference::new(Name::from_text(alloc, "X")?);
-    let mut far = Reference::new(Name::from_text(alloc, "X")?);
+    let near = Reference::new(Name::from_text(alloc, "X")?);
+    let far = Reference::new(Name::from_text(alloc, "X")?);
     near.expect_at(1);
     far.expect_at(40);
     assert_eq!(rt; near.place(), 1);
