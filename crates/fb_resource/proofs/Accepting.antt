@@ -217,7 +217,7 @@ sound_of i good =
           ⊎_elim
           (λ (n : slice_get i.plan.links l ≡ None). let e : latency_of i.plan l sent ≡ 1 = rw (latency_of, n) refl in omega arith)
           (λ (x : (y : Link) × (slice_get i.plan.links l ≡ Some y)). let e : latency_of i.plan l sent ≡ latency_at x.0.latency sent = rw (latency_of, x.1) refl in
-          let p = latency_positive x.0.latency (good.latencies x.0 (contains_at i.plan.links l x.0 x.1)) sent in omega arith)
+          let p = latency_positive x.0.latency (good.limits.latencies x.0 (contains_at i.plan.links l x.0 x.1)) sent in omega arith)
           (option_cases (slice_get i.plan.links l));
       linked = λ p. targets_linked i.library i.plan some (no_twice i good) (no_link i good) p;
       counted = λ p. resource_below i.plan some p;

@@ -2,7 +2,6 @@
 use Rattle.std.specs.Prelude.{◌≡◌, ◌<◌, ◌+◌, ℕ, nat_lt, if◌then◌else◌, Some, List, Contains}
 use Rattle.fb_types.specs.Headline.{Inputs, AreAccepted, system_of, stimuli_of}
 use Rattle.fb_types.specs.Limits.{IsWithinLimits}
-use Rattle.fb_types.specs.Latencies.{IsLatencyTable}
 use Rattle.fb_types.specs.Systems.{System}
 use Rattle.fb_types.specs.States.{Line}
 use Rattle.fb_types.specs.Simulation.{Stimulus, Taken, IsSimulation, lines_of, AtStop, ending_of}
@@ -10,14 +9,12 @@ use Rattle.fb_types.specs.Machines.{Item, Local, Run, end, lines_of as lines_of_
 use Rattle.fb_types.specs.Parts.{machine, count_of}
 use Rattle.fb_types.specs.Histories.{IsTold, history, taken, alone, IsSameAt, IsNotBefore}
 use Rattle.fb_types.specs.Merges.{IsMerge, lines_before}
-use Rattle.fb_types.specs.declared.deploy.Link.{Link}
 use Rattle.fb_types.specs.declared.value.Reason.{Reason}
 
--- Inputs that are accepted, with a deployment that keeps the limits of its type: those of its counts, and of each link's latencies.
+-- Inputs that are accepted, with a deployment that keeps the limits of its type.
 pub record AreGood (i : Inputs) : Type 0 where
   pub accepted : AreAccepted i
   pub limits : IsWithinLimits i.plan
-  pub latencies : (l : Link) → Contains i.plan.links l → IsLatencyTable l.latency
 
 -- Said of every simulation of accepted inputs.
 abbrev pub OfEach : ((sys : System) → List Stimulus → (horizon limit : ℕ) → List Taken → Type 0) → Type 0
