@@ -94,6 +94,20 @@ impl Frame {
         }
     }
 
+    /// Gives a variable a value without a look at its type, as where a value is sampled that the type holds.
+    pub fn put(&mut self, variable: &Reference, value: Value)
+        requires { is_declared (declared_in self.old) variable.now ≡ true }
+        ensures value { values_of self.new ≡ with_value variable.now value (values_of self.old) }
+        ensures declared { declared_in self.new ≡ declared_in self.old }
+    {
+        let place = match self.find(variable) {
+            Some(place) => place,
+            None => unreachable!(),
+        };
+        let found = &mut self.slots[place];
+        found.value = value;
+    }
+
     /// Gives a variable a value, unless the value is outside the variable's type: then it keeps its own.
     pub fn assign(&mut self, variable: &Reference, value: Value) -> Result<(), Reason>
         requires { is_declared (declared_in self.old) variable.now ≡ true }
