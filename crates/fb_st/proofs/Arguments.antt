@@ -1,7 +1,6 @@
 -- The values of arguments, one after the other.
-use Rattle.std.proofs.Common.{◌≡◌, ℕ, ◌+◌, suc, ◌<◌, List, [], ◌∷◌, ◌++◌, map, drop, length, get_or, Result, Ok, Err, refl, sym, ◌∙◌, ap, append_assoc, add-one, arith}
+use Rattle.std.proofs.Common.{◌≡◌, ℕ, ◌+◌, ◌<◌, List, [], ◌∷◌, ◌++◌, map, drop, length, get_or, Result, Ok, Err, refl, sym, ◌∙◌, ap, append_assoc, add-one}
 use Rattle.std.proofs.Math.Seq.{drop-cons}
-use Rattle.std.proofs.lemmas.List.{get_or_read}
 use Rattle.fb_types.specs.Syntax.{expr_of, exprs}
 use Rattle.fb_types.specs.Values.{Values, value_of, values_of as values_of_all, and_then}
 use Rattle.fb_types.specs.declared.text.Expr.{Expr}

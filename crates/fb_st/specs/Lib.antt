@@ -1,2 +1,4 @@
+pub mod Flows
 pub mod Frames
 pub mod Functions
+pub mod Known

@@ -87,11 +87,34 @@ impl Frame {
         let expected = variable.place();
         match self.slots.get(expected) {
             Some(slot) if variable.name().is(&slot.name) => Some(expected),
-            _ => self
-                .slots
-                .iter()
-                .position(|slot| variable.name().is(&slot.name)),
+            _ => self.search(variable),
         }
+    }
+
+    /// Looks for a variable among all, and notes its place beside the name, so that it is found at once from then on.
+    fn search(&self, variable: &Reference) -> Option<usize>
+        ensures { result ≡ place_of variable.now self.now }
+    {
+        let place = self
+            .slots
+            .iter()
+            .position(|slot| variable.name().is(&slot.name));
+        note(variable, place);
+        place
+    }
+
+    /// Gives a variable a value without a look at its type, as where a value is sampled that the type holds.
+    pub fn put(&mut self, variable: &Reference, value: Value)
+        requires { is_declared (declared_in self.old) variable.now ≡ true }
+        ensures value { values_of self.new ≡ with_value variable.now value (values_of self.old) }
+        ensures declared { declared_in self.new ≡ declared_in self.old }
+    {
+        let place = match self.find(variable) {
+            Some(place) => place,
+            None => unreachable!(),
+        };
+        let found = &mut self.slots[place];
+        found.value = value;
     }
 
     /// Gives a variable a value, unless the value is outside the variable's type: then it keeps its own.
@@ -118,4 +141,11 @@ fn has_name(slots: &[Slot], name: &Name) -> bool
     ensures { result ≡ list_any (λ s. same_name name.now s.name) slots.now }
 {
     slots.iter().any(|slot| name.is(&slot.name))
+}
+
+/// Notes where a variable was found.
+fn note(variable: &Reference, place: Option<usize>) {
+    if let Some(place) = place {
+        variable.expect_at(place);
+    }
 }

@@ -1,7 +1,7 @@
 //! Values of expressions.
 
 use super::trees::{
-    MOST, binary, call, frame, of_truth, of_whole, reference, unary, variable, whole,
+    LEAST, MOST, binary, call, frame, of_truth, of_whole, reference, unary, variable, whole,
 };
 use crate::eval::{eval, holds};
 use fb_types::boxed::Boxed;
@@ -11,8 +11,6 @@ use fb_types::text::{BinaryOperator, Expr, UnaryOperator};
 use fb_types::value::{Reason, Ty, Value};
 use std::alloc::{AllocError, Global};
 use std::test::Fail;
-
-const LEAST: i128 = -MOST - 1;
 
 /// An operator, two whole numbers, and what comes of them.
 const NUMBERS: [(BinaryOperator, i128, i128, i128); 15] = [
@@ -249,7 +247,7 @@ fn variables_groups_and_conditions(rt: HostRuntime) -> Result<(), Fail> {
     assert!(rt; frame.declare(Name::from_text(alloc, "Y")?, Ty::Uint, Value::Whole(7))?);
     // wherever a reference expects its variable, the name alone decides
     for place in [0, 3, 9] {
-        let mut reference = reference(alloc, "Y")?;
+        let reference = reference(alloc, "Y")?;
         reference.expect_at(place);
         assert_eq!(rt;
             eval(&Expr::Variable(reference), &frame),

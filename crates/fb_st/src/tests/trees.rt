@@ -5,12 +5,15 @@ use fb_types::boxed::Boxed;
 use fb_types::items::Items;
 use fb_types::name::Name;
 use fb_types::reference::Reference;
-use fb_types::text::{BinaryOperator, Expr, UnaryOperator};
+use fb_types::text::{BinaryOperator, Expr, Stmt, UnaryOperator};
 use fb_types::value::{Ty, Value};
 use std::alloc::{AllocError, Global};
 
 /// 2^127 - 1.
 pub const MOST: i128 = 170141183460469231731687303715884105727;
+
+/// -2^127.
+pub const LEAST: i128 = -MOST - 1;
 
 /// A frame with X : INT, L : LINT and B : BOOL, which are 0 and FALSE.
 pub fn frame(alloc: Global) -> Result<Frame, AllocError> {
@@ -77,4 +80,22 @@ pub fn call(alloc: Global, name: &str, numbers: &[i128]) -> Result<Expr, AllocEr
         arguments.push(whole(*number))?;
     }
     Ok(Expr::Call(Name::from_text(alloc, name)?, arguments))
+}
+
+pub fn assign(alloc: Global, name: &str, expr: Expr) -> Result<Stmt, AllocError> {
+    Ok(Stmt::Assign(reference(alloc, name)?, expr))
+}
+
+/// One statement.
+pub fn one(alloc: Global, statement: Stmt) -> Result<Items<Stmt>, AllocError> {
+    let mut statements = Items::new(alloc);
+    statements.push(statement)?;
+    Ok(statements)
+}
+
+/// Two statements.
+pub fn two(alloc: Global, first: Stmt, second: Stmt) -> Result<Items<Stmt>, AllocError> {
+    let mut statements = one(alloc, first)?;
+    statements.push(second)?;
+    Ok(statements)
 }

@@ -1,4 +1,4 @@
-use Rattle.std.proofs.Common.{◌≡◌, ◌++◌, ◌∷◌, [], length-append, arith, sym, ◌∙◌}
+use Rattle.std.proofs.Common.{◌++◌, ◌∷◌, [], length-append, arith, sym, ◌∙◌}
 use Rattle.fb_st.specs.Frames.{values_of}
 use Rattle.fb_st.proofs.Arguments.{argument_done}
 use Rattle.fb_st.proofs.eval.+eval.Goals as goal

@@ -1,4 +1,4 @@
-use Rattle.std.proofs.Common.{◌≡◌, sym, ◌∙◌, refl, ap, subst, List}
+use Rattle.std.proofs.Common.{sym, ◌∙◌, refl, ap, subst, List}
 use Rattle.fb_types.specs.Names.{Name, with_value}
 use Rattle.fb_types.specs.Values.{fits}
 use Rattle.fb_types.specs.Repeated.{Twice}

@@ -1,4 +1,4 @@
-use Rattle.std.proofs.Common.{◌≡◌, sym, ◌∙◌, ap}
+use Rattle.std.proofs.Common.{sym, ◌∙◌, ap}
 use Rattle.fb_st.specs.Frames.{declared_in, is_declared}
 use Rattle.fb_st.proofs.Once.{once_more}
 use Rattle.fb_st.proofs.frame.Frame.declare.Goals as goal

@@ -1,4 +1,4 @@
-use Rattle.std.proofs.Common.{◌≡◌, ◌<◌, ℕ, List, Some, true, sym, ◌∙◌, ap, refl, length, get_or, subst}
+use Rattle.std.proofs.Common.{◌≡◌, ◌<◌, ℕ, List, true, sym, ◌∙◌, ap, refl, length, get_or, subst}
 use Rattle.std.proofs.lemmas.Option.{slice_get_read}
 use Rattle.fb_types.specs.Names.{same_name}
 use Rattle.fb_st.specs.declared.frame.Slot.{Slot}

@@ -1,4 +1,4 @@
-use Rattle.std.proofs.Common.{◌≡◌, sym, ◌∙◌, ap}
+use Rattle.std.proofs.Common.{sym, ◌∙◌, ap}
 use Rattle.std.specs.List.{list_any}
 use Rattle.fb_types.specs.Names.{same_name}
 use Rattle.fb_st.proofs.Once.{tested}

@@ -1,4 +1,4 @@
-use Rattle.std.proofs.Common.{◌≡◌, sym, ◌∙◌, ap, List}
+use Rattle.std.proofs.Common.{sym, ◌∙◌, ap, List}
 use Rattle.fb_st.specs.declared.frame.Slot.{Slot}
 use Rattle.fb_st.specs.Frames.{values_of, place_of}
 use Rattle.fb_st.proofs.Slots.{value_here, value_nowhere, read_at}

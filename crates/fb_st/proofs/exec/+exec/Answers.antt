@@ -1,0 +1,230 @@
+use Rattle.std.proofs.Common.{List, subst, ◌≡◌, sym, ◌∙◌, ap, not, Bool, ℤ, refl, Result, Ok, false, true, arith}
+use Rattle.std.proofs.lemmas.Result.{err_from_is_err_and}
+use Rattle.fb_types.specs.Names.{Name}
+use Rattle.fb_types.specs.Syntax.{Stmt, Stmts, For, Repeat, expr_of, stmt_of, step_of}
+use Rattle.fb_types.specs.Values.{Types, Values, truth_of, whole}
+use Rattle.fb_types.specs.Bodies.{Point, Running, Went, Left, Returned, Stopped, Step, Then, RunsAll, Runs, Advances, passed}
+use Rattle.fb_types.specs.declared.value.Reason.{Reason}
+use Rattle.fb_types.specs.declared.value.Reason.TheVariants as reason
+use Rattle.fb_st.specs.declared.frame.Slot.{Slot}
+use Rattle.fb_st.specs.declared.meter.Flow.TheVariants as flow
+use Rattle.fb_st.specs.Frames.{declared_in, types_in, values_of}
+use Rattle.fb_st.specs.Flows.{end_of, point, before_step, all_of}
+use Rattle.fb_st.proofs.Runs.{began, for_counts, for_not_begun, stopped_by, ended_by, told_by, turn_as, counted_as, counts_as, loop_over, loop_left, loop_returned, loop_stopped, loop_goes_on, repeat_says, repeat_goes_on, repeat_over, repeat_stops, repeat_left, repeat_returned, repeat_stopped}
+use Rattle.fb_st.proofs.exec.+exec.Goals as goal
+
+-- ---- FOR
+
+pub run_for-returns-in_err-assign-clause-run : goal.run_for-returns-in_err-assign-clause-run
+run_for-returns-in_err-assign-clause-run t c =
+    let T : Types = types_in (declared_in c.args.frame.now) in
+    let n : Name = c.args.variable.now in
+    let said : Stmt = For n (expr_of c.args.start.now) (expr_of c.args.end.now) (step_of c.args.step.now) (all_of c.args.body.now) in
+    let e = c.in_err-assign.ensures.err in
+    let x = err_from_is_err_and c.from_residual-in_err-assign.result c.from_residual-in_err-assign.ensures.1 in
+    let base = for_not_begun T n (expr_of c.args.start.now) (expr_of c.args.end.now) (step_of c.args.step.now) (all_of c.args.body.now)
+    (values_of c.args.frame.now) c.args.meter.now.left c.in_ok-first.first c.in_ok-last.last c.in_ok-by.by
+    (sym c.eval.ensures ∙ c.in_ok-first.was) (sym c.eval-2.ensures ∙ c.in_ok-last.was) (sym c.step_value.ensures ∙ c.in_ok-by.was) e.1 in
+    rw (x.1, x.2, e.0)
+    (subst (λ (s : List Slot). Runs T said (before_step c.args.frame.now c.args.meter.now) (Stopped reason.Range) (point s c.args.meter.now)) (sym e.2) base)
+
+pub run_for-returns-clause-run : goal.run_for-returns-clause-run
+run_for-returns-clause-run t c =
+    let T : Types = types_in (declared_in c.args.frame.now) in
+    let ok = c.in_ok-assign.ensures.ok in
+    for_counts T c.args.variable.now (expr_of c.args.start.now) (expr_of c.args.end.now) (step_of c.args.step.now) (all_of c.args.body.now)
+    (values_of c.args.frame.now) (values_of c.assign.new.self) c.args.meter.now.left c.in_ok-first.first c.in_ok-last.last c.in_ok-by.by
+    (whole c.in_ok-last.last) (whole c.in_ok-by.by) (end_of c.run_counts.result) (point c.run_counts.new.frame c.run_counts.new.meter)
+    (sym c.eval.ensures ∙ c.in_ok-first.was) (sym c.eval-2.ensures ∙ c.in_ok-last.was) (sym c.step_value.ensures ∙ c.in_ok-by.was) refl refl ok.0 ok.1
+    (counts_as (declared_in c.assign.new.self) (declared_in c.args.frame.now) c.args.variable.now (whole c.in_ok-last.last) (whole c.in_ok-by.by) (all_of c.args.body.now)
+    (point c.assign.new.self c.args.meter.now) (point c.run_counts.new.frame c.run_counts.new.meter) (end_of c.run_counts.result) c.assign.ensures.declared c.run_counts.ensures.run)
+
+-- ---- REPEAT
+
+pub run-returns-in-Repeat-clause-run : goal.run-returns-in-Repeat-clause-run
+run-returns-in-Repeat-clause-run t c =
+    let other : Stmt = Repeat (all_of c.as_slice-in-Repeat.result.now) (expr_of c.in-Repeat.condition) in
+    let said : stmt_of c.args.statement.now ≡ other =
+    ap stmt_of c.in-Repeat.is ∙ repeat_says c.in-Repeat.body c.in-Repeat.condition
+    ∙ ap (λ l. Repeat (all_of l) (expr_of c.in-Repeat.condition)) (sym c.as_slice-in-Repeat.ensures) in
+    began (types_in (declared_in c.args.frame.now)) (stmt_of c.args.statement.now) other
+    (values_of c.args.frame.now) c.args.meter.now.left c.step.new.self.left (end_of c.run_repeat.result) (point c.run_repeat.new.frame c.run_repeat.new.meter)
+    said c.in_ok-step.ensures.ok c.run_repeat.ensures.run
+
+pub run_repeat-returns-in_err-turn-clause-run : goal.run_repeat-returns-in_err-turn-clause-run
+run_repeat-returns-in_err-turn-clause-run t c =
+    let body : Stmts = all_of c.args.body.now in
+    let turn : Running = Step (RunsAll (types_in (declared_in c.args.frame.now)) body) in
+    let p : Point = point c.loop-frame.frame c.loop-frame.meter in
+    let m : Point = point c.turn.new.frame c.turn.new.meter in
+    let r : Reason = c.in_err-turn.field-0.0 in
+    let ran = turn_as (declared_in c.loop-frame.frame) (declared_in c.args.frame.now) body p m (end_of c.turn.result) (Stopped r) c.loop-frame.invariant.declared
+    (stopped_by c.turn.result r c.in_err-turn.was) c.turn.ensures.run in
+    let x = err_from_is_err_and c.from_residual.result c.from_residual.ensures.1 in
+    rw (x.1, x.2) (c.loop-frame.invariant.run (Stopped r) m (repeat_stopped (expr_of c.args.condition.now) turn p m r ran))
+
+pub run_repeat-returns-in-Left-clause-run : goal.run_repeat-returns-in-Left-clause-run
+run_repeat-returns-in-Left-clause-run t c =
+    let body : Stmts = all_of c.args.body.now in
+    let turn : Running = Step (RunsAll (types_in (declared_in c.args.frame.now)) body) in
+    let p : Point = point c.loop-frame.frame c.loop-frame.meter in
+    let m : Point = point c.turn.new.frame c.turn.new.meter in
+    let ran = turn_as (declared_in c.loop-frame.frame) (declared_in c.args.frame.now) body p m (end_of c.turn.result) Left c.loop-frame.invariant.declared
+    (ended_by c.turn.result c.in_ok-turn.field-0 flow.Left c.in_ok-turn.was c.in-Left.is) c.turn.ensures.run in
+    c.loop-frame.invariant.run Went m (repeat_left (expr_of c.args.condition.now) turn p m ran)
+
+pub run_repeat-returns-in-Returned-clause-run : goal.run_repeat-returns-in-Returned-clause-run
+run_repeat-returns-in-Returned-clause-run t c =
+    let body : Stmts = all_of c.args.body.now in
+    let turn : Running = Step (RunsAll (types_in (declared_in c.args.frame.now)) body) in
+    let p : Point = point c.loop-frame.frame c.loop-frame.meter in
+    let m : Point = point c.turn.new.frame c.turn.new.meter in
+    let ran = turn_as (declared_in c.loop-frame.frame) (declared_in c.args.frame.now) body p m (end_of c.turn.result) Returned c.loop-frame.invariant.declared
+    (ended_by c.turn.result c.in_ok-turn.field-0 flow.Returned c.in_ok-turn.was c.in-Returned.is) c.turn.ensures.run in
+    c.loop-frame.invariant.run Returned m (repeat_returned (expr_of c.args.condition.now) turn p m ran)
+
+pub run_repeat-returns-in_err-holds-clause-run : goal.run_repeat-returns-in_err-holds-clause-run
+run_repeat-returns-in_err-holds-clause-run t c =
+    let body : Stmts = all_of c.args.body.now in
+    let turn : Running = Step (RunsAll (types_in (declared_in c.args.frame.now)) body) in
+    let p : Point = point c.loop-frame.frame c.loop-frame.meter in
+    let m : Point = point c.turn.new.frame c.turn.new.meter in
+    let r : Reason = c.in_err-holds.field-0.0 in
+    let ran = turn_as (declared_in c.loop-frame.frame) (declared_in c.args.frame.now) body p m (end_of c.turn.result) Went c.loop-frame.invariant.declared
+    (ended_by c.turn.result c.in_ok-turn.field-0 flow.Went c.in_ok-turn.was c.in-Went.is) c.turn.ensures.run in
+    let x = err_from_is_err_and c.from_residual-in_err-holds.result c.from_residual-in_err-holds.ensures.1 in
+    rw (x.1, x.2) (c.loop-frame.invariant.run (Stopped r) m (repeat_stops (expr_of c.args.condition.now) turn p m r ran (sym c.holds.ensures ∙ c.in_err-holds.was)))
+
+pub run_repeat-returns-then-branch-clause-run : goal.run_repeat-returns-then-branch-clause-run
+run_repeat-returns-then-branch-clause-run t c =
+    let body : Stmts = all_of c.args.body.now in
+    let turn : Running = Step (RunsAll (types_in (declared_in c.args.frame.now)) body) in
+    let p : Point = point c.loop-frame.frame c.loop-frame.meter in
+    let m : Point = point c.turn.new.frame c.turn.new.meter in
+    let ran = turn_as (declared_in c.loop-frame.frame) (declared_in c.args.frame.now) body p m (end_of c.turn.result) Went c.loop-frame.invariant.declared
+    (ended_by c.turn.result c.in_ok-turn.field-0 flow.Went c.in_ok-turn.was c.in-Went.is) c.turn.ensures.run in
+    let holds = sym c.holds.ensures ∙ told_by c.holds.result c.in_ok-holds.field-0 true c.in_ok-holds.was c.if-branch.true in
+    c.loop-frame.invariant.run Went m (repeat_over (expr_of c.args.condition.now) turn p m ran holds)
+
+pub run_repeat-loop-frame-preserved : goal.run_repeat-loop-frame-preserved
+run_repeat-loop-frame-preserved t c =
+    let body : Stmts = all_of c.args.body.now in
+    let turn : Running = Step (RunsAll (types_in (declared_in c.args.frame.now)) body) in
+    let p : Point = point c.loop-frame.frame c.loop-frame.meter in
+    let m : Point = point c.turn.new.frame c.turn.new.meter in
+    let ran = turn_as (declared_in c.loop-frame.frame) (declared_in c.args.frame.now) body p m (end_of c.turn.result) Went c.loop-frame.invariant.declared
+    (ended_by c.turn.result c.in_ok-turn.field-0 flow.Went c.in_ok-turn.was c.in-Went.is) c.turn.ensures.run in
+    let fails = sym c.holds.ensures ∙ told_by c.holds.result c.in_ok-holds.field-0 false c.in_ok-holds.was c.if-branch.false in
+    record {
+      run = λ e q rest. c.loop-frame.invariant.run e q (repeat_goes_on (expr_of c.args.condition.now) turn p m ran fails e q rest);
+      declared = c.turn.ensures.declared ∙ c.loop-frame.invariant.declared;
+      fewer = let a = c.turn.ensures.fewer in let b = c.loop-frame.invariant.fewer in omega arith;
+    }
+
+-- ---- WHILE
+
+pub run_while-loop-frame-preserved : goal.run_while-loop-frame-preserved
+run_while-loop-frame-preserved t c =
+    let body : Stmts = all_of c.args.body.now in
+    let turn : Running = Step (RunsAll (types_in (declared_in c.args.frame.now)) body) in
+    let test : Values → Result Bool Reason = truth_of (expr_of c.args.condition.now) in
+    let p : Point = point c.loop-frame.frame c.loop-frame.meter in
+    let m : Point = point c.turn.new.frame c.turn.new.meter in
+    let ran = turn_as (declared_in c.loop-frame.frame) (declared_in c.args.frame.now) body p m (end_of c.turn.result) Went c.loop-frame.invariant.declared
+    (ended_by c.turn.result c.in_ok-turn.field-0 flow.Went c.in_ok-turn.was c.in-Went.is) c.turn.ensures.run in
+    let holds = sym c.holds.ensures ∙ told_by c.holds.result c.in_ok-holds.field-0 true c.in_ok-holds.was c.if-branch.true in
+    record {
+      run = λ e q rest. c.loop-frame.invariant.run e q (loop_goes_on test turn p m holds ran e q rest);
+      declared = c.turn.ensures.declared ∙ c.loop-frame.invariant.declared;
+      fewer = let a = c.turn.ensures.fewer in let b = c.loop-frame.invariant.fewer in omega arith;
+    }
+
+-- ---- The turns of FOR
+
+pub run_counts-loop-count-preserved : goal.run_counts-loop-count-preserved
+run_counts-loop-count-preserved t c =
+    let n : Name = c.args.variable.now in
+    let body : Stmts = all_of c.args.body.now in
+    let T : Types = types_in (declared_in c.args.frame.now) in
+    let end : ℤ = whole c.args.count.end in
+    let step : ℤ = whole c.args.count.step in
+    let turn : Running = Step (Then (RunsAll T body) (Advances T n end step)) in
+    let test : Values → Result Bool Reason = λ vars. Ok (not (passed end step (whole (vars n)))) in
+    let p : Point = point c.loop-count.frame c.loop-count.meter in
+    let m : Point = point c.counted_turn.new.frame c.counted_turn.new.meter in
+    let ran = counted_as (declared_in c.loop-count.frame) (declared_in c.args.frame.now) n end step body p m (end_of c.counted_turn.result) Went c.loop-count.invariant.declared
+    (ended_by c.counted_turn.result c.in_ok-counted_turn.field-0 flow.Went c.in_ok-counted_turn.was c.in-Went.is) c.counted_turn.ensures.run in
+    let here : passed end step (whole (values_of c.loop-count.frame n)) ≡ false =
+    ap (λ v. passed end step (whole v)) (sym c.value.ensures) ∙ sym c.has_passed.ensures ∙ c.loop-count-test.true in
+    record {
+      run = λ e q rest. c.loop-count.invariant.run e q (loop_goes_on test turn p m (ap (λ b. Ok (not b)) here) ran e q rest);
+      declared = c.counted_turn.ensures.declared ∙ c.loop-count.invariant.declared;
+      fewer = let a = c.counted_turn.ensures.fewer in let b = c.loop-count.invariant.fewer in omega arith;
+    }
+
+pub run_counts-returns-in_err-counted_turn-clause-run : goal.run_counts-returns-in_err-counted_turn-clause-run
+run_counts-returns-in_err-counted_turn-clause-run t c =
+    let n : Name = c.args.variable.now in
+    let body : Stmts = all_of c.args.body.now in
+    let T : Types = types_in (declared_in c.args.frame.now) in
+    let end : ℤ = whole c.args.count.end in
+    let step : ℤ = whole c.args.count.step in
+    let turn : Running = Step (Then (RunsAll T body) (Advances T n end step)) in
+    let test : Values → Result Bool Reason = λ vars. Ok (not (passed end step (whole (vars n)))) in
+    let p : Point = point c.loop-count.frame c.loop-count.meter in
+    let r : Reason = c.in_err-counted_turn.field-0.0 in
+    let here : passed end step (whole (values_of c.loop-count.frame n)) ≡ false =
+    ap (λ v. passed end step (whole v)) (sym c.value.ensures) ∙ sym c.has_passed.ensures ∙ c.loop-count-test.true in
+    let m : Point = point c.counted_turn.new.frame c.counted_turn.new.meter in
+    let ran = counted_as (declared_in c.loop-count.frame) (declared_in c.args.frame.now) n end step body p m (end_of c.counted_turn.result) (Stopped r) c.loop-count.invariant.declared
+    (stopped_by c.counted_turn.result r c.in_err-counted_turn.was) c.counted_turn.ensures.run in
+    let x = err_from_is_err_and c.from_residual.result c.from_residual.ensures.1 in
+    rw (x.1, x.2) (c.loop-count.invariant.run (Stopped r) m (loop_stopped test turn p m r (ap (λ b. Ok (not b)) here) ran))
+
+pub run_counts-returns-in-Left-clause-run : goal.run_counts-returns-in-Left-clause-run
+run_counts-returns-in-Left-clause-run t c =
+    let n : Name = c.args.variable.now in
+    let body : Stmts = all_of c.args.body.now in
+    let T : Types = types_in (declared_in c.args.frame.now) in
+    let end : ℤ = whole c.args.count.end in
+    let step : ℤ = whole c.args.count.step in
+    let turn : Running = Step (Then (RunsAll T body) (Advances T n end step)) in
+    let test : Values → Result Bool Reason = λ vars. Ok (not (passed end step (whole (vars n)))) in
+    let p : Point = point c.loop-count.frame c.loop-count.meter in
+    let here : passed end step (whole (values_of c.loop-count.frame n)) ≡ false =
+    ap (λ v. passed end step (whole v)) (sym c.value.ensures) ∙ sym c.has_passed.ensures ∙ c.loop-count-test.true in
+    let m : Point = point c.counted_turn.new.frame c.counted_turn.new.meter in
+    let ran = counted_as (declared_in c.loop-count.frame) (declared_in c.args.frame.now) n end step body p m (end_of c.counted_turn.result) Left c.loop-count.invariant.declared
+    (ended_by c.counted_turn.result c.in_ok-counted_turn.field-0 flow.Left c.in_ok-counted_turn.was c.in-Left.is) c.counted_turn.ensures.run in
+    c.loop-count.invariant.run Went m (loop_left test turn p m (ap (λ b. Ok (not b)) here) ran)
+
+pub run_counts-returns-in-Returned-clause-run : goal.run_counts-returns-in-Returned-clause-run
+run_counts-returns-in-Returned-clause-run t c =
+    let n : Name = c.args.variable.now in
+    let body : Stmts = all_of c.args.body.now in
+    let T : Types = types_in (declared_in c.args.frame.now) in
+    let end : ℤ = whole c.args.count.end in
+    let step : ℤ = whole c.args.count.step in
+    let turn : Running = Step (Then (RunsAll T body) (Advances T n end step)) in
+    let test : Values → Result Bool Reason = λ vars. Ok (not (passed end step (whole (vars n)))) in
+    let p : Point = point c.loop-count.frame c.loop-count.meter in
+    let here : passed end step (whole (values_of c.loop-count.frame n)) ≡ false =
+    ap (λ v. passed end step (whole v)) (sym c.value.ensures) ∙ sym c.has_passed.ensures ∙ c.loop-count-test.true in
+    let m : Point = point c.counted_turn.new.frame c.counted_turn.new.meter in
+    let ran = counted_as (declared_in c.loop-count.frame) (declared_in c.args.frame.now) n end step body p m (end_of c.counted_turn.result) Returned c.loop-count.invariant.declared
+    (ended_by c.counted_turn.result c.in_ok-counted_turn.field-0 flow.Returned c.in_ok-counted_turn.was c.in-Returned.is) c.counted_turn.ensures.run in
+    c.loop-count.invariant.run Returned m (loop_returned test turn p m (ap (λ b. Ok (not b)) here) ran)
+
+pub run_counts-returns-clause-run : goal.run_counts-returns-clause-run
+run_counts-returns-clause-run t c =
+    let n : Name = c.args.variable.now in
+    let body : Stmts = all_of c.args.body.now in
+    let T : Types = types_in (declared_in c.args.frame.now) in
+    let end : ℤ = whole c.args.count.end in
+    let step : ℤ = whole c.args.count.step in
+    let turn : Running = Step (Then (RunsAll T body) (Advances T n end step)) in
+    let test : Values → Result Bool Reason = λ vars. Ok (not (passed end step (whole (vars n)))) in
+    let p : Point = point c.loop-count.frame c.loop-count.meter in
+    let here : passed end step (whole (values_of c.loop-count.frame n)) ≡ true =
+    ap (λ v. passed end step (whole v)) (sym c.value.ensures) ∙ sym c.has_passed.ensures ∙ c.loop-count-test.false in
+    c.loop-count.invariant.run Went p (loop_over test turn p (ap (λ b. Ok (not b)) here))
