@@ -1,6 +1,8 @@
 //! Expressions: their trees, and those that are refused.
 
-use super::tables::{Nesting, Place, expect_nesting, expect_refused, expect_shown};
+use super::tables::{Place, expect, expect_refused, expect_shown, nested};
+use std::alloc::Global;
+use std::process::Abort;
 
 /// An expression as a guard, before a bracket in line 2.
 const GUARD: Place = (
@@ -48,57 +50,77 @@ fn reads_expressions(rt: HostRuntime) {
     expect_shown(&rt, rt.alloc(), &GUARD, &SHOWN_GUARD, &EXPRESSIONS);
 }
 
-/// An expression nests at most 64 deep.
-const NESTINGS: [Nesting; 42] = [
-    (("(", ")"), "A", 63, 0),
-    (("(", ")"), "A", 64, 5),
-    (("(", ")"), "A", 1000, 5),
-    (("-", ""), "1", 63, 0),
-    (("-", ""), "1", 64, 5),
-    (("NOT ", ""), "A", 63, 0),
-    (("NOT ", ""), "A", 64, 5),
-    (("F(", ")"), "A", 63, 0),
-    (("F(", ")"), "A", 64, 5),
-    (("F(", ")"), "G()", 63, 0),
-    (("F(", ")"), "G()", 64, 5),
-    (("F(1, ", ", B)"), "A", 63, 0),
-    (("F(1, ", ", B)"), "A", 64, 5),
-    (("", " + A"), "A", 63, 0),
-    (("", " + A"), "A", 64, 5),
-    (("", " OR A"), "A", 63, 0),
-    (("", " OR A"), "A", 64, 5),
-    (("", " + C * D"), "A * B", 62, 0),
-    (("", " + C * D"), "A * B", 63, 5),
-    (("(1 + ", ")"), "A", 31, 0),
-    (("(1 + ", ")"), "A", 32, 5),
-    (("1 + (", ")"), "A", 31, 0),
-    (("1 + (", ")"), "A", 32, 5),
-    (("-(", ")"), "A", 31, 0),
-    (("-(", ")"), "A", 32, 5),
-    // The refusal shows at the first token behind which nothing can keep the limit.
-    (("(", ""), ";", 63, 3),
-    (("(", ""), ";", 64, 5),
-    (("(", ""), "", 64, 5),
-    (("-", ""), ";", 63, 3),
-    (("-", ""), ";", 64, 5),
-    (("", "A + "), "A + ", 62, 3),
-    (("", "A + "), "A + ", 63, 5),
-    (("", "("), "A + ", 61, 3),
-    (("", "("), "A + ", 62, 3),
-    (("", "("), "A + ", 63, 5),
-    (("", "("), "A * B + C * ", 61, 3),
-    (("", "("), "A * B + C * ", 62, 5),
-    // A call may have no arguments, so its parenthesis alone is not too deep.
-    (("F(", ""), ";", 64, 3),
-    (("F(", ""), "A", 64, 5),
-    (("F(", ""), ")", 64, 3),
-    (("F(", ""), ";", 65, 5),
-    (("", ""), "A", 1, 0),
+/// A text, what stands before and behind it so many times, and how many times.
+type Nesting = (&'static str, &'static str, &'static str, usize);
+
+fn expect_nestings(rt: &impl Abort, alloc: Global, refusal: (u32, u32), table: &[Nesting]) {
+    for (before, text, behind, times) in table {
+        let deep = nested(alloc, before, text.as_bytes(), behind, *times);
+        expect(rt, alloc, &GUARD, deep.as_slice(), refusal);
+    }
+}
+
+/// What nests 64 deep, or 63 where one more makes it two deeper.
+const DEEPEST: [Nesting; 12] = [
+    ("(", "A", ")", 63),
+    ("-", "1", "", 63),
+    ("NOT ", "A", "", 63),
+    ("F(", "A", ")", 63),
+    ("F(", "G()", ")", 63),
+    ("F(1, ", "A", ", B)", 63),
+    ("", "A", " + A", 63),
+    ("", "A", " OR A", 63),
+    ("", "A * B", " + C * D", 62),
+    ("(1 + ", "A", ")", 31),
+    ("1 + (", "A", ")", 31),
+    ("-(", "A", ")", 31),
+];
+
+/// The same with one more, and what is refused at the first token behind which nothing can keep the limit.
+const TOO_DEEP: [Nesting; 20] = [
+    ("(", "A", ")", 64),
+    ("-", "1", "", 64),
+    ("NOT ", "A", "", 64),
+    ("F(", "A", ")", 64),
+    ("F(", "G()", ")", 64),
+    ("F(1, ", "A", ", B)", 64),
+    ("", "A", " + A", 64),
+    ("", "A", " OR A", 64),
+    ("", "A * B", " + C * D", 63),
+    ("(1 + ", "A", ")", 32),
+    ("1 + (", "A", ")", 32),
+    ("-(", "A", ")", 32),
+    ("(", "A", ")", 1000),
+    ("(", ";", "", 64),
+    ("(", "", "", 64),
+    ("-", ";", "", 64),
+    ("", "A + ", "A + ", 63),
+    ("", "A * B + C * ", "(", 62),
+    ("F(", "A", "", 64),
+    ("F(", ";", "", 65),
+];
+
+/// What nests deep enough still to be refused as a syntax fault, in the first line. A call may have no
+/// arguments, so its parenthesis alone is not too deep.
+const FAULTY_FIRST_LINE: [Nesting; 3] = [
+    ("(", ";", "", 63),
+    ("-", ";", "", 63),
+    ("F(", ";", "", 64),
+];
+
+/// The same, where the bracket of the second line is refused.
+const FAULTY_SECOND_LINE: [Nesting; 3] = [
+    ("", "A + ", "A + ", 62),
+    ("", "A + ", "(", 62),
+    ("F(", ")", "", 64),
 ];
 
 #[test]
 fn expressions_nest_at_most_64_deep(rt: HostRuntime) {
-    expect_nesting(&rt, rt.alloc(), &GUARD, &NESTINGS);
+    expect_nestings(&rt, rt.alloc(), (0, 0), &DEEPEST);
+    expect_nestings(&rt, rt.alloc(), (5, 0), &TOO_DEEP);
+    expect_nestings(&rt, rt.alloc(), (3, 1), &FAULTY_FIRST_LINE);
+    expect_nestings(&rt, rt.alloc(), (3, 2), &FAULTY_SECOND_LINE);
 }
 
 /// What is no expression, with a line feed before the token that is refused. Where there is none it is the

@@ -1,7 +1,6 @@
 //! Whole libraries: what they declare, and what becomes of their beginnings and of other bytes in them.
 
-use super::show::add;
-use super::tables::{Place, WHOLE, expect_shown, number_of, shown};
+use super::tables::{Place, WHOLE, expect, expect_shown, number_of, placed, shown};
 use std::alloc::Global;
 use std::process::Abort;
 
@@ -272,7 +271,7 @@ fn blanks_and_comments_stand_between_tokens(rt: HostRuntime) {
 
 /// The whole text is read, and each shorter beginning of it is refused.
 fn expect_whole(rt: &impl Abort, alloc: Global, text: &[u8]) {
-    assert_eq!(rt; number_of(alloc, text), (0, 0));
+    expect(rt, alloc, &WHOLE, text, (0, 0));
     for end in 0..text.len() {
         let (number, _) = number_of(alloc, &text[..end]);
         assert!(rt; number == 2 || number == 3, "{end}");
@@ -287,22 +286,25 @@ fn refuses_each_beginning(rt: HostRuntime) {
 
 /// The bytes with another one at a place.
 fn with_byte(alloc: Global, bytes: &[u8], place: usize, other: u8) -> Vec<u8> {
-    let mut all = Vec::new(alloc);
-    for (at, byte) in bytes.iter().enumerate() {
-        add(&mut all, &[if at == place { other } else { *byte }]);
+    let mut all = placed(alloc, &WHOLE, bytes);
+    if let Some(byte) = all.get_mut(place) {
+        *byte = other;
     }
     all
 }
 
+/// With another byte at any place the text is read, or refused with a number.
+fn expect_answer(rt: &impl Abort, alloc: Global, bytes: &[u8], other: u8) {
+    for place in 0..bytes.len() {
+        let changed = with_byte(alloc, bytes, place, other);
+        let (number, _) = number_of(alloc, changed.as_slice());
+        assert!(rt; number <= 5, "{place} {other}");
+    }
+}
+
 #[test]
 fn any_byte_may_be_another(rt: HostRuntime) {
-    let alloc = rt.alloc();
-    let bytes = TWICE.as_bytes();
-    for place in 0..bytes.len() {
-        for other in [0, b'(', b';', b'"', 255] {
-            let changed = with_byte(alloc, bytes, place, other);
-            let (number, _) = number_of(alloc, changed.as_slice());
-            assert!(rt; number <= 5, "{place} {other}");
-        }
+    for other in b"\0(;\"\xFF" {
+        expect_answer(&rt, rt.alloc(), TWICE.as_bytes(), *other);
     }
 }

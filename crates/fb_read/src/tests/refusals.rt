@@ -1,6 +1,8 @@
 //! Texts that are refused, with the refusal and for a syntax fault its line.
 
-use super::tables::{Place, WHOLE, expect_lines, expect_refused, nested, number_of, placed};
+use super::tables::{Place, WHOLE, expect, expect_lines, expect_refused, nested};
+use std::alloc::Global;
+use std::process::Abort;
 
 const BYTES: [&[u8]; 12] = [
     b"\x00",
@@ -82,20 +84,16 @@ fn a_faulty_token(rt: HostRuntime) {
     expect_refused(&rt, rt.alloc(), &WHOLE, (2, 0), &TOKENS);
 }
 
-/// The first faulty byte or token comes before a syntax fault.
-const ORDERED: [(&[u8], u32); 5] = [
-    (b"; ; ;\n\x00", 1),
-    (b"; ; ;\n?", 2),
-    (b"? \x00", 2),
-    (b"\x00 ?", 1),
-    (b"(* \x00", 2),
-];
+/// Bytes and tokens before which a token or a syntax fault stands.
+const FIRST_BYTES: [&[u8]; 2] = [b"; ; ;\n\x00", b"\x00 ?"];
 
+const FIRST_TOKENS: [&[u8]; 3] = [b"; ; ;\n?", b"? \x00", b"(* \x00"];
+
+/// The first faulty byte or token comes before any syntax fault.
 #[test]
 fn bytes_and_tokens_come_before_syntax(rt: HostRuntime) {
-    for (text, number) in ORDERED {
-        assert_eq!(rt; number_of(rt.alloc(), text), (number, 0), "{text:?}");
-    }
+    expect_refused(&rt, rt.alloc(), &WHOLE, (1, 0), &FIRST_BYTES);
+    expect_refused(&rt, rt.alloc(), &WHOLE, (2, 0), &FIRST_TOKENS);
 }
 
 /// Texts, and the line in which each is refused.
@@ -357,28 +355,30 @@ fn a_syntax_fault(rt: HostRuntime) {
     expect_lines(&rt, alloc, &CHART_PLACE, &FAULTY_CHARTS);
 }
 
+const OPEN_GUARD: Place = (
+    "FUNCTION_BLOCK F EC_STATES S; END_STATES EC_TRANSITIONS S TO S := [",
+    "",
+);
+
+const FAULT_BEFORE_GUARD: Place = ("FUNCTION_BLOCK F\n; EC_TRANSITIONS S TO S := [", "");
+
 /// The fault that shows first is the one that is named.
 #[test]
 fn nesting_and_syntax(rt: HostRuntime) {
     let alloc = rt.alloc();
-    let open = nested(alloc, &("(", ""), b"", 64);
-    for (before, refusal) in [
-        (
-            "FUNCTION_BLOCK F EC_STATES S; END_STATES EC_TRANSITIONS S TO S := [",
-            (5, 0),
-        ),
-        ("FUNCTION_BLOCK F\n; EC_TRANSITIONS S TO S := [", (3, 2)),
-    ] {
-        let text = placed(alloc, &(before, ""), open.as_slice());
-        assert_eq!(rt; number_of(alloc, text.as_slice()), refusal, "{before}");
-    }
+    let open = nested(alloc, "(", b"", "", 64);
+    expect(&rt, alloc, &OPEN_GUARD, open.as_slice(), (5, 0));
+    expect(&rt, alloc, &FAULT_BEFORE_GUARD, open.as_slice(), (3, 2));
+}
+
+/// A text of so many faulty bytes.
+fn expect_length(rt: &impl Abort, alloc: Global, length: usize, refusal: (u32, u32)) {
+    let text = nested(alloc, "\0", b"", "", length);
+    expect(rt, alloc, &WHOLE, text.as_slice(), refusal);
 }
 
 #[test]
 fn the_length_comes_first(rt: HostRuntime) {
-    let alloc = rt.alloc();
-    let most = nested(alloc, &("\0", ""), b"", 1_048_576);
-    assert_eq!(rt; number_of(alloc, most.as_slice()), (1, 0));
-    let over = nested(alloc, &("\0", ""), b"", 1_048_577);
-    assert_eq!(rt; number_of(alloc, over.as_slice()), (4, 0));
+    expect_length(&rt, rt.alloc(), 1_048_576, (1, 0));
+    expect_length(&rt, rt.alloc(), 1_048_577, (4, 0));
 }

@@ -1,8 +1,8 @@
 //! Statements: their trees, and those that are refused.
 
-use super::tables::{
-    Nesting, Place, expect_nesting, expect_refused, expect_shown, nested, number_of, placed,
-};
+use super::tables::{Place, expect, expect_refused, expect_shown, nested, placed};
+use std::alloc::Global;
+use std::process::Abort;
 
 /// A body, before END_ALGORITHM in the next line.
 const BODY: Place = (
@@ -62,38 +62,38 @@ const WITHIN: [Place; 9] = [
     ("REPEAT ", " UNTIL A END_REPEAT;"),
 ];
 
-/// Texts within each of these so many times. A statement that holds none nests 1 deep.
-const INSIDE: [(&str, usize, u32); 7] = [
-    (";", 63, 0),
-    (";", 64, 5),
-    ("X := A;", 63, 0),
-    ("X := A;", 64, 5),
-    ("", 64, 0),
-    ("", 65, 5),
-    ("", 1000, 5),
-];
+/// The text within each of these so many times.
+fn expect_within(rt: &impl Abort, alloc: Global, text: &[u8], times: usize, refusal: (u32, u32)) {
+    for (before, behind) in &WITHIN {
+        let deep = nested(alloc, before, text, behind, times);
+        expect(rt, alloc, &BODY, deep.as_slice(), refusal);
+    }
+}
 
-/// The first token of a statement is too deep at once.
-const FIRST_TOKENS: [(&str, usize, u32); 4] = [
-    ("IF", 63, 3),
-    ("IF", 64, 5),
-    ("X :=", 64, 5),
-    ("THEN", 64, 3),
-];
+/// The text behind the beginning of each of these so many times.
+fn expect_behind(rt: &impl Abort, alloc: Global, text: &[u8], times: usize, refusal: (u32, u32)) {
+    for (before, _) in &WITHIN {
+        let deep = nested(alloc, before, text, "", times);
+        expect(rt, alloc, &BODY, deep.as_slice(), refusal);
+    }
+}
 
+/// A statement that holds none nests 1 deep.
 #[test]
 fn statements_nest_at_most_64_deep(rt: HostRuntime) {
     let alloc = rt.alloc();
-    for within in WITHIN {
-        for (inside, times, number) in INSIDE {
-            let nesting: Nesting = (within, inside, times, number);
-            expect_nesting(&rt, alloc, &BODY, &[nesting]);
-        }
-        for (inside, times, number) in FIRST_TOKENS {
-            let nesting: Nesting = ((within.0, ""), inside, times, number);
-            expect_nesting(&rt, alloc, &BODY, &[nesting]);
-        }
-    }
+    expect_within(&rt, alloc, b";", 63, (0, 0));
+    expect_within(&rt, alloc, b";", 64, (5, 0));
+    expect_within(&rt, alloc, b"X := A;", 63, (0, 0));
+    expect_within(&rt, alloc, b"X := A;", 64, (5, 0));
+    expect_within(&rt, alloc, b"", 64, (0, 0));
+    expect_within(&rt, alloc, b"", 65, (5, 0));
+    expect_within(&rt, alloc, b"", 1000, (5, 0));
+    // The first token of a statement is too deep at once.
+    expect_behind(&rt, alloc, b"IF", 63, (3, 2));
+    expect_behind(&rt, alloc, b"IF", 64, (5, 0));
+    expect_behind(&rt, alloc, b"X :=", 64, (5, 0));
+    expect_behind(&rt, alloc, b"THEN", 64, (3, 1));
 }
 
 /// Where a statement has an expression.
@@ -109,23 +109,29 @@ const EXPRESSIONS: [Place; 9] = [
     ("REPEAT UNTIL ", " END_REPEAT;"),
 ];
 
+/// An expression in parentheses, within each of these.
+fn expect_expressions(rt: &impl Abort, alloc: Global, times: usize, refusal: (u32, u32)) {
+    let inner = nested(alloc, "(", b"A", ")", times);
+    for place in &EXPRESSIONS {
+        let statement = placed(alloc, place, inner.as_slice());
+        expect(rt, alloc, &BODY, statement.as_slice(), refusal);
+    }
+}
+
 #[test]
 fn each_expression_nests_at_most_64_deep(rt: HostRuntime) {
+    expect_expressions(&rt, rt.alloc(), 63, (0, 0));
+    expect_expressions(&rt, rt.alloc(), 64, (5, 0));
+}
+
+/// The two limits are kept apart: 63 statements stand round one whose expression nests 64 deep.
+#[test]
+fn limits_are_kept_apart(rt: HostRuntime) {
     let alloc = rt.alloc();
-    let most = nested(alloc, &("(", ")"), b"A", 63);
-    let over = nested(alloc, &("(", ")"), b"A", 64);
-    for place in EXPRESSIONS {
-        for (text, number) in [(&most, 0), (&over, 5)] {
-            let statement = placed(alloc, &place, text.as_slice());
-            let whole = placed(alloc, &BODY, statement.as_slice());
-            assert_eq!(rt; number_of(alloc, whole.as_slice()).0, number, "{place:?}");
-        }
-    }
-    // Both limits are kept apart: 63 statements round one whose expression nests 64 deep.
-    let innermost = placed(alloc, &("X := ", ";"), most.as_slice());
-    let deep = nested(alloc, &("IF A THEN ", " END_IF;"), innermost.as_slice(), 63);
-    let whole = placed(alloc, &BODY, deep.as_slice());
-    assert_eq!(rt; number_of(alloc, whole.as_slice()).0, 0);
+    let inner = nested(alloc, "(", b"A", ")", 63);
+    let innermost = nested(alloc, "X := ", inner.as_slice(), ";", 1);
+    let deep = nested(alloc, "IF A THEN ", innermost.as_slice(), " END_IF;", 63);
+    expect(&rt, alloc, &BODY, deep.as_slice(), (0, 0));
 }
 
 /// What is no statement, with a line feed before the token that is refused. Where there is none it is

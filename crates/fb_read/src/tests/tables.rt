@@ -20,15 +20,15 @@ pub fn placed(alloc: Global, place: &Place, text: &[u8]) -> Vec<u8> {
     all
 }
 
-/// The text within a place, and that within the place again, so many times.
-pub fn nested(alloc: Global, place: &Place, text: &[u8], times: usize) -> Vec<u8> {
+/// The text within two others, and that within them again, so many times.
+pub fn nested(alloc: Global, before: &str, text: &[u8], behind: &str, times: usize) -> Vec<u8> {
     let mut all = Vec::new(alloc);
     for _time in 0..times {
-        add(&mut all, place.0.as_bytes());
+        add(&mut all, before.as_bytes());
     }
     add(&mut all, text);
     for _time in 0..times {
-        add(&mut all, place.1.as_bytes());
+        add(&mut all, behind.as_bytes());
     }
     all
 }
@@ -71,6 +71,16 @@ pub fn expect_shown(
     }
 }
 
+/// The text, within the place, is refused with this number and line.
+pub fn expect(rt: &impl Abort, alloc: Global, place: &Place, text: &[u8], refusal: (u32, u32)) {
+    let whole = placed(alloc, place, text);
+    let (number, line) = number_of(alloc, whole.as_slice());
+    assert!(rt;
+        number == refusal.0 && line == refusal.1,
+        "{number} {line} {text:?}"
+    );
+}
+
 /// Each text, within the place, is refused with this number and line.
 pub fn expect_refused(
     rt: &impl Abort,
@@ -80,31 +90,13 @@ pub fn expect_refused(
     table: &[&[u8]],
 ) {
     for text in table {
-        let whole = placed(alloc, place, text);
-        assert_eq!(rt; number_of(alloc, whole.as_slice()), refusal, "{text:?}");
+        expect(rt, alloc, place, text, refusal);
     }
 }
 
 /// Each text, within the place, is refused as a syntax fault in the line beside it.
 pub fn expect_lines(rt: &impl Abort, alloc: Global, place: &Place, table: &[(&str, u32)]) {
     for (text, line) in table {
-        let whole = placed(alloc, place, text.as_bytes());
-        assert_eq!(rt; number_of(alloc, whole.as_slice()), (3, *line), "{text}");
-    }
-}
-
-/// A text that stands within its place so many times, and the number of its refusal.
-pub type Nesting = (Place, &'static str, usize, u32);
-
-/// Each nesting, within the place, is refused with the number beside it, or read where that is 0.
-pub fn expect_nesting(rt: &impl Abort, alloc: Global, place: &Place, table: &[Nesting]) {
-    for (inner, text, times, number) in table {
-        let deep = nested(alloc, inner, text.as_bytes(), *times);
-        let whole = placed(alloc, place, deep.as_slice());
-        assert_eq!(rt;
-            number_of(alloc, whole.as_slice()).0,
-            *number,
-            "{inner:?} {text} {times}"
-        );
+        expect(rt, alloc, place, text.as_bytes(), (3, *line));
     }
 }
