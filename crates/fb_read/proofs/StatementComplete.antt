@@ -24,7 +24,7 @@ use Rattle.fb_read.specs.ExpressionGrammar.{IsExpression}
 use Rattle.fb_read.specs.StatementNodes.{label_of, choice_of, branch_of, body_of}
 use Rattle.fb_read.specs.StatementGrammar.{IsBound, is_bound, is_negative, IsLabel, is_single, is_range, IsStep, no_step, is_step, IsStatement, is_empty, is_exit, is_return, is_assignment, is_if, is_case, is_for, is_while, is_repeat, AreStatements, no_statement, then_statements, IsChoice, is_choice, IsElsif, is_elsif, AreElsifs, no_elsif, then_elsifs, IsBranch, is_branch, AreBranches, no_branch, then_branches, AreOthers, no_others, are_others, IsBody, is_body}
 use Rattle.fb_read.specs.Expressions.{expression}
-use Rattle.fb_read.specs.Statements.{bound, label, assignment, step, simple, begins_statement, begins_label, block, choice, elsif, choices, branch, branches, others, if_statement, case_statement, for_statement, while_statement, repeat_statement, statement, nested_statement, body}
+use Rattle.fb_read.specs.Statements.{bound, label, assignment, step, simple, begins_statement, begins_label, block, choice, elsif, choices, branch, branches, others, if_statement, case_statement, for_body, for_by, for_to, for_statement, while_statement, repeat_statement, statement, nested_statement, body}
 use Rattle.fb_read.proofs.Steps.{done, after-unseen}
 use Rattle.fb_read.proofs.Lists.{IsComplete, Anything, always, all-always, picked, separated-complete}
 use Rattle.fb_read.proofs.Rooms.{room, bind-is, map-room, same-room, leb-over, both-over, expression-room, over-both, over-expression, over-node}
@@ -342,12 +342,19 @@ module _ (below : ℕ) (inner : Parser Stmt) (i : IsRoomy inner IsStatement Anyt
       (rw (others-complete zs e behind o refl refl)
       (bind-is (block_over below zs) 0 (block_over below zs) zs behind _ found rest (omega arith) refl)))))
 
+  for-body-complete : (xs : List Stmt) (h rest : Tokens) → AreStatements xs h (token.Mark mark.EndFor ∷ (token.Mark mark.Semicolon ∷ rest))
+      → for_body inner (token.Mark mark.Do ∷ h) ≡ room (block_over below xs) xs rest
+  unfolding for_body expect same_mark
+  for-body-complete xs h rest b =
+      let behind : Tokens = token.Mark mark.EndFor ∷ (token.Mark mark.Semicolon ∷ rest) in
+      rw (block-complete xs h behind b refl)
+      (bind-is (block_over below xs) 0 (block_over below xs) xs behind _ xs rest (omega arith) refl)
+
   for-complete : (n : Name) (x y : Expr) (z : Option Expr) (xs : List Stmt) (c e f h rest : Tokens) → IsExpression x c (token.Mark mark.To ∷ e) → IsExpression y e f
       → IsStep z f (token.Mark mark.Do ∷ h) → AreStatements xs h (token.Mark mark.EndFor ∷ (token.Mark mark.Semicolon ∷ rest))
       → for_statement inner (token.Name n ∷ (token.Mark mark.Assign ∷ c)) ≡ room (over (suc below) (s.For n x y z xs)) (s.For n x y z xs) rest
-  unfolding for_statement name expect same_mark
+  unfolding for_statement for_to for_by name expect same_mark
   for-complete n x y z xs c e f h rest l m k b =
-      let behind : Tokens = token.Mark mark.EndFor ∷ (token.Mark mark.Semicolon ∷ rest) in
       let found = s.For n x y z xs in
       let by : ℕ = by_nesting z - most_nesting in
       let inside : ℕ = block_over below xs in
@@ -360,8 +367,8 @@ module _ (below : ℕ) (inner : Parser Stmt) (i : IsRoomy inner IsStatement Anyt
       (bind-is (expression_over y) (max by inside) (max (expression_over y) (max by inside)) y f _ found rest refl
       (rw (step-complete k)
       (bind-is by inside (max by inside) z (token.Mark mark.Do ∷ h) _ found rest refl
-      (rw (block-complete xs h behind b refl)
-      (bind-is inside 0 inside xs behind _ found rest (omega arith) refl)))))))
+      (rw (for-body-complete xs h rest b)
+      (bind-is inside 0 inside xs rest _ found rest (omega arith) refl)))))))
 
   while-complete : (x : Expr) (xs : List Stmt) (a c rest : Tokens) → IsExpression x a (token.Mark mark.Do ∷ c) → AreStatements xs c (token.Mark mark.EndWhile ∷ (token.Mark mark.Semicolon ∷ rest))
       → while_statement inner a ≡ room (over (suc below) (s.While x xs)) (s.While x xs) rest

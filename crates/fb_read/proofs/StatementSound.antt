@@ -1,5 +1,5 @@
 -- Statements that are read are derived by the grammar, and keep the limits of nesting.
-use Rattle.std.proofs.Common.{◌≡◌, ℕ, zero, suc, pos, ◌≤◌, List, [], ◌∷◌, Ok, Option, Some, None, sym, ap, subst, inl, inr, arith}
+use Rattle.std.proofs.Common.{◌≡◌, ℕ, zero, suc, pos, ◌≤◌, List, [], ◌∷◌, Ok, Option, Some, None, sym, ap, ◌∙◌, subst, inl, inr, arith}
 use Rattle.std.proofs.Math.IntN.{neg_ℤ}
 use Rattle.fb_types.specs.declared.text.Expr.{Expr}
 use Rattle.fb_types.specs.declared.text.Stmt.{Stmt}
@@ -9,13 +9,13 @@ use Rattle.fb_types.specs.declared.text.Branch.{Branch}
 use Rattle.fb_types.specs.declared.text.Body.{Body}
 use Rattle.fb_read.specs.declared.token.Mark.TheVariants as mark
 use Rattle.fb_read.specs.Tokens.{Tokens}
-use Rattle.fb_read.specs.Parser.{Parser, sees, after, expect, name, whole, separated}
+use Rattle.fb_read.specs.Parser.{Parser, Outcome, and_then, pure, sees, after, expect, name, whole, separated}
 use Rattle.fb_read.specs.Nesting.{by_nesting, most_nesting, statement_nesting, branch_nesting, choice_nesting, expression_nesting, branch_expression_nesting, choice_expression_nesting, BodyFits}
 use Rattle.fb_read.specs.Grammar.{IsMark}
 use Rattle.fb_read.specs.StatementNodes.{label_of, choice_of, branch_of, body_of}
 use Rattle.fb_read.specs.StatementGrammar.{IsBound, is_bound, is_negative, IsLabel, is_single, is_range, IsStep, no_step, is_step, IsStatement, is_empty, is_exit, is_return, is_assignment, is_if, is_case, is_for, is_while, is_repeat, AreStatements, no_statement, then_statements, IsChoice, is_choice, IsElsif, is_elsif, AreElsifs, no_elsif, then_elsifs, IsBranch, is_branch, AreBranches, no_branch, then_branches, AreOthers, no_others, are_others, IsBody, is_body}
 use Rattle.fb_read.specs.Expressions.{expression}
-use Rattle.fb_read.specs.Statements.{bound, label, assignment, step, simple, begins_statement, begins_label, block, choice, elsif, choices, branch, branches, others, if_statement, case_statement, for_statement, while_statement, repeat_statement, statement, nested_statement, body}
+use Rattle.fb_read.specs.Statements.{bound, label, assignment, step, simple, begins_statement, begins_label, block, choice, elsif, choices, branch, branches, others, if_statement, case_statement, for_body, for_by, for_to, for_statement, while_statement, repeat_statement, statement, nested_statement, body}
 use Rattle.fb_read.proofs.Steps.{both_ok, made, expected, eaten, named, counted}
 use Rattle.fb_read.proofs.Lists.{IsSound, separated-sound}
 use Rattle.fb_read.proofs.Several.{ItemRight, ListRight, several-sound, each-right}
@@ -255,7 +255,7 @@ module _ (below : ℕ) (inner : Parser Stmt) (i : IsSound inner (StatementRight 
       }))
 
   for-right : (start ts : Tokens) (x : Stmt) (rest : Tokens) → IsMark mark.For start ts → for_statement inner ts ≡ Ok (x, rest) → StatementRight (suc below) x start rest
-  unfolding for_statement
+  unfolding for_statement for_to for_by for_body
   for-right start ts x rest k h =
       let n = both_ok (name ts) _ (x, rest) h in
       let m = both_ok (expect mark.Assign n.1) _ (x, rest) n.3 in
@@ -263,15 +263,17 @@ module _ (below : ℕ) (inner : Parser Stmt) (i : IsSound inner (StatementRight 
       let t = both_ok (expect mark.To p.1) _ (x, rest) p.3 in
       let q = both_ok (expression t.1) _ (x, rest) t.3 in
       let z = both_ok (step q.1) _ (x, rest) q.3 in
-      let u = both_ok (expect mark.Do z.1) _ (x, rest) z.3 in
-      let b = both_ok (block inner u.1) _ (x, rest) u.3 in
-      let c = both_ok (expect mark.EndFor b.1) _ (x, rest) b.3 in
-      let d = both_ok (expect mark.Semicolon c.1) _ (x, rest) c.3 in
+      let o = both_ok (for_body inner z.1) _ (x, rest) z.3 in
+      let u = both_ok (expect mark.Do z.1) _ (o.0, o.1) o.2 in
+      let b = both_ok (block inner u.1) _ (o.0, o.1) u.3 in
+      let c = both_ok (expect mark.EndFor b.1) _ (o.0, o.1) b.3 in
+      let d = both_ok (expect mark.Semicolon c.1) _ (o.0, o.1) c.3 in
+      let same = ap (λ (r : Outcome (List Stmt)). and_then r (λ body. pure (s.For n.0 p.0 q.0 z.0 body))) d.3 ∙ o.3 in
       let e = expression-right m.1 p.0 p.1 p.2 in
       let f = expression-right t.1 q.0 q.1 q.2 in
       let g = step-right q.1 z.0 z.1 z.2 in
       let l = block-right u.1 b.0 b.1 b.2 in
-      made (StatementRight (suc below)) (s.For n.0 p.0 q.0 z.0 b.0) x start d.1 rest d.3 (record {
+      made (StatementRight (suc below)) (s.For n.0 p.0 q.0 z.0 b.0) x start d.1 rest same (record {
         derived = is_for k (named ts n.0 n.1 n.2) (expected mark.Assign n.1 m.1 m.2) e.derived (expected mark.To p.1 t.1 t.2) f.derived g.derived
             (expected mark.Do z.1 u.1 u.2) l.derived (expected mark.EndFor b.1 c.1 c.2) (expected mark.Semicolon c.1 d.1 d.2);
         fits = omega (arith, nesting-For n.0 p.0 q.0 z.0 b.0, l.fits);

@@ -1,5 +1,6 @@
 -- What the parser of statements computes.
 use Rattle.std.specs.Prelude.{ℕ, zero, suc, ℤ, pos, neg_ℤ, Bool, true, false, ◌||◌, if◌then◌else◌, List, [], ◌∷◌, ◌++◌, length, Option, Some, None, Ok, Err}
+use Rattle.fb_types.specs.Names.{Name}
 use Rattle.fb_types.specs.declared.text.Expr.{Expr}
 use Rattle.fb_types.specs.declared.text.Stmt.{Stmt}
 use Rattle.fb_types.specs.declared.text.Stmt.TheVariants as s
@@ -165,20 +166,36 @@ module _ (inner : Parser Stmt) where
     expect mark.Semicolon
     pure (s.Case selector found other)
 
+  -- the statements of a FOR, between DO and its end
+  unfoldable pub for_body : Parser (List Stmt)
+  for_body = do
+    expect mark.Do
+    body ← block
+    expect mark.EndFor
+    expect mark.Semicolon
+    pure body
+
+  -- a FOR from its step on
+  unfoldable pub for_by : (variable : Name) (start end : Expr) → Parser Stmt
+  for_by variable start end = do
+    by ← step
+    body ← for_body
+    pure (s.For variable start end by body)
+
+  -- a FOR from its TO on
+  unfoldable pub for_to : (variable : Name) (start : Expr) → Parser Stmt
+  for_to variable start = do
+    expect mark.To
+    end ← expression
+    for_by variable start end
+
   -- behind FOR
   unfoldable pub for_statement : Parser Stmt
   for_statement = do
     variable ← name
     expect mark.Assign
     start ← expression
-    expect mark.To
-    end ← expression
-    by ← step
-    expect mark.Do
-    body ← block
-    expect mark.EndFor
-    expect mark.Semicolon
-    pure (s.For variable start end by body)
+    for_to variable start
 
   -- behind WHILE
   unfoldable pub while_statement : Parser Stmt

@@ -2,7 +2,7 @@
 
 use std::alloc::AllocError;
 
-#[derive(Clone, Copy, Debug, PartialEq, Eq)]
+#[derive(Clone, Copy)]
 pub enum ParseFault {
     Memory,
     /// No rule reads the next token.

@@ -19,7 +19,7 @@ use fb_types::name::Name;
 use std::alloc::{AllocError, Global};
 
 /// Why there is no token.
-#[derive(Clone, Copy, Debug, PartialEq, Eq)]
+#[derive(Clone, Copy)]
 pub enum LexFault {
     Memory,
     /// A byte that may stand in comments alone.

@@ -217,6 +217,52 @@ impl<F: Fn(Global, &mut Cursor<'_>, u32) -> Result<Stmt, ParseFault>> Rules<F> {
         Ok(Stmt::Case(selector, branches, others))
     }
 
+    /// The statements of a FOR, between DO and its end.
+    #[tactic(auto, unfolding(crate::specs::Statements::for_body))]
+    fn for_body(&self, cursor: &mut Cursor<'_>) -> Result<Items<Stmt>, ParseFault>
+        requires { StatementNests self.now.below (F.pre self.now.inner) (F.post self.now.inner) }
+        ensures { Reads (spec.for_body (spec.nested_statement self.now.below) cursor.old) result cursor.new }
+    {
+        cursor.expect(Mark::Do)?;
+        let body = self.block(cursor)?;
+        cursor.expect(Mark::EndFor)?;
+        cursor.expect(Mark::Semicolon)?;
+        Ok(body)
+    }
+
+    /// A FOR from its step on.
+    #[tactic(auto, unfolding(crate::specs::Statements::for_by))]
+    fn for_by(
+        &self,
+        cursor: &mut Cursor<'_>,
+        variable: Reference,
+        start: Expr,
+        end: Expr,
+    ) -> Result<Stmt, ParseFault>
+        requires { StatementNests self.now.below (F.pre self.now.inner) (F.post self.now.inner) }
+        ensures { Reads (spec.for_by (spec.nested_statement self.now.below) variable start end cursor.old) result cursor.new }
+    {
+        let step = step(self.alloc, cursor)?;
+        let body = self.for_body(cursor)?;
+        Ok(Stmt::For(variable, start, end, step, body))
+    }
+
+    /// A FOR from its TO on.
+    #[tactic(auto, unfolding(crate::specs::Statements::for_to))]
+    fn for_to(
+        &self,
+        cursor: &mut Cursor<'_>,
+        variable: Reference,
+        start: Expr,
+    ) -> Result<Stmt, ParseFault>
+        requires { StatementNests self.now.below (F.pre self.now.inner) (F.post self.now.inner) }
+        ensures { Reads (spec.for_to (spec.nested_statement self.now.below) variable start cursor.old) result cursor.new }
+    {
+        cursor.expect(Mark::To)?;
+        let end = expression(self.alloc, cursor)?;
+        self.for_by(cursor, variable, start, end)
+    }
+
     /// What stands behind FOR.
     #[tactic(auto, unfolding(crate::specs::Statements::for_statement))]
     fn for_statement(&self, cursor: &mut Cursor<'_>) -> Result<Stmt, ParseFault>
@@ -226,14 +272,7 @@ impl<F: Fn(Global, &mut Cursor<'_>, u32) -> Result<Stmt, ParseFault>> Rules<F> {
         let variable = cursor.name(self.alloc)?;
         cursor.expect(Mark::Assign)?;
         let start = expression(self.alloc, cursor)?;
-        cursor.expect(Mark::To)?;
-        let end = expression(self.alloc, cursor)?;
-        let step = step(self.alloc, cursor)?;
-        cursor.expect(Mark::Do)?;
-        let body = self.block(cursor)?;
-        cursor.expect(Mark::EndFor)?;
-        cursor.expect(Mark::Semicolon)?;
-        Ok(Stmt::For(Reference::new(variable), start, end, step, body))
+        self.for_to(cursor, Reference::new(variable), start)
     }
 
     /// What stands behind WHILE.

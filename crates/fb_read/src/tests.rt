@@ -1,6 +1,6 @@
-mod blocks;
-mod charts;
 mod expressions;
+mod libraries;
 mod refusals;
+mod show;
 mod statements;
-mod texts;
+mod tables;

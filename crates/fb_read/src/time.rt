@@ -8,7 +8,7 @@ ghost use Rattle.fb_read.specs.Limits.{most};
 use crate::number::number;
 use crate::token::MOST;
 
-#[derive(Clone, Copy, Debug, PartialEq, Eq)]
+#[derive(Clone, Copy)]
 enum Unit {
     Day,
     Hour,

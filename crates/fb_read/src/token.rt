@@ -4,7 +4,7 @@ use fb_types::name::Name;
 use std::marker::Model;
 
 /// A keyword or a sign.
-#[derive(Clone, Copy, Debug, PartialEq, Eq)]
+#[derive(Clone, Copy, PartialEq, Eq)]
 pub enum Mark {
     FunctionBlock,
     EndFunctionBlock,

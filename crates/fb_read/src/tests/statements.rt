@@ -1,325 +1,192 @@
 //! Statements: their trees, and those that are refused.
 
-use crate::cursor::Cursor;
-use crate::fault::ParseFault;
-use crate::statement::body;
-use crate::tokens::lex;
-use fb_types::items::Items;
-use fb_types::name::Name;
-use fb_types::text::{Body, Branch, Expr, Label, Stmt};
+use super::tables::{Place, expect, expect_refused, expect_shown, nested, placed};
 use std::alloc::Global;
 use std::process::Abort;
-use std::test::Fail;
 
-fn read(rt: &impl Abort, alloc: Global, text: &str) -> Body {
-    let tokens = lex(alloc, text.as_bytes()).ok().expect(rt, "tokens");
-    let mut cursor = Cursor::new(tokens.as_slice());
-    let found = body(alloc, &mut cursor).ok().expect(rt, "a body");
-    assert_eq!(rt; cursor.left(), 0, "{text}");
-    found
-}
+/// A body, before END_ALGORITHM in the next line.
+const BODY: Place = (
+    "FUNCTION_BLOCK CALC EVENT_INPUT GO; END_EVENT EVENT_OUTPUT DONE WITH X; END_EVENT \
+    VAR_OUTPUT X : INT; END_VAR EC_STATES IDLE; RUN : A -> DONE; END_STATES \
+    EC_TRANSITIONS IDLE TO RUN := GO; RUN TO IDLE := 1; END_TRANSITIONS ALGORITHM A IN ST: ",
+    "\nEND_ALGORITHM END_FUNCTION_BLOCK APPLICATION A FBS END_FBS END_APPLICATION",
+);
 
-/// How a text behind which END_ALGORITHM stands is read: 0 whole, 1 with something left, else the number of
-/// the refusal.
-fn answer(rt: &impl Abort, alloc: Global, text: &str) -> Result<u32, Fail> {
-    let mut whole = String::new(alloc);
-    whole.push_str(text)?;
-    whole.push_str(" END_ALGORITHM")?;
-    let tokens = lex(alloc, whole.as_bytes()).ok().expect(rt, "tokens");
-    let mut cursor = Cursor::new(tokens.as_slice());
-    Ok(match body(alloc, &mut cursor) {
-        Ok(_) => { if cursor.left() == 0 { 0 } else { 1 } }
-        Err(ParseFault::Syntax) => 3,
-        Err(ParseFault::Nesting) => 5,
-        Err(ParseFault::Memory) => 99,
-    })
-}
+const SHOWN_BODY: Place = (
+    "BASIC CALC GO;/DONE X;//X:INT;//IDLE;RUN A>DONE;/IDLE>RUN:GO;RUN>IDLE:;/A{",
+    "}/\nA ///",
+);
 
-fn at<'a>(rt: &impl Abort, all: &'a Items<Stmt>, place: usize) -> &'a Stmt {
-    all.get(place).expect(rt, "a statement")
-}
-
-fn is_name(name: &Name, text: &str) -> bool {
-    name.as_bytes() == text.as_bytes()
-}
-
-fn is_variable(expr: &Expr, text: &str) -> bool {
-    match expr {
-        Expr::Variable(found) => is_name(found.name(), text),
-        _ => false,
-    }
-}
-
-fn is_whole(expr: &Expr, value: i128) -> bool {
-    match expr {
-        Expr::Whole(found) => *found == value,
-        _ => false,
-    }
-}
-
-fn is_assignment(stmt: &Stmt, target: &str, source: &str) -> bool {
-    match stmt {
-        Stmt::Assign(found, value) => is_name(found.name(), target) && is_variable(value, source),
-        _ => false,
-    }
-}
+const BODIES: [(&str, &str); 9] = [
+    ("", ""),
+    (
+        "; x := y; EXIT; RETURN; in := ST;",
+        ";X:=Y;EXIT;RETURN;IN:=ST;",
+    ),
+    (
+        "IF A THEN X := A; ELSIF B THEN ELSIF C THEN X := C; ; ELSE X := D; END_IF;",
+        "IF A{X:=A;} B{} C{X:=C;;} ELSE{X:=D;}",
+    ),
+    ("IF A THEN END_IF;", "IF A{} ELSE{}"),
+    (
+        "CASE A OF -1, 2..5, 16#A .. -3: X := A; 7: ; -8..-7: ELSE X := B; ; END_CASE;",
+        "CASE A -1..-1 2..5 10..-3{X:=A;} 7..7{;} -8..-7{} ELSE{X:=B;;}",
+    ),
+    (
+        "FOR I := 1 TO 9 BY 2 DO X := A; END_FOR; FOR J := 3 TO 4 DO END_FOR;\n\
+        WHILE A DO ; ; END_WHILE; REPEAT EXIT; UNTIL B END_REPEAT;",
+        "FOR I=1,9,2{X:=A;}FOR J=3,4{}WHILE A{;;}REPEAT{EXIT;}B",
+    ),
+    ("X := 32767 + 1;", "X:=(32767 + 1);"),
+    ("X := 1 / 0;", "X:=(1 / 0);"),
+    (
+        "FOR X := 32766 TO 32767 DO ; END_FOR;",
+        "FOR X=32766,32767{;}",
+    ),
+];
 
 #[test]
-fn reads_statements_that_hold_none(rt: HostRuntime) {
-    let found = read(
-        &rt,
-        rt.alloc(),
-        "; x := y; EXIT; RETURN; in := ST; END_ALGORITHM",
-    );
-    let all = &found.statements;
-    assert_eq!(rt; all.len(), 5);
-    assert!(rt; matches!(at(&rt, all, 0), Stmt::Empty));
-    assert!(rt; is_assignment(at(&rt, all, 1), "X", "Y"));
-    assert!(rt; matches!(at(&rt, all, 2), Stmt::Exit));
-    assert!(rt; matches!(at(&rt, all, 3), Stmt::Return));
-    assert!(rt; is_assignment(at(&rt, all, 4), "IN", "ST"));
-    assert!(rt; read(&rt, rt.alloc(), "END_ALGORITHM").statements.is_empty());
+fn reads_statements(rt: HostRuntime) {
+    expect_shown(&rt, rt.alloc(), &BODY, &SHOWN_BODY, &BODIES);
 }
 
+const WITHIN: [Place; 9] = [
+    ("IF A THEN ", " END_IF;"),
+    ("IF A THEN ELSIF B THEN ", " END_IF;"),
+    ("IF A THEN ELSE ", " END_IF;"),
+    ("CASE A OF 1: ", " END_CASE;"),
+    ("CASE A OF 1: 2: ", " END_CASE;"),
+    ("CASE A OF 1: ELSE ", " END_CASE;"),
+    ("FOR I := 1 TO 2 DO ", " END_FOR;"),
+    ("WHILE A DO ", " END_WHILE;"),
+    ("REPEAT ", " UNTIL A END_REPEAT;"),
+];
+
+/// The text within each of these so many times.
+fn expect_within(rt: &impl Abort, alloc: Global, text: &[u8], times: usize, refusal: (u32, u32)) {
+    for (before, behind) in &WITHIN {
+        let deep = nested(alloc, before, text, behind, times);
+        expect(rt, alloc, &BODY, deep.as_slice(), refusal);
+    }
+}
+
+/// The text behind the beginning of each of these so many times.
+fn expect_behind(rt: &impl Abort, alloc: Global, text: &[u8], times: usize, refusal: (u32, u32)) {
+    for (before, _) in &WITHIN {
+        let deep = nested(alloc, before, text, "", times);
+        expect(rt, alloc, &BODY, deep.as_slice(), refusal);
+    }
+}
+
+/// A statement that holds none nests 1 deep.
 #[test]
-fn keeps_each_elsif_and_else(rt: HostRuntime) {
-    let text =
-        "IF A THEN X := A; ELSIF B THEN ELSIF C THEN X := C; ; ELSE X := D; END_IF; END_ALGORITHM";
-    let found = read(&rt, rt.alloc(), text);
-    match at(&rt, &found.statements, 0) {
-        Stmt::If(choices, others) => {
-            assert_eq!(rt; choices.len(), 3);
-            for (place, name, count) in [(0, "A", 1), (1, "B", 0), (2, "C", 2)] {
-                let choice = choices.get(place).expect(&rt, "a choice");
-                assert!(rt; is_variable(&choice.condition, name));
-                assert_eq!(rt; choice.body.len(), count);
-            }
-            assert_eq!(rt; others.len(), 1);
-            assert!(rt; is_assignment(at(&rt, others, 0), "X", "D"));
-        }
-        _ => panic!(rt; "an IF"),
-    }
-    let bare = read(&rt, rt.alloc(), "IF A THEN END_IF; END_ALGORITHM");
-    match at(&rt, &bare.statements, 0) {
-        Stmt::If(choices, others) => {
-            assert_eq!(rt; choices.len(), 1);
-            assert!(rt; others.is_empty());
-        }
-        _ => panic!(rt; "an IF"),
-    }
-}
-
-fn branch_at<'a>(rt: &impl Abort, branches: &'a Items<Branch>, place: usize) -> &'a Branch {
-    branches.get(place).expect(rt, "a branch")
-}
-
-#[test]
-fn reads_labels(rt: HostRuntime) {
-    let text =
-        "CASE A OF -1, 2..5, 16#A .. -3: X := A; 7: ; -8..-7: ELSE X := B; ; END_CASE; END_ALGORITHM";
-    let found = read(&rt, rt.alloc(), text);
-    match at(&rt, &found.statements, 0) {
-        Stmt::Case(selector, branches, others) => {
-            assert!(rt; is_variable(selector, "A"));
-            assert_eq!(rt; branches.len(), 3);
-            let first = branch_at(&rt, branches, 0);
-            assert_eq!(rt; first.labels.len(), 3);
-            for (place, first_bound, last_bound) in [(0, -1, -1), (1, 2, 5), (2, 10, -3)] {
-                let label = first.labels.get(place).expect(&rt, "a label");
-                assert!(rt;
-                    *label
-                        == Label {
-                            first: first_bound,
-                            last: last_bound
-                        }
-                );
-            }
-            assert!(rt; is_assignment(at(&rt, &first.body, 0), "X", "A"));
-            assert_eq!(rt; branch_at(&rt, branches, 1).body.len(), 1);
-            assert!(rt; branch_at(&rt, branches, 2).body.is_empty());
-            assert_eq!(rt; others.len(), 2);
-        }
-        _ => panic!(rt; "a CASE"),
-    }
-}
-
-#[test]
-fn reads_loops(rt: HostRuntime) {
-    let text = "FOR I := 1 TO 9 BY 2 DO X := A; END_FOR; FOR J := 3 TO 4 DO END_FOR;\n\
-        WHILE A DO ; ; END_WHILE; REPEAT EXIT; UNTIL B END_REPEAT; END_ALGORITHM";
-    let found = read(&rt, rt.alloc(), text);
-    let all = &found.statements;
-    assert_eq!(rt; all.len(), 4);
-    match at(&rt, all, 0) {
-        Stmt::For(variable, start, end, Some(step), inside) => {
-            assert!(rt; is_name(variable.name(), "I"));
-            assert!(rt; is_whole(start, 1) && is_whole(end, 9) && is_whole(step, 2));
-            assert!(rt; is_assignment(at(&rt, inside, 0), "X", "A"));
-        }
-        _ => panic!(rt; "a FOR with a step"),
-    }
-    match at(&rt, all, 1) {
-        Stmt::For(variable, start, end, None, inside) => {
-            assert!(rt; is_name(variable.name(), "J"));
-            assert!(rt; is_whole(start, 3) && is_whole(end, 4) && inside.is_empty());
-        }
-        _ => panic!(rt; "a FOR with no step"),
-    }
-    match at(&rt, all, 2) {
-        Stmt::While(condition, inside) => {
-            assert!(rt; is_variable(condition, "A"));
-            assert_eq!(rt; inside.len(), 2);
-        }
-        _ => panic!(rt; "a WHILE"),
-    }
-    match at(&rt, all, 3) {
-        Stmt::Repeat(inside, condition) => {
-            assert!(rt; is_variable(condition, "B"));
-            assert!(rt; matches!(at(&rt, inside, 0), Stmt::Exit));
-        }
-        _ => panic!(rt; "a REPEAT"),
-    }
-}
-
-/// The text with parts before and behind it, this many times.
-fn wrapped(
-    alloc: Global,
-    before: &str,
-    text: &str,
-    behind: &str,
-    times: usize,
-) -> Result<String, Fail> {
-    let mut found = String::new(alloc);
-    for _time in 0..times {
-        found.push_str(before)?;
-    }
-    found.push_str(text)?;
-    for _time in 0..times {
-        found.push_str(behind)?;
-    }
-    Ok(found)
-}
-
-#[test]
-fn nests_at_most_64_deep(rt: HostRuntime) -> Result<(), Fail> {
+fn statements_nest_at_most_64_deep(rt: HostRuntime) {
     let alloc = rt.alloc();
-    for (before, behind) in [
-        ("IF A THEN ", " END_IF;"),
-        ("IF A THEN ELSIF B THEN ", " END_IF;"),
-        ("IF A THEN ELSE ", " END_IF;"),
-        ("CASE A OF 1: ", " END_CASE;"),
-        ("CASE A OF 1: 2: ", " END_CASE;"),
-        ("CASE A OF 1: ELSE ", " END_CASE;"),
-        ("FOR I := 1 TO 2 DO ", " END_FOR;"),
-        ("WHILE A DO ", " END_WHILE;"),
-        ("REPEAT ", " UNTIL A END_REPEAT;"),
-    ] {
-        // A statement that holds none nests 1 deep.
-        for (inside, times, want) in [
-            (";", 63, 0),
-            (";", 64, 5),
-            ("X := A;", 63, 0),
-            ("X := A;", 64, 5),
-            ("", 64, 0),
-            ("", 65, 5),
-        ] {
-            let text = wrapped(alloc, before, inside, behind, times)?;
-            assert_eq!(rt; answer(&rt, alloc, text.as_str())?, want, "{text}");
-        }
-        // The first token of a statement is too deep at once.
-        for (inside, times, want) in [
-            ("IF", 63, 3),
-            ("IF", 64, 5),
-            ("X :=", 64, 5),
-            ("THEN", 64, 3),
-        ] {
-            let text = wrapped(alloc, before, inside, "", times)?;
-            assert_eq!(rt; answer(&rt, alloc, text.as_str())?, want, "{text}");
-        }
+    expect_within(&rt, alloc, b";", 63, (0, 0));
+    expect_within(&rt, alloc, b";", 64, (5, 0));
+    expect_within(&rt, alloc, b"X := A;", 63, (0, 0));
+    expect_within(&rt, alloc, b"X := A;", 64, (5, 0));
+    expect_within(&rt, alloc, b"", 64, (0, 0));
+    expect_within(&rt, alloc, b"", 65, (5, 0));
+    expect_within(&rt, alloc, b"", 1000, (5, 0));
+    // The first token of a statement is too deep at once.
+    expect_behind(&rt, alloc, b"IF", 63, (3, 2));
+    expect_behind(&rt, alloc, b"IF", 64, (5, 0));
+    expect_behind(&rt, alloc, b"X :=", 64, (5, 0));
+    expect_behind(&rt, alloc, b"THEN", 64, (3, 1));
+}
+
+/// Where a statement has an expression.
+const EXPRESSIONS: [Place; 9] = [
+    ("X := ", ";"),
+    ("IF ", " THEN END_IF;"),
+    ("IF A THEN ELSIF ", " THEN END_IF;"),
+    ("CASE ", " OF 1: END_CASE;"),
+    ("FOR I := ", " TO 1 DO END_FOR;"),
+    ("FOR I := 1 TO ", " DO END_FOR;"),
+    ("FOR I := 1 TO 1 BY ", " DO END_FOR;"),
+    ("WHILE ", " DO END_WHILE;"),
+    ("REPEAT UNTIL ", " END_REPEAT;"),
+];
+
+/// An expression in parentheses, within each of these.
+fn expect_expressions(rt: &impl Abort, alloc: Global, times: usize, refusal: (u32, u32)) {
+    let inner = nested(alloc, "(", b"A", ")", times);
+    for place in &EXPRESSIONS {
+        let statement = placed(alloc, place, inner.as_slice());
+        expect(rt, alloc, &BODY, statement.as_slice(), refusal);
     }
-    Ok(())
 }
 
 #[test]
-fn each_expression_nests_at_most_64_deep(rt: HostRuntime) -> Result<(), Fail> {
+fn each_expression_nests_at_most_64_deep(rt: HostRuntime) {
+    expect_expressions(&rt, rt.alloc(), 63, (0, 0));
+    expect_expressions(&rt, rt.alloc(), 64, (5, 0));
+}
+
+/// The two limits are kept apart: 63 statements stand round one whose expression nests 64 deep.
+#[test]
+fn limits_are_kept_apart(rt: HostRuntime) {
     let alloc = rt.alloc();
-    for (before, behind) in [
-        ("X := ", ";"),
-        ("IF ", " THEN END_IF;"),
-        ("IF A THEN ELSIF ", " THEN END_IF;"),
-        ("CASE ", " OF 1: END_CASE;"),
-        ("FOR I := ", " TO 1 DO END_FOR;"),
-        ("FOR I := 1 TO ", " DO END_FOR;"),
-        ("FOR I := 1 TO 1 BY ", " DO END_FOR;"),
-        ("WHILE ", " DO END_WHILE;"),
-        ("REPEAT UNTIL ", " END_REPEAT;"),
-    ] {
-        for (times, want) in [(63, 0), (64, 5)] {
-            let inner = wrapped(alloc, "(", "A", ")", times)?;
-            let text = wrapped(alloc, before, inner.as_str(), behind, 1)?;
-            assert_eq!(rt; answer(&rt, alloc, text.as_str())?, want, "{text}");
-        }
-    }
-    // Both limits are kept apart: 63 statements round an expression that nests 64 deep.
-    let inner = wrapped(alloc, "(", "A", ")", 63)?;
-    let innermost = wrapped(alloc, "X := ", inner.as_str(), ";", 1)?;
-    let text = wrapped(alloc, "IF A THEN ", innermost.as_str(), " END_IF;", 63)?;
-    assert_eq!(rt; answer(&rt, alloc, text.as_str())?, 0);
-    Ok(())
+    let inner = nested(alloc, "(", b"A", ")", 63);
+    let innermost = nested(alloc, "X := ", inner.as_slice(), ";", 1);
+    let deep = nested(alloc, "IF A THEN ", innermost.as_slice(), " END_IF;", 63);
+    expect(&rt, alloc, &BODY, deep.as_slice(), (0, 0));
 }
 
+/// What is no statement, with a line feed before the token that is refused. Where there is none it is
+/// END_ALGORITHM.
+const NO_STATEMENTS: [&[u8]; 46] = [
+    b"X := A",
+    b"X\n= A;",
+    b"X :=\n;",
+    b"X\n;",
+    b"X\n(A);",
+    b"\n1 := X;",
+    b"EXIT",
+    b"EXIT\n1;",
+    b"RETURN",
+    b"\nELSE ;",
+    b"IF A THEN",
+    b"IF A THEN END_IF",
+    b"IF\nTHEN END_IF;",
+    b"IF A\nEND_IF;",
+    b"IF A THEN ELSE\nELSE END_IF;",
+    b"IF A THEN ELSE\nELSIF B THEN END_IF;",
+    b"IF A THEN ELSIF\nTHEN END_IF;",
+    b"CASE A OF\nEND_CASE;",
+    b"CASE A OF\nELSE END_CASE;",
+    b"CASE A OF 1\n; END_CASE;",
+    b"CASE A OF 1,\n: END_CASE;",
+    b"CASE A OF 1..\n: END_CASE;",
+    b"CASE A OF 1..2\n..3: END_CASE;",
+    b"CASE A OF\nT#1s: END_CASE;",
+    b"CASE A OF\nX: END_CASE;",
+    b"CASE A OF\nTRUE: END_CASE;",
+    b"CASE A OF -\n-1: END_CASE;",
+    b"CASE A OF\n+1: END_CASE;",
+    b"CASE A OF 1: END_CASE",
+    b"CASE\nOF 1: END_CASE;",
+    b"FOR\n1 := 1 TO 2 DO END_FOR;",
+    b"FOR I\n= 1 TO 2 DO END_FOR;",
+    b"FOR I := 1\nDO END_FOR;",
+    b"FOR I := 1 TO 2 BY\nDO END_FOR;",
+    b"FOR I := 1\nBY 1 TO 2 DO END_FOR;",
+    b"FOR I := 1 TO 2\nEND_FOR;",
+    b"FOR I := 1 TO 2 DO END_FOR",
+    b"WHILE\nDO END_WHILE;",
+    b"WHILE A\nEND_WHILE;",
+    b"WHILE A DO END_WHILE",
+    b"REPEAT\nEND_REPEAT;",
+    b"REPEAT UNTIL\nEND_REPEAT;",
+    b"REPEAT UNTIL A\n;",
+    b"REPEAT UNTIL A END_REPEAT",
+    b"IF A THEN\nEND_CASE;",
+    // What stands behind END_ALGORITHM is no statement.
+    b"; END_ALGORITHM\n;",
+];
+
 #[test]
-fn refuses_what_is_no_statement(rt: HostRuntime) -> Result<(), Fail> {
-    for text in [
-        "X := A",
-        "X = A;",
-        "X := ;",
-        "X;",
-        "X(A);",
-        "1 := X;",
-        "EXIT",
-        "EXIT 1;",
-        "RETURN",
-        "ELSE ;",
-        "IF A THEN",
-        "IF A THEN END_IF",
-        "IF THEN END_IF;",
-        "IF A END_IF;",
-        "IF A THEN ELSE ELSE END_IF;",
-        "IF A THEN ELSE ELSIF B THEN END_IF;",
-        "IF A THEN ELSIF THEN END_IF;",
-        "CASE A OF END_CASE;",
-        "CASE A OF ELSE END_CASE;",
-        "CASE A OF 1 ; END_CASE;",
-        "CASE A OF 1, : END_CASE;",
-        "CASE A OF 1.. : END_CASE;",
-        "CASE A OF 1..2..3: END_CASE;",
-        "CASE A OF T#1s: END_CASE;",
-        "CASE A OF X: END_CASE;",
-        "CASE A OF TRUE: END_CASE;",
-        "CASE A OF - -1: END_CASE;",
-        "CASE A OF +1: END_CASE;",
-        "CASE A OF 1: END_CASE",
-        "CASE OF 1: END_CASE;",
-        "FOR 1 := 1 TO 2 DO END_FOR;",
-        "FOR I = 1 TO 2 DO END_FOR;",
-        "FOR I := 1 DO END_FOR;",
-        "FOR I := 1 TO 2 BY DO END_FOR;",
-        "FOR I := 1 BY 1 TO 2 DO END_FOR;",
-        "FOR I := 1 TO 2 END_FOR;",
-        "FOR I := 1 TO 2 DO END_FOR",
-        "WHILE DO END_WHILE;",
-        "WHILE A END_WHILE;",
-        "WHILE A DO END_WHILE",
-        "REPEAT END_REPEAT;",
-        "REPEAT UNTIL END_REPEAT;",
-        "REPEAT UNTIL A;",
-        "REPEAT UNTIL A END_REPEAT",
-        "IF A THEN END_CASE;",
-    ] {
-        assert_eq!(rt; answer(&rt, rt.alloc(), text)?, 3, "{text}");
-    }
-    // What stands behind END_ALGORITHM is left.
-    assert_eq!(rt; answer(&rt, rt.alloc(), "; END_ALGORITHM ;")?, 1);
-    Ok(())
+fn refuses_what_is_no_statement(rt: HostRuntime) {
+    expect_refused(&rt, rt.alloc(), &BODY, (3, 2), &NO_STATEMENTS);
 }
