@@ -1,0 +1,12 @@
+-- Ends of connections by their names (IEC 61499-1, 5.3).
+use Rattle.std.specs.Prelude.{[], ◌∷◌, Option, Some, None}
+use Rattle.std.specs.Borrow.{Bor}
+use Rattle.fb_types.specs.Names.{Name, Port}
+
+-- the names at an end: the component, if there is one, and the port
+abbrev pub End : Type 0
+End = Option (Bor Name) × Bor Name
+
+-- the port that they stand for in a network
+abbrev pub end_port : End → Port
+end_port e = elim e.0 [ None ↦ record { at = []; name = e.1.now } | Some c ↦ record { at = c.now ∷ []; name = e.1.now } ]

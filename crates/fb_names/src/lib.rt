@@ -1,0 +1,5 @@
+//! Names that are given twice (E20), and the places of all names of a declaration and a deployment.
+#![tactic(auto)]
+
+pub mod catalog;
+pub mod places;
