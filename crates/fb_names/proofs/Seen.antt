@@ -150,6 +150,21 @@ pair_cmp-exact p q =
     (λ e. ap (λ (x : Port × Port). x.0) e)
     (λ e. ap (λ (x : Port × Port). x.1) e)
 
+-- ---- Ends of links
+
+abbrev pub link_cmp : Bor Name × Bor Name → Bor Name × Bor Name → Ordering
+link_cmp p q = ordering_then (name_cmp p.0 q.0) (name_cmp p.1 q.1)
+
+abbrev pub link_names : Bor Name × Bor Name → Name × Name
+link_names p = (p.0.now, p.1.now)
+
+pub link_cmp-exact : IsExact link_cmp link_names
+link_cmp-exact p q =
+    then-Decides (name_cmp p.0 q.0) (name_cmp p.1 q.1) (slice_cmp-Decides p.0.now q.0.now) (slice_cmp-Decides p.1.now q.1.now)
+    (λ a b. λ i. (a i, b i))
+    (λ e. ap (λ (x : Name × Name). x.0) e)
+    (λ e. ap (λ (x : Name × Name). x.1) e)
+
 -- ---- One more element of a loop
 
 pub seen_more_of_part :

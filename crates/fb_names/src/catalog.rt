@@ -5,6 +5,7 @@ ghost use Rattle.fb_types.specs.Repeated.{NameTwice};
 ghost use Rattle.fb_names.specs.Catalog.{IsCatalog};
 
 use crate::places::Places;
+use crate::spaces::{blocks_places, network_places, resource_places, type_places};
 use fb_types::deploy::Plan;
 use fb_types::library::Library;
 use std::alloc::{AllocError, Global};
@@ -43,5 +44,22 @@ pub fn catalog_of<'a>(
 ) -> Result<Option<Catalog<'a>>, AllocError>
     ensures { IfOk result (λ o. MatchOption o (NameTwice library.now plan.now) (IsCatalog library.now plan.now)) }
 {
-    Err(AllocError)
+    let Some(types) = type_places(alloc, library.blocks.as_slice())? else {
+        return Ok(None);
+    };
+    let Some(blocks) = blocks_places(alloc, library.blocks.as_slice())? else {
+        return Ok(None);
+    };
+    let Some(instances) = network_places(alloc, &library.application.network)? else {
+        return Ok(None);
+    };
+    let Some(resources) = resource_places(alloc, plan)? else {
+        return Ok(None);
+    };
+    Ok(Some(Catalog {
+        types,
+        blocks,
+        instances,
+        resources,
+    }))
 }

@@ -2,4 +2,9 @@
 #![tactic(auto)]
 
 pub mod catalog;
+pub mod named;
 pub mod places;
+pub mod repeats;
+pub mod spaces;
+#[cfg(test)]
+mod tests;
