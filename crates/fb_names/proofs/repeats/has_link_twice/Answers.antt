@@ -1,0 +1,18 @@
+use Rattle.std.proofs.Common.{refl}
+use Rattle.fb_names.proofs.Seen.{link_cmp, link_names, link_cmp-exact, seen_more_of_part, seen_twice_of_part}
+use Rattle.fb_names.specs.Ends.{link_ends}
+use Rattle.fb_names.proofs.repeats.has_link_twice.Goals as goal
+
+pub returns-then-not-branch : goal.returns-then-not-branch
+returns-then-not-branch c = (
+  λ _. seen_twice_of_part link_cmp link_names link_ends _ _ _ _ (c.as_bytes.result, c.as_bytes-in-loop-link.result) _
+      c.loop-link-test.true c.link-item.is (λ i. (c.as_bytes.ensures i, c.as_bytes-in-loop-link.ensures i)) c.loop-link.invariant
+      c.in_ok-insert.ensures.added c.if-not-branch.true,
+  λ _. refl,
+)
+
+pub loop-link-preserved : goal.loop-link-preserved
+loop-link-preserved c =
+    seen_more_of_part link_cmp link_names link_ends _ _ _ _ _ (c.as_bytes.result, c.as_bytes-in-loop-link.result) _ link_cmp-exact
+    c.loop-link-test.true c.link-item.is (λ i. (c.as_bytes.ensures i, c.as_bytes-in-loop-link.ensures i)) c.loop-link.invariant
+    c.in_ok-insert.ensures.added c.if-not-branch.false c.in_ok-insert.ensures.updates.0

@@ -1,0 +1,65 @@
+//! The places of all names of a declaration and a deployment.
+
+ghost use Rattle.std.specs.Prelude.{◌≡◌, IfOk, MatchOption};
+ghost use Rattle.fb_types.specs.Repeated.{NameTwice};
+ghost use Rattle.fb_names.specs.Catalog.{IsCatalog};
+
+use crate::places::Places;
+use crate::spaces::{blocks_places, network_places, resource_places, type_places};
+use fb_types::deploy::Plan;
+use fb_types::library::Library;
+use std::alloc::{AllocError, Global};
+
+/// The places of the names of a block type.
+#[derive(Drop)]
+pub struct BlockPlaces<'a> {
+    /// Event inputs, event outputs, inputs, outputs and internal variables, numbered in this order as one list.
+    pub ports: Places<'a>,
+    /// The states of a basic type, else none.
+    pub states: Places<'a>,
+    /// The algorithms of a basic type, else none.
+    pub algorithms: Places<'a>,
+    /// The instances of a composite type, else none.
+    pub instances: Places<'a>,
+}
+
+/// The places of the names of a declaration and a deployment, in which no name is given twice.
+#[derive(Drop)]
+pub struct Catalog<'a> {
+    /// The block types of the declaration. The event blocks are not among them.
+    pub types: Places<'a>,
+    /// For each block type of the declaration, its names.
+    pub blocks: Vec<BlockPlaces<'a>>,
+    /// The instances of the application.
+    pub instances: Places<'a>,
+    /// The resources.
+    pub resources: Places<'a>,
+}
+
+/// The places of all names, or `None` where a name, a connection or a link is given twice.
+pub fn catalog_of<'a>(
+    alloc: Global,
+    library: &'a Library,
+    plan: &'a Plan,
+) -> Result<Option<Catalog<'a>>, AllocError>
+    ensures { IfOk result (λ o. MatchOption o (NameTwice library.now plan.now) (IsCatalog library.now plan.now)) }
+{
+    let Some(types) = type_places(alloc, library.blocks.as_slice())? else {
+        return Ok(None);
+    };
+    let Some(blocks) = blocks_places(alloc, library.blocks.as_slice())? else {
+        return Ok(None);
+    };
+    let Some(instances) = network_places(alloc, &library.application.network)? else {
+        return Ok(None);
+    };
+    let Some(resources) = resource_places(alloc, plan)? else {
+        return Ok(None);
+    };
+    Ok(Some(Catalog {
+        types,
+        blocks,
+        instances,
+        resources,
+    }))
+}

@@ -1,0 +1,91 @@
+//! Names, connections and links that are given twice.
+
+ghost use Rattle.std.specs.Prelude.{◌≡◌, ◌↔◌, [], map, Contains, IfOk, IsTrue};
+ghost use Rattle.fb_names.specs.Ends.{end_port, link_ends};
+ghost use Rattle.fb_types.specs.Flat.{pairs_in, port_in};
+ghost use Rattle.fb_types.specs.Repeated.{Twice};
+ghost use Rattle.fb_types.specs.declared.library.EventPort.{EventPort};
+ghost use Rattle.fb_types.specs.declared.library.Instance.{Instance};
+
+use crate::named::{Named, places};
+use fb_types::deploy::Link;
+use fb_types::library::{Connection, EventPort, Instance, PortName};
+use fb_types::name::Name;
+use std::alloc::{AllocError, Global};
+use std::collections::BTreeSet;
+
+/// Whether a name is given twice.
+fn has_name_twice<T: Named>(alloc: Global, items: &[T]) -> Result<bool, AllocError>
+    ensures { IfOk result (λ b. IsTrue b ↔ Twice (map T.called items.now)) }
+{
+    Ok(places(alloc, items)?.is_none())
+}
+
+/// Whether a list of names has one twice.
+fn is_listed_twice(alloc: Global, names: &[Name]) -> Result<bool, AllocError>
+    ensures { IfOk result (λ b. IsTrue b ↔ Twice names.now) }
+{
+    has_name_twice(alloc, names)
+}
+
+/// Whether an event has a variable twice in its WITH list.
+pub fn has_with_twice(alloc: Global, events: &[EventPort]) -> Result<bool, AllocError>
+    ensures { IfOk result (λ b. IsTrue b ↔ ((e : EventPort) × Contains events.now e × Twice e.with)) }
+{
+    for event in events {
+        if is_listed_twice(alloc, event.with.as_slice())? {
+            return Ok(true);
+        }
+    }
+    Ok(false)
+}
+
+/// Whether an instance gives a parameter twice.
+pub fn has_parameter_twice(alloc: Global, instances: &[Instance]) -> Result<bool, AllocError>
+    ensures { IfOk result (λ b. IsTrue b ↔ ((i : Instance) × Contains instances.now i × Twice (map (λ x. x.name) i.parameters))) }
+{
+    for instance in instances {
+        if has_name_twice(alloc, instance.parameters.as_slice())? {
+            return Ok(true);
+        }
+    }
+    Ok(false)
+}
+
+/// The names at an end of a connection.
+type End<'a> = (Option<&'a [u8]>, &'a [u8]);
+
+fn end_of(port: &PortName) -> End<'_>
+    ensures { end_port result ≡ port_in [] port.now }
+{
+    match &port.component {
+        Some(component) => (Some(component.as_bytes()), port.port.as_bytes()),
+        None => (None, port.port.as_bytes()),
+    }
+}
+
+/// Whether a connection is given twice.
+pub fn has_connection_twice(alloc: Global, connections: &[Connection]) -> Result<bool, AllocError>
+    ensures { IfOk result (λ b. IsTrue b ↔ Twice (pairs_in [] connections.now)) }
+{
+    let mut seen: BTreeSet<(End, End), Global> = BTreeSet::new(alloc);
+    for connection in connections {
+        if !seen.insert((end_of(&connection.from), end_of(&connection.to)))? {
+            return Ok(true);
+        }
+    }
+    Ok(false)
+}
+
+/// Whether two links go from one resource to one resource.
+pub fn has_link_twice(alloc: Global, links: &[Link]) -> Result<bool, AllocError>
+    ensures { IfOk result (λ b. IsTrue b ↔ Twice (map link_ends links.now)) }
+{
+    let mut seen: BTreeSet<(&[u8], &[u8]), Global> = BTreeSet::new(alloc);
+    for link in links {
+        if !seen.insert((link.from.as_bytes(), link.to.as_bytes()))? {
+            return Ok(true);
+        }
+    }
+    Ok(false)
+}

@@ -1,0 +1,5 @@
+//! A declaration and a deployment by numbers, where each name stands for something (E21).
+#![tactic(auto)]
+
+pub mod numbers;
+pub mod resolve;
