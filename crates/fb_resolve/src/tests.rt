@@ -1,7 +1,5 @@
 //! Applications and deployments, and their numbers. The answers were worked out by hand.
 
-ghost use Rattle.std.specs.Prelude.{◌≡◌};
-
 use crate::blocks::blocks_of;
 use crate::numbers::{End, LinkEnds, NetworkNumbers, Resolved, TypeNumber, Wire};
 use crate::resolve::resolve;

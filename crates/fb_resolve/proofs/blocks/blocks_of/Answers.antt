@@ -5,8 +5,9 @@ use Rattle.fb_types.specs.Names.{Name}
 use Rattle.fb_types.specs.declared.library.BlockType.TheVariants as block
 use Rattle.fb_types.specs.declared.library.CompositeType.{CompositeType}
 use Rattle.fb_resolve.specs.Sorts.{ArePlacesOf}
-use Rattle.fb_resolve.proofs.BlockNumbers.{composite_ports, composite_instances, composite_unknown, first_all}
+use Rattle.fb_resolve.proofs.BlockNumbers.{composite_ports, composite_instances, composite_unknown, first_all, next_basic, next_composite}
 use Rattle.fb_resolve.proofs.blocks.blocks_of.Goals as goal
+use Rattle.fb_resolve.proofs.blocks.blocks_of.Goals.{in-Basic+in_ok-push-in-Basic, in-Composite+in_ok-numbers-in-Composite+in-Some+in_ok-push-in-Some}
 
 pub network_numbers-requires-clause-scope : goal.network_numbers-requires-clause-scope
 network_numbers-requires-clause-scope c =
@@ -24,7 +25,15 @@ returns-in-None c =
     c.in_ok-numbers-in-Composite.ensures c.in-None.is
 
 pub loop-place-preserved : goal.loop-place-preserved
-loop-place-preserved c = ?
+loop-place-preserved c =
+    elim c.match-block.branch [
+      | in-Basic+in_ok-push-in-Basic w ↦
+          next_basic _ _ _ _ _ _ _ c.as_slice-blocks.ensures c.loop-place-test.true c.index-blocks-place.is w.in-Basic.is c.loop-place.invariant
+          (w.all-is ∙ w.in_ok-push-in-Basic.ensures.ok)
+      | in-Composite+in_ok-numbers-in-Composite+in-Some+in_ok-push-in-Some w ↦
+          next_composite _ _ _ _ _ w.in_ok-numbers-in-Composite.field-0 _ _ _ c.as_slice-blocks.ensures c.loop-place-test.true c.index-blocks-place.is w.in-Composite.is
+          w.in_ok-numbers-in-Composite.ensures w.in-Some.is c.loop-place.invariant (w.all-is ∙ w.in_ok-push-in-Some.ensures.ok)
+    ]
 
 pub returns : goal.returns
 returns c =
