@@ -1,8 +1,8 @@
 -- What a function makes of each element of a list, one element at a time.
-use Rattle.std.proofs.Common.{◌≡◌, ℕ, zero, suc, ◌<◌, ◌+◌, ◌&&◌, List, [], ◌∷◌, ◌++◌, length, take, get_or, Option, Some, None, refl, sym, ◌∙◌, ap}
+use Rattle.std.proofs.Common.{◌≡◌, ℕ, zero, suc, ◌<◌, ◌≤◌, ◌+◌, ◌&&◌, List, [], ◌∷◌, ◌++◌, length, take, get_or, Option, Some, None, refl, sym, ◌∙◌, ap}
 use Rattle.std.specs.Prelude.{slice_get, option_map, option_and_then, is_some}
 use Rattle.std.specs.List.{list_all}
-use Rattle.std.proofs.lemmas.List.{take_more}
+use Rattle.std.proofs.lemmas.List.{take_more, take_all}
 use Rattle.std.proofs.lemmas.Option.{slice_get_read}
 use Rattle.fb_resolve.specs.Numbers.{each_or_none}
 
@@ -50,6 +50,10 @@ none_at f (z ∷ zs) (suc i) x h g =
 pub each_stops :
     {A B : Type 0} (f : A → Option B) (xs : List A) (i : ℕ) (x : A) → i < length xs → x ≡ get_or xs i x → f x ≡ None → each_or_none f xs ≡ None
 each_stops f xs i x h e g = none_at f xs i x (slice_get_read xs (length xs) i x refl h e) g
+
+-- the end of a loop
+pub each_all : {A B : Type 0} (f : A → Option B) (xs : List A) (i : ℕ) (ys : List B) → length xs ≤ i → each_or_none f (take i xs) ≡ Some ys → Some ys ≡ each_or_none f xs
+each_all f xs i ys h so_far = sym so_far ∙ ap (each_or_none f) (take_all i xs h)
 
 -- ---- All of a list
 

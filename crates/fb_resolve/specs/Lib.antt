@@ -1,1 +1,5 @@
 pub mod Numbers
+pub mod Sorts
+pub mod Types
+pub mod Scopes
+pub mod Unknown

@@ -6,7 +6,12 @@ ghost use Rattle.fb_names.specs.Catalog.{IsCatalog};
 ghost use Rattle.fb_names.specs.Parts.{ArePartsKnown};
 ghost use Rattle.fb_resolve.specs.Numbers.{IsResolved};
 
+use crate::blocks::blocks_of;
+use crate::deployment::{held_of, links_of};
+use crate::ends::Scope;
+use crate::networks::network_numbers;
 use crate::numbers::Resolved;
+use crate::types::Types;
 use fb_names::catalog::Catalog;
 use fb_types::deploy::Plan;
 use fb_types::library::Library;
@@ -23,5 +28,29 @@ pub fn resolve(
     requires parts { ArePartsKnown library.now }
     ensures { IfOk result (λ o. MatchOption o (NameUnknown library.now plan.now) (IsResolved library.now plan.now)) }
 {
-    Err(AllocError)
+    let types = Types::new(alloc, library, catalog)?;
+    let scope = Scope {
+        composite: None,
+        network: &library.application.network,
+        instances: &catalog.instances,
+    };
+    let Some(application) = network_numbers(alloc, &types, &scope)? else {
+        return Ok(None);
+    };
+    let Some(blocks) = blocks_of(alloc, &types)? else {
+        return Ok(None);
+    };
+    let resources = plan.resources.as_slice();
+    let Some(held) = held_of(alloc, &catalog.instances, resources)? else {
+        return Ok(None);
+    };
+    let Some(links) = links_of(alloc, &catalog.resources, plan.links.as_slice())? else {
+        return Ok(None);
+    };
+    Ok(Some(Resolved {
+        application,
+        blocks,
+        held,
+        links,
+    }))
 }
