@@ -40,20 +40,15 @@ fn holds_marked(marks: &[bool], numbers: &Option<NetworkNumbers>) -> bool
     }
 }
 
-fn is_composite(numbers: &Option<NetworkNumbers>) -> bool
-    ensures { result ≡ is_some numbers.now }
-{
-    numbers.is_some()
-}
-
 /// Marks all composite types.
 fn mark_all(alloc: Global, blocks: &[Option<NetworkNumbers>]) -> Result<Vec<bool>, AllocError>
     ensures { IfOk result (λ v. v.items ≡ map is_some blocks.now) }
 {
-    blocks
-        .iter()
-        .map(|numbers| is_composite(numbers))
-        .collect(alloc)
+    let mut marks = Vec::new(alloc);
+    for numbers in blocks {
+        marks.push(numbers.is_some())?;
+    }
+    Ok(marks)
 }
 
 /// Marks the composite types that have a component of a type that is marked.
