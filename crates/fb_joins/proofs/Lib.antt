@@ -1,0 +1,9 @@
+pub mod Counted
+pub mod Marked
+pub mod Joined
+pub mod Ranged
+pub mod Targets
+pub mod Valued
+pub mod Placing
+pub mod Naming
+pub mod Lists

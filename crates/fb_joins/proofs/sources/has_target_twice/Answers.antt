@@ -1,0 +1,21 @@
+use Rattle.std.proofs.Common.{[], refl}
+use Rattle.fb_types.specs.Flat.{port_in}
+use Rattle.fb_types.specs.declared.library.Connection.{Connection}
+use Rattle.fb_names.specs.Ends.{end_port}
+use Rattle.fb_names.proofs.Seen.{seen_more_of_part, seen_twice_of_part}
+use Rattle.fb_joins.proofs.Targets.{end_cmp, end_cmp-exact, targets_more, targets_twice}
+use Rattle.fb_joins.proofs.sources.has_target_twice.Goals as goal
+
+pub returns-then-not-branch : goal.returns-then-not-branch
+returns-then-not-branch c = (
+  λ _. targets_twice _ _ _ _ c.target_of.result _
+      c.loop-connection-test.true c.connection-item.is c.target_of.ensures c.loop-connection.invariant
+      c.in_ok-insert.ensures.added c.if-not-branch.true,
+  λ _. refl,
+)
+
+pub loop-connection-preserved : goal.loop-connection-preserved
+loop-connection-preserved c =
+    targets_more _ _ _ _ _ c.target_of.result _
+    c.loop-connection-test.true c.connection-item.is c.target_of.ensures c.loop-connection.invariant
+    c.in_ok-insert.ensures.added c.if-not-branch.false c.in_ok-insert.ensures.updates.0

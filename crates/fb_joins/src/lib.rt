@@ -1,0 +1,11 @@
+//! What is checked of networks by their numbers: values of parameters (E22), types at the ends of data
+//! connections (E23), sources of data (E24), heights of composite types (E25) and counts of instances (E30).
+#![tactic(auto)]
+
+pub mod counts;
+pub mod heights;
+pub mod parameters;
+pub mod ranges;
+pub mod sources;
+mod values;
+mod variables;

@@ -1,0 +1,81 @@
+//! E22: parameters that are no values of their inputs' types.
+
+ghost use Rattle.std.specs.Prelude.{◌≡◌, ◌↔◌, IsTrue};
+ghost use Rattle.fb_types.specs.declared.deploy.Plan.{Plan};
+ghost use Rattle.fb_resolve.specs.Numbers.{IsResolved};
+ghost use Rattle.fb_joins.specs.Networks.{inside_passes, some_inside_passes};
+ghost use Rattle.fb_joins.specs.Parameters as spec;
+
+use crate::values::is_value_of;
+use crate::variables::input_type;
+use fb_resolve::numbers::{NetworkNumbers, Resolved, TypeNumber};
+use fb_types::library::{BlockType, Instance, Library, Network, Parameter};
+
+/// Whether a parameter is no value of the type of the input that it sets.
+fn is_wrong(library: &Library, number: TypeNumber, parameter: &Parameter, input: usize) -> bool
+    ensures { result ≡ spec.is_wrong library.now number parameter.now input }
+{
+    match input_type(library, number, input) {
+        Some(ty) => !is_value_of(ty, parameter.value),
+        None => false,
+    }
+}
+
+/// Whether an instance has such a parameter.
+fn has_wrong(library: &Library, instance: &Instance, number: TypeNumber, inputs: &[usize]) -> bool
+    ensures { result ≡ spec.has_wrong library.now instance.now number inputs.now }
+{
+    instance.parameters.as_slice().iter().zip(inputs).any(|(parameter, input)| is_wrong(
+        library, number, parameter, *input,
+    ))
+}
+
+/// Whether an instance of a network has such a parameter.
+fn has_wrong_in(library: &Library, network: &Network, numbers: &NetworkNumbers) -> bool
+    ensures { result ≡ spec.has_wrong_in library.now network.now numbers.now }
+{
+    network
+        .instances
+        .as_slice()
+        .iter()
+        .zip(numbers.types.as_slice())
+        .zip(numbers.parameters.as_slice())
+        .any(|((instance, number), inputs)| has_wrong(
+            library,
+            instance,
+            *number,
+            inputs.as_slice(),
+        ))
+}
+
+/// Whether an instance inside a block type has such a parameter.
+fn has_wrong_inside(library: &Library, block: &BlockType, numbers: &Option<NetworkNumbers>) -> bool
+    ensures { result ≡ inside_passes (λ n x. spec.has_wrong_in library.now n.1 x) block.now numbers.now }
+{
+    match (block, numbers) {
+        (BlockType::Composite(composite), Some(numbers)) => has_wrong_in(
+            library,
+            &composite.network,
+            numbers,
+        ),
+        _ => false,
+    }
+}
+
+/// Whether an instance inside one of the block types has such a parameter.
+fn has_wrong_in_some(library: &Library, blocks: &[Option<NetworkNumbers>]) -> bool
+    ensures { result ≡ some_inside_passes (λ n x. spec.has_wrong_in library.now n.1 x) library.now.blocks blocks.now }
+{
+    library.blocks.as_slice().iter().zip(blocks).any(|(block, network)| has_wrong_inside(
+        library, block, network,
+    ))
+}
+
+/// Whether an instance has a parameter that is no value of its input's type, where the numbers are those of the
+/// declaration.
+pub fn has_wrong_parameter(library: &Library, numbers: &Resolved) -> bool
+    ensures { (plan : Plan) → IsResolved library.now plan numbers.now → (IsTrue result ↔ spec.ParameterWrong library.now) }
+{
+    has_wrong_in(library, &library.application.network, &numbers.application)
+        || has_wrong_in_some(library, numbers.blocks.as_slice())
+}
