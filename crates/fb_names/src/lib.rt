@@ -2,9 +2,9 @@
 #![tactic(auto)]
 
 pub mod catalog;
-pub mod named;
+mod named;
 pub mod places;
-pub mod repeats;
-pub mod spaces;
+mod repeats;
+mod spaces;
 #[cfg(test)]
 mod tests;

@@ -17,7 +17,7 @@ use std::process::Abort;
 use std::test::Fail;
 
 /// What is declared by one or two names.
-#[derive(Clone, Copy, Debug)]
+#[derive(Clone, Copy)]
 enum Entry {
     /// A composite type beside the two types.
     Type,
