@@ -157,8 +157,7 @@ served_push :
     → IsLead m c component b resource → names ≡ withs_of lib (port_in [] c.from) → IsExtended component names resource s t
     → Has lead_cmp lead_view (Carries lib m cs) s → Has lead_cmp lead_view (Carries lib m (cs ++ c ∷ [])) t
 served_push lib m cs c component b resource names s t is with_is ext has q =
-    let N : List Name → Type 0 = λ ns. Contains ns (lead_port q).name in
-    (
+    let N : List Name → Type 0 = λ ns. Contains ns (lead_port q).name in (
       λ h. elim ((ext.has q).0 h) [
         | inl there ↦ let x = (has q).0 there in (x.0, Contains-append_left cs (c ∷ []) x.0 x.1, x.2, x.3, x.4)
         | inr new ↦ (c, Contains-push cs c, sym is.at ∙ new.0, subst N with_is new.1, sym is.leads ∙ new.2)

@@ -51,9 +51,13 @@ instances_once lib plan once t =
     let parameters = flat_map (λ n. parameter_lists n.1) (networks lib) in
     let here : Contains own_all own =
     Contains-map (λ n. instance_names n.1) (networks lib) (None, lib.application.network) (Contains-here (None, lib.application.network) (flat_map networks_in lib.blocks)) in
-    once (inl (own, Contains-append_left (before ++ own_all ++ withs ++ parameters) (resource_names_of plan ∷ []) own
-    (Contains-append_left (before ++ own_all ++ withs) parameters own
-    (Contains-append_left (before ++ own_all) withs own (Contains-append_right before own_all own here))), t))
+    once (inl (
+      own,
+      Contains-append_left (before ++ own_all ++ withs ++ parameters) (resource_names_of plan ∷ []) own
+          (Contains-append_left (before ++ own_all ++ withs) parameters own
+          (Contains-append_left (before ++ own_all) withs own (Contains-append_right before own_all own here))),
+      t,
+    ))
 
 pub all_mapped : (lib : Library) (plan : Plan) → plan.holds_all ≡ true → ¬ (NameTwice lib plan) → IsMapping lib plan All
 all_mapped lib plan h once =
@@ -108,7 +112,7 @@ all_listed lib plan m h listing are = record {
   each = λ n.
       elim n [
         | inl i ↦ i.2 (let P : List Name → Type 0 = λ ns. Contains ns i.0.name in
-        subst P (sym (listed_all lib plan h)) (contains_from_any i.0.name (flat_map (λ r. r.instances) plan.resources) (sym (found_is plan.resources m i.0.name listing) ∙ are.each i.0 i.1)))
+            subst P (sym (listed_all lib plan h)) (contains_from_any i.0.name (flat_map (λ r. r.instances) plan.resources) (sym (found_is plan.resources m i.0.name listing) ∙ are.each i.0 i.1)))
         | inr t ↦ listing.once (let P : List Name → Type 0 = λ ns. Twice ns in subst P (listed_all lib plan h) t)
       ];
   holds = record {
@@ -125,9 +129,13 @@ pub not_listed :
     (lib : Library) (plan : Plan) (m : tree.BTreeMap (Bor Name) ℕ) (i : Instance) → plan.holds_all ≡ false → IsListing plan.resources m
     → Contains lib.application.network.instances i → is_some (place_in m i.name) ≡ false → NotMapped lib plan
 not_listed lib plan m i h listing c absent =
-    inl (i, c, λ there.
-    true≢false (sym (any_from_contains i.name (flat_map (λ r. r.instances) plan.resources) (let P : List Name → Type 0 = λ ns. Contains ns i.name in subst P (listed_all lib plan h) there))
-    ∙ sym (found_is plan.resources m i.name listing) ∙ absent))
+    inl (
+      i,
+      c,
+      λ there.
+          true≢false (sym (any_from_contains i.name (flat_map (λ r. r.instances) plan.resources) (let P : List Name → Type 0 = λ ns. Contains ns i.name in subst P (listed_all lib plan h) there))
+          ∙ sym (found_is plan.resources m i.name listing) ∙ absent),
+    )
 
 -- the same, at an element of the loop
 pub not_listed_at :

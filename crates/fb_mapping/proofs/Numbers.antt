@@ -1,5 +1,5 @@
 -- What the numbers of a network's connections stand for.
-use Rattle.std.proofs.Common.{◌≡◌, ℕ, List, [], ◌∷◌, length, map, Option, Some, None, Contains, refl, sym, ◌∙◌, ap}
+use Rattle.std.proofs.Common.{◌≡◌, ℕ, ◌<◌, List, [], ◌∷◌, length, map, get_or, Option, Some, None, Contains, refl, sym, ◌∙◌, ap, subst}
 use Rattle.std.specs.Prelude.{slice_get, option_map, option_and_then, position}
 use Rattle.std.proofs.lemmas.Option.{slice_get_read}
 use Rattle.fb_types.specs.Names.{Name, Port, same_name}
@@ -134,6 +134,14 @@ withs_known lib x i c network h =
     ap with_of (by_number ∙ sym by_name)
     ∙ sym (ap (withs_of lib) (known_port lib event_outs c.from a.0 k)
     ∙ ap (λ (o : Option Kind). elim o as (λ _. List Name) [ None ↦ [] | Some j ↦ listed_with (ports_of j).event_outputs c.from.port ]) k.kind_is)
+
+-- the same, of an element of a loop
+pub withs_read :
+    (lib : Library) (x : NetworkNumbers) (cs : List Connection) (i : ℕ) (c : Connection) → IsNetwork lib (None, lib.application.network) x
+    → cs ≡ lib.application.network.event_connections → i < length cs → c ≡ get_or cs i c → withs_at lib x i ≡ withs_of lib (port_in [] c.from)
+withs_read lib x cs i c network all h e =
+    let G : List Connection → Type 0 = λ cs. slice_get cs i ≡ Some c in
+    withs_known lib x i c network (subst G all (slice_get_read cs (length cs) i c refl h e))
 
 -- the end at which a data connection begins
 pub data_known :

@@ -106,8 +106,8 @@ pub unlinked_from :
 unlinked_from plan m c ways r s from to found t apart absent = (
   λ same. apart (sends_is plan m c.from r t.holds t.sends ∙ same ∙ sym (sends_is plan m c.to s t.holds t.receives)),
   link_absent plan (resource_of plan (pair_of c).0.at) (resource_of plan (pair_of c).1.at) (λ there.
-  let P : Name × Name → Type 0 = λ x. Contains (link_pairs plan) x in
-  true≢false (sym ((t.ways_are.has from.now to.now).1 (subst P (sym (tried_names plan m c ways r s from to found t)) there)) ∙ sym t.found_is ∙ absent)),
+      let P : Name × Name → Type 0 = λ x. Contains (link_pairs plan) x in
+      true≢false (sym ((t.ways_are.has from.now to.now).1 (subst P (sym (tried_names plan m c ways r s from to found t)) there)) ∙ sym t.found_is ∙ absent)),
 )
 
 pub unlinked_cut :
@@ -171,12 +171,11 @@ link_lacking lib plan cs b all is h =
 pub link_answer :
     (lib : Library) (plan : Plan) (cs ds : List Connection) (b d : Bool) → cs ≡ lib.application.network.event_connections → ds ≡ lib.application.network.data_connections
     → (IsTrue b ↔ HasUnlinked plan cs) → b ≡ false → (IsTrue d ↔ HasUnlinked plan ds) → (IsTrue d ↔ NoLink lib plan)
-link_answer lib plan cs ds b d all_events all_data events none data =
-    let X : List Connection → Type 0 = λ cs. HasUnlinked plan cs in
-    (
-      λ h. no_link_data lib plan (subst X all_data (data.0 h)),
+link_answer lib plan cs ds b d all_events all_data events none rest =
+    let X : List Connection → Type 0 = λ cs. HasUnlinked plan cs in (
+      λ h. no_link_data lib plan (subst X all_data (rest.0 h)),
       λ n. elim (no_link_cases lib plan n) [
         | inl e ↦ absurd (true≢false (sym (events.1 (subst X (sym all_events) e)) ∙ none))
-        | inr e ↦ data.1 (subst X (sym all_data) e)
+        | inr e ↦ rest.1 (subst X (sym all_data) e)
       ],
     )

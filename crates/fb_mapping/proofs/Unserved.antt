@@ -57,8 +57,7 @@ pub unserved-is :
     → found ≡ set.contains lead_cmp served (component, b, s) → (IsTrue (not found) ↔ IsUnserved lib plan c)
 unserved-is lib plan m c served component b r s found holds are sends is apart found_is =
     let S : Port × ℕ → Type 0 = λ y. Serves lib plan y.0 y.1 in
-    let way = way-is plan m c component b s holds is in
-    (
+    let way = way-is plan m c component b s holds is in (
       λ h. (
         λ same. apart (sends ∙ resource-is plan m c.from holds ∙ same ∙ sym (is.leads ∙ resource-is plan m c.to holds)),
         λ serves. true≢false (sym h ∙ ap not (found_is ∙ (are.has (component, b, s)).1 (subst S (sym way) serves))),
@@ -82,13 +81,15 @@ begun lib plan x c once network there =
     let k = d.1 in
     let port = known_port lib data_outs c.from d.0 k in
     let outs = variable_names (ports_of k.kind).outputs in
-    let N : Name → Type 0 = λ n. Contains outs n in
-    (k.kind, record {
-      kind_is = ap (λ (q : Port). kind_at lib q.at) port ∙ k.kind_is;
-      declared = subst N (sym (ap (λ (q : Port). q.name) port))
-          (contains_from_any c.from.port outs (sym (is_some-position (same_name c.from.port) outs) ∙ ap is_some k.port_is));
-      once = outputs_once lib plan k.instance.block_type k.kind once k.own;
-    })
+    let N : Name → Type 0 = λ n. Contains outs n in (
+      k.kind,
+      record {
+        kind_is = ap (λ (q : Port). kind_at lib q.at) port ∙ k.kind_is;
+        declared = subst N (sym (ap (λ (q : Port). q.name) port))
+            (contains_from_any c.from.port outs (sym (is_some-position (same_name c.from.port) outs) ∙ ap is_some k.port_is));
+        once = outputs_once lib plan k.instance.block_type k.kind once k.own;
+      },
+    )
 
 listed_is : (lib : Library) (q : Port) (k : Kind) → kind_at lib q.at ≡ Some k → withs_of lib q ≡ listed_with (ports_of k).event_outputs q.name
 listed_is lib q k h = ap (λ (o : Option Kind). elim o as (λ _. List Name) [ None ↦ [] | Some j ↦ listed_with (ports_of j).event_outputs q.name ]) h
@@ -96,9 +97,15 @@ listed_is lib q k h = ap (λ (o : Option Kind). elim o as (λ _. List Name) [ No
 served_from : (lib : Library) (plan : Plan) (c : Connection) (k : Kind) → IsBegun lib c k → Serves lib plan (way_of plan c).0 (way_of plan c).1 → IsServed lib plan (pair_of c)
 served_from lib plan c k is s =
     let kind = ap (kind_at lib) s.2 ∙ is.kind_is in
-    let N : List Name → Type 0 = λ ns. Contains ns (pair_of c).0.name in
-    (s.0, k, s.1, s.2, is.kind_is,
-    with_from_listed (ports_of k).event_outputs (ports_of k).outputs s.0.0.name (pair_of c).0.name is.declared (subst N (listed_is lib s.0.0 k kind) s.3), s.4)
+    let N : List Name → Type 0 = λ ns. Contains ns (pair_of c).0.name in (
+      s.0,
+      k,
+      s.1,
+      s.2,
+      is.kind_is,
+      with_from_listed (ports_of k).event_outputs (ports_of k).outputs s.0.0.name (pair_of c).0.name is.declared (subst N (listed_is lib s.0.0 k kind) s.3),
+      s.4,
+    )
 
 serves_from : (lib : Library) (plan : Plan) (c : Connection) (k : Kind) → IsBegun lib c k → IsServed lib plan (pair_of c) → Serves lib plan (way_of plan c).0 (way_of plan c).1
 serves_from lib plan c k is s =
@@ -106,10 +113,14 @@ serves_from lib plan c k is s =
     let same : s.1 ≡ k = cc in
     let kind = ap (kind_at lib) s.3 ∙ is.kind_is in
     let N : List Name → Type 0 = λ ns. Contains ns (pair_of c).0.name in
-    let outs = subst N (ap (λ (j : Kind). outputs_with (ports_of j) s.0.0.name) same) s.5 in
-    (s.0, s.2, s.3,
-    subst N (sym (listed_is lib s.0.0 k kind))
-    (listed_from_with (ports_of k).event_outputs (ports_of k).outputs s.0.0.name (pair_of c).0.name is.once outs), s.6)
+    let outs = subst N (ap (λ (j : Kind). outputs_with (ports_of j) s.0.0.name) same) s.5 in (
+      s.0,
+      s.2,
+      s.3,
+      subst N (sym (listed_is lib s.0.0 k kind))
+          (listed_from_with (ports_of k).event_outputs (ports_of k).outputs s.0.0.name (pair_of c).0.name is.once outs),
+      s.6,
+    )
 
 -- ---- All data connections
 

@@ -142,11 +142,15 @@ declared_once lib plan t once there twice =
     let withs = flat_map with_lists (interfaces lib) in
     let parameters : List (List Name) = flat_map (λ n. parameter_lists n.1) (networks lib) in
     let here : Contains first own = Contains-there (block_type_names lib) (map port_names lib.blocks) own (Contains-map port_names lib.blocks t there) in
-    once (inl (own, Contains-append_left (first ++ algorithms ++ states ++ instances ++ withs ++ parameters) (resource_names_of plan ∷ []) own
-    (Contains-append_left (first ++ algorithms ++ states ++ instances ++ withs) parameters own
-    (Contains-append_left (first ++ algorithms ++ states ++ instances) withs own
-    (Contains-append_left (first ++ algorithms ++ states) instances own
-    (Contains-append_left (first ++ algorithms) states own (Contains-append_left first algorithms own here))))), all))
+    once (inl (
+      own,
+      Contains-append_left (first ++ algorithms ++ states ++ instances ++ withs ++ parameters) (resource_names_of plan ∷ []) own
+          (Contains-append_left (first ++ algorithms ++ states ++ instances ++ withs) parameters own
+          (Contains-append_left (first ++ algorithms ++ states ++ instances) withs own
+          (Contains-append_left (first ++ algorithms ++ states) instances own
+          (Contains-append_left (first ++ algorithms) states own (Contains-append_left first algorithms own here))))),
+      all,
+    ))
 
 pub outputs_once : (lib : Library) (plan : Plan) (n : Name) (k : Kind) → ¬ (NameTwice lib plan) → type_named lib n ≡ Some k → ¬ (Twice (event_names (ports_of k).event_outputs))
 outputs_once lib plan n k once h =

@@ -25,12 +25,7 @@ type Mapped = (
 
 /// A deployment, the event and the data connections, and the answer: `None` where an instance is not mapped or mapped
 /// twice, else whether a connection lacks its link.
-type Case = (
-    Mapped,
-    &'static [Wiring],
-    &'static [Wiring],
-    Option<bool>,
-);
+type Case = (Mapped, &'static [Wiring], &'static [Wiring], Option<bool>);
 
 fn name(alloc: Global, text: &str) -> Result<Name, AllocError> {
     Name::from_text(alloc, text)
