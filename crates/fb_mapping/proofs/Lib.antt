@@ -1,0 +1,10 @@
+pub mod Unserved
+pub mod Withs
+pub mod Numbers
+pub mod Carried
+pub mod Unlinked
+pub mod EventInterfaces
+pub mod Sets
+pub mod Lists
+pub mod Mapped
+pub mod Listing

@@ -1,0 +1,3 @@
+pub mod Serving
+pub mod Links
+pub mod Mapping
