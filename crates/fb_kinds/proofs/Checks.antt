@@ -32,11 +32,11 @@ and_true true = refl
 and_true false = refl
 
 -- what a function answers that makes two tests
-pub then_answer : {r s a b c : Bool} → r ≡ a → s ≡ b → c ≡ (a && b) → r ≡ true → s ≡ c
-then_answer p q e h = q ∙ sym (e ∙ ap (λ x. x && _) (sym p ∙ h))
+pub then_answer : {r s a c : Bool} (b : Bool) → r ≡ a → s ≡ b → c ≡ (a && b) → r ≡ true → s ≡ c
+then_answer b p q e h = q ∙ sym (e ∙ ap (λ x. x && b) (sym p ∙ h))
 
-pub else_answer : {r a b c : Bool} → r ≡ a → c ≡ (a && b) → r ≡ false → r ≡ c
-else_answer p e h = h ∙ sym (e ∙ ap (λ x. x && _) (sym p ∙ h))
+pub else_answer : {r a c : Bool} (b : Bool) → r ≡ a → c ≡ (a && b) → r ≡ false → r ≡ c
+else_answer b p e h = h ∙ sym (e ∙ ap (λ x. x && b) (sym p ∙ h))
 
 and_both : {a b c d : Bool} → a ≡ c → b ≡ d → (a && b) ≡ (c && d)
 and_both p q = λ k. p k && q k

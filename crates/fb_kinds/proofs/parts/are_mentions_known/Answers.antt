@@ -7,10 +7,12 @@ use Rattle.fb_kinds.proofs.parts.are_mentions_known.Goals as goal
 
 pub returns-then-are_bodies_known : goal.returns-then-are_bodies_known
 returns-then-are_bodies_known c =
-    then_answer (c.are_bodies_known.ensures ∙ ap (list_all (body_known c.args.scope.now)) (c.as_slice.ensures ∙ ap (λ (x : BasicType). x.algorithms) c.block-block.ensures))
+    then_answer (list_all (guard_known c.args.scope.now) c.args.scope.now.transitions)
+    (c.are_bodies_known.ensures ∙ ap (list_all (body_known c.args.scope.now)) (c.as_slice.ensures ∙ ap (λ (x : BasicType). x.algorithms) c.block-block.ensures))
     (c.are_guards_known.ensures ∙ ap (list_all (guard_known c.args.scope.now)) (c.as_slice-then-are_bodies_known.ensures ∙ ap (λ (x : BasicType). x.transitions) c.block-block.ensures))
     (mentions_met c.args.scope.now) c.if-are_bodies_known.true
 
 pub returns-else-are_bodies_known : goal.returns-else-are_bodies_known
 returns-else-are_bodies_known c =
-    else_answer (c.are_bodies_known.ensures ∙ ap (list_all (body_known c.args.scope.now)) (c.as_slice.ensures ∙ ap (λ (x : BasicType). x.algorithms) c.block-block.ensures)) (mentions_met c.args.scope.now) c.if-are_bodies_known.false
+    else_answer (list_all (guard_known c.args.scope.now) c.args.scope.now.transitions)
+    (c.are_bodies_known.ensures ∙ ap (list_all (body_known c.args.scope.now)) (c.as_slice.ensures ∙ ap (λ (x : BasicType). x.algorithms) c.block-block.ensures)) (mentions_met c.args.scope.now) c.if-are_bodies_known.false
