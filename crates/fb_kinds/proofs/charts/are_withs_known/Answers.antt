@@ -1,0 +1,18 @@
+use Rattle.std.proofs.Common.{sym, ◌∙◌, ap}
+use Rattle.fb_types.specs.declared.library.Ports.{Ports}
+use Rattle.std.specs.List.{list_all}
+use Rattle.fb_kinds.specs.Checks.{with_inputs, with_outputs}
+use Rattle.fb_kinds.proofs.Checks.{then_answer, else_answer, withs_met}
+use Rattle.fb_kinds.proofs.charts.are_withs_known.Goals as goal
+
+pub returns-then-have_inputs : goal.returns-then-have_inputs
+returns-then-have_inputs c =
+    then_answer (list_all (with_outputs c.args.interface.now.ports) c.args.interface.now.ports.event_outputs)
+    (c.have_inputs.ensures ∙ ap (list_all (with_inputs c.args.interface.now.ports)) (c.as_slice.ensures ∙ ap (λ (x : Ports). x.event_inputs) c.ports-ports.ensures))
+    (c.have_outputs.ensures ∙ ap (list_all (with_outputs c.args.interface.now.ports)) (c.as_slice-then-have_inputs.ensures ∙ ap (λ (x : Ports). x.event_outputs) c.ports-ports.ensures))
+    (withs_met c.args.interface.now.ports) c.if-have_inputs.true
+
+pub returns-else-have_inputs : goal.returns-else-have_inputs
+returns-else-have_inputs c =
+    else_answer (list_all (with_outputs c.args.interface.now.ports) c.args.interface.now.ports.event_outputs)
+    (c.have_inputs.ensures ∙ ap (list_all (with_inputs c.args.interface.now.ports)) (c.as_slice.ensures ∙ ap (λ (x : Ports). x.event_inputs) c.ports-ports.ensures)) (withs_met c.args.interface.now.ports) c.if-have_inputs.false

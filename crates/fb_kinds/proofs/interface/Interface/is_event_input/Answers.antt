@@ -1,0 +1,11 @@
+use Rattle.std.proofs.Common.{sym, ◌∙◌, ap}
+use Rattle.fb_kinds.specs.Roles.{is_event_input}
+use Rattle.fb_kinds.proofs.Roles.{says, event_input_says}
+use Rattle.fb_kinds.proofs.interface.Interface.is_event_input.Goals as goal
+
+pub returns-in-Some : goal.returns-in-Some
+returns-in-Some c =
+    c.is_event_input.ensures ∙ ap (says is_event_input) (sym c.in-Some.is) ∙ event_input_says c.args.self.now c.args.name.now c.role_of.result c.role_of.ensures.role
+
+pub returns-in-None : goal.returns-in-None
+returns-in-None c = ap (says is_event_input) (sym c.in-None.is) ∙ event_input_says c.args.self.now c.args.name.now c.role_of.result c.role_of.ensures.role

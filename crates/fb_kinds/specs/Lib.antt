@@ -1,0 +1,4 @@
+pub mod Roles
+pub mod Sorts
+pub mod Trees
+pub mod Checks
