@@ -18,8 +18,6 @@ mod ports;
 pub mod read;
 mod rule;
 mod statement;
-#[cfg(test)]
-mod tests;
 mod time;
 mod token;
 mod tokens;

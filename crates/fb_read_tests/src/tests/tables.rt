@@ -1,7 +1,7 @@
 //! How the tables of the tests are tried.
 
 use super::show::{add, add_library};
-use crate::{ReadError, read_library};
+use fb_read::{ReadError, read_library};
 use std::alloc::Global;
 use std::process::Abort;
 
