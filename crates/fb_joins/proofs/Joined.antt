@@ -127,8 +127,9 @@ component_end lib n x component around e c w is finds h =
     let at = map_parts (λ (j : ℕ). record { component = Some i.0; port = j }) (place_of (variable_names (component (ports_of k.0))) e.port) w ends in
     let t = each_at (λ (i : Instance). type_number lib i.block_type) n.1.instances x.types i.0 inst.0 is.types inst.1 in
     let kind : kind_of_number lib t.0 ≡ Some k.0 = sym (type_by_number lib inst.0.block_type t.0 t.2) ∙ inst.2 in
-    let stands : option_and_then (kind_of_instance lib) (instance_in n.1 c) ≡ Some k.0 =
-    ap (option_and_then (kind_of_instance lib)) (named-position (λ (i : Instance). i.name) c n.1.instances ∙ ap (option_and_then (slice_get n.1.instances)) i.1) ∙ k.1 in
+    let found : instance_in n.1 c ≡ slice_get n.1.instances i.0 =
+    named-position (λ (i : Instance). i.name) c n.1.instances ∙ ap (option_and_then (slice_get n.1.instances)) i.1 in
+    let stands : option_and_then (kind_of_instance lib) (instance_in n.1 c) ≡ Some k.0 = ap (option_and_then (kind_of_instance lib)) found ∙ k.1 in
     let P : End → Type 0 = λ w. end_type lib component around (boundary n) x.types w ≡ option_and_then (λ k. type_among (ports_of k) e) (option_and_then (kind_of_instance lib) (instance_in n.1 c)) in
     subst P at.2
     (ap (option_and_then (λ (t : TypeNumber). option_and_then (λ (kind : Kind). type_at (component (ports_of kind)) at.0) (kind_of_number lib t))) t.1
