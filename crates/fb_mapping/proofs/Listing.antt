@@ -1,5 +1,5 @@
 -- The resources that list names, one name at a time.
-use Rattle.std.proofs.Common.{◌≡◌, ℕ, zero, suc, ◌<◌, ◌≤◌, ◌+◌, Bool, true, false, cond, ◌||◌, List, [], ◌∷◌, ◌++◌, length, map, take, drop, get_or, Option, Some, None, Contains, Bor, refl, sym, ◌∙◌, ap, subst, inl, inr, arith, append_assoc}
+use Rattle.std.proofs.Common.{◌≡◌, ℕ, suc, ◌<◌, ◌≤◌, ◌+◌, Bool, true, false, cond, ◌||◌, List, [], ◌∷◌, ◌++◌, length, map, take, drop, get_or, Option, Some, None, Contains, Bor, refl, sym, ◌∙◌, ap, subst, arith, append_assoc}
 use Rattle.std.specs.Prelude.{position, is_some, option_map, flat_map}
 use Rattle.std.specs.List.{list_any}
 use Rattle.std.specs.Ordering.{nat_cmp, is_eq}
@@ -14,9 +14,9 @@ use Rattle.fb_types.specs.Blocks.{named, among}
 use Rattle.fb_types.specs.Repeated.{Twice}
 use Rattle.fb_types.specs.declared.deploy.Resource.{Resource}
 use Rattle.fb_names.specs.Places.{place_in}
-use Rattle.fb_names.proofs.NameLemmas.{same_name-itself, same_from_same_name, same_name-Decides, contains_from_any, any_from_contains, Twice-push, Twice-append_left, once_push}
-use Rattle.fb_names.proofs.Positions.{position-cons, is_some-position, same_name-flip}
-use Rattle.fb_names.proofs.Seen.{name_cmp, slice_cmp-Decides, map_take_more, more_of_part}
+use Rattle.fb_names.proofs.NameLemmas.{same_name-itself, same_from_same_name, contains_from_any, any_from_contains, Twice-push, Twice-append_left, once_push}
+use Rattle.fb_names.proofs.Positions.{position-cons, same_name-flip}
+use Rattle.fb_names.proofs.Seen.{name_cmp, slice_cmp-Decides, more_of_part}
 use Rattle.fb_mapping.specs.Mapping.{IsListing}
 
 -- ---- Names with the numbers of the resources that list them

@@ -1,8 +1,8 @@
 -- What the numbers of a network's connections stand for.
 use Rattle.std.proofs.Common.{◌≡◌, ℕ, ◌<◌, List, [], ◌∷◌, length, map, get_or, Option, Some, None, Contains, refl, sym, ◌∙◌, ap, subst}
-use Rattle.std.specs.Prelude.{slice_get, option_map, option_and_then, position}
+use Rattle.std.specs.Prelude.{slice_get, option_map, option_and_then}
 use Rattle.std.proofs.lemmas.Option.{slice_get_read}
-use Rattle.fb_types.specs.Names.{Name, Port, same_name}
+use Rattle.fb_types.specs.Names.{Name, Port}
 use Rattle.fb_types.specs.Blocks.{Kind, Event, named, event_blocks, ports_of}
 use Rattle.fb_types.specs.Flat.{kind_of, kind_of_instance, kind_at, type_name, type_named, port_in}
 use Rattle.fb_types.specs.Repeated.{instance_names}
@@ -14,7 +14,7 @@ use Rattle.fb_types.specs.declared.library.EventPort.{EventPort}
 use Rattle.fb_types.specs.declared.library.Instance.{Instance}
 use Rattle.fb_types.specs.declared.library.PortName.{PortName}
 use Rattle.fb_types.specs.declared.library.Ports.{Ports}
-use Rattle.fb_resolve.specs.Numbers.{IsNetwork, type_number, kind_of_number, place_of, ports_at_place, end_at, end_number, both_ends, event_wire, data_wire}
+use Rattle.fb_resolve.specs.Numbers.{IsNetwork, type_number, kind_of_number, place_of, ports_at_place, end_at, end_number, event_wire, data_wire}
 use Rattle.fb_resolve.specs.declared.numbers.TypeNumber.{TypeNumber}
 use Rattle.fb_resolve.specs.declared.numbers.TypeNumber.TheVariants as number
 use Rattle.fb_resolve.specs.declared.numbers.End.{End}

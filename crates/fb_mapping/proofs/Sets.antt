@@ -8,8 +8,7 @@ use Rattle.std.specs.declared.cmp.Ordering.TheVariants as order
 use Rattle.std.specs.BTreeSet as set
 use Rattle.std.proofs.lemmas.Bool.{true≢false}
 use Rattle.std.proofs.lemmas.List.Elements.{Contains-append_left, Contains-push, Contains-push_cases}
-use Rattle.fb_types.specs.Names.{Name, Path, Port}
-use Rattle.fb_names.proofs.NameLemmas.{Contains-nil}
+use Rattle.fb_types.specs.Names.{Name, Port}
 use Rattle.fb_names.proofs.Seen.{IsExact, more_of_part, slice_cmp-Decides}
 use Rattle.fb_mapping.specs.Serving.{Lead, lead_cmp, lead_port, path_of, name_cmp}
 

@@ -1,6 +1,6 @@
 -- Data connections that no event serves.
-use Rattle.std.proofs.Common.{◌≡◌, ◌≢◌, ℕ, Bool, true, false, not, List, [], ◌∷◌, map, Option, Some, None, Contains, Bor, refl, sym, ◌∙◌, ap, subst}
-use Rattle.std.specs.Prelude.{◌↔◌, IsTrue, is_some, position}
+use Rattle.std.proofs.Common.{◌≡◌, ◌≢◌, ℕ, Bool, true, false, not, List, [], Option, Some, None, Contains, Bor, refl, sym, ◌∙◌, ap, subst}
+use Rattle.std.specs.Prelude.{◌↔◌, IsTrue, is_some}
 use Rattle.std.specs.BTreeSet as set
 use Rattle.std.proofs.lemmas.Bool.{true≢false, false_from_ne_true}
 use Rattle.fb_types.specs.Names.{Name, Port, same_name}
@@ -8,7 +8,7 @@ use Rattle.fb_types.specs.Blocks.{Kind, ports_of, outputs_with, event_names, var
 use Rattle.fb_types.specs.Flat.{port_in, resource_of, kind_at}
 use Rattle.fb_types.specs.Repeated.{NameTwice, Twice}
 use Rattle.fb_types.specs.Unknown.{data_outs}
-use Rattle.fb_types.specs.Mapped.{IsCut, IsServed, NoEvent, data_pairs_of}
+use Rattle.fb_types.specs.Mapped.{IsCut, IsServed, NoEvent}
 use Rattle.fb_types.specs.declared.library.Library.{Library}
 use Rattle.fb_types.specs.declared.library.Connection.{Connection}
 use Rattle.fb_types.specs.declared.deploy.Plan.{Plan}

@@ -1,9 +1,9 @@
 -- The variables WITH an output event, where the names of a type differ.
-use Rattle.std.proofs.Common.{◌≡◌, ◌⊎◌, ◌||◌, ◌&&◌, Bool, true, false, cond, List, [], ◌∷◌, ◌++◌, map, Option, Some, None, Contains, refl, sym, ◌∙◌, ap, subst, inl, inr}
+use Rattle.std.proofs.Common.{◌≡◌, ◌||◌, ◌&&◌, Bool, true, false, cond, List, [], ◌∷◌, ◌++◌, map, Option, Some, None, Contains, refl, sym, ◌∙◌, ap, subst, inl, inr}
 use Rattle.std.specs.Prelude.{option_map, flat_map}
 use Rattle.std.specs.List.{list_any}
 use Rattle.std.proofs.lemmas.Bool.{true≢false}
-use Rattle.std.proofs.lemmas.List.Elements.{Contains-append_left, Contains-append_right}
+use Rattle.std.proofs.lemmas.List.Elements.{Contains-append_left}
 use Rattle.fb_types.specs.Names.{Name, same_name}
 use Rattle.fb_types.specs.Blocks.{Kind, Event, named, among, event_names, variable_names, variables_with, event_blocks, ports_of, ports_of_event_block}
 use Rattle.fb_types.specs.Flat.{kind_of, type_name, type_named, resource_names_of}
@@ -15,7 +15,7 @@ use Rattle.fb_types.specs.declared.library.BlockType.{BlockType}
 use Rattle.fb_types.specs.declared.library.EventPort.{EventPort}
 use Rattle.fb_types.specs.declared.library.Variable.{Variable}
 use Rattle.fb_types.specs.declared.deploy.Plan.{Plan}
-use Rattle.fb_names.proofs.NameLemmas.{Contains-nil, Contains-cons_cases, Contains-here, Contains-there, contains_from_any, any_from_contains, same_from_same_name, Twice-append_left}
+use Rattle.fb_names.proofs.NameLemmas.{Contains-nil, Contains-here, Contains-there, contains_from_any, any_from_contains, same_from_same_name, Twice-append_left}
 use Rattle.fb_mapping.specs.Serving.{listed_with}
 use Rattle.fb_mapping.proofs.Lists.{Contains-filter, filter-Contains, map_some}
 use Rattle.fb_mapping.proofs.Mapped.{Contains-map}

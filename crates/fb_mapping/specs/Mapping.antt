@@ -1,5 +1,5 @@
 -- What a mapping of the application's instances to resources says (IEC 61499-1, 7.2; one resource for each instance is this project's profile).
-use Rattle.std.specs.Prelude.{◌≡◌, ℕ, List, Option, Some, None, unwrap_or, position, flat_map}
+use Rattle.std.specs.Prelude.{◌≡◌, ℕ, List, Some, None, unwrap_or, position, flat_map}
 use Rattle.std.specs.BTreeMap.{BTreeMap}
 use Rattle.std.specs.Borrow.{Bor}
 use Rattle.fb_types.specs.Names.{Name}

@@ -1,6 +1,6 @@
 -- The data that event connections carry along: an output event brings the variables WITH it (IEC 61499-1, 5.2.1 and 7; that a data
 -- connection between resources needs an event connection beside it is this project's profile).
-use Rattle.std.specs.Prelude.{◌≡◌, ◌⊎◌, ℕ, List, [], ◌∷◌, length, Option, Some, None, Contains, slice_get, option_and_then, IsTrue}
+use Rattle.std.specs.Prelude.{◌≡◌, ◌⊎◌, ℕ, List, [], ◌∷◌, Option, Some, None, Contains, slice_get, option_and_then, IsTrue}
 use Rattle.std.specs.Bool.{Decides}
 use Rattle.std.specs.Ordering.{nat_cmp, ordering_then}
 use Rattle.std.specs.Option.{option_cmp}

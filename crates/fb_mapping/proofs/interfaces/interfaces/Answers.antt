@@ -1,4 +1,4 @@
-use Rattle.std.proofs.Common.{refl, arith}
+use Rattle.std.proofs.Common.{arith}
 use Rattle.fb_mapping.proofs.EventInterfaces.{kinds_more, kinds_all}
 use Rattle.fb_mapping.proofs.interfaces.interfaces.Goals as goal
 

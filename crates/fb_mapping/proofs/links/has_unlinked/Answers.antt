@@ -1,4 +1,4 @@
-use Rattle.std.proofs.Common.{◌≡◌, true, refl, sym, ◌∙◌}
+use Rattle.std.proofs.Common.{refl, sym, ◌∙◌}
 use Rattle.std.proofs.lemmas.Bool.{true≢false}
 use Rattle.fb_mapping.specs.Links.{IsUnlinked}
 use Rattle.fb_mapping.proofs.Lists.{exists_none, exists_at, exists_more, exists_all}

@@ -1,6 +1,6 @@
-use Rattle.std.proofs.Common.{◌≡◌, true, refl, sym}
+use Rattle.std.proofs.Common.{sym}
 use Rattle.std.proofs.lemmas.Bool.{true≢false}
-use Rattle.fb_mapping.proofs.Unlinked.{IsTried, unlinked-is, unlinked_apart}
+use Rattle.fb_mapping.proofs.Unlinked.{unlinked-is, unlinked_apart}
 use Rattle.fb_mapping.proofs.links.is_unlinked.Goals as goal
 
 pub returns-then-from-to : goal.returns-then-from-to

@@ -1,4 +1,4 @@
-use Rattle.std.proofs.Common.{[], Contains, map, take, subst, List}
+use Rattle.std.proofs.Common.{[], Contains, map, subst, List}
 use Rattle.std.proofs.lemmas.List.{take_all}
 use Rattle.fb_types.specs.declared.deploy.Link.{Link}
 use Rattle.fb_mapping.specs.Links.{names_of_link}

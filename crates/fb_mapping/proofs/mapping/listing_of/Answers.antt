@@ -1,4 +1,4 @@
-use Rattle.std.proofs.Common.{◌≡◌, ℕ, List, take, sym, ◌∙◌, subst}
+use Rattle.std.proofs.Common.{List, sym, ◌∙◌, subst}
 use Rattle.std.proofs.lemmas.List.{take_all}
 use Rattle.fb_types.specs.declared.deploy.Resource.{Resource}
 use Rattle.fb_mapping.proofs.Listing.{IsHeld, held_more, held_resource, held_twice, holdings, listing_from_held}

@@ -1,4 +1,4 @@
-use Rattle.std.proofs.Common.{◌≡◌, true, refl, sym}
+use Rattle.std.proofs.Common.{sym}
 use Rattle.std.proofs.lemmas.Bool.{true≢false}
 use Rattle.fb_mapping.proofs.Unserved.{unserved-is, unserved_same}
 use Rattle.fb_mapping.proofs.uncarried.is_unserved.Goals as goal
