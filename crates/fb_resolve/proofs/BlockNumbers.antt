@@ -1,7 +1,7 @@
 -- The networks of the first block types by numbers.
-use Rattle.std.proofs.Common.{◌≡◌, ℕ, zero, suc, ◌<◌, ◌+◌, List, [], ◌∷◌, ◌++◌, length, get_or, Some, None, Option, Contains, MatchOption, refl, sym, ◌∙◌, ap, subst, length-append, arith}
-use Rattle.std.specs.Prelude.{flat_map, slice_get}
-use Rattle.std.proofs.lemmas.Option.{slice_get-get_or, slice_get_within, slice_get_read, same_Some}
+use Rattle.std.proofs.Common.{◌≡◌, ℕ, zero, suc, ◌<◌, ◌+◌, List, [], ◌∷◌, ◌++◌, length, get_or, Some, None, Option, MatchOption, refl, sym, ◌∙◌, ap, subst, length-append, arith}
+use Rattle.std.specs.Prelude.{slice_get}
+use Rattle.std.proofs.lemmas.Option.{slice_get_within, slice_get_read, same_Some}
 use Rattle.fb_types.specs.Repeated.{Placed, networks_in, instance_names}
 use Rattle.fb_types.specs.declared.library.BasicType.{BasicType}
 use Rattle.fb_types.specs.declared.library.BlockType.{BlockType}
@@ -18,7 +18,7 @@ use Rattle.fb_resolve.specs.Types.{HasTypes}
 use Rattle.fb_resolve.specs.Unknown.{AreBlocks, BlockUnknown, NetworkUnknown}
 use Rattle.fb_resolve.specs.declared.numbers.NetworkNumbers.{NetworkNumbers}
 use Rattle.fb_resolve.proofs.Lookups.{block_places}
-use Rattle.fb_resolve.proofs.Tests.{Contains-flat_map, element_of_place, match_none, match_some}
+use Rattle.fb_resolve.proofs.Elements.{Contains-flat_map, element_of_place, match_none, match_some}
 
 -- the network of a block type by numbers, none of a basic type
 abbrev pub IsBlockNumbers : Library → BlockType → Option NetworkNumbers → Type 0

@@ -1,5 +1,5 @@
 pub mod Each
-pub mod Tests
+pub mod Elements
 pub mod Parts
 pub mod EventBlocks
 pub mod Lookups

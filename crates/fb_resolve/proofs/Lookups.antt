@@ -1,5 +1,5 @@
 -- Types, ports and instances by the places of their names.
-use Rattle.std.proofs.Common.{◌≡◌, ℕ, ◌<◌, ◌≤◌, ◌-◌, List, [], ◌∷◌, ◌++◌, length, map, get_or, Some, None, Option, Bor, MatchOption, SomeIff, refl, sym, ◌∙◌, ap, subst, append_assoc}
+use Rattle.std.proofs.Common.{◌≡◌, ℕ, ◌<◌, ◌≤◌, ◌-◌, List, ◌++◌, length, map, get_or, Some, None, Option, Bor, MatchOption, SomeIff, refl, sym, ◌∙◌, ap, subst, append_assoc}
 use Rattle.std.specs.Prelude.{slice_get, option_map, option_and_then, position}
 use Rattle.std.specs.BTreeMap.{BTreeMap}
 use Rattle.std.proofs.lemmas.List.{length-map}
@@ -10,7 +10,6 @@ use Rattle.fb_types.specs.Flat.{kind_of, type_name, type_named, kind_of_instance
 use Rattle.fb_types.specs.Repeated.{Placed, instance_names, internals_of}
 use Rattle.fb_types.specs.Blocks.{variable_names}
 use Rattle.fb_types.specs.Unknown.{event_ins, event_outs, data_ins, data_outs}
-use Rattle.fb_types.specs.declared.event_kind.EventKind.{EventKind}
 use Rattle.fb_types.specs.declared.library.BlockType.{BlockType}
 use Rattle.fb_types.specs.declared.library.Instance.{Instance}
 use Rattle.fb_types.specs.declared.library.Library.{Library}

@@ -1,15 +1,14 @@
 -- What a network names and nothing stands for, where it gets no numbers (E21).
-use Rattle.std.proofs.Common.{◌≡◌, ◌&&◌, ◌||◌, ℕ, Bool, true, false, List, [], ◌∷◌, ◌++◌, map, Some, None, Option, Contains, refl, sym, ◌∙◌, ap, subst, inl, inr}
-use Rattle.std.specs.Prelude.{flat_map, is_some, position, slice_get, option_map, option_and_then}
+use Rattle.std.proofs.Common.{◌≡◌, ◌&&◌, ◌||◌, ℕ, Bool, true, false, List, [], map, Some, None, Option, Contains, refl, sym, ◌∙◌, ap, inl, inr}
+use Rattle.std.specs.Prelude.{flat_map, is_some, slice_get, option_map, option_and_then}
 use Rattle.std.specs.List.{list_any, list_all}
 use Rattle.std.proofs.lemmas.Bool.{true≢false, false_from_ne_true}
 use Rattle.std.proofs.lemmas.List.Folds.{list_all-append, list_any-append}
 use Rattle.fb_types.specs.Names.{Name, same_name}
-use Rattle.fb_types.specs.Blocks.{Kind, event_blocks, event_block_named, named, among, variable_names, ports_of}
+use Rattle.fb_types.specs.Blocks.{Kind, event_blocks, named, among, variable_names, ports_of}
 use Rattle.fb_types.specs.Flat.{type_name, kind_of_instance, instance_in}
 use Rattle.fb_types.specs.Repeated.{Placed, block_type_names, instance_names}
 use Rattle.fb_types.specs.Unknown.{Wanted, all_of, types_wanted, parameters_wanted, ends_known, is_end, event_ins, event_outs, data_ins, data_outs}
-use Rattle.fb_types.specs.declared.event_kind.EventKind.{EventKind}
 use Rattle.fb_types.specs.declared.library.CompositeType.{CompositeType}
 use Rattle.fb_types.specs.declared.library.Connection.{Connection}
 use Rattle.fb_types.specs.declared.library.Instance.{Instance}
@@ -29,7 +28,7 @@ use Rattle.fb_resolve.specs.declared.numbers.TypeNumber.TheVariants as number
 use Rattle.fb_resolve.specs.declared.numbers.Wire.{Wire}
 use Rattle.fb_resolve.proofs.Each.{is_some-each}
 use Rattle.fb_resolve.proofs.Lookups.{kind_known, kind_of_numbered, type_named-number}
-use Rattle.fb_resolve.proofs.Tests.{fails_at, fails_from, list_all-map, list_all-flat_map, list_all-agree, list_all-both, any-named, is_some-option_map}
+use Rattle.fb_resolve.proofs.Elements.{fails_at, fails_from, list_all-map, list_all-flat_map, list_all-agree, list_all-both, any-named, is_some-option_map}
 
 -- ---- Wanted names
 

@@ -1,36 +1,32 @@
 -- What is unknown in a declaration and a deployment, by its parts (E21).
-use Rattle.std.proofs.Common.{◌≡◌, ◌⊎◌, ◌&&◌, ℕ, ◌<◌, ◌+◌, Bool, true, false, List, [], ◌∷◌, ◌++◌, map, length, get_or, Some, None, Option, Bor, Contains, MatchOption, refl, sym, ◌∙◌, ap, subst, inl, inr, length-append}
-use Rattle.std.specs.Prelude.{flat_map, is_some, slice_get, option_map, option_and_then}
-use Rattle.std.specs.List.{list_any, list_all}
+use Rattle.std.proofs.Common.{◌≡◌, ◌&&◌, ℕ, ◌+◌, Bool, true, false, List, [], ◌∷◌, ◌++◌, Some, None, Option, Bor, Contains, MatchOption, refl, sym, ◌∙◌, ap, subst, inl, inr}
+use Rattle.std.specs.Prelude.{flat_map, is_some, option_map, option_and_then}
+use Rattle.std.specs.List.{list_all}
 use Rattle.std.specs.BTreeMap.{BTreeMap}
 use Rattle.std.proofs.lemmas.Bool.{true≢false}
 use Rattle.std.proofs.lemmas.List.Folds.{list_all-append}
 use Rattle.std.proofs.lemmas.List.Elements.{Contains-append_left, Contains-append_right, Contains-append_cases}
-use Rattle.std.proofs.lemmas.Option.{slice_get-get_or, slice_get_within, slice_get_read, same_Some}
 use Rattle.fb_types.specs.Names.{Name, same_name}
 use Rattle.fb_types.specs.Flat.{resource_names_of}
 use Rattle.fb_types.specs.Repeated.{Placed, networks, networks_in, interfaces, basics, instance_names}
 use Rattle.fb_types.specs.Unknown.{Wanted, all_of, wanted, types_wanted, withs_wanted, chart_wanted, parameters_wanted, deployment_wanted, NameUnknown}
-use Rattle.fb_types.specs.declared.library.BasicType.{BasicType}
 use Rattle.fb_types.specs.declared.library.BlockType.{BlockType}
 use Rattle.fb_types.specs.declared.library.BlockType.TheVariants as block
-use Rattle.fb_types.specs.declared.library.CompositeType.{CompositeType}
 use Rattle.fb_types.specs.declared.library.Library.{Library}
 use Rattle.fb_types.specs.declared.deploy.Plan.{Plan}
 use Rattle.fb_types.specs.declared.deploy.Link.{Link}
 use Rattle.fb_types.specs.declared.deploy.Resource.{Resource}
 use Rattle.fb_names.specs.Places.{IsIndex, place_in}
-use Rattle.fb_names.specs.Parts.{ArePartsKnown, parts_wanted}
+use Rattle.fb_names.specs.Parts.{ArePartsKnown}
 use Rattle.fb_names.proofs.NameLemmas.{Contains-nil, Contains-cons_cases, Contains-here, Contains-there}
 use Rattle.fb_names.proofs.Positions.{is_some-position}
 use Rattle.fb_resolve.specs.Numbers.{IsNetwork, IsResolved, each_or_none, place_of, held_numbers, link_ends}
-use Rattle.fb_resolve.specs.Unknown.{NetworkUnknown, BlockUnknown, DeploymentUnknown, AreBlocks, network_wanted}
+use Rattle.fb_resolve.specs.Unknown.{NetworkUnknown, BlockUnknown, DeploymentUnknown, AreBlocks}
 use Rattle.fb_resolve.specs.declared.numbers.LinkEnds.{LinkEnds}
 use Rattle.fb_resolve.specs.declared.numbers.NetworkNumbers.{NetworkNumbers}
-use Rattle.fb_resolve.specs.declared.numbers.Resolved.{Resolved}
 use Rattle.fb_resolve.proofs.Each.{is_some-each}
 use Rattle.fb_resolve.proofs.NetworkUnknown.{met, places_met, unmet_wanted, met_wanted, network_known}
-use Rattle.fb_resolve.proofs.Tests.{list_all-flat_map, list_all-agree, Contains-flat_map, Contains-flat_map_from, place_of_element, element_of_place, each-agree, match_none, match_some}
+use Rattle.fb_resolve.proofs.Elements.{list_all-flat_map, list_all-agree, Contains-flat_map, Contains-flat_map_from, place_of_element, each-agree, match_none, match_some}
 
 -- ---- The names of a declaration and a deployment, by their parts
 

@@ -1,5 +1,5 @@
 -- A network with the places of its names (IEC 61499-1, 5.3).
-use Rattle.std.specs.Prelude.{◌≡◌, ℕ, List, Option, Some, option_map, option_and_then}
+use Rattle.std.specs.Prelude.{◌≡◌, List, Option, Some, option_map, option_and_then}
 use Rattle.std.specs.Option.{ForSome}
 use Rattle.fb_types.specs.Names.{Name}
 use Rattle.fb_types.specs.Repeated.{Placed, instance_names}

@@ -1,6 +1,6 @@
 //! The networks of all composite types by numbers.
 
-ghost use Rattle.std.specs.Prelude.{◌≡◌, IfOk, MatchOption};
+ghost use Rattle.std.specs.Prelude.{IfOk, MatchOption};
 ghost use Rattle.fb_resolve.specs.Types.{AreTypes};
 ghost use Rattle.fb_resolve.specs.Unknown.{AreBlocks, BlockUnknown};
 

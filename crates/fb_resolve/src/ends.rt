@@ -1,9 +1,7 @@
 //! Connections by numbers.
 
-ghost use Rattle.std.specs.Prelude.{◌≡◌, IfOk, Some, option_and_then};
-ghost use Rattle.fb_types.specs.Repeated.{instance_names};
-ghost use Rattle.fb_resolve.specs.Numbers.{each_or_none, end_at, end_number, type_number};
-ghost use Rattle.fb_resolve.specs.Numbers as spec;
+ghost use Rattle.std.specs.Prelude.{◌≡◌, IfOk, option_and_then};
+ghost use Rattle.fb_resolve.specs.Numbers.{each_or_none, end_at, end_number};
 ghost use Rattle.fb_resolve.specs.Scopes.{IsScope, AreTyped, component_number, placed, wire_number};
 ghost use Rattle.fb_resolve.specs.Sorts.{names_of_sort};
 ghost use Rattle.fb_resolve.specs.Types.{AreTypes};

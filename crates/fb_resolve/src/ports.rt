@@ -10,7 +10,7 @@ use fb_types::library::{EventPort, Ports, Variable};
 use fb_types::name::Name;
 
 /// A sort of ports, each with a direction.
-#[derive(Clone, Copy, Debug, PartialEq, Eq)]
+#[derive(Clone, Copy)]
 pub enum Sort {
     EventInput,
     EventOutput,

@@ -1,7 +1,6 @@
 //! Types of instances and their ports, by names.
 
-ghost use Rattle.std.specs.Prelude.{◌≡◌, IfOk, map};
-ghost use Rattle.fb_types.specs.Blocks.{ports_of_event_block};
+ghost use Rattle.std.specs.Prelude.{◌≡◌, IfOk};
 ghost use Rattle.fb_resolve.specs.Numbers as spec;
 ghost use Rattle.fb_resolve.specs.Sorts.{names_of_sort};
 ghost use Rattle.fb_resolve.specs.Types.{AreTypes, ArePortsOfKinds, HasTypes, kind_place, port_number, ports_of_block};

@@ -1,8 +1,6 @@
-use Rattle.std.proofs.Common.{◌≡◌, ◌∙◌, ap, sym, Some, None}
+use Rattle.std.proofs.Common.{◌∙◌, ap, sym}
 use Rattle.std.specs.Prelude.{option_and_then}
-use Rattle.fb_types.specs.Repeated.{instance_names}
 use Rattle.fb_names.specs.Places.{place_in}
-use Rattle.fb_resolve.specs.Numbers.{place_of}
 use Rattle.fb_resolve.specs.Scopes.{placed}
 use Rattle.fb_resolve.specs.Sorts.{names_of_sort}
 use Rattle.fb_resolve.specs.Types.{port_number}

@@ -1,4 +1,4 @@
-use Rattle.std.proofs.Common.{◌≡◌, ◌∙◌, ap, sym, Some, None}
+use Rattle.std.proofs.Common.{◌∙◌, ap, sym}
 use Rattle.fb_types.specs.declared.library.Instance.{Instance}
 use Rattle.fb_resolve.specs.Numbers.{each_or_none, type_number, parameter_numbers, event_wire, data_wire}
 use Rattle.fb_resolve.specs.Scopes.{placed}

@@ -1,6 +1,3 @@
-use Rattle.std.proofs.Common.{◌∙◌, ap}
-use Rattle.std.specs.Prelude.{position}
-use Rattle.fb_types.specs.Names.{same_name}
 use Rattle.fb_types.specs.declared.library.EventPort.{EventPort}
 use Rattle.fb_types.specs.declared.library.Variable.{Variable}
 use Rattle.fb_resolve.proofs.Parts.{position-flip}

@@ -1,4 +1,4 @@
-use Rattle.std.proofs.Common.{sym, ◌∙◌}
+use Rattle.std.proofs.Common.{◌∙◌}
 use Rattle.fb_resolve.proofs.Resolving.{application_unknown, block_unknown, unknown_instance, unknown_resource, held_by, links_by, resolved}
 use Rattle.fb_resolve.proofs.resolve.resolve.Goals as goal
 
