@@ -8,8 +8,8 @@ use Rattle.std.proofs.lemmas.Option.{slice_get_read}
 use Rattle.std.proofs.Math.Seq.{map-set_same}
 use Rattle.fb_types.specs.Names.{Name, same_name, with_value}
 use Rattle.fb_types.specs.Blocks.{named}
+use Rattle.fb_types.specs.Flat.{zero_value}
 use Rattle.fb_types.specs.declared.value.Value.{Value}
-use Rattle.fb_types.specs.declared.value.Value.TheVariants as value
 use Rattle.fb_types.specs.declared.value.Ty.{Ty}
 use Rattle.fb_types.specs.declared.value.Ty.TheVariants.{Bool as Boolean}
 use Rattle.fb_types.proofs.PathLaws.{same_name_is}
@@ -18,7 +18,7 @@ use Rattle.fb_st.specs.Frames.{values_of, names_of, place_of, Declared, declared
 use Rattle.fb_st.proofs.Places.{position-first, position-later, named_at_place, same_name-flip}
 
 abbrev held : Option Slot → Value
-held o = elim o [ None ↦ value.Bool false | Some s ↦ s.value ]
+held o = elim o [ None ↦ zero_value | Some s ↦ s.value ]
 
 -- ---- Reading
 
@@ -29,7 +29,7 @@ named_here slots n i s at is = named_at_place (λ t. t.name) n slots ∙ ap (opt
 pub value_here : (slots : List Slot) (n : Name) (i : ℕ) (s : Slot) → place_of n slots ≡ Some i → slice_get slots i ≡ Some s → s.value ≡ values_of slots n
 value_here slots n i s at is = sym (ap held (named_here slots n i s at is))
 
-pub value_nowhere : (slots : List Slot) (n : Name) → place_of n slots ≡ None → value.Bool false ≡ values_of slots n
+pub value_nowhere : (slots : List Slot) (n : Name) → place_of n slots ≡ None → zero_value ≡ values_of slots n
 value_nowhere slots n at = sym (ap held (named_at_place (λ t. t.name) n slots ∙ ap (option_and_then (slice_get slots)) at))
 
 -- ---- Types

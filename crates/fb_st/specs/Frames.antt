@@ -3,7 +3,7 @@ use Rattle.std.specs.Prelude.{ℕ, List, map, position, Option, Some, None, Bool
 use Rattle.fb_types.specs.Names.{Name, same_name}
 use Rattle.fb_types.specs.Values.{Values, Types}
 use Rattle.fb_types.specs.Blocks.{named, among}
-use Rattle.fb_types.specs.declared.value.Value.TheVariants as value
+use Rattle.fb_types.specs.Flat.{zero_value}
 use Rattle.fb_types.specs.declared.value.Ty.{Ty}
 use Rattle.fb_types.specs.declared.value.Ty.TheVariants.{Bool as Boolean}
 use Rattle.fb_st.specs.declared.frame.Slot.{Slot}
@@ -11,9 +11,9 @@ use Rattle.fb_st.specs.declared.frame.Slot.{Slot}
 abbrev pub names_of : List Slot → List Name
 names_of = map (λ s. s.name)
 
--- What the variables hold. A name that is no variable's, which no accepted text has, counts as FALSE.
+-- What the variables hold. A name that is no variable's, which no accepted text has, counts as 0, as it does in the flat system.
 abbrev pub values_of : List Slot → Values
-values_of slots n = elim (named (λ s. s.name) n slots) [ None ↦ value.Bool false | Some s ↦ s.value ]
+values_of slots n = elim (named (λ s. s.name) n slots) [ None ↦ zero_value | Some s ↦ s.value ]
 
 -- the place of the variable of a name, or none where there is no such variable
 abbrev pub place_of : Name → List Slot → Option ℕ

@@ -70,13 +70,13 @@ impl Frame {
         Ok(true)
     }
 
-    /// The value of a variable. One that the frame has not counts as FALSE.
+    /// The value of a variable. One that the frame has not counts as 0.
     pub fn value(&self, variable: &Reference) -> Value
         ensures { result ≡ values_of self.now variable.now }
     {
         match self.find(variable) {
             Some(place) => self.slots[place].value,
-            None => Value::Bool(false),
+            None => Value::Whole(0),
         }
     }
 
