@@ -110,6 +110,11 @@ AreLaidOut lib r d =
     (o : Around) (first : ℕ) (p : Path) (net : Network) (ts : List TypeNumber) → IsAt lib d p o first net ts → IsPart (paths_of lib) first (paths_inside d lib p net)
     → IsLaid lib first p (paths_inside d lib p net) net.instances (layer d lib r o first net ts)
 
+-- the numbers of the components where such a network, or none, is inside
+abbrev components_of : Library → Path → List ℕ → Option Network → Type 0
+components_of lib q numbers None = numbers ≡ []
+components_of lib q numbers (Some net) = AreNumbers lib q net.instances numbers
+
 inside_found :
     (lib : Library) (r : Resolved) (d number : ℕ) (q : Path) (row : Row) (i : Instance) (net : Network) (o : Option Network) (n : Option (Network × NetworkNumbers))
     → inside lib i ≡ o → network_at lib q ≡ o → IsFound lib o n → IsRound lib q (number + 1) (number, row) → IsDeep lib (suc d) net → Contains net.instances i
@@ -117,7 +122,7 @@ inside_found :
     → IsInside lib (number + 1) q (below d lib q o) (layer_inside (layer d lib r) number row n)
 inside_found lib r d number q row i net None n is at found round deep among laid part =
     let P : Option (Network × NetworkNumbers) → Type 0 = λ n. IsInside lib (number + 1) q [] (layer_inside (layer d lib r) number row n) in
-    let C : Option Network → Type 0 = λ o. elim o [ None ↦ [] ≡ [] | Some net ↦ AreNumbers lib q net.instances [] ] in
+    let C : Option Network → Type 0 = λ o. components_of lib q [] o in
     subst P (sym found) (record {
       counted = refl;
       rows = each-nil (IsRow lib) (number + 1);
@@ -130,11 +135,7 @@ inside_found lib r d number q row i net (Some inner) n is at found round deep am
     let known = network_known lib i inner is in
     let l = laid (Some (number, row)) (number + 1) q inner x.types
     (record { network = at; composite = Some known.0; known = known.1; typed = found.3.types; around = round; deep = deep_inside lib d net i inner deep among is }) part in
-    let C : Option Network → Type 0 =
-    λ o. elim o [
-      | None ↦ (layer d lib r (Some (number, row)) (number + 1) inner x.types).numbers ≡ []
-      | Some net ↦ AreNumbers lib q net.instances (layer d lib r (Some (number, row)) (number + 1) inner x.types).numbers
-    ] in
+    let C : Option Network → Type 0 = λ o. components_of lib q (layer d lib r (Some (number, row)) (number + 1) inner x.types).numbers o in
     subst P (sym found.2) (record { counted = l.counted; rows = l.rows; components = subst C (sym at) l.numbers })
 
 inside_laid :
