@@ -1,19 +1,18 @@
 -- What stands inside an instance: a network of the declaration, with its numbers.
-use Rattle.std.proofs.Common.{◌≡◌, ◌⊎◌, ℕ, zero, suc, Bool, true, false, cond, List, [], ◌∷◌, ◌++◌, map, length, Option, Some, None, Contains, refl, sym, ◌∙◌, ap, subst, inl, inr}
+use Rattle.std.proofs.Common.{◌≡◌, ℕ, true, false, cond, List, [], ◌∷◌, map, Option, Some, None, Contains, refl, sym, ◌∙◌, ap, subst}
 use Rattle.std.specs.Prelude.{slice_get, option_map, option_and_then, position, flat_map}
 use Rattle.fb_types.specs.Names.{Name, same_name}
 use Rattle.fb_types.specs.Blocks.{Kind, Basic, Event, Composite, named, event_blocks}
 use Rattle.fb_types.specs.Flat.{kind_of, type_name, type_named, network_of, inside, kind_of_instance}
-use Rattle.fb_types.specs.Repeated.{Placed, networks, networks_in}
+use Rattle.fb_types.specs.Repeated.{networks, networks_in}
 use Rattle.fb_types.specs.declared.library.Library.{Library}
 use Rattle.fb_types.specs.declared.library.BlockType.{BlockType}
 use Rattle.fb_types.specs.declared.library.BlockType.TheVariants as block
 use Rattle.fb_types.specs.declared.library.CompositeType.{CompositeType}
 use Rattle.fb_types.specs.declared.library.Instance.{Instance}
 use Rattle.fb_types.specs.declared.library.Network.{Network}
-use Rattle.fb_types.specs.declared.event_kind.EventKind.{EventKind}
 use Rattle.fb_types.specs.declared.deploy.Plan.{Plan}
-use Rattle.fb_names.proofs.NameLemmas.{Contains-nil, Contains-cons_cases, Contains-here, Contains-there}
+use Rattle.fb_names.proofs.NameLemmas.{Contains-here, Contains-there}
 use Rattle.fb_names.proofs.Positions.{named-position, position_is}
 use Rattle.fb_names.proofs.TwiceIn.{Contains-flat_map}
 use Rattle.fb_resolve.specs.Numbers.{IsNetwork, IsResolved, place_of, type_number, kind_of_number}

@@ -1,14 +1,13 @@
 -- What is laid out has the rows of all instances at their numbers.
-use Rattle.std.proofs.Common.{◌≡◌, ◌⊎◌, ℕ, zero, suc, ◌+◌, ◌<◌, ◌≤◌, List, [], ◌∷◌, ◌++◌, map, length, get_or, Option, Some, None, Contains, refl, sym, ◌∙◌, ap, subst, inl, inr, arith}
-use Rattle.std.specs.Prelude.{All, slice_get, option_map, option_and_then, unwrap_or, flat_map}
+use Rattle.std.proofs.Common.{◌≡◌, ℕ, zero, suc, ◌+◌, ◌<◌, ◌≤◌, List, [], ◌∷◌, ◌++◌, map, length, get_or, Option, Some, None, Contains, refl, sym, ◌∙◌, ap, subst, inl, arith}
+use Rattle.std.specs.Prelude.{slice_get, option_and_then, unwrap_or, flat_map}
 use Rattle.std.proofs.lemmas.List.{length-append}
 use Rattle.std.proofs.lemmas.List.Elements.{All-cons, All-nil}
 use Rattle.std.proofs.lemmas.Option.{slice_get_within, slice_get-get_or}
-use Rattle.fb_types.specs.Names.{Name, Path}
-use Rattle.fb_types.specs.Blocks.{Kind}
+use Rattle.fb_types.specs.Names.{Path}
 use Rattle.fb_types.specs.Flat.{inside, network_at, kind_at, kind_of_instance, paths_inside, paths_of, parent, number_of}
 use Rattle.fb_types.specs.Joined.{TooHigh}
-use Rattle.fb_types.specs.Repeated.{NameTwice, Placed, networks, networks_in}
+use Rattle.fb_types.specs.Repeated.{NameTwice, networks, networks_in}
 use Rattle.fb_types.specs.Text.{path_text}
 use Rattle.fb_types.specs.declared.library.Library.{Library}
 use Rattle.fb_types.specs.declared.library.CompositeType.{CompositeType}
@@ -17,14 +16,14 @@ use Rattle.fb_types.specs.declared.library.Network.{Network}
 use Rattle.fb_types.specs.declared.deploy.Plan.{Plan}
 use Rattle.fb_names.proofs.NameLemmas.{Contains-here}
 use Rattle.fb_resolve.proofs.Each.{each_parts}
-use Rattle.fb_resolve.specs.Numbers.{IsResolved, IsNetwork, each_or_none, type_number, kind_of_number}
+use Rattle.fb_resolve.specs.Numbers.{IsResolved, each_or_none, type_number}
 use Rattle.fb_resolve.specs.declared.numbers.NetworkNumbers.{NetworkNumbers}
 use Rattle.fb_resolve.specs.declared.numbers.Resolved.{Resolved}
 use Rattle.fb_resolve.specs.declared.numbers.TypeNumber.{TypeNumber}
 use Rattle.fb_layout.specs.declared.layout.Row.{Row}
 use Rattle.fb_layout.specs.declared.layout.Layout.{Layout}
-use Rattle.fb_layout.specs.Layers.{Around, Layer, no_layer, layer_of, layer_inside, layer_among, layer, network_inside, row_under, with_components}
-use Rattle.fb_layout.specs.Layouts.{path_of, place_at, route_to, AreNumbers, AreComponents, IsParent, IsPlaced, IsRow, IsLayout}
+use Rattle.fb_layout.specs.Layers.{Around, Layer, layer_of, layer_inside, layer_among, layer, network_inside, row_under, with_components}
+use Rattle.fb_layout.specs.Layouts.{path_of, place_at, route_to, AreNumbers, AreComponents, IsRow, IsLayout}
 use Rattle.fb_layout.proofs.Inside.{IsFound, found_inside, type_by_number, kind_known, network_known}
 use Rattle.fb_layout.proofs.Distinct.{AreOnce, below, paths_from, paths_once, position_of_path, at_Contains}
 use Rattle.fb_layout.proofs.Parts.{AreEach, each-nil, each-head, each-tail, each-left, each-right, each-append, each-cons, IsPart, part_whole}

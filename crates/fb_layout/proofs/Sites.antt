@@ -1,10 +1,9 @@
 -- Networks at their paths: which composite they are inside of, and how deep they stand.
-use Rattle.std.proofs.Common.{◌≡◌, ◌⊎◌, ℕ, zero, suc, ◌+◌, ◌<◌, List, [], ◌∷◌, ◌++◌, map, length, Option, Some, None, Contains, refl, sym, ◌∙◌, ap, subst, inl, inr, arith}
+use Rattle.std.proofs.Common.{◌≡◌, ◌⊎◌, ℕ, zero, suc, ◌+◌, ◌<◌, List, [], ◌∷◌, ◌++◌, map, Option, Some, None, Contains, refl, sym, ◌∙◌, ap, subst, inl, inr, arith}
 use Rattle.std.specs.Prelude.{slice_get, option_map, option_and_then, unwrap_or, position, flat_map, codes}
 use Rattle.std.proofs.lemmas.List.Elements.{Contains-append_left, Contains-append_right}
 use Rattle.fb_types.specs.Names.{Name, Path, same_name}
-use Rattle.fb_types.specs.Blocks.{Kind, Composite}
-use Rattle.fb_types.specs.Flat.{type_named, instance_in, inside, network_at, instance_at, kind_at, kind_of_instance, paths_of, parent}
+use Rattle.fb_types.specs.Flat.{instance_in, inside, network_at, instance_at, parent}
 use Rattle.fb_types.specs.Joined.{Holds, Descends, TooHigh}
 use Rattle.fb_types.specs.Repeated.{Twice, Placed, NameTwice, networks, instance_names, name_spaces, block_type_names, port_names, basics, algorithm_names, state_names, with_lists, interfaces, parameter_lists}
 use Rattle.fb_types.specs.Flat.{resource_names_of}
@@ -17,9 +16,6 @@ use Rattle.fb_types.specs.declared.library.Network.{Network}
 use Rattle.fb_types.specs.declared.deploy.Plan.{Plan}
 use Rattle.fb_names.proofs.Positions.{position_of_once, named_of_once}
 use Rattle.fb_names.proofs.TwiceIn.{Contains-map}
-use Rattle.fb_resolve.specs.Numbers.{IsResolved, type_number, kind_of_number}
-use Rattle.fb_resolve.specs.declared.numbers.Resolved.{Resolved}
-use Rattle.fb_resolve.specs.declared.numbers.TypeNumber.{TypeNumber}
 use Rattle.fb_layout.specs.declared.layout.Row.{Row}
 use Rattle.fb_layout.specs.Layers.{Around, path_under, route_under}
 use Rattle.fb_layout.specs.Layouts.{path_of, place_at, route_to, IsParent}

@@ -1,10 +1,10 @@
-use Rattle.std.proofs.Common.{◌≡◌, ℕ, ◌+◌, ◌-◌, ◌<◌, ◌≤◌, suc, length, rules, Some, None, Option, refl, sym, ◌∙◌, ap, subst, arith}
+use Rattle.std.proofs.Common.{◌≡◌, ◌+◌, ◌-◌, ◌≤◌, suc, length, rules, Some, Option, refl, sym, ◌∙◌, ap, subst, arith}
 use Rattle.std.specs.Prelude.{slice_get}
 use Rattle.fb_types.specs.declared.library.Network.{Network}
 use Rattle.fb_resolve.specs.declared.numbers.NetworkNumbers.{NetworkNumbers}
 use Rattle.fb_layout.specs.declared.layout.Layer.{Layer as Laid}
-use Rattle.fb_layout.specs.Layers.{around, layer, layer_inside, network_inside, Layer, no_layer}
-use Rattle.fb_layout.proofs.Steps.{instance_at, none_deep, first_laid, all_typed, all_laid, room_inside, next_laid, below_none, below_some}
+use Rattle.fb_layout.specs.Layers.{layer, layer_inside, network_inside, Layer}
+use Rattle.fb_layout.proofs.Steps.{instance_at, none_deep, first_laid, all_typed, room_inside, next_laid, below_none, below_some}
 use Rattle.fb_layout.proofs.layout.+lay_out.Goals as goal
 use Rattle.fb_layout.proofs.layout.+lay_out.Goals.{in-None, in-Some-network_inside+in_ok-inside-in-Some-network_inside}
 

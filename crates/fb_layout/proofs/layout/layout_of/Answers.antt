@@ -1,4 +1,4 @@
-use Rattle.std.proofs.Common.{ap, ◌∙◌}
+use Rattle.std.proofs.Common.{◌∙◌}
 use Rattle.fb_layout.proofs.Laid.{fit_of, few_rows, layout_is}
 use Rattle.fb_layout.proofs.layout.layout_of.Goals as goal
 
