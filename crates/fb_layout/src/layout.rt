@@ -75,14 +75,13 @@ impl Layer {
     }
 
     /// Adds an instance and what is inside it.
-    fn add(&mut self, number: u32, row: Row, inside: Layer) -> Result<(), AllocError>
+    fn add(&mut self, number: u32, mut row: Row, inside: Layer) -> Result<(), AllocError>
         ensures rows { OnOk result (self.new.rows.items ≡ self.old.rows.items ++ spec.with_components row inside.numbers ∷ inside.rows.items) }
         ensures numbers { OnOk result (self.new.numbers ≡ self.old.numbers ++ number ∷ []) }
     {
         let Layer { mut rows, numbers } = inside;
-        let mut full = row;
-        full.components = numbers;
-        self.rows.push(full)?;
+        row.components = numbers;
+        self.rows.push(row)?;
         self.rows.append(&mut rows)?;
         self.numbers.push(number)
     }
@@ -203,7 +202,8 @@ fn lay_out(
     Ok(layer)
 }
 
-/// The instances of an application by their numbers.
+/// The instances of an application, at most 4,096 of them, by their numbers. A row is moved once for each composite
+/// round its instance, and its route is as long, so the time is linear in the paths and routes together.
 pub fn layout_of(alloc: Global, library: &Library, numbers: &Resolved) -> Result<Layout, AllocError>
     requires resolved { (plan : Plan) × (¬ (NameTwice library.now plan)) × IsResolved library.now plan numbers.now }
     requires height { ¬ (TooHigh library.now) }
