@@ -3,7 +3,6 @@ use Rattle.std.specs.Prelude.{ℕ, List, map, Bool, true, false, ◌&&◌, nat_e
 use Rattle.std.specs.List.{filter}
 use Rattle.fb_types.specs.Flat.{first_of}
 use Rattle.fb_resolve.specs.declared.numbers.End.{End}
-use Rattle.fb_resolve.specs.declared.numbers.Wire.{Wire}
 use Rattle.fb_resolve.specs.declared.numbers.NetworkNumbers.{NetworkNumbers}
 
 abbrev pub same_component : Option ℕ → Option ℕ → Bool
