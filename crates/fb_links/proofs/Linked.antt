@@ -20,7 +20,7 @@ use Rattle.fb_resolve.specs.declared.numbers.LinkEnds.{LinkEnds}
 use Rattle.fb_resolve.specs.declared.numbers.Resolved.{Resolved}
 use Rattle.fb_resolve.proofs.Each.{each_parts}
 use Rattle.fb_mapping.proofs.Lists.{and_then_some, map_some}
-use Rattle.fb_links.specs.Linking.{Linked, IsLinked, joins}
+use Rattle.fb_links.specs.Linking.{IsLinked, joins}
 
 -- ---- Elements of two lists, of which one was made of the other
 

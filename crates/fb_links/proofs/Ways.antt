@@ -1,7 +1,6 @@
 -- The first link from one resource to another, one link at a time.
 use Rattle.std.proofs.Common.{◌≡◌, ℕ, ◌<◌, ◌≤◌, ◌+◌, Bool, true, false, cond, nat_eq, ◌&&◌, List, [], ◌∷◌, ◌++◌, length, take, get_or, Option, Some, None, Ordering, refl, sym, ◌∙◌, ap, subst, arith}
 use Rattle.std.specs.Prelude.{position, is_some}
-use Rattle.std.specs.List.{list_any}
 use Rattle.std.specs.Map.{lookup}
 use Rattle.std.specs.Ordering.{nat_cmp, is_eq, ordering_then}
 use Rattle.std.specs.declared.cmp.Ordering.TheVariants as order
@@ -72,7 +71,7 @@ between_more ends i d e from to h g =
 -- ---- The steps of the loop
 
 pub ways_none : (m : tree.BTreeMap (ℕ × ℕ) ℕ) → m.entries ≡ [] → AreWays [] m
-ways_none m e = record { each = λ from to. ap (lookup (λ (k : ℕ × ℕ). is_eq (way_cmp (from, to) k))) e; }
+ways_none m e = record { each = λ from to. ap (lookup (λ (k : ℕ × ℕ). is_eq (way_cmp (from, to) k))) e }
 
 -- a link from one resource to another that had none
 pub ways_new :

@@ -24,5 +24,5 @@ ends_at t e = ends_of (row_at t e.component) e.port
 
 -- The tables have the targets of the event connections, and the sources of the data connections, of each end.
 pub record AreTablesOf (x : NetworkNumbers) (targets sources : Table) : Type 0 where
-  pub events : (e : End) → ends_at targets e ≡ targets_in x e
-  pub data_from : (e : End) → ends_at sources e ≡ map (λ w. w.from) (filter (λ w. same_end w.to e) x.data_wires)
+  pub targets_are : (e : End) → ends_at targets e ≡ targets_in x e
+  pub sources_are : (e : End) → ends_at sources e ≡ map (λ w. w.from) (filter (λ w. same_end w.to e) x.data_wires)

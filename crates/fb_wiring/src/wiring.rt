@@ -33,8 +33,8 @@ impl Model for Wiring {
     ghost invariant = { λ w. AreTablesOf w.numbers w.targets w.sources };
 }
 
-/// For each end where wires begin, where they end.
-fn ends_by_begin(alloc: Global, wires: &[Wire]) -> Result<Table, AllocError>
+/// For each end, where the wires from it lead.
+fn targets_of(alloc: Global, wires: &[Wire]) -> Result<Table, AllocError>
     ensures { IfOk result (λ t. (e : End) → ends_at t e ≡ map (λ w. w.to) (filter (λ w. same_end w.from e) wires.now)) }
 {
     let mut table = Table::new(alloc);
@@ -44,8 +44,8 @@ fn ends_by_begin(alloc: Global, wires: &[Wire]) -> Result<Table, AllocError>
     Ok(table)
 }
 
-/// For each end where wires end, where they begin.
-fn begins_by_end(alloc: Global, wires: &[Wire]) -> Result<Table, AllocError>
+/// For each end, where the wires to it come from.
+fn sources_of(alloc: Global, wires: &[Wire]) -> Result<Table, AllocError>
     ensures { IfOk result (λ t. (e : End) → ends_at t e ≡ map (λ w. w.from) (filter (λ w. same_end w.to e) wires.now)) }
 {
     let mut table = Table::new(alloc);
@@ -60,8 +60,8 @@ impl Wiring {
     pub fn of(alloc: Global, numbers: NetworkNumbers) -> Result<Wiring, AllocError>
         ensures { IfOk result (λ w. w ≡ numbers) }
     {
-        let targets = ends_by_begin(alloc, numbers.event_wires.as_slice())?;
-        let sources = begins_by_end(alloc, numbers.data_wires.as_slice())?;
+        let targets = targets_of(alloc, numbers.event_wires.as_slice())?;
+        let sources = sources_of(alloc, numbers.data_wires.as_slice())?;
         Ok(Wiring {
             numbers,
             targets,
