@@ -1,0 +1,5 @@
+pub mod Actions
+pub mod Charts
+pub mod Links
+pub mod Soundness
+pub mod Trials
