@@ -1,3 +1,4 @@
+pub mod Acceptance
 pub mod Actions
 pub mod Charts
 pub mod Links

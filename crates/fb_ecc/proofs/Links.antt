@@ -231,7 +231,7 @@ among-each (v ∷ vs) xs ys zero n at =
     subst (λ (m : Name). (same_name m v.name || among (variable_names (vs ++ xs ++ ys)) m) ≡ true) same (rw (same_name_itself v.name) refl)
 among-each (v ∷ vs) xs ys (suc i) n at = or_right (same_name n v.name) (among (variable_names (vs ++ xs ++ ys)) n) (among-each vs xs ys i n at)
 
-names_declared : (vs : List Variable) → map (λ (d : Declared). d.0) (map declared_as vs) ≡ variable_names vs
+pub names_declared : (vs : List Variable) → map (λ (d : Declared). d.0) (map declared_as vs) ≡ variable_names vs
 names_declared [] = refl
 names_declared (v ∷ vs) = ap (λ ns. v.name ∷ ns) (names_declared vs)
 

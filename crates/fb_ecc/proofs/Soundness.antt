@@ -72,17 +72,17 @@ pub among_names : {A : Type 0} (f : A → Name) (n : Name) (xs : List A) → lis
 among_names f n [] = refl
 among_names f n (x ∷ xs) = ap (λ b. same_name n (f x) || b) (among_names f n xs)
 
-nothing_in : {A : Type 0} (x : A) → ¬ (Contains [] x)
+pub nothing_in : {A : Type 0} (x : A) → ¬ (Contains [] x)
 nothing_in x h = absurd (omega (arith, h.1))
 
-first_or_later : {A : Type 0} (x : A) (xs : List A) (y : A) → Contains (x ∷ xs) y → (x ≡ y) ⊎ Contains xs y
+pub first_or_later : {A : Type 0} (x : A) (xs : List A) (y : A) → Contains (x ∷ xs) y → (x ≡ y) ⊎ Contains xs y
 first_or_later x xs y h =
     elim (Contains-append_cases (x ∷ []) xs y h) [
       | inl one ↦ elim (Contains-push_cases [] x y one) [ inl none ↦ absurd (nothing_in y none) | inr e ↦ inl e ]
       | inr rest ↦ inr rest
     ]
 
-here : {A : Type 0} (x : A) (xs : List A) → Contains (x ∷ xs) x
+pub here : {A : Type 0} (x : A) (xs : List A) → Contains (x ∷ xs) x
 here x xs = Contains-append_left (x ∷ []) xs x (Contains-push [] x)
 
 pub among-contains : (ns : List Name) (n : Name) → among ns n ≡ true → Contains ns n

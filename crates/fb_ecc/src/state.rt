@@ -1,10 +1,10 @@
 //! What a basic block is between reactions.
 
-ghost use Rattle.std.specs.Prelude.{◌≡◌, ◌++◌, IfOk, MatchBool, MatchOption, map};
+ghost use Rattle.std.specs.Prelude.{◌≡◌, ◌++◌, IfOk, MatchBool, MatchOption, is_some, map, true};
 ghost use Rattle.fb_types.specs.Blocks.{initial_of, variable_names, variables_of};
 ghost use Rattle.fb_types.specs.Repeated.{Twice};
 ghost use Rattle.fb_st.specs.Frames.{names_of};
-ghost use Rattle.fb_ecc.specs.Opened.{IsOpened, slot_of};
+ghost use Rattle.fb_ecc.specs.Opened.{IsOfDeclaration, IsOpened, slot_of};
 ghost use Rattle.fb_ecc.specs.Sound.{IsSound};
 
 use crate::chart::Chart;
@@ -70,9 +70,10 @@ fn frame_of(alloc: Global, block: &BasicType) -> Result<Option<Frame>, AllocErro
 
 impl BasicState {
     /// A block of a type, in the first state, with the initial values of its variables. There is none where
-    /// the type is not sound, as each accepted one is.
+    /// the type is not sound, as each type of an accepted declaration is.
     pub fn open(alloc: Global, block: &BasicType) -> Result<Option<BasicState>, AllocError>
-        ensures { IfOk result (λ opened. MatchOption opened (¬ (IsSound block.now)) (IsOpened block.now)) }
+        ensures accepted { IsOfDeclaration block.now → IfOk result (λ opened. is_some opened ≡ true) }
+        ensures opened { IfOk result (λ opened. MatchOption opened (¬ (IsSound block.now)) (IsOpened block.now)) }
     {
         let frame = match frame_of(alloc, block)? {
             Some(frame) => frame,

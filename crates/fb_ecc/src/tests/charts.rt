@@ -1,5 +1,10 @@
 //! Reactions with the steps that they use.
 
+ghost use Rattle.std.specs.Prelude.{IfOk};
+ghost use Rattle.fb_ecc.specs.Opened.{IsOpened};
+ghost use Rattle.fb_ecc.specs.Places.{IsBlockOf};
+ghost use Rattle.fb_ecc.specs.Sound.{IsSound};
+
 use super::blocks::{
     CALC, LOOPER, STEPPER, Sketch, assign, block, block_with, count, divided, of_whole, transition,
     variables,
@@ -25,7 +30,9 @@ type Emitted = (u32, &'static [Value]);
 const STEPS: Result<(), Halt> = Err(Halt::Stop(Reason::Steps));
 
 /// A block in its first state.
-fn open(rt: &impl Abort, alloc: Global, block: &BasicType) -> Result<BasicState, AllocError> {
+fn open(rt: &impl Abort, alloc: Global, block: &BasicType) -> Result<BasicState, AllocError>
+    ensures { IfOk result (IsOpened block.now) }
+{
     match BasicState::open(alloc, block)? {
         Some(state) => Ok(state),
         None => panic!(rt; "no sound type"),
@@ -56,7 +63,11 @@ fn takes(
     values: &[Value],
     left: u64,
     expected: &[Emitted],
-) -> (Result<(), Halt>, u64) {
+) -> (Result<(), Halt>, u64)
+    requires sound { IsSound block.now }
+    requires block { IsBlockOf block.now state.old }
+    ensures { IsBlockOf block.now state.new }
+{
     let mut meter = Meter { left };
     let mut emits: Emits = Items::new(alloc);
     assert!(rt; (event as usize) < block.ports.event_inputs.len());
