@@ -1,17 +1,16 @@
 -- Actions, put together from their parts.
-use Rattle.std.proofs.Common.{◌≡◌, ℕ, zero, suc, ◌+◌, ◌<◌, ◌≤◌, Bool, true, false, cond, List, [], ◌∷◌, ◌++◌, length, get_or, drop, map, Option, Some, None, Result, Ok, Err, OnOk, OnErr, refl, sym, ◌∙◌, ap, subst, arith, add-one}
+use Rattle.std.proofs.Common.{◌≡◌, ℕ, zero, suc, ◌+◌, ◌<◌, ◌≤◌, true, false, cond, List, [], ◌∷◌, ◌++◌, length, get_or, drop, map, Option, Some, None, Result, Ok, Err, OnOk, OnErr, refl, sym, ◌∙◌, ap, subst, arith, add-one}
 use Rattle.std.proofs.Math.Path.{fun_ext}
-use Rattle.std.specs.Prelude.{option_map, option_and_then, position, slice_get, unwrap_or, if◌then◌else◌}
+use Rattle.std.specs.Prelude.{option_map, option_and_then, slice_get, unwrap_or}
 use Rattle.std.specs.List.{All}
 use Rattle.std.proofs.lemmas.List.{map-append, length-map}
 use Rattle.std.proofs.lemmas.List.Elements.{All-push}
-use Rattle.std.proofs.lemmas.Option.{slice_get-map, slice_get_within, slice_get_read, slice_get-get_or, same_Some}
+use Rattle.std.proofs.lemmas.Option.{slice_get-map, slice_get_within, slice_get-get_or, same_Some}
 use Rattle.fb_types.specs.Names.{Name, same_name}
 use Rattle.fb_types.specs.Blocks.{named, bound, outputs_with, types_of, variables_of, Bound, Emission}
 use Rattle.fb_types.specs.Bodies.{Point, End, Went, Left, Returned, Stopped, RunsBody}
-use Rattle.fb_types.specs.Charts.{Place, Moving, Halts, Performs, Acts, AfterBody, emitting, at_point, algorithm_of}
+use Rattle.fb_types.specs.Charts.{Place, Moving, Halts, Performs, Acts, emitting, at_point, algorithm_of}
 use Rattle.fb_types.specs.Numbers.{event_at, emission_of, pair_up}
-use Rattle.fb_types.specs.Repeated.{algorithm_names}
 use Rattle.fb_types.specs.Syntax.{Stmts, no_stmt, body_of}
 use Rattle.fb_types.specs.Values.{Values, Types}
 use Rattle.fb_types.specs.declared.library.Action.{Action}
@@ -23,7 +22,6 @@ use Rattle.fb_types.specs.declared.run.Emission as run
 use Rattle.fb_types.specs.declared.run.Halt.{Halt}
 use Rattle.fb_types.specs.declared.run.Halt.TheVariants as halt
 use Rattle.fb_types.specs.declared.value.Reason.{Reason}
-use Rattle.fb_types.specs.declared.value.Reason.TheVariants.{Steps}
 use Rattle.fb_types.specs.declared.value.Ty.{Ty}
 use Rattle.fb_types.specs.declared.value.Ty.TheVariants.{Bool as Boolean}
 use Rattle.fb_types.proofs.PathLaws.{same_name_is}

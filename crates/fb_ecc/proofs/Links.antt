@@ -1,6 +1,6 @@
 -- Chains of states, put together from their links, and what the rows of a chart say.
-use Rattle.std.proofs.Common.{◌≡◌, ℕ, zero, suc, ◌+◌, ◌<◌, ◌≤◌, Bool, true, false, cond, ◌&&◌, ◌||◌, List, [], ◌∷◌, ◌++◌, length, get_or, drop, map, Option, Some, None, Result, Ok, Err, Bor, refl, sym, ◌∙◌, ap, subst, arith, add-one}
-use Rattle.std.specs.Prelude.{option_map, option_and_then, position, slice_get, unwrap_or, if◌then◌else◌, IfSome, MatchOption}
+use Rattle.std.proofs.Common.{◌≡◌, ℕ, zero, suc, ◌+◌, ◌<◌, ◌≤◌, Bool, true, false, cond, ◌&&◌, ◌||◌, List, [], ◌∷◌, ◌++◌, length, get_or, drop, map, Option, Some, None, Err, Bor, refl, sym, ◌∙◌, ap, subst, arith}
+use Rattle.std.specs.Prelude.{option_map, option_and_then, slice_get, IfSome, MatchOption}
 use Rattle.std.specs.List.{filter, list_all, list_any, HoldsAt}
 use Rattle.std.proofs.lemmas.List.{length-map}
 use Rattle.std.proofs.lemmas.Option.{slice_get-map, slice_get_within, slice_get-get_or, slice_get_read, slice_get_past, get_or_from_slice_get, same_Some}
@@ -14,7 +14,7 @@ use Rattle.fb_types.specs.declared.run.Halt.{Halt}
 use Rattle.fb_types.specs.declared.run.Halt.TheVariants as halt
 use Rattle.fb_types.specs.declared.value.Value.{Value}
 use Rattle.fb_types.specs.Values.{Values}
-use Rattle.fb_types.specs.Charts.{Place, Moving, Halts, Acts, Links, Trial, Clears, NoneClears, Fails, Rests, Enters, OrHalts, trial_at, trial_of, leaving, actions_of, ChartReacts}
+use Rattle.fb_types.specs.Charts.{Place, Moving, Acts, Links, Trial, Clears, NoneClears, Fails, Rests, Enters, trial_at, trial_of, leaving, actions_of, ChartReacts}
 use Rattle.fb_types.specs.declared.library.Action.{Action}
 use Rattle.fb_types.specs.declared.library.BasicType.{BasicType}
 use Rattle.fb_types.specs.declared.library.EventPort.{EventPort}
@@ -28,7 +28,7 @@ use Rattle.fb_ecc.specs.Links.{Chain, Linked}
 use Rattle.fb_ecc.specs.Numbered.{exit_of, exits_from, act_of, row_of, names_with_each, chart_of}
 use Rattle.fb_ecc.specs.Places.{state_at, Ended}
 use Rattle.fb_ecc.specs.Sound.{Each, IsSound, action_known, actions_known, declared_as, declared_by}
-use Rattle.fb_ecc.specs.Trials.{nowhere, transition_at, transitions_at, IsExit}
+use Rattle.fb_ecc.specs.Trials.{transitions_at, IsExit}
 use Rattle.fb_ecc.specs.declared.chart.Exit.{Exit}
 use Rattle.fb_ecc.specs.declared.chart.Row.{Row}
 use Rattle.fb_ecc.specs.declared.chart.Chart.{Chart}

@@ -1,21 +1,20 @@
 -- Names that stand once, and what a type has that is sound.
-use Rattle.std.proofs.Common.{◌≡◌, ℕ, zero, suc, ◌+◌, ◌<◌, ◌≤◌, Bool, true, false, not, ◌||◌, List, [], ◌∷◌, ◌++◌, length, get_or, take, drop, map, Option, Some, None, Contains, refl, sym, ◌∙◌, ap, subst, arith, inl, inr, below_more, append_assoc, ◌⊎◌}
+use Rattle.std.proofs.Common.{◌≡◌, ℕ, ◌+◌, ◌<◌, ◌≤◌, Bool, true, false, not, ◌||◌, List, [], ◌∷◌, ◌++◌, length, get_or, take, drop, map, Option, Some, None, Contains, refl, sym, ◌∙◌, ap, subst, arith, inl, inr, below_more, append_assoc, ◌⊎◌}
 use Rattle.std.specs.Prelude.{position, slice_get, unwrap_or}
 use Rattle.std.specs.List.{list_any}
 use Rattle.std.proofs.lemmas.List.{take-append-drop, map-append}
 use Rattle.std.proofs.lemmas.List.Elements.{Contains-append_left, Contains-append_right, Contains-push, Contains-push_cases, Contains-append_cases}
-use Rattle.std.proofs.lemmas.Option.{slice_get_within, slice_get-get_or, slice_get_read, get_or_from_slice_get, same_Some}
+use Rattle.std.proofs.lemmas.Option.{slice_get_within, slice_get_read, same_Some}
 use Rattle.fb_types.specs.Names.{Name, same_name}
-use Rattle.fb_types.specs.Blocks.{among, variable_names, variables_of}
+use Rattle.fb_types.specs.Blocks.{among, variable_names}
 use Rattle.fb_types.specs.Repeated.{Twice}
-use Rattle.fb_types.specs.declared.library.BasicType.{BasicType}
 use Rattle.fb_types.specs.declared.library.Variable.{Variable}
 use Rattle.fb_types.proofs.PathLaws.{same_name_is}
 use Rattle.fb_st.specs.Frames.{Declared, declared_in, is_declared, names_of}
 use Rattle.fb_st.specs.declared.frame.Slot.{Slot}
 use Rattle.fb_ecc.specs.Numbered.{number_in}
 use Rattle.fb_ecc.specs.Opened.{slot_of}
-use Rattle.fb_ecc.specs.Sound.{Each, StandFirst, declared_as, declared_by}
+use Rattle.fb_ecc.specs.Sound.{Each, StandFirst, declared_as}
 use Rattle.fb_ecc.proofs.Trials.{cut_at}
 
 -- ---- What holds of each element below a place

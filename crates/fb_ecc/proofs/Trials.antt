@@ -1,5 +1,5 @@
 -- Transitions that are tried by their places.
-use Rattle.std.proofs.Common.{◌≡◌, ℕ, zero, suc, ◌+◌, ◌<◌, Bool, true, false, ◌&&◌, ◌||◌, List, [], ◌∷◌, length, get_or, drop, map, Option, Some, None, Result, Ok, Err, refl, sym, ◌∙◌, ap, subst, arith, cond, add-one}
+use Rattle.std.proofs.Common.{◌≡◌, ℕ, zero, suc, ◌+◌, ◌<◌, Bool, true, false, ◌&&◌, ◌||◌, List, [], ◌∷◌, length, get_or, drop, map, Option, Some, None, Result, Ok, refl, sym, ◌∙◌, ap, subst, arith, add-one}
 use Rattle.std.specs.Prelude.{nat_eq, position, option_map, unwrap_or, slice_get, if◌then◌else◌, IfSome}
 use Rattle.std.specs.List.{list_all}
 use Rattle.std.proofs.Math.Seq.{drop-cons}
@@ -15,14 +15,14 @@ use Rattle.fb_types.specs.declared.value.Reason.TheVariants.{Steps}
 use Rattle.fb_st.proofs.Places.{position-first, position-later}
 use Rattle.fb_ecc.specs.Places.{state_at}
 use Rattle.fb_types.specs.Values.{Values}
-use Rattle.fb_types.specs.Charts.{Trial, Clears, NoneClears, Fails, is_present, is_true, guard_value, trial_of, by_condition}
+use Rattle.fb_types.specs.Charts.{Fails, is_present, is_true, guard_value, trial_of, by_condition}
 use Rattle.fb_types.specs.Numbers.{event_at}
 use Rattle.fb_types.specs.declared.library.BasicType.{BasicType}
 use Rattle.fb_types.specs.declared.library.EventPort.{EventPort}
 use Rattle.fb_types.specs.declared.library.Transition.{Transition}
 use Rattle.fb_types.specs.declared.value.Reason.{Reason}
-use Rattle.fb_types.proofs.PathLaws.{same_name_is, same_name_itself}
-use Rattle.fb_ecc.specs.Numbered.{number_in, exit_of}
+use Rattle.fb_types.proofs.PathLaws.{same_name_is}
+use Rattle.fb_ecc.specs.Numbered.{number_in}
 use Rattle.fb_ecc.specs.Sound.{Each, IsSound, StandFirst}
 use Rattle.fb_ecc.specs.Trials.{nowhere, transition_at, transitions_at, IsExit, is_number_present}
 use Rattle.fb_ecc.specs.declared.chart.Exit.{Exit}

@@ -9,8 +9,8 @@ use Rattle.fb_types.specs.declared.library.BasicType.{BasicType}
 use Rattle.fb_types.specs.declared.value.Reason.{Reason}
 use Rattle.fb_st.specs.Frames.{values_of}
 use Rattle.fb_st.specs.declared.frame.Slot.{Slot}
-use Rattle.fb_ecc.specs.Numbered.{number_in, act_of}
-use Rattle.fb_ecc.specs.Sound.{is_named, action_known}
+use Rattle.fb_ecc.specs.Numbered.{number_in}
+use Rattle.fb_ecc.specs.Sound.{is_named}
 use Rattle.fb_ecc.specs.declared.chart.Act.{Act}
 
 -- The place is that of an algorithm of this name, or none where there is no name.

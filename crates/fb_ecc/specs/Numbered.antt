@@ -1,5 +1,5 @@
 -- A chart with places in place of names (IEC 61499-1, 5.2; that names stand for places is this project's profile).
-use Rattle.std.specs.Prelude.{ℕ, suc, List, [], ◌∷◌, map, length, position, option_map, unwrap_or, slice_get, Option, Some, None, if◌then◌else◌}
+use Rattle.std.specs.Prelude.{ℕ, suc, List, [], ◌∷◌, map, length, position, option_map, unwrap_or, if◌then◌else◌}
 use Rattle.fb_types.specs.Names.{Name, same_name}
 use Rattle.fb_types.specs.Blocks.{variables_with}
 use Rattle.fb_types.specs.declared.library.Action.{Action}

@@ -1,5 +1,5 @@
 -- A basic block before its first event (IEC 61499-1, 5.2.1: the first state, and the initial values).
-use Rattle.std.specs.Prelude.{◌≡◌, ◌<◌, List, map, length, Contains}
+use Rattle.std.specs.Prelude.{◌≡◌, ◌<◌, map, length, Contains}
 use Rattle.fb_types.specs.Blocks.{variables_of, initial_of}
 use Rattle.fb_types.specs.Repeated.{NameTwice, basics}
 use Rattle.fb_types.specs.Unknown.{NameUnknown}

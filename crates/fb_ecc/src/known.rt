@@ -81,7 +81,7 @@ fn is_action_known(block: &BasicType, action: &Action) -> bool
         && has_event(block.ports.event_outputs.as_slice(), &action.output)
 }
 
-fn are_known_in(block: &BasicType, state: &State) -> bool
+fn has_known_actions(block: &BasicType, state: &State) -> bool
     ensures { result ≡ actions_known block.now state.now }
 {
     let actions = state.actions.as_slice();
@@ -92,7 +92,7 @@ fn are_actions_known(block: &BasicType) -> bool
     ensures { result ≡ list_all (actions_known block.now) block.now.states }
 {
     let states = block.states.as_slice();
-    states.iter().all(|state| are_known_in(block, state))
+    states.iter().all(|state| has_known_actions(block, state))
 }
 
 fn are_bodies_known(algorithms: &[Algorithm], frame: &Frame) -> bool

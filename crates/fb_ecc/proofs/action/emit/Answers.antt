@@ -1,4 +1,4 @@
-use Rattle.std.proofs.Common.{◌≡◌, ◌<◌, ◌^◌, ℕ, List, length, Option, Some, sym, ◌∙◌, subst, arith}
+use Rattle.std.proofs.Common.{ℕ, List, Option, sym, ◌∙◌, subst}
 use Rattle.std.specs.Prelude.{All}
 use Rattle.fb_st.specs.Frames.{values_of}
 use Rattle.fb_types.specs.declared.run.Emission.{Emission}

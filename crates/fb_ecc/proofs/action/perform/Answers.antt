@@ -1,4 +1,4 @@
-use Rattle.std.proofs.Common.{[], refl}
+use Rattle.std.proofs.Common.{[]}
 use Rattle.fb_ecc.specs.Places.{place}
 use Rattle.fb_ecc.proofs.Actions.{acts_stops, acts_goes}
 use Rattle.fb_ecc.proofs.action.perform.Goals as goal

@@ -1,4 +1,4 @@
-use Rattle.std.proofs.Common.{◌≡◌, ◌<◌, ℕ, List, length, get_or, Option, Some, None, refl, sym, ◌∙◌, ap, subst}
+use Rattle.std.proofs.Common.{◌<◌, ℕ, List, length, get_or, Option, sym, subst}
 use Rattle.std.proofs.lemmas.Option.{slice_get_within}
 use Rattle.std.proofs.lemmas.Result.{err_from_is_err_and}
 use Rattle.fb_types.specs.Syntax.{body_of}
@@ -6,7 +6,7 @@ use Rattle.fb_types.specs.declared.library.Algorithm.{Algorithm}
 use Rattle.fb_st.specs.Frames.{Declared, declared_in}
 use Rattle.fb_st.specs.Known.{AllKnown}
 use Rattle.fb_ecc.specs.Actions.{IsAlgorithm}
-use Rattle.fb_ecc.proofs.Actions.{Named, algorithm_here, performed_ok, performed_err, read_here}
+use Rattle.fb_ecc.proofs.Actions.{algorithm_here, performed_ok, performed_err, read_here}
 use Rattle.fb_ecc.proofs.action.run.Goals as goal
 
 pub bounds-as_slice-algorithm : goal.bounds-as_slice-algorithm

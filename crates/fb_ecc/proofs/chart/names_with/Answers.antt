@@ -1,4 +1,4 @@
-use Rattle.std.proofs.Common.{◌++◌, ◌∷◌, [], List, sym, ◌∙◌, ap}
+use Rattle.std.proofs.Common.{◌++◌, ◌∷◌, [], sym, ◌∙◌, ap}
 use Rattle.fb_types.specs.Names.{Name}
 use Rattle.fb_ecc.proofs.Charts.{with_take, with_skip}
 use Rattle.fb_ecc.proofs.chart.names_with.Goals as goal

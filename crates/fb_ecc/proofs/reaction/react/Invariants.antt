@@ -1,4 +1,4 @@
-use Rattle.std.proofs.Common.{◌≡◌, ◌≤◌, ◌<◌, length, Option, Some}
+use Rattle.std.proofs.Common.{◌≤◌, ◌<◌, length, Option, Some}
 use Rattle.std.specs.Prelude.{All, IfSome, option_map}
 use Rattle.fb_types.specs.Charts.{Place}
 use Rattle.fb_types.specs.Numbers.{event_at}

@@ -1,5 +1,5 @@
-use Rattle.std.proofs.Common.{List, refl, sym, ◌∙◌, ap, subst}
-use Rattle.fb_types.specs.Blocks.{variables_of, variable_names}
+use Rattle.std.proofs.Common.{List, refl, ◌∙◌, ap, subst}
+use Rattle.fb_types.specs.Blocks.{variables_of}
 use Rattle.fb_types.specs.Names.{Name}
 use Rattle.fb_types.specs.Repeated.{Twice}
 use Rattle.fb_st.specs.Frames.{declared_in, names_of}
