@@ -1,0 +1,282 @@
+-- A basic type of an accepted declaration is sound.
+use Rattle.std.proofs.Common.{◌≡◌, ◌<◌, ℕ, zero, suc, Bool, true, false, ◌&&◌, ◌||◌, List, [], ◌∷◌, ◌++◌, map, length, Option, Some, None, Contains, refl, sym, ◌∙◌, ap, subst, inl, inr, append_assoc}
+use Rattle.std.specs.Prelude.{slice_get, flat_map}
+use Rattle.std.specs.List.{list_all}
+use Rattle.std.proofs.lemmas.Bool.{true≢false}
+use Rattle.std.proofs.lemmas.List.{map-append}
+use Rattle.std.proofs.lemmas.List.Elements.{Contains-append_left, Contains-append_right}
+use Rattle.fb_types.specs.Names.{Name, same_name}
+use Rattle.fb_types.specs.Syntax.{Stmt, Empty, Exit, Return, Assign, If, Case, For, While, Repeat, Stmts, no_stmt, then_stmts, Choices, no_choice, then_choices, Branches, no_branch, then_branches, body_of}
+use Rattle.fb_types.specs.Blocks.{among, event_names, variable_names, variables_of}
+use Rattle.fb_types.specs.Flat.{resource_names_of}
+use Rattle.fb_types.specs.Repeated.{Twice, Placed, NameTwice, networks, basics, basics_in, interfaces, port_names, name_spaces, block_type_names, algorithm_names, state_names, instance_names, with_lists, parameter_lists}
+use Rattle.fb_types.specs.Unknown.{Wanted, wanted, all_of, optional, types_wanted, withs_wanted, chart_wanted, transition_wanted, actions_wanted, parameters_wanted, deployment_wanted, Mention, OfVariable, OfFunction, mentions, mentions_in, mentions_body, mentions_choices, mentions_branches, mentioned, is_known, guards_of, NameUnknown}
+use Rattle.fb_types.specs.declared.library.Action.{Action}
+use Rattle.fb_types.specs.declared.library.Algorithm.{Algorithm}
+use Rattle.fb_types.specs.declared.library.BasicType.{BasicType}
+use Rattle.fb_types.specs.declared.library.BlockType.{BlockType}
+use Rattle.fb_types.specs.declared.library.BlockType.TheVariants as block
+use Rattle.fb_types.specs.declared.library.EventPort.{EventPort}
+use Rattle.fb_types.specs.declared.library.Library.{Library}
+use Rattle.fb_types.specs.declared.library.State.{State}
+use Rattle.fb_types.specs.declared.library.Transition.{Transition}
+use Rattle.fb_types.specs.declared.library.Variable.{Variable}
+use Rattle.fb_types.specs.declared.deploy.Plan.{Plan}
+use Rattle.fb_types.proofs.PathLaws.{same_name_itself}
+use Rattle.fb_st.specs.Frames.{Declared, is_declared}
+use Rattle.fb_st.specs.Known.{AssignsKnown, AllKnown, ChoicesKnown, BranchesKnown}
+use Rattle.fb_st.proofs.Places.{place_of_once}
+use Rattle.fb_ecc.specs.Opened.{IsOfDeclaration}
+use Rattle.fb_ecc.specs.Sound.{Each, IsSound, StandFirst, action_known, actions_known, declared_by, is_named}
+use Rattle.fb_ecc.proofs.Links.{names_declared}
+use Rattle.fb_ecc.proofs.Soundness.{first_or_later, nothing_in, here, twice_before}
+
+-- ---- Lists
+
+there : {A : Type 0} (x : A) (xs : List A) (y : A) → Contains xs y → Contains (x ∷ xs) y
+there x xs y h = Contains-append_right (x ∷ []) xs y h
+
+Contains-at : {A : Type 0} (xs : List A) (i : ℕ) (x : A) → slice_get xs i ≡ Some x → Contains xs x
+Contains-at [] i x h = absurd (cc)
+Contains-at {A} (y ∷ ys) zero x h = let e : y ≡ x = cc in subst (λ (z : A). Contains (y ∷ ys) z) e (here y ys)
+Contains-at (y ∷ ys) (suc i) x h = there y ys x (Contains-at ys i x h)
+
+Contains-map : {A B : Type 0} (f : A → B) (xs : List A) (x : A) → Contains xs x → Contains (map f xs) (f x)
+Contains-map f [] x h = absurd (nothing_in x h)
+Contains-map {A} f (y ∷ ys) x h =
+    elim (first_or_later y ys x h) [
+      | inl e ↦ subst (λ (z : A). Contains (f y ∷ map f ys) (f z)) e (here (f y) (map f ys))
+      | inr rest ↦ there (f y) (map f ys) (f x) (Contains-map f ys x rest)
+    ]
+
+Contains-flat_map : {A B : Type 0} (f : A → List B) (xs : List A) (x : A) (y : B) → Contains xs x → Contains (f x) y → Contains (flat_map f xs) y
+Contains-flat_map f [] x y h g = absurd (nothing_in x h)
+Contains-flat_map {A} f (z ∷ zs) x y h g =
+    elim (first_or_later z zs x h) [
+      | inl e ↦ Contains-append_left (f z) (flat_map f zs) y (subst (λ (w : A). Contains (f w) y) (sym e) g)
+      | inr rest ↦ Contains-append_right (f z) (flat_map f zs) y (Contains-flat_map f zs x y rest g)
+    ]
+
+list_all-each : {A : Type 0} (p : A → Bool) (xs : List A) → ((x : A) → Contains xs x → p x ≡ true) → list_all p xs ≡ true
+list_all-each p [] h = refl
+list_all-each p (x ∷ xs) h = rw (h x (here x xs)) (list_all-each p xs (λ y c. h y (there x xs y c)))
+
+both : (a b : Bool) → a ≡ true → b ≡ true → (a && b) ≡ true
+both true b h g = g
+both false b h g = h
+
+contains-among : (ns : List Name) (n : Name) → Contains ns n → among ns n ≡ true
+contains-among [] n h = absurd (nothing_in n h)
+contains-among (m ∷ ms) n h =
+    elim (first_or_later m ms n h) [
+      | inl e ↦ let same : same_name n m ≡ true = subst (λ (k : Name). same_name n k ≡ true) (sym e) (same_name_itself n) in rw same refl
+      | inr rest ↦
+          let later = contains-among ms n rest in
+          elim (same_name n m) as (λ b. (b || among ms n) ≡ true) [ true ↦ refl | false ↦ later ]
+    ]
+
+twice_behind : {A : Type 0} (xs ys : List A) → Twice ys → Twice (xs ++ ys)
+twice_behind [] ys t = t
+twice_behind (x ∷ xs) ys t = inr (twice_behind xs ys t)
+
+-- names that differ stand first
+first_from_once : {A : Type 0} (f : A → Name) (xs : List A) → ¬ (Twice (map f xs)) → StandFirst f xs
+first_from_once f xs once i x at = place_of_once f (f x) xs i x once at (same_name_itself (f x))
+
+-- ---- Algorithms
+
+abbrev IsFine : List Declared → Mention → Type 0
+IsFine ds (OfVariable n) = is_declared ds n ≡ true
+IsFine ds (OfFunction n) = Unit {0}
+
+mutual
+  assigns_known : (ds : List Declared) (s : Stmt) → ((m : Mention) → Contains (mentions_in s) m → IsFine ds m) → AssignsKnown ds s
+  assigns_known ds Empty fine = tt
+  assigns_known ds Exit fine = tt
+  assigns_known ds Return fine = tt
+  assigns_known ds (Assign n e) fine = fine (OfVariable n) (here (OfVariable n) (mentions e))
+  assigns_known ds (If cs others) fine = (
+    choices_known ds cs (λ m c. fine m (Contains-append_left (mentions_choices cs) (mentions_body others) m c)),
+    all_known ds others (λ m c. fine m (Contains-append_right (mentions_choices cs) (mentions_body others) m c)),
+  )
+  assigns_known ds (Case e bs others) fine = (
+    branches_known ds bs
+        (λ m c. fine m (Contains-append_left (mentions e ++ mentions_branches bs) (mentions_body others) m (Contains-append_right (mentions e) (mentions_branches bs) m c))),
+    all_known ds others (λ m c. fine m (Contains-append_right (mentions e ++ mentions_branches bs) (mentions_body others) m c)),
+  )
+  assigns_known ds (For n a b c body) fine =
+      let bounds : List Mention = (OfVariable n ∷ mentions a) ++ mentions b in (
+        fine (OfVariable n)
+            (Contains-append_left (bounds ++ mentions c) (mentions_body body) (OfVariable n)
+            (Contains-append_left bounds (mentions c) (OfVariable n)
+            (Contains-append_left (OfVariable n ∷ mentions a) (mentions b) (OfVariable n) (here (OfVariable n) (mentions a))))),
+        all_known ds body (λ m d. fine m (Contains-append_right (bounds ++ mentions c) (mentions_body body) m d)),
+      )
+  assigns_known ds (While e body) fine = all_known ds body (λ m c. fine m (Contains-append_right (mentions e) (mentions_body body) m c))
+  assigns_known ds (Repeat body e) fine = all_known ds body (λ m c. fine m (Contains-append_left (mentions_body body) (mentions e) m c))
+
+  all_known : (ds : List Declared) (b : Stmts) → ((m : Mention) → Contains (mentions_body b) m → IsFine ds m) → AllKnown ds b
+  all_known ds no_stmt fine = tt
+  all_known ds (then_stmts s rest) fine = (
+    assigns_known ds s (λ m c. fine m (Contains-append_left (mentions_in s) (mentions_body rest) m c)),
+    all_known ds rest (λ m c. fine m (Contains-append_right (mentions_in s) (mentions_body rest) m c)),
+  )
+
+  choices_known : (ds : List Declared) (cs : Choices) → ((m : Mention) → Contains (mentions_choices cs) m → IsFine ds m) → ChoicesKnown ds cs
+  choices_known ds no_choice fine = tt
+  choices_known ds (then_choices e body rest) fine = (
+    all_known ds body
+        (λ m c. fine m (Contains-append_left (mentions e ++ mentions_body body) (mentions_choices rest) m (Contains-append_right (mentions e) (mentions_body body) m c))),
+    choices_known ds rest (λ m c. fine m (Contains-append_right (mentions e ++ mentions_body body) (mentions_choices rest) m c)),
+  )
+
+  branches_known : (ds : List Declared) (bs : Branches) → ((m : Mention) → Contains (mentions_branches bs) m → IsFine ds m) → BranchesKnown ds bs
+  branches_known ds no_branch fine = tt
+  branches_known ds (then_branches ls body rest) fine = (
+    all_known ds body (λ m c. fine m (Contains-append_left (mentions_body body) (mentions_branches rest) m c)),
+    branches_known ds rest (λ m c. fine m (Contains-append_right (mentions_body body) (mentions_branches rest) m c)),
+  )
+
+-- ---- Types of a declaration
+
+basic_among : (bs : List BlockType) (t : BasicType) → Contains (flat_map basics_in bs) t → Contains bs (block.Basic t)
+basic_among [] t h = absurd (nothing_in t h)
+basic_among (block.Basic b ∷ bs) t h =
+    elim (first_or_later b (flat_map basics_in bs) t h) [
+      | inl e ↦ subst (λ (z : BasicType). Contains (block.Basic b ∷ bs) (block.Basic z)) e (here (block.Basic b) bs)
+      | inr rest ↦ there (block.Basic b) bs (block.Basic t) (basic_among bs t rest)
+    ]
+basic_among (block.Composite c ∷ bs) t h = there (block.Composite c) bs (block.Basic t) (basic_among bs t h)
+
+module _ (lib : Library) (plan : Plan) (t : BasicType) (once : ¬ (NameTwice lib plan)) (unknown : ¬ (NameUnknown lib plan)) (declared : Contains (basics lib) t) where
+  -- a name space of the first three sorts
+  space_once :
+      (ns : List Name) → Contains ((block_type_names lib ∷ map port_names lib.blocks) ++ map algorithm_names (basics lib) ++ map state_names (basics lib)) ns → ¬ (Twice ns)
+  space_once ns among_first twice =
+      let first : List (List Name) = (block_type_names lib ∷ map port_names lib.blocks) ++ map algorithm_names (basics lib) ++ map state_names (basics lib) in
+      let instances : List (List Name) = map (λ (n : Placed). instance_names n.1) (networks lib) in
+      let withs : List (List Name) = flat_map with_lists (interfaces lib) in
+      let parameters : List (List Name) = flat_map (λ (n : Placed). parameter_lists n.1) (networks lib) in
+      let among_all : Contains (name_spaces lib plan) ns =
+      Contains-append_left (first ++ instances ++ withs ++ parameters) (resource_names_of plan ∷ []) ns
+      (Contains-append_left (first ++ instances ++ withs) parameters ns
+      (Contains-append_left (first ++ instances) withs ns (Contains-append_left first instances ns among_first))) in
+      once (inl (ns, among_all, twice))
+
+  states_once : ¬ (Twice (state_names t))
+  states_once =
+      space_once (state_names t)
+      (Contains-append_right ((block_type_names lib ∷ map port_names lib.blocks) ++ map algorithm_names (basics lib)) (map state_names (basics lib)) (state_names t)
+      (Contains-map state_names (basics lib) t declared))
+
+  ports_once : ¬ (Twice (port_names (block.Basic t)))
+  ports_once =
+      let ns : List Name = port_names (block.Basic t) in
+      let types : List (List Name) = block_type_names lib ∷ map port_names lib.blocks in
+      space_once ns
+      (Contains-append_left (types ++ map algorithm_names (basics lib)) (map state_names (basics lib)) ns
+      (Contains-append_left types (map algorithm_names (basics lib)) ns
+      (there (block_type_names lib) (map port_names lib.blocks) ns (Contains-map port_names lib.blocks (block.Basic t) (basic_among lib.blocks t declared)))))
+
+  events_once : ¬ (Twice (event_names t.ports.event_inputs))
+  events_once twice =
+      let ins : List Name = event_names t.ports.event_inputs in
+      let outs : List Name = event_names t.ports.event_outputs in
+      let inputs : List Name = variable_names t.ports.inputs in
+      let outputs : List Name = variable_names t.ports.outputs in
+      ports_once
+      (twice_before (ins ++ outs ++ inputs ++ outputs) (variable_names t.internals)
+      (twice_before (ins ++ outs ++ inputs) outputs (twice_before (ins ++ outs) inputs (twice_before ins outs twice))))
+
+  variables_once : ¬ (Twice (variable_names (variables_of t)))
+  variables_once twice =
+      let events : List Name = event_names t.ports.event_inputs ++ event_names t.ports.event_outputs in
+      let inputs : List Name = variable_names t.ports.inputs in
+      let outputs : List Name = variable_names t.ports.outputs in
+      let internals : List Name = variable_names t.internals in
+      let names : variable_names (variables_of t) ≡ (inputs ++ outputs) ++ internals =
+      map-append (λ (v : Variable). v.name) (t.ports.inputs ++ t.ports.outputs) t.internals
+      ∙ ap (λ (ns : List Name). ns ++ internals) (map-append (λ (v : Variable). v.name) t.ports.inputs t.ports.outputs) in
+      let all : events ++ ((inputs ++ outputs) ++ internals) ≡ port_names (block.Basic t) =
+      sym (append_assoc events (inputs ++ outputs) internals) ∙ ap (λ (ns : List Name). ns ++ internals) (sym (append_assoc events inputs outputs)) in
+      let P : List Name → Type 0 = λ ns. Twice ns in
+      ports_once (subst P all (twice_behind events ((inputs ++ outputs) ++ internals) (subst P names twice)))
+
+  -- what the chart names is there
+  chart_named : (w : Wanted) → Contains (chart_wanted t) w → among w.1 w.0 ≡ true
+  chart_named w among_chart =
+      let networked : List Wanted = flat_map (λ (n : Placed). types_wanted lib n.1) (networks lib) in
+      let withs : List Wanted = flat_map withs_wanted (interfaces lib) in
+      let charts : List Wanted = flat_map chart_wanted (basics lib) in
+      let parameters : List Wanted = flat_map (λ (n : Placed). flat_map (parameters_wanted lib) n.1.instances) (networks lib) in
+      let among_all : Contains (wanted lib plan) w =
+      Contains-append_left (networked ++ withs ++ charts ++ parameters) (deployment_wanted lib plan) w
+      (Contains-append_left (networked ++ withs ++ charts) parameters w
+      (Contains-append_right (networked ++ withs) charts w (Contains-flat_map chart_wanted (basics lib) t w declared among_chart))) in
+      elim (among w.1 w.0) as (λ b. among w.1 w.0 ≡ b → b ≡ true) [
+        | true ↦ λ e. refl
+        | false ↦ λ e. absurd (unknown (inl (w, among_all, λ c. true≢false (sym (contains-among w.1 w.0 c) ∙ e))))
+      ] refl
+
+  target_named : (x : Transition) → Contains t.transitions x → among (state_names t) x.to ≡ true
+  target_named x at =
+      let w : Wanted = (x.to, state_names t) in
+      let events : List Wanted = all_of (optional x.condition.event) (event_names t.ports.event_inputs) in
+      chart_named w
+      (Contains-append_left (flat_map (transition_wanted t) t.transitions) (flat_map (actions_wanted t) t.states) w
+      (Contains-flat_map (transition_wanted t) t.transitions x w at (there (x.from, state_names t) (w ∷ events) w (here w events))))
+
+  optional_named :
+      (names : List Name) (n : Option Name) → ((m : Name) → Contains (all_of (optional n) names) (m, names) → among names m ≡ true) → is_named names n ≡ true
+  optional_named names None each = refl
+  optional_named names (Some n) each = each n (here (n, names) [])
+
+  action_named : (s : State) (a : Action) → Contains t.states s → Contains s.actions a → action_known t a ≡ true
+  action_named s a at in_actions =
+      let algorithms : List Wanted = all_of (optional a.algorithm) (algorithm_names t) in
+      let outputs : List Wanted = all_of (optional a.output) (event_names t.ports.event_outputs) in
+      let wants : Action → List Wanted = λ b.
+      all_of (optional b.algorithm) (algorithm_names t) ++ all_of (optional b.output) (event_names t.ports.event_outputs) in
+      let named : (w : Wanted) → Contains (algorithms ++ outputs) w → among w.1 w.0 ≡ true = λ w c.
+      chart_named w
+      (Contains-append_right (flat_map (transition_wanted t) t.transitions) (flat_map (actions_wanted t) t.states) w
+      (Contains-flat_map (actions_wanted t) t.states s w at (Contains-flat_map wants s.actions a w in_actions c))) in
+      both (is_named (algorithm_names t) a.algorithm) (is_named (event_names t.ports.event_outputs) a.output)
+      (optional_named (algorithm_names t) a.algorithm (λ m c. named (m, algorithm_names t) (Contains-append_left algorithms outputs (m, algorithm_names t) c)))
+      (optional_named (event_names t.ports.event_outputs) a.output
+      (λ m c. named (m, event_names t.ports.event_outputs) (Contains-append_right algorithms outputs (m, event_names t.ports.event_outputs) c)))
+
+  mention_known : (m : Mention) → Contains (mentioned t) m → is_known t m ≡ true
+  mention_known m at =
+      elim (is_known t m) as (λ b. is_known t m ≡ b → b ≡ true) [
+        | true ↦ λ e. refl
+        | false ↦ λ e. absurd (unknown (inr (inl (t, m, declared, at, e))))
+      ] refl
+
+  mention_fine : (m : Mention) → is_known t m ≡ true → IsFine (declared_by t) m
+  mention_fine (OfVariable n) h = ap (λ ns. among ns n) (names_declared (variables_of t)) ∙ h
+  mention_fine (OfFunction n) h = tt
+
+  body_known : Each (λ a. AllKnown (declared_by t) (body_of a.body)) t.algorithms
+  body_known i a at =
+      all_known (declared_by t) (body_of a.body)
+      (λ m c. mention_fine m
+      (mention_known m
+      (Contains-append_left (flat_map (λ (x : Algorithm). mentions_body (body_of x.body)) t.algorithms) (flat_map mentions (guards_of t)) m
+      (Contains-flat_map (λ (x : Algorithm). mentions_body (body_of x.body)) t.algorithms a m (Contains-at t.algorithms i a at) c))))
+
+  -- Each basic type of an accepted declaration is sound. That it has a first state is in the grammar.
+  sound_when_accepted : 0 < length t.states → IsSound t
+  sound_when_accepted initial =
+      record {
+        initial = initial;
+        states = first_from_once (λ (s : State). s.name) t.states states_once;
+        events = first_from_once (λ (p : EventPort). p.name) t.ports.event_inputs events_once;
+        variables = variables_once;
+        targets = list_all-each (λ (x : Transition). among (state_names t) x.to) t.transitions target_named;
+        actions = list_all-each (actions_known t) t.states (λ s c. list_all-each (action_known t) s.actions (λ a d. action_named s a c d));
+        bodies = body_known;
+      }
+
+pub sound_in_declaration : (t : BasicType) → IsOfDeclaration t → IsSound t
+sound_in_declaration t is = sound_when_accepted is.library is.plan t is.once is.known is.declared is.initial

@@ -1,0 +1,342 @@
+-- Actions, put together from their parts.
+use Rattle.std.proofs.Common.{◌≡◌, ℕ, zero, suc, ◌+◌, ◌<◌, ◌≤◌, true, false, cond, List, [], ◌∷◌, ◌++◌, length, get_or, drop, map, Option, Some, None, Result, Ok, Err, OnOk, OnErr, refl, sym, ◌∙◌, ap, subst, arith, add-one}
+use Rattle.std.proofs.Math.Path.{fun_ext}
+use Rattle.std.specs.Prelude.{option_map, option_and_then, slice_get, unwrap_or}
+use Rattle.std.specs.List.{All}
+use Rattle.std.proofs.lemmas.List.{map-append, length-map}
+use Rattle.std.proofs.lemmas.List.Elements.{All-push}
+use Rattle.std.proofs.lemmas.Option.{slice_get-map, slice_get_within, slice_get-get_or, same_Some}
+use Rattle.fb_types.specs.Names.{Name, same_name}
+use Rattle.fb_types.specs.Blocks.{named, bound, outputs_with, types_of, variables_of, Bound, Emission}
+use Rattle.fb_types.specs.Bodies.{Point, End, Went, Left, Returned, Stopped, RunsBody}
+use Rattle.fb_types.specs.Charts.{Place, Moving, Halts, Performs, Acts, emitting, at_point, algorithm_of}
+use Rattle.fb_types.specs.Numbers.{event_at, emission_of, pair_up}
+use Rattle.fb_types.specs.Syntax.{Stmts, no_stmt, body_of}
+use Rattle.fb_types.specs.Values.{Values, Types}
+use Rattle.fb_types.specs.declared.library.Action.{Action}
+use Rattle.fb_types.specs.declared.library.Algorithm.{Algorithm}
+use Rattle.fb_types.specs.declared.library.BasicType.{BasicType}
+use Rattle.fb_types.specs.declared.library.EventPort.{EventPort}
+use Rattle.fb_types.specs.declared.library.Variable.{Variable}
+use Rattle.fb_types.specs.declared.run.Emission as run
+use Rattle.fb_types.specs.declared.run.Halt.{Halt}
+use Rattle.fb_types.specs.declared.run.Halt.TheVariants as halt
+use Rattle.fb_types.specs.declared.value.Reason.{Reason}
+use Rattle.fb_types.specs.declared.value.Ty.{Ty}
+use Rattle.fb_types.specs.declared.value.Ty.TheVariants.{Bool as Boolean}
+use Rattle.fb_types.proofs.PathLaws.{same_name_is}
+use Rattle.fb_st.specs.Frames.{Declared, types_in, values_of}
+use Rattle.fb_st.specs.declared.frame.Slot.{Slot}
+use Rattle.fb_st.proofs.Places.{named_at_place}
+use Rattle.fb_st.specs.Flows.{end_of}
+use Rattle.fb_st.specs.declared.meter.Flow.{Flow}
+use Rattle.fb_st.specs.declared.meter.Flow.TheVariants as flow
+use Rattle.fb_ecc.specs.Actions.{AreActions, IsAction, IsAlgorithm, IsOutput, with_slots}
+use Rattle.fb_ecc.specs.declared.chart.Act.{Act}
+use Rattle.fb_ecc.specs.Numbered.{number_in, names_with_each}
+use Rattle.fb_ecc.specs.Places.{place, Ended, IsWellFormed}
+use Rattle.fb_ecc.specs.Sound.{declared_as, declared_by}
+use Rattle.fb_ecc.proofs.Trials.{Stands, stands, number_is}
+
+-- ---- An action, and what follows
+
+pub performs_then :
+    (t : BasicType) (n : Option Name) (rest : Moving) (p m q : Place) (stop : Option Reason) → Performs t n (Halts None) p None m → rest m stop q → Performs t n rest p stop q
+performs_then t None rest p m q stop (e, is) after = subst (λ (x : Place). rest x stop q) is after
+performs_then t (Some a) rest p m q stop (Went, x, run, (e, is)) after = (Went, x, run, subst (λ (y : Place). rest y stop q) is after)
+performs_then t (Some a) rest p m q stop (Left, x, run, (e, is)) after = (Left, x, run, subst (λ (y : Place). rest y stop q) is after)
+performs_then t (Some a) rest p m q stop (Returned, x, run, (e, is)) after = (Returned, x, run, subst (λ (y : Place). rest y stop q) is after)
+performs_then t (Some a) rest p m q stop (Stopped r, x, run, (e, is)) after = absurd (cc)
+
+pub performs_stops :
+    (t : BasicType) (n : Option Name) (rest : Moving) (p q : Place) (r : Reason) → Performs t n (Halts None) p (Some r) q → Performs t n rest p (Some r) q
+performs_stops t None rest p q r (e, is) = absurd (cc)
+performs_stops t (Some a) rest p q r (Went, x, run, (e, is)) = absurd (cc)
+performs_stops t (Some a) rest p q r (Left, x, run, (e, is)) = absurd (cc)
+performs_stops t (Some a) rest p q r (Returned, x, run, (e, is)) = absurd (cc)
+performs_stops t (Some a) rest p q r (Stopped s, x, run, after) = (Stopped s, x, run, after)
+
+-- ---- Types and algorithms
+
+named_declared : (vs : List Variable) (n : Name) → named (λ d. d.0) n (map declared_as vs) ≡ option_map declared_as (named (λ v. v.name) n vs)
+named_declared [] n = refl
+named_declared (v ∷ vs) n =
+    elim (same_name v.name n) as (λ b. cond b (Some (declared_as v)) (named (λ d. d.0) n (map declared_as vs)) ≡ option_map declared_as (cond b (Some v) (named (λ w. w.name) n vs))) [
+      | true ↦ refl
+      | false ↦ named_declared vs n
+    ]
+
+abbrev type_or : Option Declared → Ty
+type_or o = elim o [ None ↦ Boolean | Some d ↦ d.1 ]
+
+type_declared : (o : Option Variable) → type_or (option_map declared_as o) ≡ (elim o [ None ↦ Boolean | Some v ↦ v.ty ])
+type_declared None = refl
+type_declared (Some v) = refl
+
+pub types_declared : (t : BasicType) → types_in (declared_by t) ≡ types_of t
+types_declared t = fun_ext (λ n. ap type_or (named_declared (variables_of t) n) ∙ type_declared (named (λ v. v.name) n (variables_of t)))
+
+abbrev body_or : Option Algorithm → Stmts
+body_or o = elim o [ None ↦ no_stmt | Some x ↦ body_of x.body ]
+
+pub algorithm_is : (t : BasicType) (n : Name) (s : Stands (λ a. a.name) t.algorithms n) → algorithm_of t n ≡ body_of s.element.body
+algorithm_is t n s =
+    let there : named (λ a. a.name) n t.algorithms ≡ Some s.element =
+    named_at_place (λ a. a.name) n t.algorithms ∙ ap (option_and_then (slice_get t.algorithms)) s.first ∙ s.at in
+    ap body_or there
+
+-- ---- Emissions
+
+pub pair_up-bound : (ns : List Name) (vars : Values) → pair_up ns (map vars ns) ≡ bound ns vars
+pair_up-bound [] vars = refl
+pair_up-bound (n ∷ ns) vars = ap (λ bs. record { variable = n; value = vars n } ∷ bs) (pair_up-bound ns vars)
+
+pub event_is : (events : List EventPort) (n : Name) (s : Stands (λ p. p.name) events n) → event_at events s.place ≡ n
+event_is events n s =
+    ap (λ (o : Option Name). unwrap_or o []) (slice_get-map (λ (e : EventPort). e.name) events s.place ∙ ap (option_map (λ (e : EventPort). e.name)) s.at)
+    ∙ sym (same_name_is n s.element.name s.named)
+
+-- what the place of an event output says
+pub record Output (t : BasicType) (k : ℕ) (name : Option Name) : Type 0 where
+  pub event : Name
+  pub is : name ≡ Some event
+  pub within : k < length t.ports.event_outputs
+  pub named : event_at t.ports.event_outputs k ≡ event
+  pub shown : slice_get (names_with_each t.ports.event_outputs t.ports.outputs) k ≡ Some (outputs_with t.ports event)
+
+pub output_here : (t : BasicType) (k : ℕ) (name : Option Name) → IsOutput t (Some k) name → Output t k name
+output_here t k None o = absurd (let e = o.is in cc)
+output_here t k (Some n) o =
+    let events : List EventPort = t.ports.event_outputs in
+    let s = stands (λ p. p.name) events n o.known in
+    let numbered : Some k ≡ Some (number_in (λ p. p.name) events n) = o.is in
+    let here : k ≡ s.place = same_Some k (number_in (λ p. p.name) events n) numbered ∙ number_is (λ p. p.name) events n s in
+    let names : s.element.name ≡ n = sym (same_name_is n s.element.name s.named) in
+    record {
+      event = n;
+      is = refl;
+      within = subst (λ i. i < length events) (sym here) (slice_get_within events s.place s.element s.at);
+      named = ap (event_at events) here ∙ event_is events n s;
+      shown = ap (slice_get (names_with_each events t.ports.outputs)) here
+          ∙ slice_get-map (λ (e : EventPort). outputs_with t.ports e.name) events s.place
+          ∙ ap (option_map (λ (e : EventPort). outputs_with t.ports e.name)) s.at
+          ∙ ap (λ (m : Name). Some (outputs_with t.ports m)) names;
+    }
+
+-- no output event
+pub emitted_none : (t : BasicType) (name : Option Name) (p : Place) → IsOutput t None name → p ≡ emitting t name p
+emitted_none t None p o = refl
+emitted_none t (Some n) p o = absurd (let e = o.is in cc)
+
+-- the variables WITH an output event, where they are read
+pub shown_here :
+    (t : BasicType) (k : ℕ) (name : Option Name) (o : Output t k name) (shown : List (List Name)) (read d : List Name)
+    → shown ≡ names_with_each t.ports.event_outputs t.ports.outputs → k < length shown → read ≡ get_or shown k d → read ≡ outputs_with t.ports o.event
+shown_here t k name o shown read d all within is =
+    is
+    ∙ same_Some (get_or shown k d) (outputs_with t.ports o.event)
+    (sym (subst (λ (l : List (List Name)). slice_get l k ≡ Some (get_or shown k d)) all (slice_get-get_or shown k d within)) ∙ o.shown)
+
+pub shown_within :
+    (t : BasicType) (k : ℕ) (name : Option Name) (o : Output t k name) (shown : List (List Name)) → shown ≡ names_with_each t.ports.event_outputs t.ports.outputs → k < length shown
+shown_within t k name o shown all =
+    subst (λ (l : List (List Name)). k < length l) (sym all)
+    (slice_get_within (names_with_each t.ports.event_outputs t.ports.outputs) k (outputs_with t.ports o.event) o.shown)
+
+emission_meant :
+    (t : BasicType) (k : ℕ) (name : Option Name) (o : Output t k name) (vars : Values) (read : List Name) → read ≡ outputs_with t.ports o.event
+    → emission_of t.ports (record { event = k; values = map vars read }) ≡ record { event = o.event; values = bound (outputs_with t.ports o.event) vars }
+emission_meant t k name o vars read is =
+    ap (λ (ns : List Name). emission_of t.ports (record { event = k; values = map vars ns })) is
+    ∙ ap (λ (n : Name). record { event = n; values = pair_up (outputs_with t.ports n) (map vars (outputs_with t.ports o.event)) }) o.named
+    ∙ ap (λ (bs : List Bound). record { event = o.event; values = bs }) (pair_up-bound (outputs_with t.ports o.event) vars)
+
+pub emitted_some :
+    (t : BasicType) (k : ℕ) (name : Option Name) (o : Output t k name) (state left : ℕ) (slots : List Slot) (old new : List run.Emission) (read : List Name)
+    → read ≡ outputs_with t.ports o.event → new ≡ old ++ record { event = k; values = map (values_of slots) read } ∷ []
+    → place t state slots left new ≡ emitting t name (place t state slots left old)
+emitted_some t k name o state left slots old new read is grown =
+    let es : List Emission = map (emission_of t.ports) old in
+    let more : map (emission_of t.ports) new ≡ es ++ record { event = o.event; values = bound (outputs_with t.ports o.event) (values_of slots) } ∷ [] =
+    ap (map (emission_of t.ports)) grown
+    ∙ map-append (emission_of t.ports) old (record { event = k; values = map (values_of slots) read } ∷ [])
+    ∙ ap (λ (e : Emission). es ++ e ∷ []) (emission_meant t k name o (values_of slots) read is) in
+    ap (λ (l : List Emission). record (place t state slots left old) { emitted = l }) more
+    ∙ ap (λ (n : Option Name). emitting t n (place t state slots left old)) (sym o.is)
+
+pub fit_some :
+    (t : BasicType) (k : ℕ) (name : Option Name) (o : Output t k name) (vars : Values) (old new : List run.Emission) (read : List Name)
+    → read ≡ outputs_with t.ports o.event → new ≡ old ++ record { event = k; values = map vars read } ∷ [] → All (IsWellFormed t) old → All (IsWellFormed t) new
+fit_some t k name o vars old new read is grown all =
+    let counted : length (map vars read) ≡ length (outputs_with t.ports (event_at t.ports.event_outputs k)) =
+    length-map read vars ∙ ap length is ∙ ap (λ (n : Name). length (outputs_with t.ports n)) (sym o.named) in
+    let P : List run.Emission → Type 0 = λ l. All (IsWellFormed t) l in
+    subst P (sym grown) (All-push (IsWellFormed t) old (record { event = k; values = map vars read }) all (o.within, counted))
+
+-- what the place of an algorithm says
+pub record Named (t : BasicType) (k : ℕ) (name : Option Name) : Type 0 where
+  pub algorithm : Name
+  pub element : Algorithm
+  pub is : name ≡ Some algorithm
+  pub at : slice_get t.algorithms k ≡ Some element
+  pub body : algorithm_of t algorithm ≡ body_of element.body
+
+pub algorithm_here : (t : BasicType) (k : ℕ) (name : Option Name) → IsAlgorithm t (Some k) name → Named t k name
+algorithm_here t k None o = absurd (let e = o.is in cc)
+algorithm_here t k (Some n) o =
+    let s = stands (λ a. a.name) t.algorithms n o.known in
+    let numbered : Some k ≡ Some (number_in (λ a. a.name) t.algorithms n) = o.is in
+    let here : k ≡ s.place = same_Some k (number_in (λ a. a.name) t.algorithms n) numbered ∙ number_is (λ a. a.name) t.algorithms n s in
+    record {
+      algorithm = n;
+      element = s.element;
+      is = refl;
+      at = ap (slice_get t.algorithms) here ∙ s.at;
+      body = algorithm_is t n s;
+    }
+
+-- ---- Algorithms that ran
+
+runs_as :
+    (t : BasicType) (k : ℕ) (name : Option Name) (n : Named t k name) (y : Algorithm) (ds : List Declared) (p q : Point) (e : End) → slice_get t.algorithms k ≡ Some y
+    → ds ≡ declared_by t → RunsBody (types_in ds) (body_of y.body) p e q → RunsBody (types_of t) (algorithm_of t n.algorithm) p e q
+runs_as t k name n y ds p q e at declared run =
+    let same : y ≡ n.element = same_Some y n.element (sym at ∙ n.at) in
+    let body : body_of y.body ≡ algorithm_of t n.algorithm = ap (λ (a : Algorithm). body_of a.body) same ∙ sym n.body in
+    subst (λ (types : Types). RunsBody types (algorithm_of t n.algorithm) p e q) (ap types_in declared ∙ types_declared t)
+    (subst (λ (b : Stmts). RunsBody (types_in ds) b p e q) body run)
+
+performs_some :
+    (t : BasicType) (n : Name) (p : Place) (m : Point) (f : Flow) → RunsBody (types_of t) (algorithm_of t n) (record { vars = p.vars; left = p.left }) (end_of (Ok f)) m
+    → Performs t (Some n) (Halts None) p None (at_point p m)
+performs_some t n p m flow.Went run = (Went, m, run, (refl, refl))
+performs_some t n p m flow.Left run = (Left, m, run, (refl, refl))
+performs_some t n p m flow.Returned run = (Returned, m, run, (refl, refl))
+
+pub performed_ok :
+    (t : BasicType) (k : ℕ) (name : Option Name) (n : Named t k name) (y : Algorithm) (ds : List Declared) (p : Place) (slots new : List Slot) (left less : ℕ)
+    (result : Result Flow Reason) (f : Flow) → slice_get t.algorithms k ≡ Some y → ds ≡ declared_by t → result ≡ Ok f
+    → RunsBody (types_in ds) (body_of y.body) (record { vars = values_of slots; left = left }) (end_of result) (record { vars = values_of new; left = less })
+    → Performs t name (Halts None) (with_slots p slots left) None (with_slots p new less)
+performed_ok t k name n y ds p slots new left less result f at declared ok run =
+    let m : Point = record { vars = values_of new; left = less } in
+    let ran = runs_as t k name n y ds (record { vars = values_of slots; left = left }) m (end_of (Ok f)) at declared
+    (subst (λ (r : Result Flow Reason). RunsBody (types_in ds) (body_of y.body) (record { vars = values_of slots; left = left }) (end_of r) m) ok run) in
+    subst (λ (o : Option Name). Performs t o (Halts None) (with_slots p slots left) None (with_slots p new less)) (sym n.is)
+    (performs_some t n.algorithm (with_slots p slots left) m f ran)
+
+pub performed_err :
+    (t : BasicType) (k : ℕ) (name : Option Name) (n : Named t k name) (y : Algorithm) (ds : List Declared) (p : Place) (slots new : List Slot) (left less : ℕ)
+    (result : Result Flow Reason) (r : Reason) → slice_get t.algorithms k ≡ Some y → ds ≡ declared_by t → result ≡ Err r
+    → RunsBody (types_in ds) (body_of y.body) (record { vars = values_of slots; left = left }) (end_of result) (record { vars = values_of new; left = less })
+    → Performs t name (Halts None) (with_slots p slots left) (Some r) (with_slots p new less)
+performed_err t k name n y ds p slots new left less result r at declared err run =
+    let m : Point = record { vars = values_of new; left = less } in
+    let ran = runs_as t k name n y ds (record { vars = values_of slots; left = left }) m (Stopped r) at declared
+    (subst (λ (s : Result Flow Reason). RunsBody (types_in ds) (body_of y.body) (record { vars = values_of slots; left = left }) (end_of s) m) err run) in
+    subst (λ (o : Option Name). Performs t o (Halts None) (with_slots p slots left) (Some r) (with_slots p new less)) (sym n.is)
+    (Stopped r, m, ran, (refl, refl))
+
+-- an action without an algorithm
+pub performed_none :
+    (t : BasicType) (name : Option Name) (p : Place) → IsAlgorithm t None name → Performs t name (Halts None) p None p
+performed_none t None p h = (refl, refl)
+performed_none t (Some n) p h = absurd (let e = h.is in cc)
+
+-- an algorithm that is read
+pub read_here :
+    (t : BasicType) (k : ℕ) (read : List Algorithm) (y : Algorithm) → read ≡ t.algorithms → k < length read → slice_get t.algorithms k ≡ Some (get_or read k y)
+read_here t k read y all within = subst (λ (l : List Algorithm). slice_get l k ≡ Some (get_or read k y)) all (slice_get-get_or read k y within)
+
+-- ---- Actions, one after the other
+
+pub acts_stops :
+    (t : BasicType) (a : Action) (rest : List Action) (p q : Place) (left less : ℕ) (r : Reason) → left ≡ suc less
+    → Performs t a.algorithm (Halts None) (record p { left = less }) (Some r) q → Acts t (a ∷ rest) left p (Some r) q
+acts_stops t a rest p q left less r fewer run =
+    subst (λ n. Acts t (a ∷ rest) n p (Some r) q) (sym fewer)
+    (performs_stops t a.algorithm (λ m stop q. Acts t rest (emitting t a.output m).left (emitting t a.output m) stop q) (record p { left = less }) q r run)
+
+pub acts_goes :
+    (t : BasicType) (a : Action) (p m q : Place) (left less : ℕ) → left ≡ suc less → Performs t a.algorithm (Halts None) (record p { left = less }) None m
+    → q ≡ emitting t a.output m → Acts t (a ∷ []) left p None q
+acts_goes t a p m q left less fewer run is =
+    subst (λ n. Acts t (a ∷ []) n p None q) (sym fewer)
+    (performs_then t a.algorithm (λ m stop q. Acts t [] (emitting t a.output m).left (emitting t a.output m) stop q) (record p { left = less }) m q None run (refl, is))
+
+-- where one action ended, the next ones go on
+performs_more :
+    (t : BasicType) (n : Option Name) (f : Place → Place) (rest : Moving) (p m q : Place) (stop : Option Reason)
+    → Performs t n (λ x s y. Halts None (f x) s y) p None m → rest m stop q → Performs t n (λ x s y. rest (f x) s y) p stop q
+performs_more t None f rest p m q stop (e, is) after = subst (λ (x : Place). rest x stop q) is after
+performs_more t (Some a) f rest p m q stop (Went, x, run, (e, is)) after = (Went, x, run, subst (λ (y : Place). rest y stop q) is after)
+performs_more t (Some a) f rest p m q stop (Left, x, run, (e, is)) after = (Left, x, run, subst (λ (y : Place). rest y stop q) is after)
+performs_more t (Some a) f rest p m q stop (Returned, x, run, (e, is)) after = (Returned, x, run, subst (λ (y : Place). rest y stop q) is after)
+performs_more t (Some a) f rest p m q stop (Stopped r, x, run, (e, is)) after = absurd (cc)
+
+performs_no_more :
+    (t : BasicType) (n : Option Name) (f : Place → Place) (rest : Moving) (p q : Place) (r : Reason)
+    → Performs t n (λ x s y. Halts None (f x) s y) p (Some r) q → Performs t n (λ x s y. rest (f x) s y) p (Some r) q
+performs_no_more t None f rest p q r (e, is) = absurd (cc)
+performs_no_more t (Some a) f rest p q r (Went, x, run, (e, is)) = absurd (cc)
+performs_no_more t (Some a) f rest p q r (Left, x, run, (e, is)) = absurd (cc)
+performs_no_more t (Some a) f rest p q r (Returned, x, run, (e, is)) = absurd (cc)
+performs_no_more t (Some a) f rest p q r (Stopped s, x, run, after) = (Stopped s, x, run, after)
+
+pub next_acts :
+    (t : BasicType) (a : Action) (rest : List Action) (p m q : Place) (left : ℕ) (stop : Option Reason) → Acts t (a ∷ []) left p None m
+    → Acts t rest m.left m stop q → Acts t (a ∷ rest) left p stop q
+next_acts t a rest p m q zero stop (e, is) after = absurd (cc)
+next_acts t a rest p m q (suc left) stop run after =
+    performs_more t a.algorithm (emitting t a.output) (λ n s y. Acts t rest n.left n s y) (record p { left = left }) m q stop run after
+
+pub no_next_acts :
+    (t : BasicType) (a : Action) (rest : List Action) (p q : Place) (left : ℕ) (r : Reason) → Acts t (a ∷ []) left p (Some r) q → Acts t (a ∷ rest) left p (Some r) q
+no_next_acts t a rest p q zero r run = run
+no_next_acts t a rest p q (suc left) r run =
+    performs_no_more t a.algorithm (emitting t a.output) (λ n s y. Acts t rest n.left n s y) (record p { left = left }) q r run
+
+-- the action at a place
+pub record ActionAt (t : BasicType) (act : Act) (rest : List Action) (i : ℕ) : Type 0 where
+  pub action : Action
+  pub is : IsAction t act action
+  pub here : drop i rest ≡ action ∷ drop (i + 1) rest
+
+action_at :
+    (t : BasicType) (acts : List Act) (actions : List Action) (i : ℕ) (d : Act) → AreActions t acts actions → i < length acts
+    → (a : Action) × IsAction t (get_or acts i d) a × (drop i actions ≡ a ∷ drop (suc i) actions)
+action_at t [] actions i d are h = absurd (omega arith)
+action_at t (x ∷ xs) [] i d are h = absurd are
+action_at t (x ∷ xs) (a ∷ as') zero d are h = (a, are.0, refl)
+action_at t (x ∷ xs) (a ∷ as') (suc i) d are h = action_at t xs as' i d are.1 (omega arith)
+
+pub action_here :
+    (t : BasicType) (acts : List Act) (actions : List Action) (i : ℕ) (d : Act) → AreActions t acts actions → i < length acts → ActionAt t (get_or acts i d) actions i
+action_here t acts actions i d are h =
+    let x = action_at t acts actions i d are h in
+    record { action = x.0; is = x.1; here = x.2 ∙ rw add-one refl }
+
+-- ---- Results
+
+pub on_ok : {A B E T : Type 0} (result : Result T E) → OnOk result A → (A → B) → OnOk result B
+on_ok (Ok u) a f = f a
+on_ok (Err e) a f = a
+
+pub either : {A B P E T : Type 0} (result : Result T E) → OnOk result A → OnErr result B → (A → P) → (B → P) → P
+either (Ok u) a b f g = f a
+either (Err e) a b f g = g b
+
+-- a call that ended early ends what it belongs to
+pub ended_early :
+    (h : Halt) (one all : Moving) (p m q : Place) → ((r : Reason) → one m (Some r) q → all p (Some r) q) → Ended (Err h) one m q → Ended (Err h) all p q
+ended_early (halt.Stop r) one all p m q goes run = goes r run
+ended_early halt.Memory one all p m q goes run = run
+
+pub no_action_left :
+    (t : BasicType) (acts : List Act) (actions : List Action) (i : ℕ) → AreActions t acts actions → length acts ≤ i → drop i actions ≡ []
+no_action_left t [] [] zero are h = refl
+no_action_left t [] [] (suc i) are h = refl
+no_action_left t [] (a ∷ as') i are h = absurd are
+no_action_left t (x ∷ xs) [] i are h = absurd are
+no_action_left t (x ∷ xs) (a ∷ as') zero are h = absurd (omega arith)
+no_action_left t (x ∷ xs) (a ∷ as') (suc i) are h = no_action_left t xs as' i are.1 (omega arith)

@@ -1,0 +1,6 @@
+pub mod Acceptance
+pub mod Actions
+pub mod Charts
+pub mod Links
+pub mod Soundness
+pub mod Trials

@@ -1,0 +1,273 @@
+-- Chains of states, put together from their links, and what the rows of a chart say.
+use Rattle.std.proofs.Common.{◌≡◌, ℕ, zero, suc, ◌+◌, ◌<◌, ◌≤◌, Bool, true, false, cond, ◌&&◌, ◌||◌, List, [], ◌∷◌, ◌++◌, length, get_or, drop, map, Option, Some, None, Err, Bor, refl, sym, ◌∙◌, ap, subst, arith}
+use Rattle.std.specs.Prelude.{option_map, option_and_then, slice_get, IfSome, MatchOption}
+use Rattle.std.specs.List.{filter, list_all, list_any, HoldsAt}
+use Rattle.std.proofs.lemmas.List.{length-map}
+use Rattle.std.proofs.lemmas.Option.{slice_get-map, slice_get_within, slice_get-get_or, slice_get_read, slice_get_past, get_or_from_slice_get, same_Some}
+use Rattle.fb_types.specs.Names.{Name, same_name, with_value}
+use Rattle.fb_types.specs.Blocks.{named, among, variable_names, variables_of, inputs_with, Bound}
+use Rattle.fb_types.specs.Numbers.{event_at, pair_up}
+use Rattle.fb_types.specs.Reactions.{with_values}
+use Rattle.fb_types.proofs.PathLaws.{same_name_itself}
+use Rattle.fb_types.specs.declared.library.Variable.{Variable}
+use Rattle.fb_types.specs.declared.run.Halt.{Halt}
+use Rattle.fb_types.specs.declared.run.Halt.TheVariants as halt
+use Rattle.fb_types.specs.declared.value.Value.{Value}
+use Rattle.fb_types.specs.Values.{Values}
+use Rattle.fb_types.specs.Charts.{Place, Moving, Acts, Links, Trial, Clears, NoneClears, Fails, Rests, Enters, trial_at, trial_of, leaving, actions_of, ChartReacts}
+use Rattle.fb_types.specs.declared.library.Action.{Action}
+use Rattle.fb_types.specs.declared.library.BasicType.{BasicType}
+use Rattle.fb_types.specs.declared.library.EventPort.{EventPort}
+use Rattle.fb_types.specs.declared.library.State.{State}
+use Rattle.fb_types.specs.declared.library.Transition.{Transition}
+use Rattle.fb_types.specs.declared.value.Reason.{Reason}
+use Rattle.fb_st.specs.Frames.{Declared, is_declared}
+use Rattle.fb_st.proofs.Places.{named_at_place}
+use Rattle.fb_ecc.specs.Actions.{AreActions}
+use Rattle.fb_ecc.specs.Links.{Chain, Linked}
+use Rattle.fb_ecc.specs.Numbered.{exit_of, exits_from, act_of, row_of, names_with_each, chart_of}
+use Rattle.fb_ecc.specs.Places.{state_at, Ended}
+use Rattle.fb_ecc.specs.Sound.{Each, IsSound, action_known, actions_known, declared_as, declared_by}
+use Rattle.fb_ecc.specs.Trials.{transitions_at, IsExit}
+use Rattle.fb_ecc.specs.declared.chart.Exit.{Exit}
+use Rattle.fb_ecc.specs.declared.chart.Row.{Row}
+use Rattle.fb_ecc.specs.declared.chart.Chart.{Chart}
+use Rattle.fb_ecc.proofs.Trials.{transition_here, state_here, list_all-at, and_left, and_right, somewhere, cut_at, event_here}
+
+-- ---- Links
+
+module _ (t : BasicType) (present : Option Name) where
+  pub goes_on :
+      (p m q : Place) (target : Name) (left : ℕ) (stop : Option Reason) → trial_at t present p ≡ Clears target left
+      → Acts t (actions_of t target) left (record p { state = target; left = left }) None m → Chain t None m stop q → Chain t present p stop q
+  goes_on p m q target left stop tried acts (n, rest) =
+      (suc n, subst (λ (x : Trial). Enters t x (Links t n None) p stop q) (sym tried) (None, m, acts, rest))
+
+  pub stops_in :
+      (p q : Place) (target : Name) (left : ℕ) (r : Reason) → trial_at t present p ≡ Clears target left
+      → Acts t (actions_of t target) left (record p { state = target; left = left }) (Some r) q → Chain t present p (Some r) q
+  stops_in p q target left r tried acts =
+      (suc zero, subst (λ (x : Trial). Enters t x (Links t zero None) p (Some r) q) (sym tried) (Some r, q, acts, (refl, refl)))
+
+  pub rests : (p : Place) (left : ℕ) → trial_at t present p ≡ NoneClears left → Chain t present p None (record p { left = left })
+  rests p left tried = (zero, subst (λ (x : Trial). Rests x p None (record p { left = left })) (sym tried) (refl, refl))
+
+  pub fails : (p : Place) (left : ℕ) (r : Reason) → trial_at t present p ≡ Fails r left → Chain t present p (Some r) (record p { left = left })
+  fails p left r tried = (zero, subst (λ (x : Trial). Rests x p (Some r) (record p { left = left })) (sym tried) (refl, refl))
+
+-- ---- Rows
+
+drop_next : {A : Type 0} (xs ys : List A) (k : ℕ) (x : A) → drop k xs ≡ x ∷ ys → (slice_get xs k ≡ Some x) × (drop (suc k) xs ≡ ys)
+drop_next [] ys zero x h = absurd (cc)
+drop_next [] ys (suc k) x h = absurd (cc)
+drop_next (y ∷ xs) ys zero x h = (let e : y ≡ x = cc in ap (λ z. Some z) e, cc)
+drop_next (y ∷ xs) ys (suc k) x h = drop_next xs ys k x h
+
+-- the transitions that leave a state stand at the places of its exits
+leaving_from :
+    (t : BasicType) (n : Name) (k : ℕ) (xs : List Transition) → drop k t.transitions ≡ xs
+    → transitions_at t (exits_from t n k xs) ≡ filter (λ x. same_name x.from n) xs
+leaving_from t n k [] h = refl
+leaving_from t n k (x ∷ xs) h =
+    let next = drop_next t.transitions xs k x h in
+    let rest = leaving_from t n (suc k) xs next.1 in
+    elim (same_name x.from n) as (λ b. transitions_at t (cond b (exit_of t k x ∷ exits_from t n (suc k) xs) (exits_from t n (suc k) xs))
+    ≡ cond b (x ∷ filter (λ y. same_name y.from n) xs) (filter (λ y. same_name y.from n) xs)) [
+      | true ↦ ap (λ (y : Transition). y ∷ transitions_at t (exits_from t n (suc k) xs)) (transition_here t k x next.0) ∙ ap (λ ys. x ∷ ys) rest
+      | false ↦ rest
+    ]
+
+first :
+    (t : BasicType) (n : Name) (k : ℕ) (x : Transition) (rest : List Exit) → slice_get t.transitions k ≡ Some x → Each (IsExit t) rest
+    → Each (IsExit t) (exit_of t k x ∷ rest)
+first t n k x rest here each zero e at =
+    let same : exit_of t k x ≡ e = cc in
+    subst (λ (f : Exit). IsExit t f) same (x, here, refl)
+first t n k x rest here each (suc i) e at = each i e at
+
+exits_each :
+    (t : BasicType) (n : Name) (k : ℕ) (xs : List Transition) → drop k t.transitions ≡ xs → Each (IsExit t) (exits_from t n k xs)
+exits_each t n k [] h = λ i e at. absurd (cc)
+exits_each t n k (x ∷ xs) h =
+    let next = drop_next t.transitions xs k x h in
+    let rest = exits_each t n (suc k) xs next.1 in
+    elim (same_name x.from n) as (λ b. Each (IsExit t) (cond b (exit_of t k x ∷ exits_from t n (suc k) xs) (exits_from t n (suc k) xs))) [
+      | true ↦ λ i e at. first t n k x (exits_from t n (suc k) xs) next.0 rest i e at
+      | false ↦ rest
+    ]
+
+acts_are : (t : BasicType) (actions : List Action) → list_all (action_known t) actions ≡ true → AreActions t (map (act_of t) actions) actions
+acts_are t [] h = tt
+acts_are t (a ∷ as') h =
+    let known = and_left (action_known t a) (list_all (action_known t) as') h in (
+      record {
+        algorithm = record { known = and_left _ _ known; is = refl };
+        output = record { known = and_right _ _ known; is = refl };
+      },
+      acts_are t as' (and_right (action_known t a) (list_all (action_known t) as') h),
+    )
+
+-- what the row of a state says
+pub record IsRow (t : BasicType) (i : ℕ) (row : Row) : Type 0 where
+  pub leaving_is : transitions_at t row.exits ≡ leaving t (state_at t i)
+  pub exits : Each (IsExit t) row.exits
+  pub acts : AreActions t row.acts (actions_of t (state_at t i))
+
+abbrev actions_or : Option State → List Action
+actions_or o = elim o [ None ↦ [] | Some x ↦ x.actions ]
+
+row_here : (t : BasicType) (i : ℕ) (s : State) → IsSound t → slice_get t.states i ≡ Some s → IsRow t i (row_of t s)
+row_here t i s sound at =
+    let name : state_at t i ≡ s.name = state_here t i s at in
+    let there : named (λ x. x.name) s.name t.states ≡ Some s =
+    named_at_place (λ x. x.name) s.name t.states ∙ ap (option_and_then (slice_get t.states)) (sound.states i s at) ∙ at in
+    let actions : actions_of t (state_at t i) ≡ s.actions = ap (actions_of t) name ∙ ap actions_or there in
+    record {
+      leaving_is = leaving_from t s.name 0 t.transitions refl ∙ ap (leaving t) (sym name);
+      exits = exits_each t s.name 0 t.transitions refl;
+      acts = subst (λ (l : List Action). AreActions t (map (act_of t) s.actions) l) (sym actions)
+          (acts_are t s.actions (list_all-at (actions_known t) t.states i s sound.actions at));
+    }
+
+pub row_is :
+    (t : BasicType) (rows : List Row) (i : ℕ) (d : Row) → IsSound t → rows ≡ map (row_of t) t.states → i < length t.states → IsRow t i (get_or rows i d)
+row_is t rows i d sound all within =
+    let s = somewhere t.states i within in
+    let inside : i < length rows = subst (λ (l : List Row). i < length l) (sym all) (subst (λ n. i < n) (sym (length-map t.states (row_of t))) within) in
+    let read : slice_get rows i ≡ Some (get_or rows i d) = slice_get-get_or rows i d inside in
+    let same : row_of t s.0 ≡ get_or rows i d =
+    same_Some (row_of t s.0) (get_or rows i d)
+    (sym (ap (λ (l : List Row). slice_get l i) all ∙ slice_get-map (row_of t) t.states i ∙ ap (option_map (row_of t)) s.1) ∙ read) in
+    subst (λ (r : Row). IsRow t i r) same (row_here t i s.0 sound s.1)
+
+pub row_within : (t : BasicType) (rows : List Row) (i : ℕ) → rows ≡ map (row_of t) t.states → i < length t.states → i < length rows
+row_within t rows i all within = subst (λ (l : List Row). i < length l) (sym all) (subst (λ n. i < n) (sym (length-map t.states (row_of t))) within)
+
+pub row_read :
+    (t : BasicType) (chart : Chart) (rows : List Row) (i : ℕ) (d : Row) → IsSound t → chart ≡ chart_of t → rows ≡ chart.rows → i < length t.states → IsRow t i (get_or rows i d)
+row_read t chart rows i d sound is read within = row_is t rows i d sound (read ∙ ap (λ (c : Chart). c.rows) is) within
+
+-- what trying the transitions at the exits comes to
+pub trial_here :
+    (t : BasicType) (exits : List Exit) (present : Option Name) (p : Place) (x : Trial) → transitions_at t exits ≡ leaving t p.state
+    → trial_of (transitions_at t exits) present p.vars p.left ≡ x → trial_at t present p ≡ x
+trial_here t exits present p x is tried = ap (λ (l : List Transition). trial_of l present p.vars p.left) (sym is) ∙ tried
+
+-- a state that was entered ended the chain
+pub linked_early :
+    (t : BasicType) (h : Halt) (present : Option Name) (moves : Moving) (p m q : Place) → ((r : Reason) → moves m (Some r) q → Chain t present p (Some r) q)
+    → Ended (Err h) moves m q → Linked t (Err h) present p q
+linked_early t (halt.Stop r) present moves p m q goes run = goes r run
+linked_early t halt.Memory present moves p m q goes run = run
+
+-- a link ended the reaction
+pub reacted_early :
+    (t : BasicType) (h : Halt) (e : Name) (present : Option Name) (p m q : Place)
+    → ((stop : Option Reason) → Chain t present m stop q → Chain t (Some e) p stop q) → Linked t (Err h) present m q → Ended (Err h) (ChartReacts t e) p q
+reacted_early t (halt.Stop r) e present p m q goes run = goes (Some r) run
+reacted_early t halt.Memory e present p m q goes run = run
+
+-- ---- Sampling
+
+rest_of : {A : Type 0} (xs : List A) (i : ℕ) (x : A) → slice_get xs i ≡ Some x → drop i xs ≡ x ∷ drop (i + 1) xs
+rest_of xs i x at = cut_at xs i x (slice_get_within xs i x at) (sym (get_or_from_slice_get xs i x x at))
+
+pub nothing_left : {A : Type 0} (xs : List A) (i : ℕ) → length xs ≤ i → drop i xs ≡ []
+nothing_left [] zero h = refl
+nothing_left [] (suc i) h = refl
+nothing_left (x ∷ xs) zero h = absurd (omega arith)
+nothing_left (x ∷ xs) (suc i) h = nothing_left xs i (omega arith)
+
+none_past : {A : Type 0} (xs : List A) (i : ℕ) → slice_get xs i ≡ None → length xs ≤ i
+none_past [] i h = omega arith
+none_past (x ∷ xs) zero h = absurd (cc)
+none_past (x ∷ xs) (suc i) h = let below = none_past xs i h in omega arith
+
+pub pair_up-nil : (ns : List Name) → pair_up ns [] ≡ []
+pair_up-nil [] = refl
+pair_up-nil (n ∷ ns) = refl
+
+pub samples_one :
+    (ns : List Name) (vs : List Value) (i : ℕ) (n : Name) (v : Value) (vars after : Values) → slice_get ns i ≡ Some n → slice_get vs i ≡ Some v
+    → after ≡ with_value n v vars → with_values (pair_up (drop (i + 1) ns) (drop (i + 1) vs)) after ≡ with_values (pair_up (drop i ns) (drop i vs)) vars
+samples_one ns vs i n v vars after here there is =
+    ap (λ (x : Values). with_values (pair_up (drop (i + 1) ns) (drop (i + 1) vs)) x) is
+    ∙ sym (ap (λ (l : List Name). with_values (pair_up l (drop i vs)) vars) (rest_of ns i n here)
+    ∙ ap (λ (l : List Value). with_values (pair_up (n ∷ drop (i + 1) ns) l) vars) (rest_of vs i v there))
+
+pub samples_none :
+    (ns : List Name) (vs : List Value) (i : ℕ) (vars : Values) → slice_get vs i ≡ None
+    → with_values (pair_up (drop (i + 1) ns) (drop (i + 1) vs)) vars ≡ with_values (pair_up (drop i ns) (drop i vs)) vars
+samples_none ns vs i vars none =
+    let past = none_past vs i none in
+    let later : length vs ≤ i + 1 = omega arith in
+    ap (λ (l : List Value). with_values (pair_up (drop (i + 1) ns) l) vars) (nothing_left vs (i + 1) later)
+    ∙ ap (λ (bs : List Bound). with_values bs vars) (pair_up-nil (drop (i + 1) ns) ∙ sym (pair_up-nil (drop i ns)))
+    ∙ sym (ap (λ (l : List Value). with_values (pair_up (drop i ns) l) vars) (nothing_left vs i past))
+
+-- each variable WITH an event is one of the block
+each_first : {A : Type 0} (P : A → Type 0) (y : A) (xs : List A) → P y → Each P xs → Each P (y ∷ xs)
+each_first {A} P y xs here each zero x at = let same : y ≡ x = cc in subst (λ (z : A). P z) same here
+each_first P y xs here each (suc i) x at = each i x at
+
+filter-contains : {A : Type 0} (f : A → Bool) (P : A → Type 0) (xs : List A) → Each P xs → Each P (filter f xs)
+filter-contains f P [] each = λ i x at. absurd (cc)
+filter-contains {A} f P (y ∷ ys) each =
+    let rest : Each P ys = λ j z at. each (suc j) z at in
+    let later = filter-contains f P ys rest in
+    elim (f y) as (λ b. Each P (cond b (y ∷ filter f ys) (filter f ys))) [
+      | true ↦ λ i x at. each_first P y (filter f ys) (each 0 y refl) later i x at
+      | false ↦ later
+    ]
+
+or_right : (a b : Bool) → b ≡ true → (a || b) ≡ true
+or_right true b h = refl
+or_right false b h = h
+
+among-each : (vs xs ys : List Variable) → Each (λ n. among (variable_names (vs ++ xs ++ ys)) n ≡ true) (variable_names vs)
+among-each [] xs ys i n at = absurd (cc)
+among-each (v ∷ vs) xs ys zero n at =
+    let same : v.name ≡ n = cc in
+    subst (λ (m : Name). (same_name m v.name || among (variable_names (vs ++ xs ++ ys)) m) ≡ true) same (rw (same_name_itself v.name) refl)
+among-each (v ∷ vs) xs ys (suc i) n at = or_right (same_name n v.name) (among (variable_names (vs ++ xs ++ ys)) n) (among-each vs xs ys i n at)
+
+pub names_declared : (vs : List Variable) → map (λ (d : Declared). d.0) (map declared_as vs) ≡ variable_names vs
+names_declared [] = refl
+names_declared (v ∷ vs) = ap (λ ns. v.name ∷ ns) (names_declared vs)
+
+pub declared_each :
+    (t : BasicType) (ds : List Declared) (e : Name) (read : List Name) → ds ≡ declared_by t → read ≡ inputs_with t.ports e → Each (λ n. is_declared ds n ≡ true) read
+declared_each t ds e read declared is =
+    let names : map (λ (d : Declared). d.0) ds ≡ variable_names (variables_of t) = ap (map (λ (d : Declared). d.0)) declared ∙ names_declared (variables_of t) in
+    let all : Each (λ n. among (variable_names (variables_of t)) n ≡ true) (inputs_with t.ports e) =
+    filter-contains (λ v. list_any (λ p. same_name p.name e && among p.with v) t.ports.event_inputs) (λ n. among (variable_names (variables_of t)) n ≡ true)
+    (variable_names t.ports.inputs) (among-each t.ports.inputs t.ports.outputs t.internals) in
+    let P : List Name → Type 0 = λ ns. Each (λ n. among ns n ≡ true) read in
+    subst P (sym names) (subst (λ (l : List Name). Each (λ n. among (variable_names (variables_of t)) n ≡ true) l) (sym is) all)
+
+-- the variables WITH the event at a place
+pub variables_here :
+    (t : BasicType) (chart : Chart) (all : List (List Name)) (e : ℕ) (read d : List Name) → chart ≡ chart_of t → all ≡ chart.sampled → e < length t.ports.event_inputs
+    → read ≡ get_or all e d → read ≡ inputs_with t.ports (event_at t.ports.event_inputs e)
+variables_here t chart all e read d is told within here =
+    let events : List EventPort = t.ports.event_inputs in
+    let p = somewhere events e within in
+    let names : all ≡ names_with_each events t.ports.inputs = told ∙ ap (λ (c : Chart). c.sampled) is in
+    let at : slice_get all e ≡ Some (inputs_with t.ports p.0.name) =
+    ap (λ (l : List (List Name)). slice_get l e) names ∙ slice_get-map (λ (q : EventPort). inputs_with t.ports q.name) events e
+    ∙ ap (option_map (λ (q : EventPort). inputs_with t.ports q.name)) p.1 in
+    here ∙ get_or_from_slice_get all e (inputs_with t.ports p.0.name) d at
+    ∙ ap (inputs_with t.ports) (sym (event_here events e p.0 p.1))
+
+pub value_here :
+    (vs : List Value) (i : ℕ) (o : Option (Bor Value)) (b : Bor Value) → IfSome o (λ x. x.now ≡ get_or vs i x.now)
+    → MatchOption o (length vs ≤ i) (λ x. (i < length vs) × HoldsAt (λ y. x.now ≡ y) vs i) → o ≡ Some b → slice_get vs i ≡ Some b.now
+value_here vs i o b told found is =
+    let here : b.now ≡ get_or vs i b.now = subst (λ (p : Option (Bor Value)). IfSome p (λ x. x.now ≡ get_or vs i x.now)) is told in
+    let both = subst (λ (p : Option (Bor Value)). MatchOption p (length vs ≤ i) (λ x. (i < length vs) × HoldsAt (λ y. x.now ≡ y) vs i)) is found in
+    slice_get_read vs (length vs) i b.now refl both.0 here
+
+pub value_past :
+    (vs : List Value) (i : ℕ) (o : Option (Bor Value)) → MatchOption o (length vs ≤ i) (λ x. (i < length vs) × HoldsAt (λ y. x.now ≡ y) vs i) → o ≡ None → slice_get vs i ≡ None
+value_past vs i o found is =
+    slice_get_past vs i (subst (λ (p : Option (Bor Value)). MatchOption p (length vs ≤ i) (λ x. (i < length vs) × HoldsAt (λ y. x.now ≡ y) vs i)) is found)

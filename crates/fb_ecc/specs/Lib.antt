@@ -1,0 +1,7 @@
+pub mod Actions
+pub mod Links
+pub mod Numbered
+pub mod Opened
+pub mod Places
+pub mod Sound
+pub mod Trials

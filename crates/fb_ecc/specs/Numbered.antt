@@ -1,0 +1,55 @@
+-- A chart with places in place of names (IEC 61499-1, 5.2; that names stand for places is this project's profile).
+use Rattle.std.specs.Prelude.{ℕ, suc, List, [], ◌∷◌, map, length, position, option_map, unwrap_or, if◌then◌else◌}
+use Rattle.fb_types.specs.Names.{Name, same_name}
+use Rattle.fb_types.specs.Blocks.{variables_with}
+use Rattle.fb_types.specs.declared.library.Action.{Action}
+use Rattle.fb_types.specs.declared.library.BasicType.{BasicType}
+use Rattle.fb_types.specs.declared.library.EventPort.{EventPort}
+use Rattle.fb_types.specs.declared.library.State.{State}
+use Rattle.fb_types.specs.declared.library.Transition.{Transition}
+use Rattle.fb_types.specs.declared.library.Variable.{Variable}
+use Rattle.fb_ecc.specs.declared.chart.Exit.{Exit}
+use Rattle.fb_ecc.specs.declared.chart.Act.{Act}
+use Rattle.fb_ecc.specs.declared.chart.Row.{Row}
+use Rattle.fb_ecc.specs.declared.chart.Chart.{Chart}
+
+-- the place of the first that has the name, or the length of the list where none has it
+abbrev pub number_in : {A : Type 0} → (A → Name) → List A → Name → ℕ
+number_in name_of xs n = unwrap_or (position (λ x. same_name n (name_of x)) xs) (length xs)
+
+-- the transition at a place
+abbrev pub exit_of : BasicType → ℕ → Transition → Exit
+exit_of t place x =
+    record {
+      transition = place;
+      event = option_map (number_in (λ p. p.name) t.ports.event_inputs) x.condition.event;
+      target = number_in (λ s. s.name) t.states x.to;
+    }
+
+-- the transitions that leave a state, where the first of the list stands at that place
+abbrev pub exits_from : BasicType → Name → ℕ → List Transition → List Exit
+exits_from t state place [] = []
+exits_from t state place (x ∷ xs) =
+    if same_name x.from state then exit_of t place x ∷ exits_from t state (suc place) xs else exits_from t state (suc place) xs
+
+abbrev pub act_of : BasicType → Action → Act
+act_of t a =
+    record {
+      algorithm = option_map (number_in (λ x. x.name) t.algorithms) a.algorithm;
+      output = option_map (number_in (λ p. p.name) t.ports.event_outputs) a.output;
+    }
+
+abbrev pub row_of : BasicType → State → Row
+row_of t s = record { exits = exits_from t s.name 0 t.transitions; acts = map (act_of t) s.actions }
+
+-- the variables WITH each event
+abbrev pub names_with_each : List EventPort → List Variable → List (List Name)
+names_with_each events variables = map (λ e. variables_with events variables e.name) events
+
+abbrev pub chart_of : BasicType → Chart
+chart_of t =
+    record {
+      rows = map (row_of t) t.states;
+      sampled = names_with_each t.ports.event_inputs t.ports.inputs;
+      shown = names_with_each t.ports.event_outputs t.ports.outputs;
+    }

@@ -1,0 +1,155 @@
+//! The actions of a state.
+
+ghost use Rattle.std.specs.Prelude.{◌≡◌, ◌≤◌, ◌++◌, ◌∷◌, [], All, IfOk, OnErr, OnOk, map, ℕ, List, Option, None};
+ghost use Rattle.fb_types.specs.Names.{Name};
+ghost use Rattle.fb_types.specs.Charts.{Acts, Halts, Performs, Place, emitting};
+ghost use Rattle.fb_types.specs.declared.library.Action.{Action};
+ghost use Rattle.fb_st.specs.Frames.{declared_in, values_of};
+ghost use Rattle.fb_ecc.specs.Actions.{AreActions, IsAction, IsAlgorithm, IsOutput, Stopped, with_slots};
+ghost use Rattle.fb_ecc.specs.Numbered.{names_with_each};
+ghost use Rattle.fb_ecc.specs.Places.{Ended, IsWellFormed, place};
+ghost use Rattle.fb_ecc.specs.Sound.{Each, IsSound, declared_by};
+
+use crate::chart::Act;
+use fb_st::exec::exec;
+use fb_st::frame::Frame;
+use fb_st::meter::Meter;
+use fb_types::items::Items;
+use fb_types::library::BasicType;
+use fb_types::reference::Reference;
+use fb_types::run::{Emission, Emits, Halt};
+use fb_types::value::{Reason, Value};
+use std::alloc::{AllocError, Global};
+
+/// What the variables hold, in their order.
+fn shown_values(
+    alloc: Global,
+    variables: &[Reference],
+    frame: &Frame,
+) -> Result<Items<Value>, AllocError>
+    ensures { IfOk result (λ values. values ≡ map (values_of frame.now) variables.now) }
+{
+    let mut values = Items::new(alloc);
+    for variable in variables {
+        values.push(frame.value(variable))?;
+    }
+    Ok(values)
+}
+
+/// Emits the output event at a place with what the variables hold. A place beyond all numbers of outputs
+/// would be that of one of more outputs than memory holds, so it counts as want of memory.
+fn emit_with(
+    event: usize,
+    variables: &[Reference],
+    frame: &Frame,
+    emits: &mut Emits,
+) -> Result<(), AllocError>
+    ensures ok { OnOk result (emits.new ≡ emits.old ++ record { event = event; values = map (values_of frame.now) variables.now } ∷ []) }
+    ensures err { OnErr result (emits.new ≡ emits.old) }
+{
+    let event = match u32::try_from(event) {
+        Ok(event) => event,
+        Err(_) => return Err(AllocError),
+    };
+    let values = shown_values(emits.allocator(), variables, frame)?;
+    emits.push(Emission { event, values })
+}
+
+/// Emits the output event of an action, if it has one, with the values of the variables WITH it.
+fn emit(
+    block: &BasicType,
+    event: Option<usize>,
+    shown: &[Items<Reference>],
+    frame: &Frame,
+    emits: &mut Emits,
+) -> Result<(), AllocError>
+    requires sound { IsSound block.now }
+    requires shown { shown.now ≡ names_with_each block.now.ports.event_outputs block.now.ports.outputs }
+    requires event { (name : Option Name) × IsOutput block.now event name }
+    ensures emitted { (name : Option Name) (state left : ℕ) → IsOutput block.now event name →
+        OnOk result (place block.now state frame.now left emits.new ≡ emitting block.now name (place block.now state frame.now left emits.old)) }
+    ensures well_formed { let IsFit = IsWellFormed block.now in All IsFit emits.old → All IsFit emits.new }
+{
+    match event {
+        Some(event) => emit_with(event, shown[event].as_slice(), frame, emits),
+        None => Ok(()),
+    }
+}
+
+/// Runs the algorithm of an action, if it has one.
+fn run(
+    block: &BasicType,
+    algorithm: Option<usize>,
+    frame: &mut Frame,
+    meter: &mut Meter,
+) -> Result<(), Reason>
+    requires sound { IsSound block.now }
+    requires declared { declared_in frame.old ≡ declared_by block.now }
+    requires algorithm { (name : Option Name) × IsAlgorithm block.now algorithm name }
+    ensures performed { (name : Option Name) (p : Place) → IsAlgorithm block.now algorithm name →
+        Stopped result (Performs block.now name (Halts None)) (with_slots p frame.old meter.old.left) (with_slots p frame.new meter.new.left) }
+    ensures declared { declared_in frame.new ≡ declared_in frame.old }
+    ensures fewer { meter.new.left ≤ meter.old.left }
+{
+    if let Some(algorithm) = algorithm {
+        exec(&block.algorithms.as_slice()[algorithm].body, frame, meter)?;
+    }
+    Ok(())
+}
+
+/// One action: its algorithm, and then its output event.
+fn perform(
+    block: &BasicType,
+    act: Act,
+    shown: &[Items<Reference>],
+    frame: &mut Frame,
+    meter: &mut Meter,
+    emits: &mut Emits,
+) -> Result<(), Halt>
+    requires sound { IsSound block.now }
+    requires declared { declared_in frame.old ≡ declared_by block.now }
+    requires shown { shown.now ≡ names_with_each block.now.ports.event_outputs block.now.ports.outputs }
+    requires act { (a : Action) × IsAction block.now act a }
+    ensures performed { (a : Action) (state : ℕ) → IsAction block.now act a →
+        Ended result (Acts block.now (a ∷ []) meter.old.left) (place block.now state frame.old meter.old.left emits.old) (place block.now state frame.new meter.new.left emits.new) }
+    ensures declared { declared_in frame.new ≡ declared_in frame.old }
+    ensures fewer { meter.new.left ≤ meter.old.left }
+    ensures well_formed { let IsFit = IsWellFormed block.now in All IsFit emits.old → All IsFit emits.new }
+{
+    if let Err(reason) = meter.step() {
+        return Err(Halt::Stop(reason));
+    }
+    match run(block, act.algorithm, frame, meter) {
+        Ok(()) => {}
+        Err(reason) => return Err(Halt::Stop(reason)),
+    }
+    match emit(block, act.output, shown, frame, emits) {
+        Ok(()) => Ok(()),
+        Err(_) => Err(Halt::Memory),
+    }
+}
+
+/// The actions of a state, in their order. Each costs a step.
+pub(crate) fn perform_all(
+    block: &BasicType,
+    acts: &[Act],
+    shown: &[Items<Reference>],
+    frame: &mut Frame,
+    meter: &mut Meter,
+    emits: &mut Emits,
+) -> Result<(), Halt>
+    requires sound { IsSound block.now }
+    requires declared { declared_in frame.old ≡ declared_by block.now }
+    requires shown { shown.now ≡ names_with_each block.now.ports.event_outputs block.now.ports.outputs }
+    requires acts { (actions : List Action) × AreActions block.now acts.now actions }
+    ensures performed { (actions : List Action) (state : ℕ) → AreActions block.now acts.now actions →
+        Ended result (Acts block.now actions meter.old.left) (place block.now state frame.old meter.old.left emits.old) (place block.now state frame.new meter.new.left emits.new) }
+    ensures declared { declared_in frame.new ≡ declared_in frame.old }
+    ensures fewer { meter.new.left ≤ meter.old.left }
+    ensures well_formed { let IsFit = IsWellFormed block.now in All IsFit emits.old → All IsFit emits.new }
+{
+    for act in acts {
+        perform(block, *act, shown, frame, meter, emits)?;
+    }
+    Ok(())
+}

@@ -1,0 +1,125 @@
+//! The reaction of a basic block to an event.
+
+ghost use Rattle.std.specs.Prelude.{◌≡◌, ◌<◌, ◌≤◌, All, IfSome, OnOk, IfOk, Some, length, option_map, true};
+ghost use Rattle.fb_types.specs.Charts.{Acts, ChartReacts, Place, actions_of};
+ghost use Rattle.fb_types.specs.Numbers.{event_at, pair_up};
+ghost use Rattle.fb_types.specs.Reactions.{with_values};
+ghost use Rattle.fb_st.specs.Frames.{declared_in, is_declared, values_of};
+ghost use Rattle.fb_ecc.specs.Links.{Linked};
+ghost use Rattle.fb_ecc.specs.Places.{Ended, IsBlockOf, IsWellFormed, place, sampled, state_at};
+ghost use Rattle.fb_ecc.specs.Sound.{Each, IsSound};
+
+use crate::action::perform_all;
+use crate::state::BasicState;
+use crate::trial::cleared;
+use fb_st::frame::Frame;
+use fb_st::meter::Meter;
+use fb_types::library::BasicType;
+use fb_types::reference::Reference;
+use fb_types::run::{Emits, Halt};
+use fb_types::value::Value;
+
+/// Gives the variables WITH an event the values that were sampled.
+fn sample(variables: &[Reference], values: &[Value], frame: &mut Frame)
+    requires { Each (λ n. is_declared (declared_in frame.old) n ≡ true) variables.now }
+    ensures sampled { values_of frame.new ≡ with_values (pair_up variables.now values.now) (values_of frame.old) }
+    ensures declared { declared_in frame.new ≡ declared_in frame.old }
+{
+    for (place, variable) in variables.iter().enumerate() {
+        if let Some(value) = values.get(place) {
+            frame.put(variable, *value);
+        }
+    }
+}
+
+/// Enters a state and performs its actions.
+fn enter(
+    state: &mut BasicState,
+    block: &BasicType,
+    target: usize,
+    meter: &mut Meter,
+    emits: &mut Emits,
+) -> Result<(), Halt>
+    requires sound { IsSound block.now }
+    requires block { IsBlockOf block.now state.old }
+    requires target { target < length block.now.states }
+    ensures performed { let actions = actions_of block.now (state_at block.now target) in
+        Ended result (Acts block.now actions meter.old.left) (place block.now target state.old.frame meter.old.left emits.old) (place block.now state.new.state state.new.frame meter.new.left emits.new) }
+    ensures block { IsBlockOf block.now state.new }
+    ensures fewer { meter.new.left ≤ meter.old.left }
+    ensures well_formed { let IsFit = IsWellFormed block.now in All IsFit emits.old → All IsFit emits.new }
+{
+    state.state = target;
+    let acts = state.chart.rows.as_slice()[target].acts.as_slice();
+    let shown = state.chart.shown.as_slice();
+    perform_all(block, acts, shown, &mut state.frame, meter, emits)
+}
+
+/// One link of the chain: the first true transition, and the actions of the state to which it leads. Says
+/// whether there was one.
+fn link(
+    state: &mut BasicState,
+    block: &BasicType,
+    present: Option<usize>,
+    meter: &mut Meter,
+    emits: &mut Emits,
+) -> Result<bool, Halt>
+    requires sound { IsSound block.now }
+    requires block { IsBlockOf block.now state.old }
+    requires present { IfSome present (λ event. event < length block.now.ports.event_inputs) }
+    ensures linked { let event = option_map (event_at block.now.ports.event_inputs) present in
+        Linked block.now result event (place block.now state.old.state state.old.frame meter.old.left emits.old) (place block.now state.new.state state.new.frame meter.new.left emits.new) }
+    ensures block { IsBlockOf block.now state.new }
+    ensures fewer { meter.new.left ≤ meter.old.left }
+    ensures less { IfOk result (λ went. went ≡ true → meter.new.left < meter.old.left) }
+    ensures well_formed { let IsFit = IsWellFormed block.now in All IsFit emits.old → All IsFit emits.new }
+{
+    let exits = state.chart.rows.as_slice()[state.state].exits.as_slice();
+    match cleared(block, exits, present, &state.frame, meter) {
+        Ok(Some(target)) => {
+            enter(state, block, target, meter, emits)?;
+            Ok(true)
+        }
+        Ok(None) => Ok(false),
+        Err(reason) => Err(Halt::Stop(reason)),
+    }
+}
+
+/// The reaction of a basic block to the event input at a place of its event inputs. `values` are the sampled
+/// values of the variables WITH the event, in the order of the declaration. The event is present in the first
+/// trial of the transitions only. Each transition that is tried and each action that is performed costs a
+/// step, beside the steps of the statements. What is emitted is put behind the other emissions, by the
+/// allocator that these keep.
+///
+/// # Errors
+/// `Halt::Stop` where a reason ends the chain: the emissions before it stand. `Halt::Memory` where memory ran
+/// out: the block is one of its type still, and no more is said.
+pub fn react(
+    state: &mut BasicState,
+    block: &BasicType,
+    event: u32,
+    values: &[Value],
+    meter: &mut Meter,
+    emits: &mut Emits,
+) -> Result<(), Halt>
+    requires sound { IsSound block.now }
+    requires block { IsBlockOf block.now state.old }
+    requires event { event < length block.now.ports.event_inputs }
+    ensures reacted { let start = place block.now state.old.state state.old.frame meter.old.left emits.old in
+        let begun = record start { vars = sampled block.now event values.now (values_of state.old.frame) } in
+        Ended result (ChartReacts block.now (event_at block.now.ports.event_inputs event)) begun (place block.now state.new.state state.new.frame meter.new.left emits.new) }
+    ensures fewer { meter.new.left ≤ meter.old.left }
+
+    // Also where memory runs out.
+    ensures block { IsBlockOf block.now state.new }
+    ensures well_formed { let IsFit = IsWellFormed block.now in All IsFit emits.old → All IsFit emits.new }
+{
+    let event = event as usize;
+    let variables = state.chart.sampled.as_slice()[event].as_slice();
+    sample(variables, values, &mut state.frame);
+    let mut present = Some(event);
+    while link(state, block, present, meter, emits)? {
+        present = None;
+    }
+    Ok(())
+}

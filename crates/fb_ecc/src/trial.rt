@@ -1,0 +1,73 @@
+//! Which transition clears.
+
+ghost use Rattle.std.specs.Prelude.{◌≡◌, ◌≤◌, ◌<◌, length, option_map, IfOk, OnSome, IfSome, if◌then◌else◌, Ok, false};
+ghost use Rattle.fb_types.specs.Charts.{guard_value, trial_of};
+ghost use Rattle.fb_types.specs.Numbers.{event_at};
+ghost use Rattle.fb_st.specs.Frames.{values_of};
+ghost use Rattle.fb_ecc.specs.Sound.{Each, IsSound};
+ghost use Rattle.fb_ecc.specs.Trials.{IsExit, transitions_at, is_number_present, trial};
+
+use crate::chart::Exit;
+use fb_st::eval::holds;
+use fb_st::frame::Frame;
+use fb_st::meter::Meter;
+use fb_types::library::{BasicType, Condition};
+use fb_types::value::Reason;
+
+/// Whether the event at this place is the one that is present. No event at all always is.
+fn is_present(event: Option<usize>, present: Option<usize>) -> bool
+    ensures { result ≡ is_number_present event present }
+{
+    match (event, present) {
+        (None, _) => true,
+        (Some(_), None) => false,
+        (Some(event), Some(present)) => event == present,
+    }
+}
+
+/// Whether a condition is true, where its event is at that place. A guard behind an event is evaluated only
+/// when that event is present.
+fn is_true(
+    condition: &Condition,
+    event: Option<usize>,
+    present: Option<usize>,
+    frame: &Frame,
+) -> Result<bool, Reason>
+    ensures { result ≡ (if is_number_present event present then guard_value condition.now.guard (values_of frame.now) else Ok false) }
+{
+    if !is_present(event, present) {
+        return Ok(false);
+    }
+    match &condition.guard {
+        Some(guard) => holds(guard, frame),
+        None => Ok(true),
+    }
+}
+
+/// The state to which the first true transition leads, in the order of the text. Each transition that is
+/// tried costs a step.
+pub(crate) fn cleared(
+    block: &BasicType,
+    exits: &[Exit],
+    present: Option<usize>,
+    frame: &Frame,
+    meter: &mut Meter,
+) -> Result<Option<usize>, Reason>
+    requires sound { IsSound block.now }
+    requires exits { Each (IsExit block.now) exits.now }
+    requires present { IfSome present (λ event. event < length block.now.ports.event_inputs) }
+    ensures trial { let event = option_map (event_at block.now.ports.event_inputs) present in
+        trial_of (transitions_at block.now exits.now) event (values_of frame.now) meter.old.left ≡ trial block.now result meter.new.left }
+    ensures target { IfOk result (λ cleared. IfSome cleared (λ target. target < length block.now.states)) }
+    ensures fewer { meter.new.left ≤ meter.old.left }
+    ensures less { IfOk result (λ cleared. OnSome cleared (meter.new.left < meter.old.left)) }
+{
+    for exit in exits {
+        meter.step()?;
+        let transition = &block.transitions.as_slice()[exit.transition];
+        if is_true(&transition.condition, exit.event, present, frame)? {
+            return Ok(Some(exit.target));
+        }
+    }
+    Ok(None)
+}
