@@ -218,6 +218,14 @@ module _ (lib : Library) (plan : Plan) (t : BasicType) (once : ¬ (NameTwice lib
         | false ↦ λ e. absurd (unknown (inl (w, among_all, λ c. true≢false (sym (contains-among w.1 w.0 c) ∙ e))))
       ] refl
 
+  source_named : (x : Transition) → Contains t.transitions x → among (state_names t) x.from ≡ true
+  source_named x at =
+      let w : Wanted = (x.from, state_names t) in
+      let others : List Wanted = (x.to, state_names t) ∷ all_of (optional x.condition.event) (event_names t.ports.event_inputs) in
+      chart_named w
+      (Contains-append_left (flat_map (transition_wanted t) t.transitions) (flat_map (actions_wanted t) t.states) w
+      (Contains-flat_map (transition_wanted t) t.transitions x w at (here w others)))
+
   target_named : (x : Transition) → Contains t.transitions x → among (state_names t) x.to ≡ true
   target_named x at =
       let w : Wanted = (x.to, state_names t) in
@@ -265,18 +273,18 @@ module _ (lib : Library) (plan : Plan) (t : BasicType) (once : ¬ (NameTwice lib
       (Contains-append_left (flat_map (λ (x : Algorithm). mentions_body (body_of x.body)) t.algorithms) (flat_map mentions (guards_of t)) m
       (Contains-flat_map (λ (x : Algorithm). mentions_body (body_of x.body)) t.algorithms a m (Contains-at t.algorithms i a at) c))))
 
-  -- Each basic type of an accepted declaration is sound. That it has a first state is in the grammar.
-  sound_when_accepted : 0 < length t.states → IsSound t
-  sound_when_accepted initial =
+  -- Each basic type of an accepted declaration is sound.
+  sound_when_accepted : IsSound t
+  sound_when_accepted =
       record {
-        initial = initial;
         states = first_from_once (λ (s : State). s.name) t.states states_once;
         events = first_from_once (λ (p : EventPort). p.name) t.ports.event_inputs events_once;
         variables = variables_once;
+        sources = list_all-each (λ (x : Transition). among (state_names t) x.from) t.transitions source_named;
         targets = list_all-each (λ (x : Transition). among (state_names t) x.to) t.transitions target_named;
         actions = list_all-each (actions_known t) t.states (λ s c. list_all-each (action_known t) s.actions (λ a d. action_named s a c d));
         bodies = body_known;
       }
 
 pub sound_in_declaration : (t : BasicType) → IsOfDeclaration t → IsSound t
-sound_in_declaration t is = sound_when_accepted is.library is.plan t is.once is.known is.declared is.initial
+sound_in_declaration t is = sound_when_accepted is.library is.plan t is.once is.known is.declared

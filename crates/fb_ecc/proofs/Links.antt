@@ -1,7 +1,8 @@
 -- Chains of states, put together from their links, and what the rows of a chart say.
-use Rattle.std.proofs.Common.{◌≡◌, ℕ, zero, suc, ◌+◌, ◌<◌, ◌≤◌, Bool, true, false, cond, ◌&&◌, ◌||◌, List, [], ◌∷◌, ◌++◌, length, get_or, drop, map, Option, Some, None, Err, Bor, refl, sym, ◌∙◌, ap, subst, arith}
+use Rattle.std.proofs.Common.{◌≡◌, ℕ, zero, suc, ◌+◌, ◌<◌, ◌≤◌, Bool, true, false, cond, ◌&&◌, ◌||◌, List, [], ◌∷◌, ◌++◌, length, get_or, drop, map, Option, Some, None, Err, Bor, ◌⊎◌, inl, inr, refl, sym, ◌∙◌, ap, subst, arith}
 use Rattle.std.specs.Prelude.{option_map, option_and_then, slice_get, IfSome, MatchOption}
 use Rattle.std.specs.List.{filter, list_all, list_any, HoldsAt}
+use Rattle.std.proofs.lemmas.Bool.{true≢false}
 use Rattle.std.proofs.lemmas.List.{length-map}
 use Rattle.std.proofs.lemmas.Option.{slice_get-map, slice_get_within, slice_get-get_or, slice_get_read, slice_get_past, get_or_from_slice_get, same_Some}
 use Rattle.fb_types.specs.Names.{Name, same_name, with_value}
@@ -25,8 +26,8 @@ use Rattle.fb_st.specs.Frames.{Declared, is_declared}
 use Rattle.fb_st.proofs.Places.{named_at_place}
 use Rattle.fb_ecc.specs.Actions.{AreActions}
 use Rattle.fb_ecc.specs.Links.{Chain, Linked}
-use Rattle.fb_ecc.specs.Numbered.{exit_of, exits_from, act_of, row_of, names_with_each, chart_of}
-use Rattle.fb_ecc.specs.Places.{state_at, Ended}
+use Rattle.fb_ecc.specs.Numbered.{exits_at, exit_of, exits_from, act_of, row_of, names_with_each, chart_of}
+use Rattle.fb_ecc.specs.Places.{IsStateOf, state_at, Ended}
 use Rattle.fb_ecc.specs.Sound.{Each, IsSound, action_known, actions_known, declared_as, declared_by}
 use Rattle.fb_ecc.specs.Trials.{transitions_at, IsExit}
 use Rattle.fb_ecc.specs.declared.chart.Exit.{Exit}
@@ -139,6 +140,53 @@ row_is t rows i d sound all within =
     same_Some (row_of t s.0) (get_or rows i d)
     (sym (ap (λ (l : List Row). slice_get l i) all ∙ slice_get-map (row_of t) t.states i ∙ ap (option_map (row_of t)) s.1) ∙ read) in
     subst (λ (r : Row). IsRow t i r) same (row_here t i s.0 sound s.1)
+
+-- what the transitions say that leave the state at a place
+pub record HasExits (t : BasicType) (i : ℕ) (exits : List Exit) : Type 0 where
+  pub leaving_is : transitions_at t exits ≡ leaving t (state_at t i)
+  pub each : Each (IsExit t) exits
+
+abbrev exits_or : Option Row → List Exit
+exits_or o = elim o [ None ↦ [] | Some r ↦ r.exits ]
+
+no_transitions : (ns : List Name) (xs : List Transition) → ns ≡ [] → list_all (λ x. among ns x.from) xs ≡ true → xs ≡ []
+no_transitions ns [] none h = refl
+no_transitions ns (x ∷ xs) none h =
+    let source : among ns x.from ≡ true = and_left (among ns x.from) (list_all (λ (y : Transition). among ns y.from) xs) h in
+    let nobody : false ≡ true = ap (λ (l : List Name). among l x.from) (sym none) ∙ source in
+    absurd (true≢false (sym nobody))
+
+exits_of_state : (t : BasicType) (i : ℕ) → IsSound t → IsStateOf t i → HasExits t i (exits_at (map (row_of t) t.states) i)
+exits_of_state t i sound (inl none) =
+    let exits : exits_at (map (row_of t) t.states) i ≡ [] = ap (λ (ss : List State). exits_or (slice_get (map (row_of t) ss) i)) none in
+    let names : map (λ (s : State). s.name) t.states ≡ [] = ap (map (λ (s : State). s.name)) none in
+    let transitions : t.transitions ≡ [] = no_transitions (map (λ (s : State). s.name) t.states) t.transitions names sound.sources in
+    record {
+      leaving_is = ap (transitions_at t) exits ∙ sym (ap (filter (λ (x : Transition). same_name x.from (state_at t i))) transitions);
+      each = subst (λ (l : List Exit). Each (IsExit t) l) (sym exits) (λ k e at. absurd (cc));
+    }
+exits_of_state t i sound (inr within) =
+    let s = somewhere t.states i within in
+    let row = row_here t i s.0 sound s.1 in
+    let exits : exits_at (map (row_of t) t.states) i ≡ (row_of t s.0).exits =
+    ap exits_or (slice_get-map (row_of t) t.states i ∙ ap (option_map (row_of t)) s.1) in
+    record {
+      leaving_is = ap (transitions_at t) exits ∙ row.leaving_is;
+      each = subst (λ (l : List Exit). Each (IsExit t) l) (sym exits) row.exits;
+    }
+
+pub exits_read :
+    (t : BasicType) (chart : Chart) (i : ℕ) (read : List Exit) → IsSound t → chart ≡ chart_of t → IsStateOf t i → read ≡ exits_at chart.rows i → HasExits t i read
+exits_read t chart i read sound is state at =
+    let same : exits_at (map (row_of t) t.states) i ≡ read = sym (at ∙ ap (λ (c : Chart). exits_at c.rows i) is) in
+    subst (λ (l : List Exit). HasExits t i l) same (exits_of_state t i sound state)
+
+none_or_first : (ss : List State) → (ss ≡ []) ⊎ (0 < length ss)
+none_or_first [] = inl refl
+none_or_first (s ∷ ss) = inr (omega arith)
+
+pub first_place : (t : BasicType) → IsStateOf t 0
+first_place t = none_or_first t.states
 
 pub row_within : (t : BasicType) (rows : List Row) (i : ℕ) → rows ≡ map (row_of t) t.states → i < length t.states → i < length rows
 row_within t rows i all within = subst (λ (l : List Row). i < length l) (sym all) (subst (λ n. i < n) (sym (length-map t.states (row_of t))) within)

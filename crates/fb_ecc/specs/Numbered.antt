@@ -1,5 +1,5 @@
 -- A chart with places in place of names (IEC 61499-1, 5.2; that names stand for places is this project's profile).
-use Rattle.std.specs.Prelude.{ℕ, suc, List, [], ◌∷◌, map, length, position, option_map, unwrap_or, if◌then◌else◌}
+use Rattle.std.specs.Prelude.{ℕ, suc, List, [], ◌∷◌, map, length, position, option_map, unwrap_or, slice_get, Some, None, if◌then◌else◌}
 use Rattle.fb_types.specs.Names.{Name, same_name}
 use Rattle.fb_types.specs.Blocks.{variables_with}
 use Rattle.fb_types.specs.declared.library.Action.{Action}
@@ -41,6 +41,10 @@ act_of t a =
 
 abbrev pub row_of : BasicType → State → Row
 row_of t s = record { exits = exits_from t s.name 0 t.transitions; acts = map (act_of t) s.actions }
+
+-- the transitions that leave the state at a place, none where there is no state
+abbrev pub exits_at : List Row → ℕ → List Exit
+exits_at rows i = elim (slice_get rows i) [ None ↦ [] | Some r ↦ r.exits ]
 
 -- the variables WITH each event
 abbrev pub names_with_each : List EventPort → List Variable → List (List Name)

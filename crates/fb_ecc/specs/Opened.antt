@@ -1,5 +1,5 @@
 -- A basic block before its first event (IEC 61499-1, 5.2.1: the first state, and the initial values).
-use Rattle.std.specs.Prelude.{◌≡◌, ◌<◌, map, length, Contains}
+use Rattle.std.specs.Prelude.{◌≡◌, map, Contains}
 use Rattle.fb_types.specs.Blocks.{variables_of, initial_of}
 use Rattle.fb_types.specs.Repeated.{NameTwice, basics}
 use Rattle.fb_types.specs.Unknown.{NameUnknown}
@@ -22,11 +22,10 @@ pub record IsOpened (t : BasicType) (s : BasicState) : Type 0 where
   pub first : s.state ≡ 0
   pub variables : s.frame ≡ map slot_of (variables_of t)
 
--- The type stands in a declaration whose names are known, each given once, and it has a first state.
+-- The type stands in a declaration whose names are known, each given once, as in an accepted one.
 pub record IsOfDeclaration (t : BasicType) : Type 0 where
   pub library : Library
   pub plan : Plan
   pub once : ¬ (NameTwice library plan)
   pub known : ¬ (NameUnknown library plan)
   pub declared : Contains (basics library) t
-  pub initial : 0 < length t.states

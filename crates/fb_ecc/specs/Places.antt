@@ -1,5 +1,5 @@
 -- Where the program's chart is, in the terms of the definition, and how a reaction ends (IEC 61499-1, 5.2).
-use Rattle.std.specs.Prelude.{◌≡◌, ◌<◌, ℕ, List, [], map, length, unwrap_or, slice_get, Some, None, Result, Ok, Err}
+use Rattle.std.specs.Prelude.{◌≡◌, ◌<◌, ◌⊎◌, ℕ, List, [], map, length, unwrap_or, slice_get, Some, None, Result, Ok, Err}
 use Rattle.fb_types.specs.Names.{Name}
 use Rattle.fb_types.specs.Values.{Values}
 use Rattle.fb_types.specs.Blocks.{inputs_with, outputs_with}
@@ -27,9 +27,13 @@ abbrev pub place : BasicType → (state : ℕ) → List Slot → (left : ℕ) �
 place t state slots left emits =
     record { state = state_at t state; vars = values_of slots; left = left; emitted = map (emission_of t.ports) emits }
 
+-- The place is that of a state. In a type without states, which no text has, each place is that of a state without transitions.
+abbrev pub IsStateOf : BasicType → ℕ → Type 0
+IsStateOf t i = (t.states ≡ []) ⊎ (i < length t.states)
+
 -- The block is one of this type.
 pub record IsBlockOf (t : BasicType) (s : BasicState) : Type 0 where
-  pub state : s.state < length t.states
+  pub state : IsStateOf t s.state
   pub chart : s.chart ≡ chart_of t
   pub declared : declared_in s.frame ≡ declared_by t
 

@@ -1,5 +1,5 @@
 -- What a chart needs of its type, as each accepted type has it (IEC 61499-1, 5.2; the name spaces are this project's profile).
-use Rattle.std.specs.Prelude.{◌≡◌, ◌<◌, ℕ, List, map, length, position, slice_get, Option, Some, None, Bool, true, ◌&&◌}
+use Rattle.std.specs.Prelude.{◌≡◌, ℕ, List, map, position, slice_get, Option, Some, None, Bool, true, ◌&&◌}
 use Rattle.std.specs.List.{list_all}
 use Rattle.fb_types.specs.Names.{Name, same_name}
 use Rattle.fb_types.specs.Blocks.{among, event_names, variable_names, variables_of}
@@ -39,12 +39,12 @@ action_known t a = is_named (algorithm_names t) a.algorithm && is_named (event_n
 abbrev pub actions_known : BasicType → State → Bool
 actions_known t s = list_all (action_known t) s.actions
 
--- There is a first state; states, event inputs and variables have names of their own; transitions, actions and algorithms name what there is.
+-- States, event inputs and variables have names of their own; transitions, actions and algorithms name what there is.
 pub record IsSound (t : BasicType) : Type 0 where
-  pub initial : 0 < length t.states
   pub states : StandFirst (λ s. s.name) t.states
   pub events : StandFirst (λ p. p.name) t.ports.event_inputs
   pub variables : ¬ (Twice (variable_names (variables_of t)))
+  pub sources : list_all (λ x. among (state_names t) x.from) t.transitions ≡ true
   pub targets : list_all (λ x. among (state_names t) x.to) t.transitions ≡ true
   pub actions : list_all (actions_known t) t.states ≡ true
   pub bodies : Each (λ a. AllKnown (declared_by t) (body_of a.body)) t.algorithms

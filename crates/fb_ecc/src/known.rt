@@ -45,6 +45,17 @@ fn has_state(states: &[State], name: &Name) -> bool
     states.iter().any(|state| name.is(&state.name))
 }
 
+fn are_sources_known(block: &BasicType) -> bool
+    ensures { result ≡ list_all (λ x. among (state_names block.now) x.from) block.now.transitions }
+{
+    let states = block.states.as_slice();
+    block
+        .transitions
+        .as_slice()
+        .iter()
+        .all(|transition| has_state(states, &transition.from))
+}
+
 fn are_targets_known(block: &BasicType) -> bool
     ensures { result ≡ list_all (λ x. among (state_names block.now) x.to) block.now.transitions }
 {
@@ -112,13 +123,13 @@ pub(crate) fn is_sound(block: &BasicType, frame: &Frame) -> bool
     requires once { ¬ (Twice (variable_names (variables_of block.now))) }
     ensures { IsTrue result ↔ IsSound block.now }
 {
-    if block.states.is_empty() {
-        return false;
-    }
     if !are_states_apart(block.states.as_slice()) {
         return false;
     }
     if !are_events_apart(block.ports.event_inputs.as_slice()) {
+        return false;
+    }
+    if !are_sources_known(block) {
         return false;
     }
     if !are_targets_known(block) {

@@ -74,7 +74,7 @@ fn link(
     ensures less { IfOk result (λ went. went ≡ true → meter.new.left < meter.old.left) }
     ensures well_formed { let IsFit = IsWellFormed block.now in All IsFit emits.old → All IsFit emits.new }
 {
-    let exits = state.chart.rows.as_slice()[state.state].exits.as_slice();
+    let exits = state.chart.leaving(state.state);
     match cleared(block, exits, present, &state.frame, meter) {
         Ok(Some(target)) => {
             enter(state, block, target, meter, emits)?;

@@ -5,6 +5,7 @@ use Rattle.fb_types.specs.Repeated.{Twice}
 use Rattle.fb_st.specs.Frames.{declared_in, names_of}
 use Rattle.fb_ecc.specs.Sound.{IsSound}
 use Rattle.fb_ecc.proofs.Acceptance.{sound_in_declaration}
+use Rattle.fb_ecc.proofs.Links.{first_place}
 use Rattle.fb_ecc.proofs.Soundness.{declared_opened, names_opened}
 use Rattle.fb_ecc.proofs.state.BasicState.open.Goals as goal
 
@@ -31,7 +32,7 @@ returns-clause-opened c =
     record {
       sound = sound;
       block = record {
-        state = sound.initial;
+        state = first_place c.args.block.now;
         chart = c.in_ok-chart.ensures;
         declared = ap declared_in opened ∙ declared_opened (variables_of c.args.block.now);
       };
