@@ -5,31 +5,32 @@ ghost use Rattle.fb_judge.specs.Faults.{number_of};
 ghost use Rattle.fb_judge.specs.declared.fault.Refusal.TheVariants.{Memory};
 
 use std::alloc::AllocError;
+use thiserror::Error;
 
 /// Why inputs are not accepted. Each refusal has a number.
-#[derive(Clone, Copy, Debug, PartialEq, Eq)]
+#[derive(Clone, Copy, Debug, Error, PartialEq, Eq)]
 pub enum Fault {
-    /// E20: a name or a connection is given twice.
+    #[error("E20: a name or a connection is given twice")]
     NameTwice,
-    /// E21: a name stands for nothing of the wanted sort.
+    #[error("E21: a name stands for nothing of the wanted sort")]
     NameUnknown,
-    /// E22: an expression, a statement or a value has the wrong kind.
+    #[error("E22: an expression, a statement or a value has the wrong kind")]
     KindWrong,
-    /// E23: a data connection leads to a type that does not hold all values.
+    #[error("E23: a data connection leads to a type that does not hold all values")]
     OutOfRange,
-    /// E24: two data connections lead to one port.
+    #[error("E24: two data connections lead to one port")]
     TwoSources,
-    /// E25: a composite holds itself, or has a height over 16.
+    #[error("E25: a composite holds itself, or has a height over 16")]
     TooHigh,
-    /// E26: an instance is not mapped to one resource.
+    #[error("E26: an instance is not mapped to one resource")]
     NotMapped,
-    /// E27: a connection between two resources has no link.
+    #[error("E27: a connection between two resources has no link")]
     NoLink,
-    /// E28: no event goes with a data connection between two resources.
+    #[error("E28: no event goes with a data connection between two resources")]
     NoEvent,
-    /// E29: a stimulus does not fit its event input.
+    #[error("E29: a stimulus does not fit its event input")]
     BadStimulus,
-    /// E30: over a limit.
+    #[error("E30: over a limit")]
     OverLimit,
 }
 
