@@ -2,7 +2,7 @@
 
 ghost use Rattle.std.specs.Prelude.{IfOk, IfErr, OnOk};
 ghost use Rattle.fb_read.specs.Whole.{IsLibraryText};
-ghost use Rattle.fb_check.specs.Stands.{inputs};
+ghost use Rattle.fb_check.specs.Stands as stands;
 ghost use Rattle.fb_sim.specs.Serial.{AreStimuli, Declares, IsDeclared, IsPlan, IsRefusal, IsUnopened, Reads};
 
 use crate::options::Inputs;
@@ -81,7 +81,7 @@ fn stimuli_of(
 
 /// Reads what is given.
 fn read(alloc: Global, inputs: &Inputs<'_>) -> Result<Reading, RunError>
-    ensures read { IfOk result (λ r. Reads inputs.now (inputs r.library r.deploy r.stimuli.items)) }
+    ensures read { IfOk result (λ r. Reads inputs.now (stands.inputs r.library r.deploy r.stimuli.items)) }
     ensures refused { IfErr result (IsRefusal inputs.now) }
 {
     let library = library_of(alloc, inputs)?;

@@ -35,7 +35,8 @@ fn expect(
 const EVENTS: &str =
     "APPLICATION A FBS S : E_RESTART; M : E_MERGE; END_FBS EVENT_CONNECTIONS S.COLD TO M.EI1; END_CONNECTIONS END_APPLICATION";
 
-const R1_HOLDS_BOTH: &str = "[[resource]]\ndevice = \"D\"\nname = \"R1\"\ninstances = [\"S\", \"M\"]\n";
+const R1_HOLDS_BOTH: &str =
+    "[[resource]]\ndevice = \"D\"\nname = \"R1\"\ninstances = [\"S\", \"M\"]\n";
 
 const R2_HOLDS_NONE: &str = "[[resource]]\ndevice = \"D\"\nname = \"R2\"\ninstances = []\n";
 
@@ -53,7 +54,11 @@ const EVENTS_MAPPED: [(&[&str], u8); 16] = [
     ),
     (&[R1_R2, LINK, LINK], 20),
     (
-        &[R1_R2, LINK, "[[link]]\nfrom = \"R2\"\nto = \"R1\"\nlatency = 2\n"],
+        &[
+            R1_R2,
+            LINK,
+            "[[link]]\nfrom = \"R2\"\nto = \"R1\"\nlatency = 2\n",
+        ],
         0,
     ),
     // Names of no instance and of no resource.
@@ -64,8 +69,22 @@ const EVENTS_MAPPED: [(&[&str], u8); 16] = [
         ],
         21,
     ),
-    (&[R1_R2, LINK, "[[link]]\nfrom = \"R1\"\nto = \"R9\"\nlatency = 2\n"], 21),
-    (&[R1_R2, LINK, "[[link]]\nfrom = \"D\"\nto = \"R2\"\nlatency = 2\n"], 21),
+    (
+        &[
+            R1_R2,
+            LINK,
+            "[[link]]\nfrom = \"R1\"\nto = \"R9\"\nlatency = 2\n",
+        ],
+        21,
+    ),
+    (
+        &[
+            R1_R2,
+            LINK,
+            "[[link]]\nfrom = \"D\"\nto = \"R2\"\nlatency = 2\n",
+        ],
+        21,
+    ),
     // Instances in no resource, in two, and twice in one.
     (
         &[
@@ -87,7 +106,10 @@ const EVENTS_MAPPED: [(&[&str], u8); 16] = [
     ),
     // No link, the way back alone, and a link that leads past a third resource.
     (&[R1_R2], 27),
-    (&[R1_R2, "[[link]]\nfrom = \"R2\"\nto = \"R1\"\nlatency = 2\n"], 27),
+    (
+        &[R1_R2, "[[link]]\nfrom = \"R2\"\nto = \"R1\"\nlatency = 2\n"],
+        27,
+    ),
     (
         &[
             R1_R2,
@@ -98,7 +120,10 @@ const EVENTS_MAPPED: [(&[&str], u8); 16] = [
         27,
     ),
     (
-        &[R1_R2, "[[link]]\nfrom = \"R1\"\nto = \"R2\"\nlatencies = [[0, 5], [10, 1]]\n"],
+        &[
+            R1_R2,
+            "[[link]]\nfrom = \"R1\"\nto = \"R2\"\nlatencies = [[0, 5], [10, 1]]\n",
+        ],
         0,
     ),
 ];
@@ -134,7 +159,9 @@ const CARRIED: [(&str, u8); 7] = [
 fn data_connections(rt: HostRuntime) -> Result<(), Fail> {
     let alloc = rt.alloc();
     for (events, wanted) in CARRIED {
-        let text = format!(in alloc; "APPLICATION A FBS F : E_SR; M : E_MERGE; W : E_SWITCH; N : E_MERGE; P : E_MERGE; END_FBS EVENT_CONNECTIONS {events} END_CONNECTIONS DATA_CONNECTIONS F.Q TO W.G; END_CONNECTIONS END_APPLICATION")?;
+        let text = format!(in alloc;
+            "APPLICATION A FBS F : E_SR; M : E_MERGE; W : E_SWITCH; N : E_MERGE; P : E_MERGE; END_FBS EVENT_CONNECTIONS {events} END_CONNECTIONS DATA_CONNECTIONS F.Q TO W.G; END_CONNECTIONS END_APPLICATION"
+        )?;
         let table: [(&[&str], u8); 2] = [
             (&[LATCH, LATCH_LINKS], wanted),
             // Without links the connections between resources lack theirs.
@@ -146,14 +173,17 @@ fn data_connections(rt: HostRuntime) -> Result<(), Fail> {
 }
 
 /// A type with two event outputs, the first WITH its variable.
-const TWO_EVENTS: &str = "FUNCTION_BLOCK T EVENT_OUTPUT O WITH Y; N; END_EVENT VAR_OUTPUT Y : BOOL; END_VAR \
+const TWO_EVENTS: &str =
+    "FUNCTION_BLOCK T EVENT_OUTPUT O WITH Y; N; END_EVENT VAR_OUTPUT Y : BOOL; END_VAR \
     FBS END_FBS END_FUNCTION_BLOCK";
 
 #[test]
 fn an_event_without_the_variable_does_not_carry_it(rt: HostRuntime) -> Result<(), Fail> {
     let alloc = rt.alloc();
     for (event, wanted) in [("O", 0), ("N", 28)] {
-        let text = format!(in alloc; "{TWO_EVENTS} APPLICATION A FBS S : T; M : E_SWITCH; END_FBS EVENT_CONNECTIONS S.{event} TO M.EI; END_CONNECTIONS DATA_CONNECTIONS S.Y TO M.G; END_CONNECTIONS END_APPLICATION")?;
+        let text = format!(in alloc;
+            "{TWO_EVENTS} APPLICATION A FBS S : T; M : E_SWITCH; END_FBS EVENT_CONNECTIONS S.{event} TO M.EI; END_CONNECTIONS DATA_CONNECTIONS S.Y TO M.G; END_CONNECTIONS END_APPLICATION"
+        )?;
         let table: [(&[&str], u8); 1] = [(&[R1_R2, LINK], wanted)];
         expect(&rt, alloc, text.as_str(), table.as_slice())?;
     }

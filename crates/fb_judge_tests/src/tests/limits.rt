@@ -26,7 +26,9 @@ fn doubled(alloc: Global, last: u32) -> Result<String, AllocError> {
     )?;
     for height in 2..=last {
         let below = height - 1;
-        let next = format!(in alloc; " FUNCTION_BLOCK T{height} FBS L : T{below}; R : T{below}; END_FBS END_FUNCTION_BLOCK")?;
+        let next = format!(in alloc;
+            " FUNCTION_BLOCK T{height} FBS L : T{below}; R : T{below}; END_FBS END_FUNCTION_BLOCK"
+        )?;
         text.push_str(next.as_str())?;
     }
     let whole = format!(in alloc; " APPLICATION A FBS X : T{last}; END_FBS END_APPLICATION")?;

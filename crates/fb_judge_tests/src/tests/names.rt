@@ -120,8 +120,14 @@ const CHARTS_UNKNOWN: [(&str, u8); 9] = [
     ("S : P; END_STATES", 21),
     ("S : -> E; END_STATES", 21),
     ("S : -> O; END_STATES", 0),
-    ("S; END_STATES EC_TRANSITIONS S TO T := 1; END_TRANSITIONS", 21),
-    ("S; END_STATES EC_TRANSITIONS S TO S := O; END_TRANSITIONS", 21),
+    (
+        "S; END_STATES EC_TRANSITIONS S TO T := 1; END_TRANSITIONS",
+        21,
+    ),
+    (
+        "S; END_STATES EC_TRANSITIONS S TO S := O; END_TRANSITIONS",
+        21,
+    ),
     (
         "S; END_STATES EC_TRANSITIONS S TO S := E [G]; END_TRANSITIONS",
         0,

@@ -76,7 +76,9 @@ fn tower(alloc: Global, last: u32, instance_type: &str) -> Result<String, AllocE
     let mut text = String::from_str(alloc, "FUNCTION_BLOCK T1 FBS END_FBS END_FUNCTION_BLOCK")?;
     for height in 2..=last {
         let below = height - 1;
-        let next = format!(in alloc; " FUNCTION_BLOCK T{height} FBS X : T{below}; END_FBS END_FUNCTION_BLOCK")?;
+        let next = format!(in alloc;
+            " FUNCTION_BLOCK T{height} FBS X : T{below}; END_FBS END_FUNCTION_BLOCK"
+        )?;
         text.push_str(next.as_str())?;
     }
     text.push_str(" APPLICATION A FBS X : ")?;

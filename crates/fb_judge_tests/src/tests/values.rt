@@ -87,7 +87,9 @@ fn out_of_range(rt: HostRuntime) -> Result<(), Fail> {
             "; END_VAR FBS END_FBS END_FUNCTION_BLOCK \
              APPLICATION A FBS P : P; Q : Q; END_FBS DATA_CONNECTIONS P.Y TO Q.X; END_CONNECTIONS END_APPLICATION",
         );
-        let text = format!(in alloc; "{from}; END_VAR FBS END_FBS END_FUNCTION_BLOCK FUNCTION_BLOCK Q VAR_INPUT X : {to}")?;
+        let text = format!(in alloc;
+            "{from}; END_VAR FBS END_FBS END_FUNCTION_BLOCK FUNCTION_BLOCK Q VAR_INPUT X : {to}"
+        )?;
         expect(&rt, alloc, &place, [(text.as_str(), wanted)].as_slice())?;
     }
     Ok(())
