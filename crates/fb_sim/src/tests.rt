@@ -199,7 +199,7 @@ fn an_accepted_declaration_passes_the_check(rt: HostRuntime) -> Result<(), Fail>
     assert!(rt;
         matches!(
             check(alloc, &unknown),
-            Err(RunError::Refused(Refusal::Check(CheckError::NameUnknown)))
+            Err(RunError::Refused(Refusal::Check(Fault::NameUnknown)))
         )
     );
     Ok(())
