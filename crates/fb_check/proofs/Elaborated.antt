@@ -1,18 +1,17 @@
 -- All tables of accepted inputs.
-use Rattle.std.proofs.Common.{◌≡◌, ℕ, ◌<◌, ◌≤◌, ◌^◌, Bool, true, false, Bor, List, [], length, get_or, Some, None, refl, sym, ◌∙◌, ap, subst, arith, lit<}
-use Rattle.std.specs.Prelude.{All, slice_get, option_map, IsTrue, ◌↔◌}
+use Rattle.std.proofs.Common.{◌≡◌, ℕ, ◌<◌, ◌≤◌, ◌^◌, true, Bor, List, [], Option, Vec, Global, length, get_or, Some, None, refl, sym, ◌∙◌, ap, subst, inl, inr, arith, lit<}
+use Rattle.std.specs.Prelude.{All, slice_get, option_map, is_some, MatchOption}
 use Rattle.std.specs.BTreeMap.{BTreeMap}
-use Rattle.std.proofs.lemmas.Bool.{true≢false}
 use Rattle.std.proofs.lemmas.List.{length-map}
 use Rattle.std.proofs.lemmas.Option.{slice_get-get_or, slice_get_within, same_Some}
 use Rattle.fb_types.specs.Names.{Name, Path}
 use Rattle.fb_types.specs.Blocks.{event_block_named, ports_of_event_block}
-use Rattle.fb_types.specs.Kinds.{KindWrong}
-use Rattle.fb_types.specs.Accepted.{IsLeastFault}
+use Rattle.fb_types.specs.Flat.{paths_of}
 use Rattle.fb_types.specs.Headline.{AreAccepted, system_of}
 use Rattle.fb_types.specs.Repeated.{Twice}
 use Rattle.fb_types.specs.declared.event_kind.EventKind.{EventKind}
 use Rattle.fb_types.specs.declared.library.Library.{Library}
+use Rattle.fb_types.specs.declared.library.Connection.{Connection}
 use Rattle.fb_types.specs.declared.library.Instance.{Instance}
 use Rattle.fb_types.specs.declared.library.Ports.{Ports}
 use Rattle.fb_types.specs.declared.run.Target.{Target}
@@ -21,17 +20,17 @@ use Rattle.fb_types.specs.declared.deploy.Stimulus.{Stimulus}
 use Rattle.fb_check.specs.declared.tables.Interface.{Interface}
 use Rattle.fb_check.specs.declared.tables.Row.{Row}
 use Rattle.fb_check.specs.declared.wires.Wire.{Wire}
-use Rattle.fb_check.specs.Indexes.{HasNames, instance_names}
-use Rattle.fb_check.specs.Resolved.{IsResolved}
-use Rattle.fb_check.specs.declared.known.Resolved.{Resolved}
+use Rattle.fb_check.specs.Indexes.{IsIndex, instance_names}
 use Rattle.fb_check.specs.Interfaces.{AreInterfaces}
 use Rattle.fb_check.specs.Rows.{row_of, row_if_known}
 use Rattle.fb_check.specs.Stands.{IsSupported, IsRow, AreOutgoing, HasInterface, AreTablesOf, inputs}
 use Rattle.fb_check.specs.Wires.{each_or_none, wire_place, IsWithin, IsFanOut}
 use Rattle.fb_check.proofs.Each.{each-length, each_from, each_at}
-use Rattle.fb_check.proofs.Least.{IsSound, path_of, paths_are, least_30, accepted_all}
+use Rattle.fb_check.proofs.Paths.{path_of, paths_are}
 use Rattle.fb_check.proofs.Made.{IsAt, wire_is, ports_there, row_is, few_events}
-use Rattle.fb_check.proofs.Plain.{element_at}
+use Rattle.fb_check.proofs.NameTwice.{instance_twice}
+use Rattle.fb_check.proofs.Plain.{element_at, few_of}
+use Rattle.fb_check.proofs.Resolving.{rows_answer, wires_answer}
 use Rattle.fb_check.proofs.Targets.{targets_are}
 
 -- ---- A row and its instance
@@ -136,38 +135,70 @@ tables_are lib plan stimuli interfaces rows ws all supported accepted once are m
           outgoing_stands lib plan stimuli rows ws all i r.0 tss (of i r.0 r.1) wired fan r.1 h;
     }
 
--- ---- What the checks have found
+-- ---- Accepted inputs
 
-pub sound_of :
-    (lib : Library) (plan : Plan) (index : BTreeMap (Bor Name) ℕ) (r : Resolved) (b : Bool) → HasNames lib plan index → IsResolved lib plan r
-    → IsTrue b ↔ KindWrong lib → b ≡ false → IsSound lib plan
-sound_of lib plan index r b names resolved says f =
-    record { once = names.once; known = resolved.known; right = λ w. true≢false (sym (says.1 w) ∙ f) }
+-- no name is given twice, so there is an index
+pub has_index :
+    (lib : Library) (plan : Plan) (stimuli : List Stimulus) (is : List Instance) (o : Option (BTreeMap (Bor Name) ℕ)) → AreAccepted (inputs lib plan stimuli)
+    → is ≡ lib.application.network.instances → MatchOption o (Twice (instance_names is)) (IsIndex (instance_names is)) → is_some o ≡ true
+has_index lib plan stimuli is None accepted e says =
+    absurd (accepted 20 (inl (refl, instance_twice lib plan (subst (λ (is : List Instance). Twice (instance_names is)) e says))))
+has_index lib plan stimuli is (Some index) accepted e says = refl
 
-pub over_limit :
-    (lib : Library) (plan : Plan) (stimuli : List Stimulus) (r : Resolved) (n : ℕ) → IsSupported (inputs lib plan stimuli) → IsSound lib plan
-    → IsResolved lib plan r → n ≡ length r.rows → 4096 < n → IsLeastFault 30 lib plan stimuli
-over_limit lib plan stimuli r n supported sound resolved counted many =
-    let all = each-length row_if_known lib.application.network.instances r.rows resolved.rows in
-    let over : 4096 < length lib.application.network.instances = omega (arith, counted, many, all) in
-    least_30 lib plan stimuli supported sound over
+-- all types are known, so there are rows
+pub has_rows :
+    (lib : Library) (plan : Plan) (stimuli : List Stimulus) (is : List Instance) (o : Option (List Row)) → AreAccepted (inputs lib plan stimuli)
+    → IsSupported (inputs lib plan stimuli) → is ≡ lib.application.network.instances → o ≡ each_or_none row_if_known is → is_some o ≡ true
+has_rows lib plan stimuli is None accepted supported e made = absurd (accepted 21 (inr (inl (refl, rows_answer lib plan is None supported.no_types e made refl))))
+has_rows lib plan stimuli is (Some rows) accepted supported e made = refl
+
+-- all ends are known, so there are wires
+pub has_wires :
+    (lib : Library) (plan : Plan) (stimuli : List Stimulus) (is : List Instance) (cs : List Connection) (o : Option (Vec Wire Global))
+    → AreAccepted (inputs lib plan stimuli) → IsSupported (inputs lib plan stimuli)
+    → is ≡ lib.application.network.instances → cs ≡ lib.application.network.event_connections
+    → option_map (λ v. v.items) o ≡ each_or_none (wire_place is) cs → is_some o ≡ true
+has_wires lib plan stimuli is cs None accepted supported e g made =
+    absurd (accepted 21 (inr (inl (refl, wires_answer lib plan is cs None supported.no_types supported.no_data e g made refl))))
+has_wires lib plan stimuli is cs (Some wires) accepted supported e g made = refl
+
+-- what the rows and the wires of accepted inputs are
+pub record AreMade (lib : Library) (rows : List Row) (ws : List Wire) : Type 0 where
+  pub rows_are : each_or_none row_if_known lib.application.network.instances ≡ Some rows
+  pub wires_are : each_or_none (wire_place lib.application.network.instances) lib.application.network.event_connections ≡ Some ws
+
+pub made_of :
+    (lib : Library) (is : List Instance) (cs : List Connection) (r : Option (List Row)) (rows : List Row) (o : Option (Vec Wire Global)) (wires : Vec Wire Global)
+    → is ≡ lib.application.network.instances → cs ≡ lib.application.network.event_connections → r ≡ each_or_none row_if_known is → r ≡ Some rows
+    → option_map (λ v. v.items) o ≡ each_or_none (wire_place is) cs → o ≡ Some wires → AreMade lib rows wires.items
+made_of lib is cs r rows o wires e g made some_rows wired some_wires = record {
+  rows_are = ap (each_or_none row_if_known) (sym e) ∙ sym made ∙ some_rows;
+  wires_are = sym (λ i. each_or_none (wire_place (e i)) (g i)) ∙ sym wired ∙ ap (option_map (λ (v : Vec Wire Global). v.items)) some_wires;
+}
+
+few_rows :
+    (lib : Library) (plan : Plan) (stimuli : List Stimulus) (rows : List Row) → AreAccepted (inputs lib plan stimuli) → IsSupported (inputs lib plan stimuli)
+    → each_or_none row_if_known lib.application.network.instances ≡ Some rows → length rows ≤ 4096
+few_rows lib plan stimuli rows accepted supported made =
+    let few : length (paths_of lib) ≤ 4096 = few_of (inputs lib plan stimuli) accepted in
+    let paths : length (paths_of lib) ≡ length lib.application.network.instances =
+    ap (λ (ps : List Path). length ps) (paths_are lib supported.no_types) ∙ length-map lib.application.network.instances path_of in
+    let counted : length rows ≡ length lib.application.network.instances = each-length row_if_known lib.application.network.instances rows made in
+    omega (arith, few, paths, counted)
+
+-- all wires are between the rows
+pub all_within :
+    (lib : Library) (plan : Plan) (stimuli : List Stimulus) (rows rs : List Row) (ws vs : List Wire) → AreAccepted (inputs lib plan stimuli)
+    → IsSupported (inputs lib plan stimuli) → AreMade lib rows ws → rs ≡ rows → vs ≡ ws → All (IsWithin rs) vs
+all_within lib plan stimuli rows rs ws vs accepted supported made e g =
+    subst (λ (vs : List Wire). All (IsWithin rs) vs) (sym g) (subst (λ (rs : List Row). All (IsWithin rs) ws) (sym e)
+    (wires_within lib rows ws made.rows_are made.wires_are (few_rows lib plan stimuli rows accepted supported made.rows_are)))
 
 pub elaborated :
-    (lib : Library) (plan : Plan) (stimuli : List Stimulus) (index : BTreeMap (Bor Name) ℕ) (r : Resolved) (n : ℕ)
-    (interfaces : List Interface) (rows : List Row) (ws : List Wire) (all : List (List (List Target)))
-    → IsSupported (inputs lib plan stimuli) → IsSound lib plan → HasNames lib plan index → IsResolved lib plan r → n ≡ length r.rows → n ≤ 4096
-    → AreInterfaces interfaces → rows ≡ r.rows → ws ≡ r.wires → IsFanOut rows ws all → AreTablesOf (inputs lib plan stimuli) interfaces r.rows all
-elaborated lib plan stimuli index r n interfaces rows ws all supported sound names resolved counted few are e g fan =
-    let every = each-length row_if_known lib.application.network.instances r.rows resolved.rows in
-    let within : length lib.application.network.instances ≤ 4096 = omega (arith, counted, few, every) in
-    let fan' : IsFanOut r.rows r.wires all = subst (λ (rows : List Row). IsFanOut rows r.wires all) e (subst (λ (ws : List Wire). IsFanOut rows ws all) g fan) in
-    tables_are lib plan stimuli interfaces r.rows r.wires all supported (accepted_all lib plan stimuli supported sound within) names.places.once are
-    resolved.rows resolved.wires fan'
-
-pub all_within :
-    (lib : Library) (plan : Plan) (r : Resolved) (n : ℕ) (rows : List Row) (ws : List Wire) → IsResolved lib plan r → n ≡ length r.rows → n ≤ 4096
-    → rows ≡ r.rows → ws ≡ r.wires → All (IsWithin rows) ws
-all_within lib plan r n rows ws resolved counted few e g =
-    let few' : length r.rows ≤ 4096 = omega (arith, counted, few) in
-    subst (λ (ws : List Wire). All (IsWithin rows) ws) (sym g) (subst (λ (rows : List Row). All (IsWithin rows) r.wires) (sym e)
-    (wires_within lib r.rows r.wires resolved.rows resolved.wires few'))
+    (lib : Library) (plan : Plan) (stimuli : List Stimulus) (interfaces : List Interface) (rows rs : List Row) (ws vs : List Wire) (all : List (List (List Target)))
+    → AreAccepted (inputs lib plan stimuli) → IsSupported (inputs lib plan stimuli) → AreMade lib rows ws → AreInterfaces interfaces
+    → rs ≡ rows → vs ≡ ws → IsFanOut rs vs all → AreTablesOf (inputs lib plan stimuli) interfaces rows all
+elaborated lib plan stimuli interfaces rows rs ws vs all accepted supported made are e g fan =
+    tables_are lib plan stimuli interfaces rows ws all supported accepted (λ t. accepted 20 (inl (refl, instance_twice lib plan t))) are
+    made.rows_are made.wires_are
+    (subst (λ (rs : List Row). IsFanOut rs ws all) e (subst (λ (vs : List Wire). IsFanOut rs vs all) g fan))

@@ -3,9 +3,8 @@ pub mod Elaborated
 pub mod Targets
 pub mod Made
 pub mod Ends
-pub mod Least
+pub mod Paths
 pub mod Resolving
-pub mod KindWrong
 pub mod NameUnknown
 pub mod NameTwice
 pub mod Components

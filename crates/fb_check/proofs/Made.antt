@@ -32,7 +32,7 @@ use Rattle.fb_check.specs.Rows.{row_of}
 use Rattle.fb_check.specs.Stands.{IsRow, inputs}
 use Rattle.fb_check.specs.Wires.{wire_place, source_place, target_place}
 use Rattle.fb_check.proofs.Ends.{IsEnd, end_is, position-agree}
-use Rattle.fb_check.proofs.Least.{path_of, paths_are, resource_zero}
+use Rattle.fb_check.proofs.Paths.{path_of, paths_are, resource_zero}
 use Rattle.fb_check.proofs.NameTwice.{repeats, repeats_from_twice}
 use Rattle.fb_check.proofs.NameUnknown.{kind_of_event_block}
 use Rattle.fb_check.proofs.Places.{find-named, named_of_once, position_of_once}

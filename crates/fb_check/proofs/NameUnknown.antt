@@ -1,34 +1,29 @@
 -- E21 where there are no block types and no data connections: names that stand for nothing.
-use Rattle.std.proofs.Common.{◌≡◌, ◌⊎◌, ◌||◌, ◌&&◌, ℕ, Bool, true, false, cond, List, [], ◌∷◌, ◌++◌, map, Some, None, Option, Contains, refl, sym, ◌∙◌, ap, subst, inl, inr}
+use Rattle.std.proofs.Common.{◌≡◌, ◌||◌, ◌&&◌, ℕ, Bool, true, false, cond, List, [], ◌∷◌, ◌++◌, map, Some, None, Option, Contains, refl, sym, ◌∙◌, ap, subst, inl, inr}
 use Rattle.std.specs.Prelude.{flat_map, is_some, position, slice_get, option_map, option_and_then}
 use Rattle.std.specs.List.{list_any, list_all}
-use Rattle.std.proofs.lemmas.Bool.{true≢false, false_from_ne_true}
-use Rattle.std.proofs.lemmas.List.Folds.{list_all-append}
+use Rattle.std.proofs.lemmas.Bool.{true≢false}
+use Rattle.std.proofs.lemmas.List.Elements.{Contains-append_left}
 use Rattle.fb_types.specs.Names.{Name, same_name}
-use Rattle.fb_types.specs.Blocks.{Kind, Event, ports_of, event_blocks, event_block_named, named, among, event_names, variable_names, ports_of_event_block}
+use Rattle.fb_types.specs.Blocks.{Kind, Event, ports_of, event_blocks, event_block_named, named, among, event_names, ports_of_event_block}
 use Rattle.fb_types.specs.Flat.{kind_of_instance, instance_in}
-use Rattle.fb_types.specs.Repeated.{Placed}
-use Rattle.fb_types.specs.Unknown.{Wanted, all_of, wanted, types_wanted, parameters_wanted, NameUnknown, ends_known, is_end, event_ins, event_outs}
+use Rattle.fb_types.specs.Repeated.{Placed, networks, interfaces, basics}
+use Rattle.fb_types.specs.Unknown.{Wanted, all_of, wanted, types_wanted, withs_wanted, chart_wanted, parameters_wanted, deployment_wanted, NameUnknown, ends_known, is_end, event_ins, event_outs}
 use Rattle.fb_types.specs.declared.library.Library.{Library}
 use Rattle.fb_types.specs.declared.library.BlockType.{BlockType}
 use Rattle.fb_types.specs.declared.library.Connection.{Connection}
 use Rattle.fb_types.specs.declared.library.Instance.{Instance}
-use Rattle.fb_types.specs.declared.library.Parameter.{Parameter}
-use Rattle.fb_types.specs.declared.library.Variable.{Variable}
 use Rattle.fb_types.specs.declared.library.EventPort.{EventPort}
 use Rattle.fb_types.specs.declared.library.Ports.{Ports}
 use Rattle.fb_types.specs.declared.library.PortName.{PortName}
 use Rattle.fb_types.specs.declared.event_kind.EventKind.{EventKind}
 use Rattle.fb_types.specs.declared.deploy.Plan.{Plan}
-use Rattle.fb_types.specs.declared.deploy.Link.{Link}
-use Rattle.fb_types.specs.declared.deploy.Resource.{Resource}
 use Rattle.fb_check.specs.declared.wires.End.{End}
 use Rattle.fb_check.specs.declared.wires.Wire.{Wire}
 use Rattle.fb_check.specs.Indexes.{instance_names}
-use Rattle.fb_check.specs.Checks.{is_parameter_known, has_known_parameters, lists_known}
 use Rattle.fb_check.specs.Wires.{block_at_place, end_place, source_place, target_place, wire_place}
-use Rattle.fb_check.proofs.NameLemmas.{Contains-nil, Contains-cons_cases, Contains-here, Contains-there, any_from_contains, contains_from_any}
-use Rattle.fb_check.proofs.Places.{is_some-position, named-position, find-named, same_name-flip}
+use Rattle.fb_check.proofs.NameLemmas.{Contains-nil, Contains-here, Contains-there, any_from_contains}
+use Rattle.fb_check.proofs.Places.{is_some-position, named-position, same_name-flip}
 
 -- ---- Tests of lists
 
@@ -41,25 +36,9 @@ fails_at {A} p (x ∷ xs) h =
       | true ↦ λ e h. let r = fails_at p xs h in (r.0, Contains-there x xs r.0 r.1, r.2)
     ] refl h
 
-pub fails_from : {A : Type 0} (p : A → Bool) (xs : List A) (x : A) → Contains xs x → p x ≡ false → list_all p xs ≡ false
-fails_from p [] x c f = absurd (Contains-nil x c)
-fails_from p (y ∷ ys) x c f =
-    elim (Contains-cons_cases y ys x c) [
-      | inl e ↦ ap (λ b. b && list_all p ys) (ap p e ∙ f)
-      | inr rest ↦ ap (λ b. p y && b) (fails_from p ys x rest f) ∙ and-false (p y)
-    ]
-  where
-    and-false : (b : Bool) → (b && false) ≡ false
-    and-false true = refl
-    and-false false = refl
-
 pub list_all-map : {A B : Type 0} (p : B → Bool) (f : A → B) (xs : List A) → list_all p (map f xs) ≡ list_all (λ x. p (f x)) xs
 list_all-map p f [] = refl
 list_all-map p f (x ∷ xs) = ap (λ b. p (f x) && b) (list_all-map p f xs)
-
-pub list_all-flat_map : {A B : Type 0} (p : B → Bool) (f : A → List B) (xs : List A) → list_all p (flat_map f xs) ≡ list_all (λ x. list_all p (f x)) xs
-list_all-flat_map p f [] = refl
-list_all-flat_map p f (x ∷ xs) = list_all-append p (f x) (flat_map f xs) ∙ ap (λ b. list_all p (f x) && b) (list_all-flat_map p f xs)
 
 pub list_all-agree : {A : Type 0} (p q : A → Bool) → ((x : A) → p x ≡ q x) → (xs : List A) → list_all p xs ≡ list_all q xs
 list_all-agree p q same [] = refl
@@ -117,61 +96,32 @@ types_met lib =
     is_some-map None = refl
     is_some-map (Some e) = refl
 
-parameters_met : (lib : Library) (i : Instance) → list_all met (parameters_wanted (without_types lib) i) ≡ has_known_parameters i
-parameters_met lib i =
-    let P : Option Kind → List Wanted = λ o. elim o [ None ↦ [] | Some k ↦ all_of (map (λ x. x.name) i.parameters) (variable_names (ports_of k).inputs) ] in
-    ap (λ o. list_all met (P o)) (kind_of_event_block lib i)
-    ∙ (elim (event_block_named i.block_type) as
-    (λ o. list_all met (P (option_map (λ k. Event k) o)) ≡ elim o [ None ↦ true | Some k ↦ list_all (is_parameter_known (ports_of_event_block k).inputs) i.parameters ]) [
-      | None ↦ refl
-      | Some k ↦
-          let inputs = (ports_of_event_block k).inputs in
-          list_all-all_of (map (λ x. x.name) i.parameters) (variable_names inputs)
-          ∙ list_all-map (λ n. list_any (same_name n) (variable_names inputs)) (λ x. x.name) i.parameters
-          ∙ list_all-agree (λ (x : Parameter). list_any (same_name x.name) (variable_names inputs)) (is_parameter_known inputs)
-          (λ x. any-named (λ (v : Variable). v.name) x.name inputs ∙ ap is_some (sym (find-named (λ (v : Variable). v.name) x.name inputs))) i.parameters
-    ])
+types_unknown : (lib : Library) (plan : Plan) → list_all is_typed lib.application.network.instances ≡ false → NameUnknown (without_types lib) plan
+types_unknown lib plan h =
+    let l = without_types lib in
+    let types = types_wanted l lib.application.network in
+    let withs = flat_map withs_wanted (interfaces l) in
+    let charts = flat_map chart_wanted (basics l) in
+    let parameters = flat_map (λ n. flat_map (parameters_wanted l) n.1.instances) (networks l) in
+    let deployed = deployment_wanted l plan in
+    let r = fails_at met types (types_met lib ∙ h) in
+    let among_all : Contains (wanted l plan) r.0 =
+    Contains-append_left ((types ++ []) ++ withs ++ charts ++ parameters) deployed r.0
+    (Contains-append_left ((types ++ []) ++ withs ++ charts) parameters r.0
+    (Contains-append_left ((types ++ []) ++ withs) charts r.0
+    (Contains-append_left (types ++ []) withs r.0 (Contains-append_left types [] r.0 r.1)))) in
+    inl (r.0, among_all, λ c. true≢false (sym (any_from_contains r.0.0 r.0.1 c) ∙ r.2))
 
-lists_met : (names : List Name) (r : Resource) → list_all met (all_of r.instances names) ≡ lists_known (λ n. position (same_name n) names) r
-lists_met names r =
-    list_all-all_of r.instances names
-    ∙ list_all-agree (λ n. list_any (same_name n) names) (λ n. is_some (position (same_name n) names)) (λ n. sym (is_some-position (same_name n) names)) r.instances
+-- a type that no one has
+pub type_unknown :
+    (lib : Library) (plan : Plan) → lib.blocks ≡ [] → list_all is_typed lib.application.network.instances ≡ false → NameUnknown lib plan
+type_unknown lib plan none h =
+    subst (λ (bs : List BlockType). NameUnknown (record lib { blocks = bs }) plan) (sym none) (types_unknown lib plan h)
 
-abbrev unlinked : Plan → Plan
-unlinked plan = record plan { links = [] }
+-- ---- Ends of connections
 
 abbrev pub places_of : Library → Name → Option ℕ
 places_of lib n = position (same_name n) (instance_names lib.application.network.instances)
-
--- all that is wanted, as three tests
-abbrev all_wanted : (types parameters lists : Bool) → Bool
-all_wanted a b c = ((((a && true) && true) && true) && (b && true)) && (c && true)
-
-wanted_met : (lib : Library) (plan : Plan) → list_all met (wanted (without_types lib) (unlinked plan))
-    ≡ all_wanted (list_all is_typed lib.application.network.instances) (list_all has_known_parameters lib.application.network.instances)
-    (list_all (lists_known (places_of lib)) plan.resources)
-wanted_met lib plan =
-    let is = lib.application.network.instances in
-    let names = instance_names is in
-    let types = types_wanted (without_types lib) lib.application.network in
-    let parameters = flat_map (parameters_wanted (without_types lib)) is in
-    let lists = flat_map (λ (r : Resource). all_of r.instances names) plan.resources in
-    let t1 : list_all met (types ++ []) ≡ (list_all is_typed is && true) = list_all-append met types [] ∙ ap (λ b. b && true) (types_met lib) in
-    let t2 : list_all met (types ++ [] ++ []) ≡ ((list_all is_typed is && true) && true) = list_all-append met (types ++ []) [] ∙ ap (λ b. b && true) t1 in
-    let t3 : list_all met (types ++ [] ++ [] ++ []) ≡ (((list_all is_typed is && true) && true) && true) =
-    list_all-append met (types ++ [] ++ []) [] ∙ ap (λ b. b && true) t2 in
-    let p1 : list_all met (parameters ++ []) ≡ (list_all has_known_parameters is && true) =
-    list_all-append met parameters []
-    ∙ ap (λ b. b && true) (list_all-flat_map met (parameters_wanted (without_types lib)) is
-    ∙ list_all-agree (λ (i : Instance). list_all met (parameters_wanted (without_types lib) i)) has_known_parameters (parameters_met lib) is) in
-    let d1 : list_all met (lists ++ []) ≡ (list_all (lists_known (places_of lib)) plan.resources && true) =
-    list_all-append met lists []
-    ∙ ap (λ b. b && true) (list_all-flat_map met (λ (r : Resource). all_of r.instances names) plan.resources
-    ∙ list_all-agree (λ (r : Resource). list_all met (all_of r.instances names)) (lists_known (places_of lib)) (lists_met names) plan.resources) in
-    list_all-append met (types ++ [] ++ [] ++ [] ++ (parameters ++ [])) (lists ++ [])
-    ∙ (λ i. (list_all-append met (types ++ [] ++ [] ++ []) (parameters ++ []) ∙ (λ i. t3 i && p1 i)) i && d1 i)
-
--- ---- Ends of connections
 
 -- the port of an event block has its place
 port_known : (events : List EventPort) (n : Name) → among (event_names events) n ≡ is_some (position (λ (p : EventPort). same_name p.name n) events)
@@ -267,78 +217,12 @@ wires_known lib =
     && is_end (without_types (undata lib)) (None, (undata lib).application.network) event_ins event_outs c.to)
     (is_wired lib) (wire_known (undata lib)) lib.application.network.event_connections)
 
--- ---- Nothing is unknown
-
-pub record IsKnown (lib : Library) (resources : List Resource) : Type 0 where
-  pub types : list_all is_typed lib.application.network.instances ≡ true
-  pub parameters : list_all has_known_parameters lib.application.network.instances ≡ true
-  pub lists : list_all (lists_known (places_of lib)) resources ≡ true
-  pub wires : list_all (is_wired lib) lib.application.network.event_connections ≡ true
-
-unmet : (w : Wanted) → ¬ (Contains w.1 w.0) → met w ≡ false
-unmet w h = false_from_ne_true (met w) (λ t. h (contains_from_any w.0 w.1 t))
-
-known_plainly : (lib : Library) (plan : Plan) → IsKnown lib plan.resources → ¬ (NameUnknown (without_types (undata lib)) (unlinked plan))
-known_plainly lib plan known t =
-    let n : Placed = (None, (undata lib).application.network) in
-    let all : list_all met (wanted (without_types (undata lib)) (unlinked plan)) ≡ true =
-    wanted_met (undata lib) plan ∙ (λ i. all_wanted (known.types i) (known.parameters i) (known.lists i)) in
-    elim t [
-      | inl w ↦ true≢false (sym all ∙ fails_from met (wanted (without_types (undata lib)) (unlinked plan)) w.0 w.1 (unmet w.0 w.2))
-      | inr r ↦ elim r [
-        | inl m ↦ Contains-nil m.0 m.2
-        | inr e ↦ elim (Contains-cons_cases n [] e.0 e.1) [
-          | inl same ↦
-              true≢false
-              (sym (wires_known lib ∙ ap (λ b. b && true) known.wires) ∙ subst (λ (n : Placed). ends_known (without_types (undata lib)) n ≡ false) (sym same) e.2)
-          | inr none ↦ Contains-nil e.0 none
-        ]
-      ]
-    ]
-
--- from what holds without block types, data connections and links
-plainly :
-    (P : Library → Plan → Type 0) (lib : Library) (plan : Plan) → lib.blocks ≡ [] → lib.application.network.data_connections ≡ [] → plan.links ≡ []
-    → P (without_types (undata lib)) (unlinked plan) → P lib plan
-plainly P lib plan none no_data links p =
-    subst (λ (bs : List BlockType). P (record lib { blocks = bs }) plan) (sym none)
-    (subst (λ (cs : List Connection). P (record lib { blocks = []; application = record lib.application { network = record lib.application.network { data_connections = cs } } }) plan) (sym no_data)
-    (subst (λ (ls : List Link). P (without_types (undata lib)) (record plan { links = ls })) (sym links) p))
-
-pub name_known :
-    (lib : Library) (plan : Plan) → lib.blocks ≡ [] → lib.application.network.data_connections ≡ [] → plan.links ≡ [] → IsKnown lib plan.resources
-    → ¬ (NameUnknown lib plan)
-name_known lib plan none no_data links known = plainly (λ lib plan. ¬ (NameUnknown lib plan)) lib plan none no_data links (known_plainly lib plan known)
-
--- ---- Something is unknown
-
-wanted_fails : (lib : Library) (plan : Plan) → list_all met (wanted lib plan) ≡ false → NameUnknown lib plan
-wanted_fails lib plan h =
-    let r = fails_at met (wanted lib plan) h in
-    inl (r.0, r.1, λ c. true≢false (sym (any_from_contains r.0.0 r.0.1 c) ∙ r.2))
-
-any_fails : (a b c : Bool) → (a ≡ false) ⊎ (b ≡ false) ⊎ (c ≡ false) → all_wanted a b c ≡ false
-any_fails true true true h = elim h [ inl e ↦ e | inr h ↦ elim h [ inl e ↦ e | inr e ↦ e ] ]
-any_fails true true false h = refl
-any_fails true false c h = refl
-any_fails false b c h = refl
-
-pub name_unknown :
-    (lib : Library) (plan : Plan) → lib.blocks ≡ [] → lib.application.network.data_connections ≡ [] → plan.links ≡ []
-    → (list_all is_typed lib.application.network.instances ≡ false) ⊎ (list_all has_known_parameters lib.application.network.instances ≡ false)
-    ⊎ (list_all (lists_known (places_of lib)) plan.resources ≡ false)
-    → NameUnknown lib plan
-name_unknown lib plan none no_data links h =
-    plainly NameUnknown lib plan none no_data links
-    (wanted_fails (without_types (undata lib)) (unlinked plan)
-    (wanted_met (undata lib) plan
-    ∙ any_fails (list_all is_typed lib.application.network.instances) (list_all has_known_parameters lib.application.network.instances)
-    (list_all (lists_known (places_of lib)) plan.resources) h))
-
+-- an end that is no event of an instance
 pub wire_unknown :
-    (lib : Library) (plan : Plan) → lib.blocks ≡ [] → lib.application.network.data_connections ≡ [] → plan.links ≡ []
+    (lib : Library) (plan : Plan) → lib.blocks ≡ [] → lib.application.network.data_connections ≡ []
     → list_all (is_wired lib) lib.application.network.event_connections ≡ false → NameUnknown lib plan
-wire_unknown lib plan none no_data links h =
+wire_unknown lib plan none no_data h =
     let n : Placed = (None, (undata lib).application.network) in
-    plainly NameUnknown lib plan none no_data links
-    (inr (inr (n, Contains-here n [], wires_known lib ∙ ap (λ b. b && true) h)))
+    subst (λ (bs : List BlockType). NameUnknown (record lib { blocks = bs }) plan) (sym none)
+    (subst (λ (cs : List Connection). NameUnknown (record lib { blocks = []; application = record lib.application { network = record lib.application.network { data_connections = cs } } }) plan) (sym no_data)
+    (inr (inr (n, Contains-here n [], wires_known lib ∙ ap (λ b. b && true) h))))

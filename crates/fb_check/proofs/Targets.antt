@@ -28,7 +28,7 @@ use Rattle.fb_check.specs.Stands.{AreTargets, IsTarget, inputs}
 use Rattle.fb_check.specs.Wires.{each_or_none, wire_place, leaving, is_from, target_of}
 use Rattle.fb_check.proofs.Each.{each_parts, each_from}
 use Rattle.fb_check.proofs.Ends.{same_name_at}
-use Rattle.fb_check.proofs.Least.{path_of, paths_are}
+use Rattle.fb_check.proofs.Paths.{path_of, paths_are}
 use Rattle.fb_check.proofs.Made.{IsAt, IsWire, wire_is, at_end, port_there, path_there, ports_there, event_named, outputs_differ}
 use Rattle.fb_check.proofs.Plain.{network_at_none}
 

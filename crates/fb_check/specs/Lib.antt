@@ -3,7 +3,5 @@ pub mod Refusals
 pub mod Indexes
 pub mod Interfaces
 pub mod Parameters
-pub mod Checks
 pub mod Wires
 pub mod Rows
-pub mod Resolved

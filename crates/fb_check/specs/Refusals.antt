@@ -1,19 +1,26 @@
--- The numbers of the refusals (this project's profile).
+-- Why there is no system (this project's profile).
 use Rattle.std.specs.Prelude.{ℕ, Option, Some, None}
+use Rattle.fb_types.specs.Accepted.{IsLeastFault}
+use Rattle.fb_types.specs.Headline.{Inputs, AreAccepted}
+use Rattle.fb_judge.specs.Faults as judge
+use Rattle.fb_judge.specs.declared.fault.Refusal as judged
+use Rattle.fb_judge.specs.declared.fault.Refusal.TheVariants as refusal
 use Rattle.fb_check.specs.declared.error.CheckError.{CheckError}
-use Rattle.fb_check.specs.declared.error.CheckError.TheVariants.{Memory, Unsupported, NameTwice, NameUnknown, KindWrong, OutOfRange, TwoSources, TooHigh, NotMapped, NoLink, NoEvent, BadStimulus, OverLimit}
+use Rattle.fb_check.specs.declared.error.CheckError.TheVariants.{Memory, Unsupported, Refused}
 
+-- the number of a refusal
 abbrev pub number_of : CheckError → Option ℕ
 number_of Memory = None
 number_of Unsupported = None
-number_of NameTwice = Some 20
-number_of NameUnknown = Some 21
-number_of KindWrong = Some 22
-number_of OutOfRange = Some 23
-number_of TwoSources = Some 24
-number_of TooHigh = Some 25
-number_of NotMapped = Some 26
-number_of NoLink = Some 27
-number_of NoEvent = Some 28
-number_of BadStimulus = Some 29
-number_of OverLimit = Some 30
+number_of (Refused f) = Some (judge.number_of f)
+
+-- what becomes of the judge's refusals
+abbrev pub error_of : judged.Refusal → CheckError
+error_of refusal.Memory = Memory
+error_of (refusal.Fault f) = Refused f
+
+-- A refusal has the least number that applies, and only accepted inputs are not supported.
+abbrev pub IsRightly : Inputs → CheckError → Type 0
+IsRightly i Memory = Unit {0}
+IsRightly i Unsupported = AreAccepted i
+IsRightly i (Refused f) = IsLeastFault (judge.number_of f) i.library i.plan i.stimuli

@@ -13,6 +13,7 @@ use Rattle.fb_types.specs.declared.library.Ports.{Ports}
 use Rattle.fb_types.specs.declared.library.Variable.{Variable}
 use Rattle.fb_types.specs.declared.run.Target.{Target}
 use Rattle.fb_types.specs.declared.value.Value.{Value}
+use Rattle.fb_judge.specs.declared.case.Case.{Case}
 use Rattle.fb_check.specs.declared.tables.Interface.{Interface}
 use Rattle.fb_check.specs.declared.tables.Row.{Row}
 use Rattle.fb_check.specs.declared.tables.Tables.{Tables}
@@ -83,6 +84,10 @@ HasInterface interfaces r = (x : Interface) × (slice_get interfaces r.interface
 
 abbrev pub inputs : Library → Plan → List Stimulus → Inputs
 inputs library plan stimuli = record { library = library; plan = plan; stimuli = stimuli }
+
+-- the inputs that are judged
+abbrev pub inputs_in : Case → Inputs
+inputs_in c = inputs c.library.now c.plan.now c.stimuli.now
 
 -- the inputs that the tables were made from
 abbrev pub inputs_of : Tables → Inputs

@@ -1,29 +1,26 @@
-//! The check of what was read.
+//! The system that stands for what was read, where it is accepted.
 
-ghost use Rattle.std.specs.Prelude.{◌≡◌, ◌≢◌, ◌↔◌, IsTrue, IfOk, IfErr, IfSome};
-ghost use Rattle.fb_types.specs.Accepted.{IsLeastFault};
+ghost use Rattle.std.specs.Prelude.{◌≡◌, ◌≢◌, ◌↔◌, IsTrue, IfOk, IfErr};
 ghost use Rattle.fb_types.specs.Headline.{AreAccepted};
-ghost use Rattle.fb_types.specs.Limits.{IsWithinLimits};
-ghost use Rattle.fb_check.specs.Stands.{AreTablesOf, IsSupported, inputs};
-ghost use Rattle.fb_check.specs.Refusals.{number_of};
+ghost use Rattle.fb_check.specs.Stands.{AreTablesOf, IsSupported, inputs, inputs_in};
+ghost use Rattle.fb_check.specs.Refusals.{IsRightly};
 ghost use Rattle.fb_check.specs.declared.error.CheckError.TheVariants.{Unsupported};
 
 use crate::error::CheckError;
 use crate::fan_out::fan_out;
+use crate::index::index_of;
 use crate::interfaces::interfaces;
-use crate::kinds::has_wrong_kind;
-use crate::known::resolve;
-use crate::names::names_of;
 use crate::outgoing::Outgoing;
+use crate::rows::rows_of;
 use crate::system::System;
 use crate::tables::{Interface, Row, Tables};
-use fb_types::deploy::{Deploy, Plan, Stimulus};
+use crate::wires::wires_of;
+use fb_judge::case::Case;
+use fb_judge::judge::judge;
+use fb_types::deploy::{Deploy, Stimulus};
 use fb_types::items::Items;
 use fb_types::library::Library;
-use std::alloc::Global;
-
-/// The most instances that an application may have.
-const MOST_INSTANCES: usize = 4096;
+use std::alloc::{AllocError, Global};
 
 /// What is looked up by number, apart from what was read.
 #[derive(Drop)]
@@ -33,62 +30,46 @@ struct Parts {
     outgoing: Items<Outgoing>,
 }
 
-/// Whether the inputs are among those that are taken so far.
-fn is_supported(library: &Library, plan: &Plan, stimuli: &[Stimulus]) -> bool
-    ensures { IsTrue result ↔ IsSupported (inputs library.now plan.now stimuli.now) }
+/// Whether the inputs are among those that are simulated so far.
+fn is_supported(case: &Case) -> bool
+    ensures { IsTrue result ↔ IsSupported (inputs_in case.now) }
 {
-    library.blocks.is_empty()
-        && library.application.network.data_connections.is_empty()
-        && plan.holds_all
-        && plan.links.is_empty()
-        && stimuli.is_empty()
+    case.library.blocks.is_empty()
+        && case.library.application.network.data_connections.is_empty()
+        && case.plan.holds_all
+        && case.plan.links.is_empty()
+        && case.stimuli.is_empty()
 }
 
-/// The checks in the order of their numbers, and what is looked up by number where all pass.
-fn elaborate(
-    alloc: Global,
-    library: &Library,
-    plan: &Plan,
-    stimuli: &[Stimulus],
-) -> Result<Parts, CheckError>
-    requires supported { IsSupported (inputs library.now plan.now stimuli.now) }
-    requires limits { IsWithinLimits plan.now }
-    ensures ok { IfOk result (λ p. AreTablesOf (inputs library.now plan.now stimuli.now) p.interfaces p.rows p.outgoing) }
-    ensures refused { IfErr result (λ e. IfSome (number_of e) (λ n. IsLeastFault n library.now plan.now stimuli.now)) }
-    ensures taken { IfErr result (λ e. e ≢ Unsupported) }
+/// What is looked up by number of accepted inputs. Since they are accepted, no name is given twice, and each
+/// stands for something.
+fn elaborate(alloc: Global, case: &Case) -> Result<Parts, AllocError>
+    requires supported { IsSupported (inputs_in case.now) }
+    requires accepted { AreAccepted (inputs_in case.now) }
+    ensures { IfOk result (λ p. AreTablesOf (inputs_in case.now) p.interfaces p.rows p.outgoing) }
 {
-    let index = match names_of(alloc, library, plan)? {
-        Some(index) => index,
-        None => return Err(CheckError::NameTwice),
-    };
+    let network = &case.library.application.network;
+    let instances = network.instances.as_slice();
+    let connections = network.event_connections.as_slice();
     let interfaces = interfaces(alloc)?;
     let known = interfaces.as_slice();
-    let resolved = match resolve(alloc, library, plan, &index, known)? {
-        Some(resolved) => resolved,
-        None => return Err(CheckError::NameUnknown),
-    };
-    if has_wrong_kind(library, known) {
-        return Err(CheckError::KindWrong);
-    }
-    if resolved.rows.len() > MOST_INSTANCES {
-        return Err(CheckError::OverLimit);
-    }
-    let outgoing = fan_out(
-        alloc,
-        resolved.rows.as_slice(),
-        known,
-        resolved.wires.as_slice(),
-    )?;
+    let index = index_of(alloc, instances)?.unwrap();
+    let rows = rows_of(alloc, instances, known)?.unwrap();
+    let wires = wires_of(alloc, &index, instances, known, connections)?.unwrap();
+    let outgoing = fan_out(alloc, rows.as_slice(), known, wires.as_slice())?;
     Ok(Parts {
         interfaces,
-        rows: resolved.rows,
+        rows,
         outgoing: Items::from_vec(outgoing),
     })
 }
 
-/// The system that stands for a declaration, a deployment and stimuli, where they are accepted; else the
-/// refusal with the least number that applies. So far it takes event blocks in one resource, without data
-/// connections and stimuli, and answers `Unsupported` for other inputs.
+/// The system that stands for a declaration, a deployment and stimuli. So far that is event blocks in one
+/// resource, without data connections and stimuli.
+///
+/// # Errors
+/// `Refused` with the least number that applies where the inputs are not accepted; `Unsupported` where they are, and
+/// are not simulated yet; and `Memory`.
 pub fn accept(
     alloc: Global,
     library: Library,
@@ -97,13 +78,19 @@ pub fn accept(
 ) -> Result<System, CheckError>
     ensures system { IfOk result (λ s. s ≡ inputs library deploy stimuli.items) }
     ensures accepted { IfOk result (λ s. AreAccepted s) }
-    ensures refused { IfErr result (λ e. IfSome (number_of e) (λ n. IsLeastFault n library deploy stimuli.items)) }
+    ensures refused { IfErr result (IsRightly (inputs library deploy stimuli.items)) }
     ensures taken { IsSupported (inputs library deploy stimuli.items) → IfErr result (λ e. e ≢ Unsupported) }
 {
-    if !is_supported(&library, deploy.plan(), stimuli.as_slice()) {
+    let case = Case {
+        library: &library,
+        plan: deploy.plan(),
+        stimuli: stimuli.as_slice(),
+    };
+    judge(alloc, &case)?;
+    if !is_supported(&case) {
         return Err(CheckError::Unsupported);
     }
-    let parts = elaborate(alloc, &library, deploy.plan(), stimuli.as_slice())?;
+    let parts = elaborate(alloc, &case)?;
     let tables = Tables {
         library,
         deploy,

@@ -2,21 +2,15 @@
 #![tactic(auto)]
 
 pub mod accept;
-mod checks;
 pub mod error;
 mod fan_out;
 mod index;
 mod interfaces;
-mod kinds;
-mod known;
-mod names;
 mod outgoing;
 mod parameters;
-mod repeats;
 mod rows;
 pub mod system;
 pub mod tables;
 #[cfg(test)]
 mod tests;
-mod values;
 mod wires;

@@ -445,79 +445,115 @@ fn a_resource_lists_instances(rt: HostRuntime) -> Result<(), Fail> {
     Ok(())
 }
 
-fn is_unsupported(
+/// What is answered: the number of a refusal, none for what is not simulated yet.
+fn refused(
     alloc: Global,
     library: Library,
+    deploy: Deploy,
     stimuli: Vec<Stimulus>,
-) -> Result<bool, AllocError> {
-    let answer = accept(alloc, library, Deploy::single(alloc)?, stimuli);
-    Ok(matches!(answer, Err(CheckError::Unsupported)))
+) -> Result<Option<u8>, Fail> {
+    match accept(alloc, library, deploy, stimuli) {
+        Ok(_) => Err("a system")?,
+        Err(CheckError::Memory) => Err("out of memory")?,
+        Err(error) => Ok(error.number()),
+    }
 }
 
-// Each has a name twice too: what is not supported is said first.
-const SAME: &[Part] = &[("A", "E_MERGE", &[]), ("A", "E_MERGE", &[])];
+/// The merges `A` and `B`, and a second `A` where names are to be given twice.
+fn merges(alloc: Global, is_twice: bool) -> Result<Network, AllocError> {
+    if is_twice {
+        return network(alloc, MERGES_TWICE, &[]);
+    }
+    network(alloc, MERGES, &[])
+}
 
-#[test]
-fn stimuli_are_not_supported_yet(rt: HostRuntime) -> Result<(), Fail> {
-    let alloc = rt.alloc();
-    let mut stimuli = Vec::new(alloc);
-    stimuli.push(Stimulus {
+const MERGES_TWICE: &[Part] = &[
+    ("A", "E_MERGE", &[]),
+    ("B", "E_MERGE", &[]),
+    ("A", "E_MERGE", &[]),
+];
+
+fn stimulus(alloc: Global, instance: &str) -> Result<Stimulus, AllocError> {
+    Ok(Stimulus {
         tick: 0,
-        instance: Name::from_text(alloc, "A")?,
+        instance: Name::from_text(alloc, instance)?,
         event: Name::from_text(alloc, "EI1")?,
         settings: Items::new(alloc),
-    })?;
-    let library = library(alloc, network(alloc, SAME, &[])?)?;
-    assert!(rt; is_unsupported(alloc, library, stimuli)?);
-    Ok(())
+    })
 }
 
 #[test]
-fn data_connections_are_not_supported_yet(rt: HostRuntime) -> Result<(), Fail> {
+fn stimuli_are_not_simulated_yet(rt: HostRuntime) -> Result<(), Fail> {
     let alloc = rt.alloc();
-    let mut network = network(alloc, SAME, &[])?;
-    network.data_connections.push(Connection {
-        from: port(alloc, "A", "EO")?,
-        to: port(alloc, "A", "EI1")?,
-    })?;
-    let library = library(alloc, network)?;
-    assert!(rt; is_unsupported(alloc, library, Vec::new(alloc))?);
-    Ok(())
-}
-
-#[test]
-fn block_types_are_not_supported_yet(rt: HostRuntime) -> Result<(), Fail> {
-    let alloc = rt.alloc();
-    let mut library = library(alloc, network(alloc, SAME, &[])?)?;
-    library.blocks.push(BlockType::Composite(CompositeType {
-        name: Name::from_text(alloc, "C")?,
-        ports: Ports {
-            event_inputs: Items::new(alloc),
-            event_outputs: Items::new(alloc),
-            inputs: Items::new(alloc),
-            outputs: Items::new(alloc),
-        },
-        network: network(alloc, &[], &[])?,
-    }))?;
-    assert!(rt; is_unsupported(alloc, library, Vec::new(alloc))?);
-    Ok(())
-}
-
-#[test]
-fn several_resources_are_not_supported_yet(rt: HostRuntime) -> Result<(), Fail> {
-    let alloc = rt.alloc();
-    let library = library(alloc, network(alloc, SAME, &[])?)?;
-    let mut resources = Items::new(alloc);
-    for name in ["R1", "R2"] {
-        resources.push(resource(alloc, name, "A")?)?;
+    for (is_twice, instance, want) in [
+        (false, "A", None),
+        (false, "C", Some(29)),
+        (true, "C", Some(20)),
+    ] {
+        let mut stimuli = Vec::new(alloc);
+        stimuli.push(stimulus(alloc, instance)?)?;
+        let library = library(alloc, merges(alloc, is_twice)?)?;
+        let number = refused(alloc, library, Deploy::single(alloc)?, stimuli)?;
+        assert_eq!(rt; number, want, "at {instance}");
     }
-    assert_eq!(rt; resources.len(), 2);
-    let deploy = Deploy::new(Plan {
-        resources,
-        links: Items::new(alloc),
-        holds_all: false,
-    });
-    let answer = accept(alloc, library, deploy, Vec::new(alloc));
-    assert!(rt; matches!(answer, Err(CheckError::Unsupported)));
+    Ok(())
+}
+
+const SWITCH: &[Part] = &[("F", "E_SR", &[]), ("W", "E_SWITCH", &[])];
+
+#[test]
+fn data_connections_are_not_simulated_yet(rt: HostRuntime) -> Result<(), Fail> {
+    let alloc = rt.alloc();
+    for (output, want) in [("Q", None), ("P", Some(21))] {
+        let mut network = network(alloc, SWITCH, &[])?;
+        network.data_connections.push(Connection {
+            from: port(alloc, "F", output)?,
+            to: port(alloc, "W", "G")?,
+        })?;
+        let library = library(alloc, network)?;
+        let number = refused(alloc, library, Deploy::single(alloc)?, Vec::new(alloc))?;
+        assert_eq!(rt; number, want, "at {output}");
+    }
+    Ok(())
+}
+
+#[test]
+fn block_types_are_not_simulated_yet(rt: HostRuntime) -> Result<(), Fail> {
+    let alloc = rt.alloc();
+    for (is_twice, want) in [(false, None), (true, Some(20))] {
+        let mut library = library(alloc, merges(alloc, false)?)?;
+        library.blocks.push(BlockType::Composite(CompositeType {
+            name: Name::from_text(alloc, "C")?,
+            ports: Ports {
+                event_inputs: Items::new(alloc),
+                event_outputs: Items::new(alloc),
+                inputs: Items::new(alloc),
+                outputs: Items::new(alloc),
+            },
+            network: merges(alloc, is_twice)?,
+        }))?;
+        let number = refused(alloc, library, Deploy::single(alloc)?, Vec::new(alloc))?;
+        assert_eq!(rt; number, want);
+    }
+    Ok(())
+}
+
+#[test]
+fn several_resources_are_not_simulated_yet(rt: HostRuntime) -> Result<(), Fail> {
+    let alloc = rt.alloc();
+    for (second, want) in [("B", None), ("A", Some(26)), ("C", Some(21))] {
+        let library = library(alloc, merges(alloc, false)?)?;
+        let mut resources = Items::new(alloc);
+        resources.push(resource(alloc, "R1", "A")?)?;
+        resources.push(resource(alloc, "R2", second)?)?;
+        assert_eq!(rt; resources.len(), 2);
+        let deploy = Deploy::new(Plan {
+            resources,
+            links: Items::new(alloc),
+            holds_all: false,
+        });
+        let number = refused(alloc, library, deploy, Vec::new(alloc))?;
+        assert_eq!(rt; number, want, "at {second}");
+    }
     Ok(())
 }

@@ -1,5 +1,5 @@
 -- What a run on one thread answers and writes (this project's profile).
-use Rattle.std.specs.Prelude.{◌≡◌, ◌≤◌, ◌^◌, ℕ, List, [], Option, Some, None, IfSome, Result, Ok, Err}
+use Rattle.std.specs.Prelude.{◌≡◌, ◌≤◌, ◌^◌, ℕ, List, [], Option, Some, None, Result, Ok, Err}
 use Rattle.std.specs.Io.KnownBytes.{Appends}
 use Rattle.fb_types.specs.Accepted.{IsLeastFault}
 use Rattle.fb_types.specs.Headline.{Inputs, AreAccepted, IsTrace}
@@ -13,7 +13,7 @@ use Rattle.fb_read.specs.Whole.{IsLibraryText}
 use Rattle.fb_inputs.specs.Deployments.{deploy_of}
 use Rattle.fb_inputs.specs.Stimuli.{stimuli_of}
 use Rattle.fb_inputs.specs.Refusals as input
-use Rattle.fb_check.specs.Refusals as check
+use Rattle.fb_judge.specs.Faults as judge
 use Rattle.fb_trace.specs.Progress.{IsPartWritten}
 use Rattle.fb_sim.specs.Given.{Given}
 use Rattle.fb_sim.specs.declared.options.Options.{Options}
@@ -22,7 +22,7 @@ use Rattle.fb_sim.specs.declared.outcome.Outcome.TheVariants.{End, Stop}
 use Rattle.fb_sim.specs.declared.outcome.Refusal.{Refusal}
 use Rattle.fb_sim.specs.declared.outcome.Refusal.TheVariants.{Declaration, Deployment, Stimuli, Check}
 use Rattle.fb_sim.specs.declared.outcome.RunError.{RunError}
-use Rattle.fb_sim.specs.declared.outcome.RunError.TheVariants.{Refused, Memory, Write, BadOption}
+use Rattle.fb_sim.specs.declared.outcome.RunError.TheVariants.{Refused, Unsupported, Memory, Write, BadOption}
 
 -- each option is in its range
 pub record AreWithin (o : Options) : Type 0 where
@@ -62,6 +62,10 @@ pub record Declares (given : Given) (i : Inputs) : Type 0 where
   pub read : Reads given i
   pub accepted : AreAccepted i
 
+-- They stand for some inputs that are accepted.
+abbrev pub IsDeclared : Given → Type 0
+IsDeclared given = (i : Inputs) × Declares given i
+
 -- ---- Why nothing is run
 
 -- No library has the text.
@@ -92,20 +96,28 @@ abbrev pub HasNumber : Option ℕ → (ℕ → Type 0) → Type 0
 HasNumber None holds = ⊥
 HasNumber (Some n) holds = holds n
 
--- The first of the declaration, the deployment, the stimuli and the check that refuses, does so rightly. What is not
--- supported yet has no number.
+-- The first of the declaration, the deployment, the stimuli and the check that refuses, does so rightly.
 abbrev pub IsRightly : Given → Refusal → Type 0
 IsRightly given (Declaration e) = IsNoText given.declaration
 IsRightly given (Deployment e) = HasNumber (input.number_of e) (IsNoPlan given)
 IsRightly given (Stimuli e) = HasNumber (input.number_of e) (AreNoStimuli given)
-IsRightly given (Check e) = IfSome (check.number_of e) (AreNotAccepted given)
+IsRightly given (Check f) = AreNotAccepted given (judge.number_of f)
 
--- why nothing is run
+-- why inputs are not known to be accepted
 abbrev pub IsRefusal : Given → RunError → Type 0
 IsRefusal given (Refused r) = IsRightly given r
+IsRefusal given Unsupported = ⊥
 IsRefusal given Memory = Unit {0}
 IsRefusal given (Write n) = ⊥
 IsRefusal given BadOption = ⊥
+
+-- why nothing is run: what is not simulated yet is accepted
+abbrev pub IsUnopened : Given → RunError → Type 0
+IsUnopened given (Refused r) = IsRightly given r
+IsUnopened given Unsupported = IsDeclared given
+IsUnopened given Memory = Unit {0}
+IsUnopened given (Write n) = ⊥
+IsUnopened given BadOption = ⊥
 
 -- ---- What is written
 
@@ -137,4 +149,5 @@ abbrev pub Fails : Given → Options → (old new : Option (List ℕ)) → RunEr
 Fails given o old new BadOption = (AreWithin o → ⊥) × (new ≡ old)
 Fails given o old new (Write n) = WritesPart given o old new n
 Fails given o old new (Refused r) = IsRightly given r × (new ≡ old)
+Fails given o old new Unsupported = IsDeclared given × (new ≡ old)
 Fails given o old new Memory = new ≡ old

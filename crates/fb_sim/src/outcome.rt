@@ -3,8 +3,8 @@
 ghost use Rattle.std.specs.Prelude.{◌≡◌};
 ghost use Rattle.fb_sim.specs.declared.outcome.RunError.TheVariants.{Memory};
 
-use fb_check::error::CheckError;
 use fb_inputs::error::InputError;
+use fb_judge::fault::Fault;
 use fb_read::error::ReadError;
 use fb_types::run::StopMark;
 use std::alloc::AllocError;
@@ -31,9 +31,9 @@ pub enum Refusal {
     /// The stimuli are no rows of events.
     #[error("{0}")]
     Stimuli(InputError),
-    /// They are not accepted together, or not supported yet.
+    /// They are not accepted together.
     #[error("{0}")]
-    Check(CheckError),
+    Check(Fault),
 }
 
 /// Why there is no run, or no whole one.
@@ -42,6 +42,9 @@ pub enum RunError {
     /// The inputs are refused.
     #[error("{0}")]
     Refused(Refusal),
+    /// A limit of today: the inputs are accepted, but what they have is not simulated yet.
+    #[error("accepted, but not simulated yet")]
+    Unsupported,
     #[error("out of memory")]
     Memory,
     /// The writer failed when it had taken so many bytes of the trace.

@@ -1,8 +1,9 @@
 //! What is read before a run, in its order: the declaration, the deployment, the stimuli, and the check of them all.
 
-ghost use Rattle.std.specs.Prelude.{IfOk, IfErr};
+ghost use Rattle.std.specs.Prelude.{IfOk, IfErr, OnOk};
 ghost use Rattle.fb_read.specs.Whole.{IsLibraryText};
-ghost use Rattle.fb_sim.specs.Serial.{AreStimuli, Declares, IsPlan, IsRefusal};
+ghost use Rattle.fb_check.specs.Stands as stands;
+ghost use Rattle.fb_sim.specs.Serial.{AreStimuli, Declares, IsDeclared, IsPlan, IsRefusal, IsUnopened, Reads};
 
 use crate::options::Inputs;
 use crate::outcome::{Refusal, RunError};
@@ -12,11 +13,22 @@ use fb_check::system::System;
 use fb_inputs::deployment::read_deploy;
 use fb_inputs::error::InputError;
 use fb_inputs::stimuli::read_stimuli;
+use fb_judge::case::Case;
+use fb_judge::fault;
+use fb_judge::judge::judge;
 use fb_read::error::ReadError;
 use fb_read::read::read_library;
 use fb_types::deploy::{Deploy, Stimulus};
 use fb_types::library::Library;
 use std::alloc::Global;
+
+/// A declaration, a deployment and stimuli.
+#[derive(Drop)]
+struct Reading {
+    library: Library,
+    deploy: Deploy,
+    stimuli: Vec<Stimulus>,
+}
 
 fn library_of(alloc: Global, inputs: &Inputs<'_>) -> Result<Library, RunError>
     ensures read { IfOk result (IsLibraryText inputs.now.declaration) }
@@ -67,17 +79,49 @@ fn stimuli_of(
     }
 }
 
-/// Reads what is given, and checks it.
-pub fn open(alloc: Global, inputs: &Inputs<'_>) -> Result<System, RunError>
-    ensures system { IfOk result (Declares inputs.now) }
+/// Reads what is given.
+fn read(alloc: Global, inputs: &Inputs<'_>) -> Result<Reading, RunError>
+    ensures read { IfOk result (λ r. Reads inputs.now (stands.inputs r.library r.deploy r.stimuli.items)) }
     ensures refused { IfErr result (IsRefusal inputs.now) }
 {
     let library = library_of(alloc, inputs)?;
     let deploy = deploy_of(alloc, inputs, &library)?;
     let stimuli = stimuli_of(alloc, inputs, &library, &deploy)?;
-    match accept(alloc, library, deploy, stimuli) {
+    Ok(Reading {
+        library,
+        deploy,
+        stimuli,
+    })
+}
+
+/// Reads what is given, and judges it.
+pub fn judge_inputs(alloc: Global, inputs: &Inputs<'_>) -> Result<(), RunError>
+    ensures accepted { OnOk result (IsDeclared inputs.now) }
+    ensures refused { IfErr result (IsRefusal inputs.now) }
+{
+    let read = read(alloc, inputs)?;
+    let case = Case {
+        library: &read.library,
+        plan: read.deploy.plan(),
+        stimuli: read.stimuli.as_slice(),
+    };
+    match judge(alloc, &case) {
+        Ok(()) => Ok(()),
+        Err(fault::Refusal::Memory) => Err(RunError::Memory),
+        Err(fault::Refusal::Fault(fault)) => Err(RunError::Refused(Refusal::Check(fault))),
+    }
+}
+
+/// Reads what is given, and makes the system that stands for it.
+pub fn open(alloc: Global, inputs: &Inputs<'_>) -> Result<System, RunError>
+    ensures system { IfOk result (Declares inputs.now) }
+    ensures unopened { IfErr result (IsUnopened inputs.now) }
+{
+    let read = read(alloc, inputs)?;
+    match accept(alloc, read.library, read.deploy, read.stimuli) {
         Ok(system) => Ok(system),
         Err(CheckError::Memory) => Err(RunError::Memory),
-        Err(error) => Err(RunError::Refused(Refusal::Check(error))),
+        Err(CheckError::Unsupported) => Err(RunError::Unsupported),
+        Err(CheckError::Refused(fault)) => Err(RunError::Refused(Refusal::Check(fault))),
     }
 }

@@ -3,19 +3,18 @@
 ghost use Rattle.std.specs.Prelude.{◌≡◌, ◌≤◌, ◌^◌, ◌↔◌, [], IsTrue, IfOk, IfErr, OnOk, All};
 ghost use Rattle.std.specs.Io.KnownBytes.{Appends};
 ghost use Rattle.fb_types.specs.Headline.{system_of};
-ghost use Rattle.fb_types.specs.Headline as model;
 ghost use Rattle.fb_types.specs.Simulation.{opening};
 ghost use Rattle.fb_trace.specs.End.{EndsIn};
 ghost use Rattle.fb_trace.specs.End as trace;
 ghost use Rattle.fb_trace.specs.Lines.{BelongsTo};
 ghost use Rattle.fb_sim.specs.Runs.{Completes};
 ghost use Rattle.fb_sim.specs.Machines.{IsOne};
-ghost use Rattle.fb_sim.specs.Serial.{AreWithin, Declares, IsRefusal, Writes, Fails, ending_of};
+ghost use Rattle.fb_sim.specs.Serial.{AreWithin, IsDeclared, IsRefusal, Writes, Fails, ending_of};
 
 use crate::machine::Machine;
 use crate::options::{Inputs, Options};
 use crate::outcome::{Outcome, RunError};
-use crate::reading::open;
+use crate::reading::{judge_inputs, open};
 use fb_check::system::System;
 use fb_trace::last::End;
 use fb_trace::trace::write_trace;
@@ -23,17 +22,17 @@ use fb_types::run::{Form, Line};
 use std::alloc::{AllocError, Global};
 use std::io::Write;
 
-/// Whether a declaration, a deployment and stimuli are accepted together. `Ok` says that they are.
+/// Whether a declaration, a deployment and stimuli are accepted together. `Ok` says that they are, also where they
+/// are not simulated yet.
 ///
 /// # Errors
 /// `Refused` with the first that refuses: the declaration, the deployment, the stimuli, or the check of them all;
 /// and `Memory`.
 pub fn check(alloc: Global, inputs: &Inputs<'_>) -> Result<(), RunError>
-    ensures accepted { OnOk result ((i : model.Inputs) × Declares inputs.now i) }
+    ensures accepted { OnOk result (IsDeclared inputs.now) }
     ensures refused { IfErr result (IsRefusal inputs.now) }
 {
-    open(alloc, inputs)?;
-    Ok(())
+    judge_inputs(alloc, inputs)
 }
 
 /// The lines of a run, and how it ends.
@@ -62,7 +61,8 @@ fn outcome_of(end: End) -> Outcome
 /// least key first, up to the first stop. The lines are gathered, and written when the run has ended.
 ///
 /// # Errors
-/// `BadOption` before all else; then `Refused` and `Memory`, after which nothing was written; and `Write`.
+/// `BadOption` before all else; then `Refused`, `Unsupported` and `Memory`, after which nothing was written; and
+/// `Write`.
 pub fn run_serial<W: Write>(
     alloc: Global,
     inputs: &Inputs<'_>,

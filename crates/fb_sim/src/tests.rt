@@ -3,14 +3,15 @@
 use crate::options::{Inputs, Options};
 use crate::outcome::{Outcome, Refusal, RunError};
 use crate::serial::{check, run_serial};
-use fb_check::error::CheckError;
 use fb_inputs::error::InputError;
+use fb_judge::fault::Fault;
 use fb_read::error::ReadError;
 use fb_types::run::StopMark;
 use fb_types::value::Reason;
 use std::alloc::Global;
 use std::io;
 use std::io::Write;
+use std::process::Abort;
 use std::test::Fail;
 
 const CYCLE: &[u8] =
@@ -183,7 +184,7 @@ fn a_refusal_writes_nothing(rt: HostRuntime) -> Result<(), Fail> {
     assert!(rt;
         matches!(
             found,
-            Err(RunError::Refused(Refusal::Check(CheckError::NameTwice)))
+            Err(RunError::Refused(Refusal::Check(Fault::NameTwice)))
         )
     );
     assert!(rt; out.got.is_empty());
@@ -198,7 +199,7 @@ fn an_accepted_declaration_passes_the_check(rt: HostRuntime) -> Result<(), Fail>
     assert!(rt;
         matches!(
             check(alloc, &unknown),
-            Err(RunError::Refused(Refusal::Check(CheckError::NameUnknown)))
+            Err(RunError::Refused(Refusal::Check(Fault::NameUnknown)))
         )
     );
     Ok(())
@@ -246,14 +247,23 @@ fn the_first_that_refuses_is_answered(rt: HostRuntime) -> Result<(), Fail> {
     assert!(rt;
         matches!(
             check(alloc, &declared(twice)),
-            Err(RunError::Refused(Refusal::Check(CheckError::NameTwice)))
+            Err(RunError::Refused(Refusal::Check(Fault::NameTwice)))
         )
     );
     Ok(())
 }
 
+/// The inputs are accepted, and not run.
+fn expect_not_run(rt: &impl Abort, alloc: Global, inputs: &Inputs<'_>) {
+    assert!(rt; matches!(check(alloc, inputs), Ok(())));
+    let mut out = with_room(alloc, 1000, 1000);
+    let run = run_serial(alloc, inputs, to(8, 10_000), &mut out);
+    assert!(rt; matches!(run, Err(RunError::Unsupported)));
+    assert!(rt; out.got.is_empty());
+}
+
 #[test]
-fn what_is_not_taken_yet_is_refused_by_name(rt: HostRuntime) -> Result<(), Fail> {
+fn what_is_not_simulated_yet_is_accepted(rt: HostRuntime) {
     let alloc = rt.alloc();
     let mapped = Inputs {
         declaration: CYCLE,
@@ -262,21 +272,29 @@ fn what_is_not_taken_yet_is_refused_by_name(rt: HostRuntime) -> Result<(), Fail>
         ),
         stimuli: None,
     };
-    assert!(rt;
-        matches!(
-            check(alloc, &mapped),
-            Err(RunError::Refused(Refusal::Check(CheckError::Unsupported)))
-        )
-    );
+    expect_not_run(&rt, alloc, &mapped);
     let fed = Inputs {
         declaration: CYCLE,
         deploy: None,
         stimuli: Some(b"tick,event,values\n0,C.START,DT=5\n"),
     };
+    expect_not_run(&rt, alloc, &fed);
+}
+
+#[test]
+fn faults_of_what_is_not_simulated_yet(rt: HostRuntime) -> Result<(), Fail> {
+    let alloc = rt.alloc();
+    let unmapped = Inputs {
+        declaration: CYCLE,
+        deploy: Some(b"[[resource]]\ndevice = \"DEV\"\nname = \"MAIN\"\ninstances = [\"S\"]\n"),
+        stimuli: None,
+    };
+    let mut out = with_room(alloc, 1000, 1000);
+    let run = run_serial(alloc, &unmapped, to(8, 10_000), &mut out);
     assert!(rt;
         matches!(
-            check(alloc, &fed),
-            Err(RunError::Refused(Refusal::Check(CheckError::Unsupported)))
+            run,
+            Err(RunError::Refused(Refusal::Check(Fault::NotMapped)))
         )
     );
     Ok(())

@@ -2,20 +2,19 @@
 use Rattle.std.specs.Prelude.{◌≡◌, ◌+◌, ◌⊎◌, ℕ, List, Option, Some, None, option_map, Result, Ok, Err, codes}
 use Rattle.std.specs.Io.KnownBytes.{Appends}
 use Rattle.clap.specs.Words.{Text}
-use Rattle.fb_types.specs.Headline.{Inputs}
 use Rattle.fb_types.specs.Simulation.{AtHorizon, AtStop}
 use Rattle.fb_types.specs.declared.value.Reason.{Reason}
 use Rattle.fb_read.specs.Whole.{most_bytes}
 use Rattle.fb_inputs.specs.Stimuli as stimuli
 use Rattle.fb_sim.specs.Given.{Given}
 use Rattle.fb_sim.specs.Serial as sim
-use Rattle.fb_sim.specs.Serial.{AreWithin, Declares, IsRefusal, Writes}
+use Rattle.fb_sim.specs.Serial.{AreWithin, IsDeclared, IsRefusal, Writes}
 use Rattle.fb_sim.specs.declared.options.Options.{Options}
 use Rattle.fb_sim.specs.declared.outcome.RunError.{RunError}
 use Rattle.fbsim.specs.Failures.{IsPartWritten, failure_of, failure_of_source}
 use Rattle.fbsim.specs.Line.{AreCall, AreNoCall, AskHelp}
 use Rattle.fbsim.specs.declared.failure.Failure.{Failure}
-use Rattle.fbsim.specs.declared.failure.Failure.TheVariants.{Refused, File, Write, Memory, Line, BadOption}
+use Rattle.fbsim.specs.declared.failure.Failure.TheVariants.{Refused, Unsupported, File, Write, Memory, Line, BadOption}
 use Rattle.fbsim.specs.declared.failure.Refusal.{Refusal}
 use Rattle.fbsim.specs.declared.line.Call.{Call}
 use Rattle.fbsim.specs.declared.line.Order.{Order}
@@ -40,12 +39,13 @@ pub record IsRefused (given : Given) (refusal : Refusal) : Type 0 where
 
 -- the inputs are checked
 abbrev pub Checks : Given → (old new : Held) → End → Type 0
-Checks given old new (Ok Accepted) = ((inputs : Inputs) × Declares given inputs) × Appends old new (codes "accepted\n")
+Checks given old new (Ok Accepted) = IsDeclared given × Appends old new (codes "accepted\n")
 Checks given old new (Ok Helped) = ⊥
 Checks given old new (Ok Ended) = ⊥
 Checks given old new (Ok Stopped) = ⊥
 Checks given old new (Err (Refused refusal)) = IsRefused given refusal × (new ≡ old)
-Checks given old new (Err (Write n)) = ((inputs : Inputs) × Declares given inputs) × IsPartWritten old new (codes "accepted\n") n
+Checks given old new (Err Unsupported) = ⊥
+Checks given old new (Err (Write n)) = IsDeclared given × IsPartWritten old new (codes "accepted\n") n
 Checks given old new (Err Memory) = new ≡ old
 Checks given old new (Err File) = ⊥
 Checks given old new (Err (Line message)) = ⊥
@@ -58,6 +58,7 @@ Runs given o old new (Ok Stopped) = (tick : ℕ) × (resource : ℕ) × (reason 
 Runs given o old new (Ok Helped) = ⊥
 Runs given o old new (Ok Accepted) = ⊥
 Runs given o old new (Err (Refused refusal)) = IsRefused given refusal × (new ≡ old)
+Runs given o old new (Err Unsupported) = IsDeclared given × (new ≡ old)
 Runs given o old new (Err (Write n)) = sim.WritesPart given o old new n
 Runs given o old new (Err Memory) = new ≡ old
 Runs given o old new (Err BadOption) = (AreWithin o → ⊥) × (new ≡ old)
@@ -155,6 +156,7 @@ Explains words old new (Err (Write n)) = AskHelp words × ((help : Text) × IsPa
 Explains words old new (Err (Line message)) = AreNoCall words × (new ≡ old)
 Explains words old new (Err Memory) = new ≡ old
 Explains words old new (Err (Refused refusal)) = ⊥
+Explains words old new (Err Unsupported) = ⊥
 Explains words old new (Err File) = ⊥
 Explains words old new (Err BadOption) = ⊥
 

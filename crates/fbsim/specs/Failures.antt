@@ -5,17 +5,15 @@ use Rattle.fb_read.specs.declared.error.ReadError.{ReadError}
 use Rattle.fb_read.specs.declared.error.ReadError.TheVariants as read
 use Rattle.fb_inputs.specs.Refusals as input
 use Rattle.fb_inputs.specs.declared.error.InputError.{InputError}
-use Rattle.fb_check.specs.Refusals.{number_of}
-use Rattle.fb_check.specs.declared.error.CheckError.{CheckError}
-use Rattle.fb_check.specs.declared.error.CheckError.TheVariants as check
+use Rattle.fb_judge.specs.Faults as judge
 use Rattle.fb_sim.specs.declared.outcome.Refusal as sim
 use Rattle.fb_sim.specs.declared.outcome.Refusal.TheVariants as of
 use Rattle.fb_sim.specs.declared.outcome.RunError.{RunError}
 use Rattle.fb_sim.specs.declared.outcome.RunError.TheVariants as run
 use Rattle.fbsim.specs.declared.failure.Failure.{Failure}
-use Rattle.fbsim.specs.declared.failure.Failure.TheVariants.{Refused, File, Write, Memory, Line, BadOption}
+use Rattle.fbsim.specs.declared.failure.Failure.TheVariants.{Refused, Unsupported, File, Write, Memory, Line, BadOption}
 use Rattle.fbsim.specs.declared.failure.Refusal.{Refusal}
-use Rattle.fbsim.specs.declared.failure.Refusal.TheVariants.{Numbered, Syntax, Unsupported}
+use Rattle.fbsim.specs.declared.failure.Refusal.TheVariants.{Numbered, Syntax}
 use Rattle.fbsim.specs.declared.source.SourceFault.{SourceFault}
 use Rattle.fbsim.specs.declared.source.SourceFault.TheVariants as source
 use Rattle.fbsim.specs.declared.status.Done.{Done}
@@ -31,15 +29,6 @@ failure_of_read (read.Syntax line) = Refused (Syntax line)
 failure_of_read read.TooLong = Refused (Numbered 4)
 failure_of_read read.Nesting = Refused (Numbered 5)
 
--- a refusal with this number, or without one
-abbrev pub numbered : Option ℕ → CheckError → Failure
-numbered (Some n) e = Refused (Numbered n)
-numbered None check.Memory = Memory
-numbered None _ = Refused Unsupported
-
-abbrev pub failure_of_check : CheckError → Failure
-failure_of_check e = numbered (number_of e) e
-
 -- a refusal with this number; without one, memory was wanting
 abbrev pub numbered_input : Option ℕ → Failure
 numbered_input (Some n) = Refused (Numbered n)
@@ -52,10 +41,11 @@ abbrev pub failure_of_refusal : sim.Refusal → Failure
 failure_of_refusal (of.Declaration e) = failure_of_read e
 failure_of_refusal (of.Deployment e) = failure_of_input e
 failure_of_refusal (of.Stimuli e) = failure_of_input e
-failure_of_refusal (of.Check e) = failure_of_check e
+failure_of_refusal (of.Check f) = Refused (Numbered (judge.number_of f))
 
 abbrev pub failure_of : RunError → Failure
 failure_of (run.Refused r) = failure_of_refusal r
+failure_of run.Unsupported = Unsupported
 failure_of run.Memory = Memory
 failure_of (run.Write n) = Write n
 failure_of run.BadOption = BadOption
@@ -69,10 +59,10 @@ failure_of_source source.Memory = Memory
 abbrev pub refusal_text : Refusal → List ℕ
 refusal_text (Numbered n) = codes "refused E" ++ decimal (n / 10) ++ decimal (n % 10)
 refusal_text (Syntax line) = codes "refused E03 line " ++ decimal line
-refusal_text Unsupported = codes "refused: not supported yet"
 
 abbrev pub failure_text : Failure → List ℕ
 failure_text (Refused refusal) = refusal_text refusal
+failure_text Unsupported = codes "refused: not supported yet"
 failure_text File = codes "file fault"
 failure_text (Write n) = codes "write fault after " ++ decimal n ++ codes " bytes"
 failure_text Memory = codes "out of memory"
@@ -87,6 +77,7 @@ status_of (Ok Accepted) = 0
 status_of (Ok Ended) = 0
 status_of (Ok Stopped) = 1
 status_of (Err (Refused refusal)) = 2
+status_of (Err Unsupported) = 2
 status_of (Err File) = 3
 status_of (Err (Write n)) = 3
 status_of (Err Memory) = 4
@@ -102,6 +93,7 @@ pub record IsPartWritten (old new : Option (List ℕ)) (text : List ℕ) (writte
 
 abbrev pub WritesPart : (old new : Option (List ℕ)) → List ℕ → Failure → Type 0
 WritesPart old new text (Refused refusal) = ⊥
+WritesPart old new text Unsupported = ⊥
 WritesPart old new text File = ⊥
 WritesPart old new text (Write n) = IsPartWritten old new text n
 WritesPart old new text Memory = ⊥

@@ -1,10 +1,9 @@
 //! Why a call of the program does not do what is asked, and how that is told.
 
 ghost use Rattle.std.specs.Prelude.{◌≡◌};
-ghost use Rattle.fbsim.specs.Failures.{failure_of, failure_of_read, failure_of_input, failure_of_check, failure_of_refusal, failure_of_source};
+ghost use Rattle.fbsim.specs.Failures.{failure_of, failure_of_read, failure_of_input, failure_of_refusal, failure_of_source};
 
 use crate::source::SourceFault;
-use fb_check::error::CheckError;
 use fb_inputs::error::InputError;
 use fb_read::error::ReadError;
 use fb_sim::outcome;
@@ -18,14 +17,14 @@ pub enum Refusal {
     Numbered(u8),
     /// A syntax fault in this line, counted from 1.
     Syntax(u32),
-    /// It has what is not taken yet.
-    Unsupported,
 }
 
 /// Why a call of the program does not do what is asked.
 #[derive(Debug, Drop)]
 pub enum Failure {
     Refused(Refusal),
+    /// The inputs are accepted, but have what is not simulated yet.
+    Unsupported,
     /// A file could not be read.
     File,
     /// The output failed when it had taken so many bytes.
@@ -63,18 +62,6 @@ impl From<InputError> for Failure {
     }
 }
 
-impl From<CheckError> for Failure {
-    ghost from_gives = { λ error failure. failure ≡ failure_of_check error };
-
-    fn from(error: CheckError) -> Failure {
-        match (error.number(), error) {
-            (Some(number), _) => Failure::Refused(Refusal::Numbered(number)),
-            (None, CheckError::Memory) => Failure::Memory,
-            (None, _) => Failure::Refused(Refusal::Unsupported),
-        }
-    }
-}
-
 impl From<outcome::Refusal> for Failure {
     ghost from_gives = { λ refusal failure. failure ≡ failure_of_refusal refusal };
 
@@ -83,7 +70,7 @@ impl From<outcome::Refusal> for Failure {
             outcome::Refusal::Declaration(error) => Failure::from(error),
             outcome::Refusal::Deployment(error) => Failure::from(error),
             outcome::Refusal::Stimuli(error) => Failure::from(error),
-            outcome::Refusal::Check(error) => Failure::from(error),
+            outcome::Refusal::Check(fault) => Failure::Refused(Refusal::Numbered(fault.number())),
         }
     }
 }
@@ -94,6 +81,7 @@ impl From<RunError> for Failure {
     fn from(error: RunError) -> Failure {
         match error {
             RunError::Refused(refusal) => Failure::from(refusal),
+            RunError::Unsupported => Failure::Unsupported,
             RunError::Memory => Failure::Memory,
             RunError::Write(written) => Failure::Write(written),
             RunError::BadOption => Failure::BadOption,
@@ -126,7 +114,6 @@ impl fmt::Display for Refusal {
                 write!(f, "refused E{tens}{ones}")
             }
             Refusal::Syntax(line) => write!(f, "refused E03 line {line}"),
-            Refusal::Unsupported => write!(f, "refused: not supported yet"),
         }
     }
 }
@@ -140,6 +127,7 @@ impl fmt::Display for Failure {
     fn fmt<W: fmt::Write>(&self, f: &mut fmt::Formatter<W>) -> fmt::Result {
         match self {
             Failure::Refused(refusal) => write!(f, "{refusal}"),
+            Failure::Unsupported => write!(f, "refused: not supported yet"),
             Failure::File => write!(f, "file fault"),
             Failure::Write(written) => write!(f, "write fault after {written} bytes"),
             Failure::Memory => write!(f, "out of memory"),

@@ -26,7 +26,7 @@ pub fn status(end: &Result<Done, Failure>) -> u8
     match end {
         Ok(Done::Helped | Done::Accepted | Done::Ended) => 0,
         Ok(Done::Stopped) => 1,
-        Err(Failure::Refused(_)) => 2,
+        Err(Failure::Refused(_) | Failure::Unsupported) => 2,
         Err(Failure::File | Failure::Write(_)) => 3,
         Err(Failure::Memory) => 4,
         Err(Failure::Line(_) | Failure::BadOption) => 5,

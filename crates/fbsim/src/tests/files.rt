@@ -53,16 +53,17 @@ fn the_stimuli_are_refused_before_the_check(rt: HostRuntime) -> Result<(), Fail>
 }
 
 #[test]
-fn stimuli_and_deployments_are_not_run_yet(rt: HostRuntime) -> Result<(), Fail> {
+fn stimuli_and_deployments_are_checked_but_not_run_yet(rt: HostRuntime) -> Result<(), Fail> {
     let alloc = rt.alloc();
     let mapped = b"[[resource]]\ndevice = \"D\"\nname = \"R1\"\ninstances = [\"S\", \"C\"]\n";
     let fed = b"tick,event,values\n0,C.START,DT=5\n";
-    for words in [
-        ["check", "d", "--deploy", "p"],
-        ["check", "d", "--stim", "s"],
-    ] {
-        let answer = ask_all(alloc, words.as_slice(), CYCLE, mapped, fed)?;
-        assert!(rt; answer.is(2, b"", b"refused: not supported yet\n"));
+    for option in [["--deploy", "p"], ["--stim", "s"]] {
+        let words = ["check", "d", option[0], option[1]];
+        let checked = ask_all(alloc, words.as_slice(), CYCLE, mapped, fed)?;
+        assert!(rt; checked.is(0, b"accepted\n", b""));
+        let words = ["run", "d", "--horizon", "5", option[0], option[1]];
+        let run = ask_all(alloc, words.as_slice(), CYCLE, mapped, fed)?;
+        assert!(rt; run.is(2, b"", b"refused: not supported yet\n"));
     }
     Ok(())
 }

@@ -11,14 +11,14 @@ const REFUSED: [(&str, &[u8]); 13] = [
     ("", b"refused E03 line 1\n"),
     ("APPLICATION A\nFBS", b"refused E03 line 2\n"),
     ("APPLICATION A\nFBS END_FBS\n", b"refused E03 line 3\n"),
-    // Block types and data connections are read, but not run yet.
+    // Types that no instance uses are checked too.
     (
-        "\nFUNCTION_BLOCK F FBS END_FBS END_FUNCTION_BLOCK APPLICATION A FBS END_FBS END_APPLICATION",
-        b"refused: not supported yet\n",
+        "FUNCTION_BLOCK F FBS X : F; END_FBS END_FUNCTION_BLOCK APPLICATION A FBS END_FBS END_APPLICATION",
+        b"refused E25\n",
     ),
     (
-        "APPLICATION A FBS F : E_SR; W : E_SWITCH; END_FBS DATA_CONNECTIONS F.Q TO W.G; END_CONNECTIONS END_APPLICATION",
-        b"refused: not supported yet\n",
+        "APPLICATION A FBS F : E_SR; K : E_CTU; END_FBS DATA_CONNECTIONS F.Q TO K.PV; END_CONNECTIONS END_APPLICATION",
+        b"refused E23\n",
     ),
     (
         "APPLICATION A FBS Ab : E_MERGE; AB : E_MERGE; END_FBS END_APPLICATION",
@@ -56,6 +56,25 @@ fn a_refusal_is_told_by_its_number(rt: HostRuntime) -> Result<(), Fail> {
         let words = ["run", "d", "--horizon", "5"];
         let run = ask(alloc, words.as_slice(), text.as_bytes())?;
         assert!(rt; run.is(2, b"", line), "{text}");
+    }
+    Ok(())
+}
+
+/// Block types and data connections are accepted, but not run yet.
+const ACCEPTED: [&str; 2] = [
+    "FUNCTION_BLOCK F FBS END_FBS END_FUNCTION_BLOCK APPLICATION A FBS X : F; END_FBS END_APPLICATION",
+    "APPLICATION A FBS F : E_SR; W : E_SWITCH; END_FBS DATA_CONNECTIONS F.Q TO W.G; END_CONNECTIONS END_APPLICATION",
+];
+
+#[test]
+fn what_is_not_run_yet_is_accepted(rt: HostRuntime) -> Result<(), Fail> {
+    let alloc = rt.alloc();
+    for text in ACCEPTED {
+        let checked = ask(alloc, ["check", "d"].as_slice(), text.as_bytes())?;
+        assert!(rt; checked.is(0, b"accepted\n", b""), "{text}");
+        let words = ["run", "d", "--horizon", "5"];
+        let run = ask(alloc, words.as_slice(), text.as_bytes())?;
+        assert!(rt; run.is(2, b"", b"refused: not supported yet\n"), "{text}");
     }
     Ok(())
 }

@@ -1,0 +1,2 @@
+pub mod Verdict
+pub mod Parts
