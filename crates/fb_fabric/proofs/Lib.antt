@@ -6,3 +6,4 @@ mod Leading
 mod Looking
 mod Around
 mod Views
+mod Made

@@ -5,6 +5,7 @@ use Rattle.fb_types.specs.Names.{Name, Path, Port, same_port}
 use Rattle.fb_types.specs.Blocks.{Kind, Composite, ports_of}
 use Rattle.fb_types.specs.Flat.{kind_of, kind_at, network_at, paths_of, first_of}
 use Rattle.fb_types.specs.Repeated.{Twice, NameTwice, instance_names}
+use Rattle.fb_types.specs.Unknown.{event_ins, event_outs, data_ins, data_outs}
 use Rattle.fb_types.specs.declared.library.Library.{Library}
 use Rattle.fb_types.specs.declared.library.BlockType.{BlockType}
 use Rattle.fb_types.specs.declared.library.CompositeType.{CompositeType}
@@ -86,6 +87,19 @@ pub record IsEndOf (lib : Library) (p : Path) (component boundary : Ports → Li
   pub kind : Kind
   pub is_kind : kind_at lib q.at ≡ Some kind
   pub name : slice_get (side e.component component boundary (ports_of kind)) e.port ≡ Some q.name
+
+-- the event, or the variable, from which connections leave in the network around, and those to which they lead
+abbrev pub EventLeaves : Library → Option ℕ → End → Port → Type 0
+EventLeaves lib around e q = IsEndOf lib (path_around lib around) event_outs event_ins e q
+
+abbrev pub EventEnters : Library → Option ℕ → End → Port → Type 0
+EventEnters lib around e q = IsEndOf lib (path_around lib around) event_ins event_outs e q
+
+abbrev pub DataLeaves : Library → Option ℕ → End → Port → Type 0
+DataLeaves lib around e q = IsEndOf lib (path_around lib around) data_outs data_ins e q
+
+abbrev pub DataEnters : Library → Option ℕ → End → Port → Type 0
+DataEnters lib around e q = IsEndOf lib (path_around lib around) data_ins data_outs e q
 
 -- ---- Along connections
 

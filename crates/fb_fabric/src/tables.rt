@@ -4,10 +4,9 @@ ghost use Rattle.std.specs.Prelude.{◌≡◌, ◌<◌, length, slice_get, [], o
 ghost use Rattle.fb_types.specs.Blocks.{ports_of};
 ghost use Rattle.fb_types.specs.Flat.{data_inside, events_inside, last_of, network_at, paths_of};
 ghost use Rattle.fb_types.specs.Names.{Path, Port};
-ghost use Rattle.fb_types.specs.Unknown.{data_ins, data_outs, event_ins, event_outs};
 ghost use Rattle.fb_layout.specs.Layouts.{AreComponents, IsRow, path_of};
 ghost use Rattle.fb_fabric.specs.Fabrics.{IsPort, IsVariable, port_of, variable_of};
-ghost use Rattle.fb_fabric.specs.Networks.{IsAround, IsEndOf, IsFabric, IsThere, IsWired, path_around, source_along, targets_along};
+ghost use Rattle.fb_fabric.specs.Networks.{DataEnters, DataLeaves, EventEnters, EventLeaves, IsAround, IsFabric, IsThere, IsWired, path_around, source_along, targets_along};
 
 use crate::fabric::Place;
 use fb_layout::layout::{Layout, Row};
@@ -83,8 +82,8 @@ fn instance_at(tables: &Tables, around: Option<u32>, component: Option<usize>) -
 fn target_at(tables: &Tables, around: Option<u32>, end: End) -> Target
     requires fabric { IsFabric tables.now }
     requires within { IsAround tables.now.library around }
-    requires end { (q : Port) × IsEndOf tables.now.library (path_around tables.now.library around) event_ins event_outs end q }
-    ensures port { (q : Port) → IsEndOf tables.now.library (path_around tables.now.library around) event_ins event_outs end q → port_of tables.now.library result ≡ q }
+    requires end { (q : Port) × EventEnters tables.now.library around end q }
+    ensures port { (q : Port) → EventEnters tables.now.library around end q → port_of tables.now.library result ≡ q }
     ensures within { IsPort tables.now.library result }
 {
     Target {
@@ -98,8 +97,8 @@ fn target_at(tables: &Tables, around: Option<u32>, end: End) -> Target
 fn place_at(tables: &Tables, around: Option<u32>, end: End) -> Place
     requires fabric { IsFabric tables.now }
     requires within { IsAround tables.now.library around }
-    requires end { (q : Port) × IsEndOf tables.now.library (path_around tables.now.library around) data_outs data_ins end q }
-    ensures port { (q : Port) → IsEndOf tables.now.library (path_around tables.now.library around) data_outs data_ins end q → variable_of tables.now.library result ≡ q }
+    requires end { (q : Port) × DataLeaves tables.now.library around end q }
+    ensures port { (q : Port) → DataLeaves tables.now.library around end q → variable_of tables.now.library result ≡ q }
     ensures within { IsVariable tables.now.library result }
 {
     Place {
@@ -118,8 +117,8 @@ pub(crate) fn target_in(
 ) -> Option<Target>
     requires fabric { IsFabric tables.now }
     requires within { IsAround tables.now.library around }
-    requires end { (q : Port) × IsEndOf tables.now.library (path_around tables.now.library around) event_outs event_ins end q }
-    ensures leads { (q : Port) → IsEndOf tables.now.library (path_around tables.now.library around) event_outs event_ins end q → option_map (port_of tables.now.library) result ≡ slice_get (targets_along (events_inside tables.now.library (path_around tables.now.library around)) q) place }
+    requires end { (q : Port) × EventLeaves tables.now.library around end q }
+    ensures leads { (q : Port) → EventLeaves tables.now.library around end q → option_map (port_of tables.now.library) result ≡ slice_get (targets_along (events_inside tables.now.library (path_around tables.now.library around)) q) place }
     ensures within { IfSome result (IsPort tables.now.library) }
 {
     let wiring = wiring_in(tables, around)?;
@@ -131,8 +130,8 @@ pub(crate) fn target_in(
 pub(crate) fn source_in(tables: &Tables, around: Option<u32>, end: End) -> Option<Place>
     requires fabric { IsFabric tables.now }
     requires within { IsAround tables.now.library around }
-    requires end { (q : Port) × IsEndOf tables.now.library (path_around tables.now.library around) data_ins data_outs end q }
-    ensures comes { (q : Port) → IsEndOf tables.now.library (path_around tables.now.library around) data_ins data_outs end q → option_map (variable_of tables.now.library) result ≡ source_along (data_inside tables.now.library (path_around tables.now.library around)) q }
+    requires end { (q : Port) × DataEnters tables.now.library around end q }
+    ensures comes { (q : Port) → DataEnters tables.now.library around end q → option_map (variable_of tables.now.library) result ≡ source_along (data_inside tables.now.library (path_around tables.now.library around)) q }
     ensures within { IfSome result (IsVariable tables.now.library) }
 {
     let wiring = wiring_in(tables, around)?;
