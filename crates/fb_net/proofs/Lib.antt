@@ -1,0 +1,5 @@
+pub mod Alone
+pub mod Components
+pub mod Others
+pub mod Routes
+pub mod Shells

@@ -1,0 +1,11 @@
+//! The blocks of one resource as trees.
+#![tactic(auto)]
+
+pub mod block;
+pub mod laws;
+pub mod places;
+pub mod shell;
+#[cfg(test)]
+mod tests;
+pub mod tree;
+pub mod values;
