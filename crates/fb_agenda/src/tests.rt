@@ -86,21 +86,23 @@ fn a_local_event_waits_for_the_stimuli_of_its_tick(rt: HostRuntime) -> Result<()
     Ok(())
 }
 
-/// Local events with the numbers 1, 0 and again 1.
+/// Local events with the numbers 1, 0, again 1, and 2.
 fn of_local_events(alloc: Global) -> Result<Agenda, AllocError> {
     let mut agenda = Agenda::new(alloc, 0)?;
     agenda.put(key(2, 3, 1), Event::Local(TARGET))?;
     agenda.put(key(2, 3, 0), Event::Local(TARGET))?;
     agenda.put(key(2, 3, 1), Event::Local(TARGET))?;
+    agenda.put(key(2, 3, 2), Event::Local(TARGET))?;
     Ok(agenda)
 }
 
 #[test]
 fn local_events_are_taken_in_order(rt: HostRuntime) -> Result<(), Fail> {
     let mut agenda = of_local_events(rt.alloc())?;
-    for next in [Some(key(2, 3, 0)), Some(key(2, 3, 1)), None] {
-        assert_eq!(rt; take(&mut agenda), next);
+    for number in [0, 1, 2] {
+        assert_eq!(rt; take(&mut agenda), Some(key(2, 3, number)));
     }
+    assert_eq!(rt; take(&mut agenda), None);
     Ok(())
 }
 

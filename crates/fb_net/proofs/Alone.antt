@@ -28,3 +28,9 @@ module _ {R : Type 0} (Ends : Block → R → Block → Type 0) (f : Block → B
   pub changes_alone : (o : Option R) → MatchOption o (Unchanged old route new) (λ r. Changed Ends old route r new) → ChangedAlone f old route new
   changes_alone None u = absent_alone u
   changes_alone (Some r) c = changed_alone r c
+
+-- what holds of each change of a block holds of the one that has happened
+pub changes_so : {R : Type 0} (Ends Also : Block → R → Block → Type 0) (old : List Block) (route : List ℕ) (new : List Block) (o : Option R) → ((b : Block) (r : R) (w : Block) → Ends b r w → Also b r w) →
+    MatchOption o (Unchanged old route new) (λ r. Changed Ends old route r new) → MatchOption o (Unchanged old route new) (λ r. Changed Also old route r new)
+changes_so Ends Also old route new None so u = u
+changes_so Ends Also old route new (Some r) so c = record { before = c.before; after = c.after; stood = c.stood; ends = so c.before r c.after c.ends; stands = c.stands }

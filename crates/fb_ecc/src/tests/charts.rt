@@ -14,7 +14,7 @@ use crate::state::BasicState;
 use fb_st::meter::Meter;
 use fb_types::boxed::Boxed;
 use fb_types::items::Items;
-use fb_types::library::BasicType;
+use fb_types::library::{BasicType, Transition};
 use fb_types::name::Name;
 use fb_types::reference::Reference;
 use fb_types::run::{Emission, Emits, Halt};
@@ -28,6 +28,8 @@ use std::test::Fail;
 type Emitted = (u32, &'static [Value]);
 
 const STEPS: Result<(), Halt> = Err(Halt::Stop(Reason::Steps));
+
+const DIVIDE: Result<(), Halt> = Err(Halt::Stop(Reason::Divide));
 
 /// A block in its first state.
 fn open(rt: &impl Abort, alloc: Global, block: &BasicType) -> Result<BasicState, AllocError>
@@ -76,16 +78,23 @@ fn takes(
     (answer, meter.left)
 }
 
-/// A new block takes its first event.
-fn begins(
+/// The steps that are left when a new block takes its first event, what it emits, its answer, and the steps
+/// that are left then.
+type Beginning = (u64, &'static [Emitted], Result<(), Halt>, u64);
+
+/// New blocks take their first event.
+fn begin(
     rt: &impl Abort,
     alloc: Global,
     block: &BasicType,
-    left: u64,
-    expected: &[Emitted],
-) -> Result<(Result<(), Halt>, u64), AllocError> {
-    let mut state = open(rt, alloc, block)?;
-    Ok(takes(rt, alloc, block, &mut state, 0, &[], left, expected))
+    beginnings: &[Beginning],
+) -> Result<(), AllocError> {
+    for (left, emitted, answer, after) in beginnings {
+        let mut state = open(rt, alloc, block)?;
+        let taken = takes(rt, alloc, block, &mut state, 0, &[], *left, *emitted);
+        assert_eq!(rt; taken, (*answer, *after));
+    }
+    Ok(())
 }
 
 #[test]
@@ -105,27 +114,35 @@ fn the_event_is_present_once(rt: HostRuntime) -> Result<(), Fail> {
 
 const TICKED: [Emitted; 4] = [(0, &[]), (0, &[]), (0, &[]), (0, &[])];
 
+// One of ten steps was that of the event itself.
+const TICKS: [Beginning; 4] = [
+    (9, &TICKED, STEPS, 0),
+    (8, &TICKED, STEPS, 0),
+    (1, &[], STEPS, 0),
+    (0, &[], STEPS, 0),
+];
+
 #[test]
 fn emissions_before_a_stop_stand(rt: HostRuntime) -> Result<(), Fail> {
     let alloc = rt.alloc();
     let block = block(alloc, &LOOPER)?;
-    // one of ten steps was that of the event itself
-    assert_eq!(rt; begins(&rt, alloc, &block, 9, &TICKED)?, (STEPS, 0));
-    assert_eq!(rt; begins(&rt, alloc, &block, 8, &TICKED)?, (STEPS, 0));
-    assert_eq!(rt; begins(&rt, alloc, &block, 1, &[])?, (STEPS, 0));
-    assert_eq!(rt; begins(&rt, alloc, &block, 0, &[])?, (STEPS, 0));
+    begin(&rt, alloc, &block, &TICKS)?;
     Ok(())
 }
 
 const DONE: [Emitted; 1] = [(0, &[Value::Whole(32767)])];
 
+const COUNTS: [Beginning; 3] = [
+    (9, &DONE, Ok(()), 0),
+    (8, &DONE, STEPS, 0),
+    (6, &[], STEPS, 0),
+];
+
 #[test]
 fn an_algorithm_comes_before_its_output(rt: HostRuntime) -> Result<(), Fail> {
     let alloc = rt.alloc();
     let block = block_with(alloc, &CALC, count(alloc, 32766, 32767)?)?;
-    assert_eq!(rt; begins(&rt, alloc, &block, 9, &DONE)?, (Ok(()), 0));
-    assert_eq!(rt; begins(&rt, alloc, &block, 8, &DONE)?, (STEPS, 0));
-    assert_eq!(rt; begins(&rt, alloc, &block, 6, &[])?, (STEPS, 0));
+    begin(&rt, alloc, &block, &COUNTS)?;
     Ok(())
 }
 
@@ -134,8 +151,12 @@ fn a_reason_of_an_algorithm_stops_the_reaction(rt: HostRuntime) -> Result<(), Fa
     let alloc = rt.alloc();
     let sum = of_whole(alloc, BinaryOperator::Add, 32767, 1)?;
     let block = block_with(alloc, &CALC, assign(alloc, sum)?)?;
-    let stopped = Err(Halt::Stop(Reason::Range));
-    assert_eq!(rt; begins(&rt, alloc, &block, 9, &[])?, (stopped, 6));
+    begin(
+        &rt,
+        alloc,
+        &block,
+        &[(9, &[], Err(Halt::Stop(Reason::Range)), 6)],
+    )?;
     Ok(())
 }
 
@@ -144,8 +165,7 @@ fn a_division_by_zero_stops_the_reaction(rt: HostRuntime) -> Result<(), Fail> {
     let alloc = rt.alloc();
     let quotient = of_whole(alloc, BinaryOperator::Divide, 1, 0)?;
     let block = block_with(alloc, &CALC, assign(alloc, quotient)?)?;
-    let stopped = Err(Halt::Stop(Reason::Divide));
-    assert_eq!(rt; begins(&rt, alloc, &block, 9, &[])?, (stopped, 6));
+    begin(&rt, alloc, &block, &[(9, &[], DIVIDE, 6)])?;
     Ok(())
 }
 
@@ -158,19 +178,26 @@ const GUARDED: Sketch = Sketch {
     transitions: &[],
 };
 
+/// E1 [1 / 0 = 1], and behind it E2
+fn guards(alloc: Global) -> Result<Items<Transition>, AllocError> {
+    let guard = divided(alloc)?;
+    let mut transitions = Items::new(alloc);
+    transitions.push(transition(alloc, ("A", "B", "E1"), Some(guard))?)?;
+    transitions.push(transition(alloc, ("A", "B", "E2"), None)?)?;
+    Ok(transitions)
+}
+
+fn guarded(alloc: Global) -> Result<BasicType, AllocError> {
+    let mut block = block(alloc, &GUARDED)?;
+    block.transitions = guards(alloc)?;
+    Ok(block)
+}
+
 #[test]
 fn a_guard_behind_an_event_waits_for_it(rt: HostRuntime) -> Result<(), Fail> {
     let alloc = rt.alloc();
-    let mut block = block(alloc, &GUARDED)?;
-    let guard = divided(alloc)?;
-    block
-        .transitions
-        .push(transition(alloc, ("A", "B", "E1"), Some(guard))?)?;
-    block
-        .transitions
-        .push(transition(alloc, ("A", "B", "E2"), None)?)?;
-    let stopped = Err(Halt::Stop(Reason::Divide));
-    assert_eq!(rt; begins(&rt, alloc, &block, 9, &[])?, (stopped, 8));
+    let block = guarded(alloc)?;
+    begin(&rt, alloc, &block, &[(9, &[], DIVIDE, 8)])?;
     let mut state = open(&rt, alloc, &block)?;
     let passed = takes(&rt, alloc, &block, &mut state, 1, &[], 9, &[(0, &[])]);
     assert_eq!(rt; passed, (Ok(()), 6));
