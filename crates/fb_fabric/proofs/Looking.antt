@@ -6,7 +6,7 @@ use Rattle.std.proofs.lemmas.List.{length-map}
 use Rattle.std.proofs.lemmas.Option.{same_Some, slice_get_within, slice_get-get_or, slice_get_read, slice_get_past}
 use Rattle.fb_types.specs.Names.{Name, Path, Port, same_port}
 use Rattle.fb_types.specs.Blocks.{Kind, Event, ports, ports_of, ports_of_event_block}
-use Rattle.fb_types.specs.Flat.{kind_of, kind_at, kind_of_instance, type_named, instance_at, network_at, paths_of, events_inside, data_inside}
+use Rattle.fb_types.specs.Flat.{kind_of, kind_at, kind_of_instance, type_named, instance_at, paths_of, events_inside, data_inside}
 use Rattle.fb_types.specs.Repeated.{NameTwice}
 use Rattle.fb_types.specs.Unknown.{event_ins, event_outs, data_ins, data_outs}
 use Rattle.fb_types.specs.declared.library.Library.{Library}
@@ -25,7 +25,7 @@ use Rattle.fb_wiring.specs.Wirings.{same_end, source_in, targets_in}
 use Rattle.fb_layout.specs.Layouts.{AreComponents, path_of}
 use Rattle.fb_fabric.specs.Fabrics.{IsPort, IsVariable, ports_here, port_of, variable_of}
 use Rattle.fb_fabric.specs.Networks.{AreNarrow, IsEndOf, IsNarrow, IsThere, IsWired, side, source_along, targets_along}
-use Rattle.fb_fabric.proofs.Leading.{no_data, no_events, sources_there, targets_there}
+use Rattle.fb_fabric.proofs.Leading.{sources_there, targets_there}
 use Rattle.fb_fabric.proofs.Lists.{first_pair, no_first, none_at, pair_at}
 use Rattle.fb_fabric.proofs.Wired.{all_at, component_path, component_within, number_within}
 
@@ -201,11 +201,6 @@ component_in_range lib p j c ks a are is there =
     let h : IsThere lib p (Some j) a = subst (λ (c : Option ℕ). IsThere lib p c a) is there in
     number_within lib p a j (get_or ks j 0) ks are h (slice_get-get_or ks j 0 (component_within lib p a j ks are h))
 
-pub component_bound :
-    (lib : Library) (p : Path) (j : ℕ) (c : Option ℕ) (ks : List ℕ) (a : Path) → AreComponents lib p ks → c ≡ Some j → IsThere lib p c a → j < length ks
-component_bound lib p j c ks a are is there =
-    component_within lib p a j ks are (subst (λ (c : Option ℕ). IsThere lib p c a) is there)
-
 -- ---- Connections
 
 -- the port that a wire at a place leads to
@@ -222,9 +217,6 @@ pub target_past :
 target_past lib plan p x e q place once is key h =
     none_at (IsEndOf lib p event_ins event_outs) (targets_in x e) (targets_along (events_inside lib p) q) place (targets_there lib plan p x e q once is key) h
 
-pub target_nowhere : (lib : Library) (p : Path) (q : Port) (place : ℕ) → network_at lib p ≡ None → slice_get (targets_along (events_inside lib p) q) place ≡ None
-target_nowhere lib p q place none = ap (λ (cs : List (Port × Port)). slice_get (targets_along cs q) place) (no_events lib p none)
-
 -- the port that the wire to an end comes from
 pub source_end :
     (lib : Library) (plan : Plan) (p : Path) (x : NetworkNumbers) (e w : End) (q : Port) → ¬ (NameTwice lib plan) → IsWired lib p x
@@ -240,9 +232,6 @@ pub source_none :
 source_none lib plan p x e q once is key h =
     no_first (IsEndOf lib p data_outs data_ins) (map (λ w. w.from) (filter (λ w. same_end w.to e) x.data_wires)) (map (λ c. c.0) (filter (λ c. same_port c.1 q) (data_inside lib p)))
     (sources_there lib plan p x e q once is key) h
-
-pub source_nowhere : (lib : Library) (p : Path) (q : Port) → network_at lib p ≡ None → source_along (data_inside lib p) q ≡ None
-source_nowhere lib p q none = ap (λ (cs : List (Port × Port)). source_along cs q) (no_data lib p none)
 
 -- ---- Answers of tests and look-ups
 

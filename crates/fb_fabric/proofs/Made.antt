@@ -1,5 +1,5 @@
 -- The tables that are made of a declaration and its numbers.
-use Rattle.std.proofs.Common.{◌≡◌, ℕ, ◌≤◌, Bool, true, List, length, Option, Some, None, sym, ◌∙◌, ap, subst}
+use Rattle.std.proofs.Common.{◌≡◌, ◌≤◌, Bool, true, List, length, Option, None, sym, ◌∙◌, ap, subst}
 use Rattle.std.specs.Prelude.{◌↔◌, IsTrue, slice_get}
 use Rattle.fb_types.specs.Flat.{paths_of}
 use Rattle.fb_types.specs.Repeated.{NameTwice}

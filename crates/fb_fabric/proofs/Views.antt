@@ -1,9 +1,9 @@
 -- What the tables say of the declaration as which a fabric is seen.
-use Rattle.std.proofs.Common.{◌≡◌, ℕ, ◌<◌, ◌≤◌, List, [], length, Option, sym, ◌∙◌, ap, subst}
+use Rattle.std.proofs.Common.{◌≡◌, ℕ, ◌<◌, ◌≤◌, List, length, Option, sym, ◌∙◌, ap, subst}
 use Rattle.fb_types.specs.Flat.{kind_at, number_of, paths_of}
 use Rattle.fb_types.specs.declared.library.Library.{Library}
 use Rattle.fb_resolve.specs.Numbers.{kind_of_number}
-use Rattle.fb_layout.specs.Layouts.{AreComponents, AreNumbers, IsRow, path_of}
+use Rattle.fb_layout.specs.Layouts.{AreComponents, IsRow, path_of}
 use Rattle.fb_layout.specs.declared.layout.Row.{Row}
 use Rattle.fb_types.specs.declared.run.Target.{Target}
 use Rattle.fb_fabric.specs.declared.fabric.Place.{Place}
@@ -21,9 +21,6 @@ numbers_of t lib is e =
 
 pub count_of : (t : Tables) (lib : Library) → IsFabric t → t.library ≡ lib → length t.layout.rows ≡ length (paths_of lib)
 count_of t lib is e = is.is_layout.counted ∙ ap (λ (lib : Library). length (paths_of lib)) e
-
-pub top_of : (t : Tables) (lib : Library) → IsFabric t → t.library ≡ lib → AreNumbers lib [] lib.application.network.instances t.layout.top
-top_of t lib is e = subst (λ (lib : Library). AreNumbers lib [] lib.application.network.instances t.layout.top) e is.is_layout.top
 
 pub within_of : (t : Tables) (lib : Library) (i : ℕ) → t.library ≡ lib → i < length (paths_of lib) → i < length (paths_of t.library)
 within_of t lib i e h = subst (λ (lib : Library). i < length (paths_of lib)) (sym e) h

@@ -44,10 +44,6 @@ last_pushed (y ∷ z ∷ zs) x = last_pushed (z ∷ zs) x
 
 -- ---- Paths
 
-not_empty : (lib : Library) (i : ℕ) → IsPlaced lib i → path_of lib i ≡ [] → ⊥
-not_empty lib i is e =
-    let h : length (is.instance.name ∷ parent (path_of lib i)) ≡ 0 = ap length (sym is.is_path ∙ e) in absurd (omega (arith, h))
-
 -- what is inside an instance is the network of its type
 network_of_kind : (lib : Library) (n : Name) (p : Path) → network_at lib (n ∷ p) ≡ option_and_then network_of (kind_at lib (n ∷ p))
 network_of_kind lib n p =
