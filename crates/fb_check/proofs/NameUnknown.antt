@@ -22,7 +22,7 @@ use Rattle.fb_check.specs.declared.wires.End.{End}
 use Rattle.fb_check.specs.declared.wires.Wire.{Wire}
 use Rattle.fb_check.specs.Indexes.{instance_names}
 use Rattle.fb_check.specs.Wires.{block_at_place, end_place, source_place, target_place, wire_place}
-use Rattle.fb_check.proofs.NameLemmas.{Contains-nil, Contains-here, Contains-there, any_from_contains}
+use Rattle.fb_check.proofs.NameLemmas.{Contains-here, Contains-there, any_from_contains}
 use Rattle.fb_check.proofs.Places.{is_some-position, named-position, same_name-flip}
 
 -- ---- Tests of lists

@@ -1,5 +1,5 @@
 -- Names that stand for nothing, where no row or no wire is made.
-use Rattle.std.proofs.Common.{◌≡◌, false, List, [], Some, None, Option, refl, sym, ◌∙◌, ap}
+use Rattle.std.proofs.Common.{◌≡◌, List, [], Some, None, Option, refl, sym, ◌∙◌, ap}
 use Rattle.std.specs.Prelude.{is_some, option_map}
 use Rattle.std.specs.List.{list_all}
 use Rattle.fb_types.specs.Blocks.{event_block_named}
