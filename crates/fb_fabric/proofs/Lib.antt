@@ -1,9 +1,0 @@
-mod Lists
-mod Differing
-mod Ends
-mod Wired
-mod Leading
-mod Looking
-mod Around
-mod Views
-mod Made

@@ -1,2 +1,0 @@
-pub mod Fabrics
-pub mod Networks

@@ -1,6 +1,0 @@
-//! The resources that hold instances, and the links between resources, by their places.
-#![tactic(auto)]
-
-pub mod links;
-#[cfg(test)]
-mod tests;

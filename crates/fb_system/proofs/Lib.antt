@@ -1,2 +1,0 @@
-mod Seen
-mod Holding
