@@ -1,16 +1,1 @@
-pub mod Plain
-pub mod Elaborated
-pub mod Targets
-pub mod Made
-pub mod Ends
-pub mod Paths
-pub mod Resolving
-pub mod NameUnknown
-pub mod NameTwice
-pub mod Components
-pub mod Each
-pub mod Leaving
-pub mod With
-pub mod Seen
-pub mod Places
-pub mod NameLemmas
+mod Passed

@@ -13,10 +13,6 @@ use thiserror::Error;
 pub enum CheckError {
     #[error("out of memory")]
     Memory,
-    /// A limit of today: the inputs are accepted, but have block types, data connections, a deployment of their own,
-    /// links or stimuli, and these are not simulated yet.
-    #[error("accepted, but not simulated yet: block types, data connections, deployments, links and stimuli")]
-    Unsupported,
     /// They are not accepted together. Of the faults that apply, this has the least number.
     #[error("{0}")]
     Refused(Fault),
@@ -42,12 +38,12 @@ impl From<Refusal> for CheckError {
 }
 
 impl CheckError {
-    /// The number of the refusal, from 20 to 30. Want of memory and what is not simulated yet have none.
+    /// The number of the refusal, from 20 to 30. Want of memory has none.
     pub fn number(&self) -> Option<u8>
         ensures { result ≡ number_of self.now }
     {
         match self {
-            CheckError::Memory | CheckError::Unsupported => None,
+            CheckError::Memory => None,
             CheckError::Refused(fault) => Some(fault.number()),
         }
     }

@@ -3,14 +3,3 @@
 
 pub mod accept;
 pub mod error;
-mod fan_out;
-mod index;
-mod interfaces;
-mod outgoing;
-mod parameters;
-mod rows;
-pub mod system;
-pub mod tables;
-#[cfg(test)]
-mod tests;
-mod wires;

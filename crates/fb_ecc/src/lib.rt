@@ -6,6 +6,4 @@ mod chart;
 mod known;
 pub mod reaction;
 pub mod state;
-#[cfg(test)]
-mod tests;
 mod trial;

@@ -4,10 +4,9 @@ use Rattle.std.specs.Prelude.{flat_map}
 use Rattle.std.specs.List.{list_all}
 use Rattle.std.proofs.lemmas.Bool.{true≢false, and_parts}
 use Rattle.std.proofs.lemmas.List.Elements.{Contains-append_left, Contains-append_right, Contains-append_cases}
-use Rattle.fb_types.specs.Names.{Name}
 use Rattle.fb_types.specs.Blocks.{among}
 use Rattle.fb_types.specs.Repeated.{networks, interfaces, basics}
-use Rattle.fb_types.specs.Unknown.{Wanted, Mention, wanted, types_wanted, withs_wanted, chart_wanted, parameters_wanted, deployment_wanted, mentioned, is_known, NameUnknown}
+use Rattle.fb_types.specs.Unknown.{Wanted, wanted, types_wanted, withs_wanted, chart_wanted, parameters_wanted, deployment_wanted, mentioned, is_known, NameUnknown}
 use Rattle.fb_types.specs.declared.library.Library.{Library}
 use Rattle.fb_types.specs.declared.library.BasicType.{BasicType}
 use Rattle.fb_types.specs.declared.deploy.Plan.{Plan}

@@ -5,7 +5,7 @@ ghost use Rattle.fb_names.specs.Catalog.{IsCatalog};
 ghost use Rattle.fb_resolve.specs.Numbers.{IsResolved};
 ghost use Rattle.fb_judge.specs.Verdicts.{AreAccepted, HasPassed, IsRightly};
 
-use crate::case::Case;
+use crate::case::{Case, Judged};
 use crate::fault::{Fault, Refusal};
 use crate::links::judge_mapping;
 use crate::networks::{judge_heights, judge_kinds, judge_ranges, judge_sources};
@@ -72,10 +72,11 @@ fn judge_limits(alloc: Global, case: &Case, resolved: &Resolved) -> Result<(), R
     Ok(())
 }
 
-/// Whether the inputs are accepted: `Ok` where none of the conditions from E20 to E30 holds, else the fault with the
-/// least number that applies.
-pub fn judge(alloc: Global, case: &Case) -> Result<(), Refusal>
+/// The names and numbers of inputs that are accepted. Else the error is as with `judge`.
+pub fn judged<'a>(alloc: Global, case: &Case<'a>) -> Result<Judged<'a>, Refusal>
     ensures accepted { IfOk result (λ _. AreAccepted case.now) }
+    ensures catalog { IfOk result (λ j. IsCatalog case.now.library.now case.now.plan.now j.catalog) }
+    ensures numbers { IfOk result (λ j. IsResolved case.now.library.now case.now.plan.now j.numbers) }
     ensures refused { IfErr result (IsRightly case.now) }
 {
     let catalog = catalog(alloc, case)?;
@@ -86,5 +87,19 @@ pub fn judge(alloc: Global, case: &Case) -> Result<(), Refusal>
     judge_heights(alloc, case, &resolved)?;
     judge_mapping(alloc, case, &resolved)?;
     judge_stimuli(alloc, case, &catalog)?;
-    judge_limits(alloc, case, &resolved)
+    judge_limits(alloc, case, &resolved)?;
+    Ok(Judged {
+        catalog,
+        numbers: resolved,
+    })
+}
+
+/// Whether the inputs are accepted: `Ok` where none of the conditions from E20 to E30 holds, else the fault with the
+/// least number that applies.
+pub fn judge(alloc: Global, case: &Case) -> Result<(), Refusal>
+    ensures accepted { IfOk result (λ _. AreAccepted case.now) }
+    ensures refused { IfErr result (IsRightly case.now) }
+{
+    judged(alloc, case)?;
+    Ok(())
 }

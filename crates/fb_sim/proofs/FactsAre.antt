@@ -22,10 +22,10 @@ use Rattle.fb_types.specs.declared.library.Ports.{Ports}
 use Rattle.fb_types.specs.declared.library.Variable.{Variable}
 use Rattle.fb_types.specs.declared.value.Value.{Value}
 use Rattle.fb_types.proofs.PathLaws.{same_name_is}
-use Rattle.fb_check.specs.Stands.{IsSupported, IsPlain, initial_inputs}
-use Rattle.fb_check.proofs.NameLemmas.{Contains-here, Contains-there}
-use Rattle.fb_check.proofs.NameUnknown.{kind_of_event_block}
-use Rattle.fb_check.proofs.Plain.{network_at_none}
+use Rattle.fb_plain.specs.Stands.{IsSupported, IsPlain, initial_inputs}
+use Rattle.fb_plain.proofs.NameLemmas.{Contains-here, Contains-there}
+use Rattle.fb_plain.proofs.NameUnknown.{kind_of_event_block}
+use Rattle.fb_plain.proofs.Plain.{network_at_none}
 use Rattle.fb_event.specs.Reactions.{FitTheirTypes}
 use Rattle.fb_sim.specs.Machines.{IsOne}
 

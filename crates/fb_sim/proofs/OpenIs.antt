@@ -19,7 +19,7 @@ use Rattle.fb_types.specs.declared.event_kind.EventKind.TheVariants.{Restart, Sp
 use Rattle.fb_types.specs.declared.key.Key.{Key}
 use Rattle.fb_types.proofs.KeyLaws.{same_key_is}
 use Rattle.fb_types.proofs.TakeLaws.{found-put}
-use Rattle.fb_check.proofs.With.{slice_get-push}
+use Rattle.fb_plain.proofs.With.{slice_get-push}
 use Rattle.fb_event.specs.State as block
 use Rattle.fb_sim.specs.Agendas.{waiting}
 use Rattle.fb_sim.specs.Machines.{IsOne, IsAt, IsReady, event_of, meaning, tick_of}

@@ -13,7 +13,7 @@ use Rattle.fb_types.specs.declared.key.Key.{Key}
 use Rattle.fb_types.specs.declared.run.Emission as run
 use Rattle.fb_types.specs.declared.run.Line as run_line
 use Rattle.fb_types.specs.declared.run.Target.{Target}
-use Rattle.fb_check.specs.Stands.{AreTargets}
+use Rattle.fb_plain.specs.Stands.{AreTargets}
 use Rattle.fb_sim.specs.Machines.{meant, led_by, IsRaised, IsPublished}
 use Rattle.fb_sim.specs.declared.agenda.Agenda.{Agenda}
 use Rattle.fb_sim.proofs.RaiseLaws.{raised_then}

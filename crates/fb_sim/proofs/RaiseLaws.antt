@@ -14,7 +14,7 @@ use Rattle.fb_types.specs.declared.run.TimerAsk.{TimerAsk}
 use Rattle.fb_types.specs.declared.run.TimerAsk.TheVariants.{Keep, Clear, At}
 use Rattle.fb_types.proofs.KeyLaws.{same_key_is}
 use Rattle.fb_types.proofs.TakeLaws.{found-put, numbered-append}
-use Rattle.fb_check.specs.Stands.{IsTarget}
+use Rattle.fb_plain.specs.Stands.{IsTarget}
 use Rattle.fb_sim.specs.Agendas.{waiting, IsTimed, IsLater, timer_set}
 use Rattle.fb_sim.specs.Machines.{event_of, meaning, IsEvent, MayWait, AllMayWait, IsRaised}
 use Rattle.fb_sim.specs.declared.agenda.Agenda.{Agenda}

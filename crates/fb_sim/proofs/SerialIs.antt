@@ -6,7 +6,7 @@ use Rattle.fb_types.specs.Simulation.{IsSimulation, Stimulus, stimulus_of, openi
 use Rattle.fb_types.specs.Text.{trace_text}
 use Rattle.fb_types.specs.declared.run.Form.TheVariants.{One}
 use Rattle.fb_types.specs.declared.run.Line as run_line
-use Rattle.fb_check.specs.Stands.{IsSupported, IsPlain}
+use Rattle.fb_plain.specs.Stands.{IsSupported, IsPlain}
 use Rattle.fb_trace.specs.End as trace
 use Rattle.fb_trace.specs.declared.last.End.{End}
 use Rattle.fb_sim.specs.Machines.{IsOne}

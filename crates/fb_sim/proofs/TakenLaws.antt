@@ -15,8 +15,8 @@ use Rattle.fb_types.specs.declared.key.Key.{Key}
 use Rattle.fb_types.specs.declared.library.Ports.{Ports}
 use Rattle.fb_types.specs.declared.library.Variable.{Variable}
 use Rattle.fb_types.specs.declared.value.Value.{Value}
-use Rattle.fb_check.specs.Stands.{variable_at, ArePlaces, IsInterface, initial_inputs}
-use Rattle.fb_check.specs.declared.tables.Interface.{Interface}
+use Rattle.fb_plain.specs.Stands.{variable_at, ArePlaces, IsInterface, initial_inputs}
+use Rattle.fb_plain.specs.declared.tables.Interface.{Interface}
 use Rattle.fb_trace.specs.Lines.{BelongsTo}
 use Rattle.fb_sim.specs.Lines.{line, value_at}
 use Rattle.fb_sim.specs.Machines.{IsOne}

@@ -14,7 +14,7 @@ use Rattle.fb_types.specs.declared.library.Ports.{Ports}
 use Rattle.fb_types.specs.declared.run.Emission as run
 use Rattle.fb_types.specs.declared.run.Line as run_line
 use Rattle.fb_types.specs.declared.value.Reason.{Reason}
-use Rattle.fb_check.specs.Stands.{initial_inputs}
+use Rattle.fb_plain.specs.Stands.{initial_inputs}
 use Rattle.fb_event.specs.State as block
 use Rattle.fb_event.specs.Reactions.{FitTheirTypes}
 use Rattle.fb_sim.specs.Agendas.{waiting, IsTimed}

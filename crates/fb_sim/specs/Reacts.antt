@@ -8,7 +8,7 @@ use Rattle.fb_types.specs.States.{Line}
 use Rattle.fb_types.specs.declared.key.Key.{Key}
 use Rattle.fb_types.specs.declared.run.Emission.{Emission}
 use Rattle.fb_types.specs.declared.run.TimerAsk.{TimerAsk}
-use Rattle.fb_check.specs.Stands.{initial_inputs}
+use Rattle.fb_plain.specs.Stands.{initial_inputs}
 use Rattle.fb_event.specs.State.{State}
 use Rattle.fb_event.specs.Reactions.{reaction_to, expiry_of, emissions_of}
 use Rattle.fb_sim.specs.Machines.{meant, IsEmission}

@@ -10,5 +10,3 @@ pub mod outcome;
 mod react;
 mod reading;
 pub mod serial;
-#[cfg(test)]
-mod tests;

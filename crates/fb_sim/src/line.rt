@@ -6,7 +6,7 @@ ghost use Rattle.fb_types.specs.Numbers.{line_of};
 ghost use Rattle.fb_sim.specs.Lines.{line};
 ghost use Rattle.fb_trace.specs.Lines.{BelongsTo};
 
-use fb_check::system::System;
+use fb_plain::system::System;
 use fb_types::items::Items;
 use fb_types::key::Key;
 use fb_types::run::Line;

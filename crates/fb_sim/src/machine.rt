@@ -3,7 +3,7 @@
 ghost use Rattle.std.specs.Prelude.{ℕ, ◌≡◌, ◌+◌, ◌*◌, ◌^◌, ◌<◌, ◌≤◌, ◌++◌, [], ◌∷◌, map, length, All, IfOk, None, OnOk, vec_len};
 ghost use Rattle.fb_types.specs.Headline.{system_of};
 ghost use Rattle.fb_types.specs.Numbers.{path_at, ports_at, port_of};
-ghost use Rattle.fb_check.specs.Stands.{IsTarget};
+ghost use Rattle.fb_plain.specs.Stands.{IsTarget};
 ghost use Rattle.fb_types.specs.States.{Config};
 ghost use Rattle.fb_trace.specs.End.{EndsIn};
 ghost use Rattle.fb_trace.specs.Lines.{BelongsTo};
@@ -22,8 +22,8 @@ use crate::agenda::{Agenda, Event, key_of_timer};
 use crate::line::{Head, add_line};
 use crate::meter::Meter;
 use crate::react::{Reacted, react_to_event, react_to_timer};
-use fb_check::system::System;
 use fb_event::state::EventState;
+use fb_plain::system::System;
 use fb_trace::last::End;
 use fb_types::event_kind::EventKind;
 use fb_types::key::Key;

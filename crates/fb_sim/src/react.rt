@@ -9,9 +9,9 @@ ghost use Rattle.fb_sim.specs.Machines.{AreKinds, IsOne};
 ghost use Rattle.fb_sim.specs.Reacts.{IsReaction, taken_line, reacting_to, expiring};
 
 use crate::line::{Head, add_line};
-use fb_check::system::System;
 use fb_event::reaction::{expire, react};
 use fb_event::state::EventState;
+use fb_plain::system::System;
 use fb_types::items::Items;
 use fb_types::key::Key;
 use fb_types::run::{Emits, Line, TimerAsk};

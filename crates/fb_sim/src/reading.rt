@@ -2,20 +2,20 @@
 
 ghost use Rattle.std.specs.Prelude.{IfOk, IfErr, OnOk};
 ghost use Rattle.fb_read.specs.Whole.{IsLibraryText};
-ghost use Rattle.fb_check.specs.Stands as stands;
+ghost use Rattle.fb_plain.specs.Stands as stands;
 ghost use Rattle.fb_sim.specs.Serial.{AreStimuli, Declares, IsDeclared, IsPlan, IsRefusal, IsUnopened, Reads};
 
 use crate::options::Inputs;
 use crate::outcome::{Refusal, RunError};
-use fb_check::accept::accept;
-use fb_check::error::CheckError;
-use fb_check::system::System;
 use fb_inputs::deployment::read_deploy;
 use fb_inputs::error::InputError;
 use fb_inputs::stimuli::read_stimuli;
 use fb_judge::case::Case;
 use fb_judge::fault;
 use fb_judge::judge::judge;
+use fb_plain::accept::accept;
+use fb_plain::error::CheckError;
+use fb_plain::system::System;
 use fb_read::error::ReadError;
 use fb_read::read::read_library;
 use fb_types::deploy::{Deploy, Stimulus};

@@ -15,7 +15,7 @@ use crate::machine::Machine;
 use crate::options::{Inputs, Options};
 use crate::outcome::{Outcome, RunError};
 use crate::reading::{judge_inputs, open};
-use fb_check::system::System;
+use fb_plain::system::System;
 use fb_trace::last::End;
 use fb_trace::trace::write_trace;
 use fb_types::run::{Form, Line};

@@ -6,8 +6,8 @@ use Rattle.fb_types.specs.Numbers.{event_at}
 use Rattle.fb_types.specs.declared.library.EventPort.{EventPort}
 use Rattle.fb_types.specs.declared.library.Ports.{Ports}
 use Rattle.fb_types.specs.declared.library.Variable.{Variable}
-use Rattle.fb_check.specs.Stands.{ArePlaces, IsInterface}
-use Rattle.fb_check.specs.declared.tables.Interface.{Interface}
+use Rattle.fb_plain.specs.Stands.{ArePlaces, IsInterface}
+use Rattle.fb_plain.specs.declared.tables.Interface.{Interface}
 
 -- the name of an event
 pub event_at_read : (es fs : List EventPort) (i : ℕ) (e : EventPort) → fs ≡ es → i < length es → e ≡ get_or fs i e → e.name ≡ event_at es i

@@ -12,7 +12,7 @@ use crate::fault::WriteFault;
 use crate::names::names_of;
 use crate::page::Page;
 use crate::pieces::{put_key, put_place, put_values};
-use fb_check::system::System;
+use fb_plain::system::System;
 use fb_types::run::{Form, Line};
 use std::io::Write;
 

@@ -3,10 +3,10 @@
 ghost use Rattle.std.specs.Prelude.{◌≡◌};
 ghost use Rattle.fb_types.specs.Headline.{system_of};
 ghost use Rattle.fb_types.specs.Numbers.{line_of};
-ghost use Rattle.fb_check.specs.Stands.{ArePlaces};
+ghost use Rattle.fb_plain.specs.Stands.{ArePlaces};
 ghost use Rattle.fb_trace.specs.Lines.{BelongsTo, line_variables};
 
-use fb_check::system::System;
+use fb_plain::system::System;
 use fb_types::library::Variable;
 use fb_types::run::Line;
 

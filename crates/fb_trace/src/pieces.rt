@@ -4,12 +4,12 @@ ghost use Rattle.std.specs.Prelude.{◌≡◌, ◌<◌, ◌++◌, length, map, A
 ghost use Rattle.fb_types.specs.Headline.{system_of};
 ghost use Rattle.fb_types.specs.Numbers.{pair_up};
 ghost use Rattle.fb_types.specs.Text.{key_text, place_text, value_text, values_text};
-ghost use Rattle.fb_check.specs.Stands.{variable_at};
+ghost use Rattle.fb_plain.specs.Stands.{variable_at};
 ghost use Rattle.fb_trace.specs.Progress.{Gathers};
 
 use crate::fault::WriteFault;
 use crate::page::Page;
-use fb_check::system::System;
+use fb_plain::system::System;
 use fb_types::key::Key;
 use fb_types::library::Variable;
 use fb_types::run::Form;

@@ -13,7 +13,7 @@ use crate::fault::WriteFault;
 use crate::last::{End, put_last};
 use crate::lines::put_lines;
 use crate::page::Page;
-use fb_check::system::System;
+use fb_plain::system::System;
 use fb_types::run::{Form, Line};
 use std::io::Write;
 

@@ -1,0 +1,22 @@
+-- What acceptance says of names and stimuli.
+use Rattle.std.proofs.Common.{◌≡◌, List, refl, sym, subst, inl, inr}
+use Rattle.fb_types.specs.Accepted.{BadStimulus}
+use Rattle.fb_types.specs.Headline.{AreAccepted, Inputs}
+use Rattle.fb_types.specs.Unknown.{NameUnknown}
+use Rattle.fb_types.specs.declared.deploy.Plan.{Plan}
+use Rattle.fb_types.specs.declared.deploy.Stimulus.{Stimulus}
+use Rattle.fb_types.specs.declared.library.Library.{Library}
+use Rattle.fb_system.specs.Systems.{inputs}
+
+pub known_of : (i : Inputs) → AreAccepted i → ¬ (NameUnknown i.library i.plan)
+known_of i h t = h 21 (inr (inl (refl, t)))
+
+pub good_of : (i : Inputs) → AreAccepted i → ¬ (BadStimulus i.library i.stimuli)
+good_of i h t = h 29 (inr (inr (inr (inr (inr (inr (inr (inr (inr (inl (refl, t)))))))))))
+
+pub accepted_is :
+    (lib : Library) (p q : Plan) (xs ys : List Stimulus) → p ≡ q → xs ≡ ys → AreAccepted (inputs lib p xs) → AreAccepted (inputs lib q ys)
+accepted_is lib p q xs ys plan stimuli h = subst (λ (i : Inputs). AreAccepted i) (λ j. inputs lib (plan j) (stimuli j)) h
+
+pub accepted_of : (a b : Inputs) → a ≡ b → AreAccepted b → AreAccepted a
+accepted_of a b e h = subst (λ (i : Inputs). AreAccepted i) (sym e) h

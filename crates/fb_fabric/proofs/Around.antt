@@ -1,0 +1,239 @@
+-- All connections of a port: those around its instance and those inside.
+use Rattle.std.proofs.Common.{◌≡◌, ℕ, ◌<◌, Bool, true, false, cond, List, [], length, Option, Some, None, refl, sym, ◌∙◌, ap, subst, arith}
+use Rattle.std.specs.Prelude.{slice_get, option_map, unwrap_or}
+use Rattle.std.proofs.lemmas.List.{length-map}
+use Rattle.fb_types.specs.Names.{Name, Path, Port}
+use Rattle.fb_types.specs.Blocks.{Kind, ports, ports_of}
+use Rattle.fb_types.specs.Flat.{parent, paths_of, last_of, events_inside, data_inside, targets_of, source_of}
+use Rattle.fb_types.specs.Unknown.{event_ins, event_outs, data_ins, data_outs}
+use Rattle.fb_types.specs.declared.library.Library.{Library}
+use Rattle.fb_types.specs.declared.library.Ports.{Ports}
+use Rattle.fb_types.specs.declared.run.Target.{Target}
+use Rattle.fb_resolve.specs.declared.numbers.End.{End}
+use Rattle.fb_resolve.specs.declared.numbers.NetworkNumbers.{NetworkNumbers}
+use Rattle.fb_resolve.proofs.Elements.{element_of_place}
+use Rattle.fb_layout.specs.Layouts.{IsRow, path_of}
+use Rattle.fb_layout.specs.declared.layout.Layout.{Layout}
+use Rattle.fb_layout.specs.declared.layout.Row.{Row}
+use Rattle.fb_fabric.specs.declared.fabric.Place.{Place}
+use Rattle.fb_fabric.specs.Fabrics.{IsPort, IsVariable, ports_here, port_of, variable_of, event_input, event_output, data_input, data_output}
+use Rattle.fb_fabric.specs.Networks.{AreTables, IsEndOf, IsThere, path_around, side, source_along, targets_along}
+use Rattle.fb_fabric.proofs.Leading.{MayBeWired, input_source, input_targets, output_source, output_targets}
+use Rattle.fb_fabric.proofs.Wired.{around_wired, element_at, last_of_route, parent_around, parent_within, row_there, stands_there}
+
+-- ---- Names at their places
+
+abbrev name_at : List Name → ℕ → Name
+name_at ns k = unwrap_or (slice_get ns k) []
+
+name_there : (ns : List Name) (k : ℕ) → k < length ns → slice_get ns k ≡ Some (name_at ns k)
+name_there ns k h =
+    let x = element_at ns k h in x.1 ∙ ap (λ (o : Option Name). Some (unwrap_or o [])) (sym x.1)
+
+-- the ports of the type of a row's instance
+ports_of_row : (lib : Library) (i : ℕ) (r : Row) → (is : IsRow lib i r) → ports_here lib i ≡ ports_of is.kind
+ports_of_row lib i r is = ap (λ (o : Option Kind). elim o as (λ _. Ports) [ None ↦ ports [] [] [] [] | Some k ↦ ports_of k ]) is.is_kind
+
+-- ---- A port of an instance as an end of connections
+
+around_end :
+    (lib : Library) (component boundary : Ports → List Name) (i : ℕ) (r : Row) (o : Option ℕ) (k : ℕ) (n : Name) → (is : IsRow lib i r) → o ≡ last_of r.route
+    → slice_get (component (ports_of is.kind)) k ≡ Some n
+    → IsEndOf lib (path_around lib r.parent) component boundary (record { component = o; port = k }) (record { at = path_of lib i; name = n })
+around_end lib component boundary i r o k n is e h =
+    let some : o ≡ Some is.placed.place = e ∙ last_of_route lib i r is in
+    record {
+      there = subst (λ (p : Path). IsThere lib p o (path_of lib i)) (sym (parent_around lib i r.parent is.parent_is))
+          (subst (λ (o : Option ℕ). IsThere lib (parent (path_of lib i)) o (path_of lib i)) (sym e) (stands_there lib i r is));
+      kind = is.kind;
+      is_kind = is.is_kind;
+      name = ap (λ (c : Option ℕ). slice_get (side c component boundary (ports_of is.kind)) k) some ∙ h;
+    }
+
+inside_end :
+    (lib : Library) (component boundary : Ports → List Name) (i : ℕ) (r : Row) (k : ℕ) (n : Name) → (is : IsRow lib i r)
+    → slice_get (boundary (ports_of is.kind)) k ≡ Some n
+    → IsEndOf lib (path_of lib i) component boundary (record { component = None; port = k }) (record { at = path_of lib i; name = n })
+inside_end lib component boundary i r k n is h = record { there = refl; kind = is.kind; is_kind = is.is_kind; name = h }
+
+-- ---- Networks around and inside
+
+inside_wired :
+    (lib : Library) (layout : Layout) (app : NetworkNumbers) (blocks : List (Option NetworkNumbers)) (i : ℕ) → AreTables lib layout app blocks
+    → i < length (paths_of lib) → MayBeWired lib (path_of lib i)
+inside_wired lib layout app blocks i are within = λ net is. around_wired lib layout app blocks (Some i) net are within is
+
+outside_wired :
+    (lib : Library) (layout : Layout) (app : NetworkNumbers) (blocks : List (Option NetworkNumbers)) (i : ℕ) (r : Row) → AreTables lib layout app blocks
+    → i < length (paths_of lib) → IsRow lib i r → MayBeWired lib (parent (path_of lib i))
+outside_wired lib layout app blocks i r are within is =
+    subst (λ (p : Path). MayBeWired lib p) (parent_around lib i r.parent is.parent_is)
+    (λ net h. around_wired lib layout app blocks r.parent net are (parent_within lib i r.parent within is.parent_is) h)
+
+-- ---- Events
+
+-- What a look-up in the network around an instance, or inside it, answers for each port that the end stands for.
+abbrev pub LeadsFrom : Library → Path → End → ℕ → Option Target → Type 0
+LeadsFrom lib p e place result =
+    (q : Port) → IsEndOf lib p event_outs event_ins e q → option_map (port_of lib) result ≡ slice_get (targets_along (events_inside lib p) q) place
+
+abbrev pub Leads : Library → Target → ℕ → Option Target → Type 0
+Leads lib from place result = option_map (port_of lib) result ≡ slice_get (targets_of lib (port_of lib from)) place
+
+output_name :
+    (lib : Library) (i e : ℕ) (r : Row) → (is : IsRow lib i r) → e < length (ports_here lib i).event_outputs
+    → slice_get (event_outs (ports_of is.kind)) e ≡ Some (event_output lib i e).name
+output_name lib i e r is h =
+    let ns = event_outs (ports_here lib i) in
+    let l : length ns ≡ length (ports_here lib i).event_outputs = length-map (ports_here lib i).event_outputs (λ (x : _). x.name) in
+    ap (λ (p : Ports). slice_get (event_outs p) e) (sym (ports_of_row lib i r is)) ∙ name_there ns e (omega (arith, h, l))
+
+input_name :
+    (lib : Library) (i e : ℕ) (r : Row) → (is : IsRow lib i r) → e < length (ports_here lib i).event_inputs
+    → slice_get (event_ins (ports_of is.kind)) e ≡ Some (event_input lib i e).name
+input_name lib i e r is h =
+    let ns = event_ins (ports_here lib i) in
+    let l : length ns ≡ length (ports_here lib i).event_inputs = length-map (ports_here lib i).event_inputs (λ (x : _). x.name) in
+    ap (λ (p : Ports). slice_get (event_ins p) e) (sym (ports_of_row lib i r is)) ∙ name_there ns e (omega (arith, h, l))
+
+output_port : (lib : Library) (t : Target) → t.is_output ≡ true → port_of lib t ≡ event_output lib t.instance t.event
+output_port lib t h = ap (λ b. cond b (event_output lib t.instance t.event) (event_input lib t.instance t.event)) h
+
+input_port : (lib : Library) (t : Target) → t.is_output ≡ false → port_of lib t ≡ event_input lib t.instance t.event
+input_port lib t h = ap (λ b. cond b (event_output lib t.instance t.event) (event_input lib t.instance t.event)) h
+
+output_within : (lib : Library) (t : Target) → t.is_output ≡ true → IsPort lib t → t.event < length (ports_here lib t.instance).event_outputs
+output_within lib t h is =
+    subst (λ (b : Bool). t.event < length (cond b (ports_here lib t.instance).event_outputs (ports_here lib t.instance).event_inputs)) h is.event
+
+input_within : (lib : Library) (t : Target) → t.is_output ≡ false → IsPort lib t → t.event < length (ports_here lib t.instance).event_inputs
+input_within lib t h is =
+    subst (λ (b : Bool). t.event < length (cond b (ports_here lib t.instance).event_outputs (ports_here lib t.instance).event_inputs)) h is.event
+
+pub output_end :
+    (lib : Library) (t : Target) (r : Row) (o : Option ℕ) → IsPort lib t → t.is_output ≡ true → IsRow lib t.instance r → o ≡ last_of r.route
+    → IsEndOf lib (path_around lib r.parent) event_outs event_ins (record { component = o; port = t.event }) (event_output lib t.instance t.event)
+output_end lib t r o port out is e =
+    around_end lib event_outs event_ins t.instance r o t.event (event_output lib t.instance t.event).name is e
+    (output_name lib t.instance t.event r is (output_within lib t out port))
+
+pub input_end :
+    (lib : Library) (t : Target) (r : Row) → IsPort lib t → t.is_output ≡ false → IsRow lib t.instance r
+    → IsEndOf lib (path_of lib t.instance) event_outs event_ins (record { component = None; port = t.event }) (event_input lib t.instance t.event)
+input_end lib t r port out is =
+    inside_end lib event_outs event_ins t.instance r t.event (event_input lib t.instance t.event).name is
+    (input_name lib t.instance t.event r is (input_within lib t out port))
+
+pub leads_around :
+    (lib : Library) (layout : Layout) (app : NetworkNumbers) (blocks : List (Option NetworkNumbers)) (t : Target) (r : Row) (o : Option ℕ) (place : ℕ) (result : Option Target)
+    → AreTables lib layout app blocks → IsPort lib t → t.is_output ≡ true → IsRow lib t.instance r → o ≡ last_of r.route
+    → LeadsFrom lib (path_around lib r.parent) (record { component = o; port = t.event }) place result → Leads lib t place result
+leads_around lib layout app blocks t r o place result are port out is e leads =
+    let q : Port = event_output lib t.instance t.event in
+    let named = output_name lib t.instance t.event r is (output_within lib t out port) in
+    let all : targets_of lib q ≡ targets_along (events_inside lib (parent q.at)) q =
+    output_targets lib are.plan q is.kind are.once (inside_wired lib layout app blocks t.instance are port.instance) is.is_kind
+    (element_of_place (event_outs (ports_of is.kind)) t.event q.name named) in
+    leads q (output_end lib t r o port out is e)
+    ∙ ap (λ (p : Path). slice_get (targets_along (events_inside lib p) q) place) (parent_around lib t.instance r.parent is.parent_is)
+    ∙ ap (λ (qs : List Port). slice_get qs place) (sym all)
+    ∙ ap (λ (q : Port). slice_get (targets_of lib q) place) (sym (output_port lib t out))
+
+pub leads_inside :
+    (lib : Library) (layout : Layout) (app : NetworkNumbers) (blocks : List (Option NetworkNumbers)) (t : Target) (place : ℕ) (result : Option Target)
+    → AreTables lib layout app blocks → IsPort lib t → t.is_output ≡ false
+    → LeadsFrom lib (path_of lib t.instance) (record { component = None; port = t.event }) place result → Leads lib t place result
+leads_inside lib layout app blocks t place result are port out leads =
+    let row = row_there lib layout app blocks t.instance are port.instance in
+    let r = row.0 in
+    let is = row.1 in
+    let q : Port = event_input lib t.instance t.event in
+    let named = input_name lib t.instance t.event r is (input_within lib t out port) in
+    let all : targets_of lib q ≡ targets_along (events_inside lib q.at) q =
+    input_targets lib are.plan q is.kind is.placed.instance.name are.once (outside_wired lib layout app blocks t.instance r are port.instance is) is.is_kind
+    (element_of_place (event_ins (ports_of is.kind)) t.event q.name named) is.placed.is_path in
+    leads q (input_end lib t r port out is)
+    ∙ ap (λ (qs : List Port). slice_get qs place) (sym all)
+    ∙ ap (λ (q : Port). slice_get (targets_of lib q) place) (sym (input_port lib t out))
+
+-- ---- Data
+
+abbrev pub ComesFrom : Library → Path → End → Option Place → Type 0
+ComesFrom lib p e result =
+    (q : Port) → IsEndOf lib p data_ins data_outs e q → option_map (variable_of lib) result ≡ source_along (data_inside lib p) q
+
+abbrev pub Comes : Library → Place → Option Place → Type 0
+Comes lib to result = option_map (variable_of lib) result ≡ source_of lib (variable_of lib to)
+
+data_output_name :
+    (lib : Library) (i v : ℕ) (r : Row) → (is : IsRow lib i r) → v < length (ports_here lib i).outputs
+    → slice_get (data_outs (ports_of is.kind)) v ≡ Some (data_output lib i v).name
+data_output_name lib i v r is h =
+    let ns = data_outs (ports_here lib i) in
+    let l : length ns ≡ length (ports_here lib i).outputs = length-map (ports_here lib i).outputs (λ (x : _). x.name) in
+    ap (λ (p : Ports). slice_get (data_outs p) v) (sym (ports_of_row lib i r is)) ∙ name_there ns v (omega (arith, h, l))
+
+data_input_name :
+    (lib : Library) (i v : ℕ) (r : Row) → (is : IsRow lib i r) → v < length (ports_here lib i).inputs
+    → slice_get (data_ins (ports_of is.kind)) v ≡ Some (data_input lib i v).name
+data_input_name lib i v r is h =
+    let ns = data_ins (ports_here lib i) in
+    let l : length ns ≡ length (ports_here lib i).inputs = length-map (ports_here lib i).inputs (λ (x : _). x.name) in
+    ap (λ (p : Ports). slice_get (data_ins p) v) (sym (ports_of_row lib i r is)) ∙ name_there ns v (omega (arith, h, l))
+
+data_output_port : (lib : Library) (x : Place) → x.is_output ≡ true → variable_of lib x ≡ data_output lib x.instance x.variable
+data_output_port lib x h = ap (λ b. cond b (data_output lib x.instance x.variable) (data_input lib x.instance x.variable)) h
+
+data_input_port : (lib : Library) (x : Place) → x.is_output ≡ false → variable_of lib x ≡ data_input lib x.instance x.variable
+data_input_port lib x h = ap (λ b. cond b (data_output lib x.instance x.variable) (data_input lib x.instance x.variable)) h
+
+data_output_within : (lib : Library) (x : Place) → x.is_output ≡ true → IsVariable lib x → x.variable < length (ports_here lib x.instance).outputs
+data_output_within lib x h is =
+    subst (λ (b : Bool). x.variable < length (cond b (ports_here lib x.instance).outputs (ports_here lib x.instance).inputs)) h is.variable
+
+data_input_within : (lib : Library) (x : Place) → x.is_output ≡ false → IsVariable lib x → x.variable < length (ports_here lib x.instance).inputs
+data_input_within lib x h is =
+    subst (λ (b : Bool). x.variable < length (cond b (ports_here lib x.instance).outputs (ports_here lib x.instance).inputs)) h is.variable
+
+pub data_input_end :
+    (lib : Library) (x : Place) (r : Row) (o : Option ℕ) → IsVariable lib x → x.is_output ≡ false → IsRow lib x.instance r → o ≡ last_of r.route
+    → IsEndOf lib (path_around lib r.parent) data_ins data_outs (record { component = o; port = x.variable }) (data_input lib x.instance x.variable)
+data_input_end lib x r o variable out is e =
+    around_end lib data_ins data_outs x.instance r o x.variable (data_input lib x.instance x.variable).name is e
+    (data_input_name lib x.instance x.variable r is (data_input_within lib x out variable))
+
+pub data_output_end :
+    (lib : Library) (x : Place) (r : Row) → IsVariable lib x → x.is_output ≡ true → IsRow lib x.instance r
+    → IsEndOf lib (path_of lib x.instance) data_ins data_outs (record { component = None; port = x.variable }) (data_output lib x.instance x.variable)
+data_output_end lib x r variable out is =
+    inside_end lib data_ins data_outs x.instance r x.variable (data_output lib x.instance x.variable).name is
+    (data_output_name lib x.instance x.variable r is (data_output_within lib x out variable))
+
+pub comes_around :
+    (lib : Library) (layout : Layout) (app : NetworkNumbers) (blocks : List (Option NetworkNumbers)) (x : Place) (r : Row) (o : Option ℕ) (result : Option Place)
+    → AreTables lib layout app blocks → IsVariable lib x → x.is_output ≡ false → IsRow lib x.instance r → o ≡ last_of r.route
+    → ComesFrom lib (path_around lib r.parent) (record { component = o; port = x.variable }) result → Comes lib x result
+comes_around lib layout app blocks x r o result are variable out is e comes =
+    let q : Port = data_input lib x.instance x.variable in
+    let named = data_input_name lib x.instance x.variable r is (data_input_within lib x out variable) in
+    let all : source_of lib q ≡ source_along (data_inside lib (parent q.at)) q =
+    input_source lib are.plan q is.kind are.once (inside_wired lib layout app blocks x.instance are variable.instance) is.is_kind
+    (element_of_place (data_ins (ports_of is.kind)) x.variable q.name named) in
+    comes q (data_input_end lib x r o variable out is e)
+    ∙ ap (λ (p : Path). source_along (data_inside lib p) q) (parent_around lib x.instance r.parent is.parent_is)
+    ∙ sym all ∙ ap (source_of lib) (sym (data_input_port lib x out))
+
+pub comes_inside :
+    (lib : Library) (layout : Layout) (app : NetworkNumbers) (blocks : List (Option NetworkNumbers)) (x : Place) (result : Option Place)
+    → AreTables lib layout app blocks → IsVariable lib x → x.is_output ≡ true
+    → ComesFrom lib (path_of lib x.instance) (record { component = None; port = x.variable }) result → Comes lib x result
+comes_inside lib layout app blocks x result are variable out comes =
+    let row = row_there lib layout app blocks x.instance are variable.instance in
+    let r = row.0 in
+    let is = row.1 in
+    let q : Port = data_output lib x.instance x.variable in
+    let named = data_output_name lib x.instance x.variable r is (data_output_within lib x out variable) in
+    let all : source_of lib q ≡ source_along (data_inside lib q.at) q =
+    output_source lib are.plan q is.kind is.placed.instance.name are.once (outside_wired lib layout app blocks x.instance r are variable.instance is) is.is_kind
+    (element_of_place (data_outs (ports_of is.kind)) x.variable q.name named) is.placed.is_path in
+    comes q (data_output_end lib x r variable out is) ∙ sym all ∙ ap (source_of lib) (sym (data_output_port lib x out))

@@ -1,0 +1,10 @@
+mod Lists
+mod Differing
+mod Ends
+mod Wired
+mod Leading
+mod Looking
+mod Around
+mod Views
+mod Made
+mod Standing

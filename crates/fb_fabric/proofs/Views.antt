@@ -1,0 +1,60 @@
+-- What the tables say of the declaration as which a fabric is seen.
+use Rattle.std.proofs.Common.{◌≡◌, ℕ, ◌<◌, ◌≤◌, List, length, Option, Some, sym, ◌∙◌, ap, subst}
+use Rattle.fb_types.specs.Flat.{instance_at, kind_at, number_of, paths_of}
+use Rattle.fb_types.specs.declared.library.Instance.{Instance}
+use Rattle.fb_types.specs.declared.library.Library.{Library}
+use Rattle.fb_resolve.specs.Numbers.{kind_of_number, parameter_numbers}
+use Rattle.fb_layout.specs.Layouts.{AreComponents, IsRow, path_of}
+use Rattle.fb_layout.specs.declared.layout.Row.{Row}
+use Rattle.fb_types.specs.declared.run.Target.{Target}
+use Rattle.fb_fabric.specs.declared.fabric.Place.{Place}
+use Rattle.fb_fabric.specs.Fabrics.{IsPort, IsVariable}
+use Rattle.fb_fabric.specs.Networks.{IsFabric}
+use Rattle.fb_fabric.proofs.Around.{Comes, Leads}
+use Rattle.fb_fabric.specs.declared.tables.Tables.{Tables}
+
+pub few_of : (t : Tables) (lib : Library) → IsFabric t → t.library ≡ lib → length (paths_of lib) ≤ 4096
+few_of t lib is e = subst (λ (lib : Library). length (paths_of lib) ≤ 4096) e is.few
+
+pub numbers_of : (t : Tables) (lib : Library) → IsFabric t → t.library ≡ lib → (k : ℕ) → k < length (paths_of lib) → number_of (paths_of lib) (path_of lib k) ≡ k
+numbers_of t lib is e =
+    subst (λ (lib : Library). (k : ℕ) → k < length (paths_of lib) → number_of (paths_of lib) (path_of lib k) ≡ k) e is.is_layout.numbers
+
+pub count_of : (t : Tables) (lib : Library) → IsFabric t → t.library ≡ lib → length t.layout.rows ≡ length (paths_of lib)
+count_of t lib is e = is.is_layout.counted ∙ ap (λ (lib : Library). length (paths_of lib)) e
+
+pub within_of : (t : Tables) (lib : Library) (i : ℕ) → t.library ≡ lib → i < length (paths_of lib) → i < length (paths_of t.library)
+within_of t lib i e h = subst (λ (lib : Library). i < length (paths_of lib)) (sym e) h
+
+pub row_of : (t : Tables) (lib : Library) (i : ℕ) (r : Row) → t.library ≡ lib → IsRow t.library i r → IsRow lib i r
+row_of t lib i r e h = subst (λ (lib : Library). IsRow lib i r) e h
+
+pub kind_of_row : (lib : Library) (i : ℕ) (r : Row) → IsRow lib i r → kind_of_number lib r.kind ≡ kind_at lib (path_of lib i)
+kind_of_row lib i r is = is.numbered ∙ sym is.is_kind
+
+pub components_of_row : (lib : Library) (i : ℕ) (r : Row) (ks : List ℕ) → IsRow lib i r → ks ≡ r.components → AreComponents lib (path_of lib i) ks
+components_of_row lib i r ks is e = subst (λ (ks : List ℕ). AreComponents lib (path_of lib i) ks) (sym e) is.components
+
+pub declared_seen :
+    (t : Tables) (lib : Library) (i : ℕ) (x : Instance) → t.library ≡ lib → instance_at t.library (path_of t.library i) ≡ Some x → instance_at lib (path_of lib i) ≡ Some x
+declared_seen t lib i x e h = subst (λ (lib : Library). instance_at lib (path_of lib i) ≡ Some x) e h
+
+abbrev AreParameters : Library → ℕ → List ℕ → Type 0
+AreParameters lib i ks = (x : Instance) → instance_at lib (path_of lib i) ≡ Some x → parameter_numbers lib x ≡ Some ks
+
+pub parameters_seen : (t : Tables) (lib : Library) (i : ℕ) (ks : List ℕ) → t.library ≡ lib → AreParameters t.library i ks → AreParameters lib i ks
+parameters_seen t lib i ks e h = subst (λ (lib : Library). AreParameters lib i ks) e h
+
+-- ---- Ports and variables
+
+pub port_of_tables : (t : Tables) (lib : Library) (x : Target) → t.library ≡ lib → IsPort lib x → IsPort t.library x
+port_of_tables t lib x e h = subst (λ (lib : Library). IsPort lib x) (sym e) h
+
+pub variable_of_tables : (t : Tables) (lib : Library) (x : Place) → t.library ≡ lib → IsVariable lib x → IsVariable t.library x
+variable_of_tables t lib x e h = subst (λ (lib : Library). IsVariable lib x) (sym e) h
+
+pub leads_seen : (t : Tables) (lib : Library) (x : Target) (place : ℕ) (result : Option Target) → t.library ≡ lib → Leads t.library x place result → Leads lib x place result
+leads_seen t lib x place result e h = subst (λ (lib : Library). Leads lib x place result) e h
+
+pub comes_seen : (t : Tables) (lib : Library) (x : Place) (result : Option Place) → t.library ≡ lib → Comes t.library x result → Comes lib x result
+comes_seen t lib x result e h = subst (λ (lib : Library). Comes lib x result) e h

@@ -1,0 +1,2 @@
+pub mod Fabrics
+pub mod Networks

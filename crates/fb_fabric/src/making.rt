@@ -1,0 +1,57 @@
+//! How the tables of a fabric are made.
+
+ghost use Rattle.std.specs.Prelude.{◌≡◌, ◌↔◌, IsTrue, IfOk};
+ghost use Rattle.fb_types.specs.Blocks.{ports_of};
+ghost use Rattle.fb_types.specs.Flat.{kind_of};
+ghost use Rattle.fb_fabric.specs.Networks.{AreNarrow, IsNarrow};
+
+use fb_resolve::numbers::NetworkNumbers;
+use fb_types::items::Items;
+use fb_types::library::{BlockType, Ports};
+use fb_wiring::wiring::Wiring;
+use std::alloc::{AllocError, Global};
+
+/// Whether each port's place is a number of 32 bits.
+fn is_narrow(ports: &Ports) -> bool
+    ensures { IsTrue result ↔ IsNarrow ports.now }
+{
+    let most = u32::MAX as usize;
+    ports.event_inputs.len() <= most
+        && ports.event_outputs.len() <= most
+        && ports.inputs.len() <= most
+        && ports.outputs.len() <= most
+}
+
+fn is_narrow_block(block: &BlockType) -> bool
+    ensures { IsTrue result ↔ IsNarrow (ports_of (kind_of block.now)) }
+{
+    match block {
+        BlockType::Basic(basic) => is_narrow(&basic.ports),
+        BlockType::Composite(composite) => is_narrow(&composite.ports),
+    }
+}
+
+/// Whether the places of the ports of all types are numbers of 32 bits.
+pub(crate) fn are_narrow(blocks: &[BlockType]) -> bool
+    ensures { IsTrue result ↔ AreNarrow blocks.now }
+{
+    blocks.iter().all(is_narrow_block)
+}
+
+/// The wirings of the block types' networks.
+pub(crate) fn wirings_of(
+    alloc: Global,
+    blocks: Items<Option<NetworkNumbers>>,
+) -> Result<Items<Option<Wiring>>, AllocError>
+    ensures { IfOk result (λ wirings. wirings ≡ blocks) }
+{
+    let mut wirings = Items::new(alloc);
+    for block in blocks.into_vec() {
+        let wiring = match block {
+            None => None,
+            Some(numbers) => Some(Wiring::of(alloc, numbers)?),
+        };
+        wirings.push(wiring)?;
+    }
+    Ok(wirings)
+}

@@ -1,0 +1,4 @@
+pub mod Named
+pub mod Placing
+pub mod Naming
+pub mod Initial

@@ -1,0 +1,4 @@
+pub mod EventBlocks
+pub mod Rising
+pub mod Listed
+pub mod Declared

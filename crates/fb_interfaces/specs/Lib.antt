@@ -1,0 +1,3 @@
+pub mod Stands
+pub mod Lookups
+pub mod Tables

@@ -1,0 +1,6 @@
+//! The resources that hold instances, and the links between resources, by their places.
+#![tactic(auto)]
+
+pub mod links;
+#[cfg(test)]
+mod tests;

@@ -1,0 +1,26 @@
+-- Why there is no system (this project's profile).
+use Rattle.std.specs.Prelude.{ℕ, Option, Some, None}
+use Rattle.fb_types.specs.Accepted.{IsLeastFault}
+use Rattle.fb_types.specs.Headline.{Inputs, AreAccepted}
+use Rattle.fb_judge.specs.Faults as judge
+use Rattle.fb_judge.specs.declared.fault.Refusal as judged
+use Rattle.fb_judge.specs.declared.fault.Refusal.TheVariants as refusal
+use Rattle.fb_plain.specs.declared.error.CheckError.{CheckError}
+use Rattle.fb_plain.specs.declared.error.CheckError.TheVariants.{Memory, Unsupported, Refused}
+
+-- the number of a refusal
+abbrev pub number_of : CheckError → Option ℕ
+number_of Memory = None
+number_of Unsupported = None
+number_of (Refused f) = Some (judge.number_of f)
+
+-- what becomes of the judge's refusals
+abbrev pub error_of : judged.Refusal → CheckError
+error_of refusal.Memory = Memory
+error_of (refusal.Fault f) = Refused f
+
+-- A refusal has the least number that applies, and only accepted inputs are not supported.
+abbrev pub IsRightly : Inputs → CheckError → Type 0
+IsRightly i Memory = Unit {0}
+IsRightly i Unsupported = AreAccepted i
+IsRightly i (Refused f) = IsLeastFault (judge.number_of f) i.library i.plan i.stimuli

@@ -1,0 +1,4 @@
+pub mod Tables
+pub mod Types
+pub mod Known
+pub mod Numbered

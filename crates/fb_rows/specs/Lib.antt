@@ -1,0 +1,2 @@
+pub mod Interfaces
+pub mod Rows

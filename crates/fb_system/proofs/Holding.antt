@@ -1,0 +1,115 @@
+-- The resource that holds an instance is that of the application's instance on the way to it.
+use Rattle.std.proofs.Common.{◌≡◌, ℕ, ◌<◌, List, [], ◌∷◌, ◌++◌, map, length, get_or, Option, Some, None, Contains, true, refl, sym, ◌∙◌, ap, subst, inl, inr, append_assoc}
+use Rattle.std.specs.Prelude.{flat_map, is_some, position, slice_get, unwrap_or}
+use Rattle.std.proofs.lemmas.List.Elements.{Contains-append_cases}
+use Rattle.std.proofs.lemmas.Option.{same_Some, slice_get-get_or}
+use Rattle.fb_types.specs.Flat.{holder, inside, paths_of, resource_of}
+use Rattle.fb_types.specs.Headline.{Inputs}
+use Rattle.fb_types.specs.Names.{Name, Path, same_name}
+use Rattle.fb_types.specs.declared.deploy.Plan.{Plan}
+use Rattle.fb_types.specs.declared.library.Instance.{Instance}
+use Rattle.fb_types.specs.declared.library.Library.{Library}
+use Rattle.fb_names.proofs.NameLemmas.{any_from_contains, Contains-cons_cases, Contains-here, Contains-nil, Contains-there}
+use Rattle.fb_names.proofs.Positions.{is_some-position, position_is}
+use Rattle.fb_names.proofs.TwiceIn.{Contains-map}
+use Rattle.fb_layout.proofs.Distinct.{at_Contains, below, below_through, IsThrough, paths_from}
+use Rattle.fb_layout.specs.Layouts.{path_of, place_at, route_to}
+use Rattle.fb_links.specs.Linking.{holder_at, IsLinked, Linked}
+use Rattle.fb_system.specs.Systems.{inputs_of, StandFor}
+use Rattle.fb_system.specs.declared.whole.Whole.{Whole}
+use Rattle.fb_system.proofs.Seen.{linked_seen}
+
+-- ---- Every path leads through an instance of the application
+
+later : (p : Path) (i : Instance) (is : List Instance) (q : Path) → IsThrough p is q → IsThrough p (i ∷ is) q
+later p i is q h = record { instance = h.instance; among = Contains-there i is h.instance h.among; deeper = h.deeper; path = h.path }
+
+through_each : (d : ℕ) (lib : Library) (p : Path) (is : List Instance) (q : Path) → Contains (flat_map (paths_from d lib p) is) q → IsThrough p is q
+through_each d lib p [] q h = absurd (Contains-nil q h)
+through_each d lib p (i ∷ is) q h =
+    elim (Contains-append_cases (paths_from d lib p i) (flat_map (paths_from d lib p) is) q h) [
+      | inl one ↦ elim (Contains-cons_cases (i.name ∷ p) (below d lib (i.name ∷ p) (inside lib i)) q one) [
+        | inl e ↦ record { instance = i; among = Contains-here i is; deeper = []; path = sym e }
+        | inr b ↦
+            let s = below_through d lib (i.name ∷ p) (inside lib i) q b in
+            record {
+              instance = i;
+              among = Contains-here i is;
+              deeper = s.0 ++ s.1 ∷ [];
+              path = s.2 ∙ sym (append_assoc s.0 (s.1 ∷ []) (i.name ∷ p));
+            }
+      ]
+      | inr rest ↦ later p i is q (through_each d lib p is q rest)
+    ]
+
+pub through : (lib : Library) (k : ℕ) → k < length (paths_of lib) → IsThrough [] lib.application.network.instances (path_of lib k)
+through lib k h =
+    let there : slice_get (paths_of lib) k ≡ Some (get_or (paths_of lib) k []) = slice_get-get_or (paths_of lib) k [] h in
+    let is : path_of lib k ≡ get_or (paths_of lib) k [] = ap (λ (o : Option Path). unwrap_or o []) there in
+    subst (λ (q : Path). IsThrough [] lib.application.network.instances q) (sym is)
+    (through_each 16 lib [] lib.application.network.instances (get_or (paths_of lib) k []) (at_Contains (paths_of lib) k (get_or (paths_of lib) k []) there))
+
+-- ---- The way begins at that instance
+
+first_stays : (xs ys : List ℕ) (x : ℕ) → slice_get xs 0 ≡ Some x → slice_get (xs ++ ys) 0 ≡ Some x
+first_stays [] ys x h = absurd (cc)
+first_stays (z ∷ xs) ys x h = h
+
+first_of_route : (lib : Library) (r : List Name) (n : Name) → slice_get (route_to lib (r ++ n ∷ [])) 0 ≡ Some (place_at lib [] n)
+first_of_route lib [] n = refl
+first_of_route lib (m ∷ r) n =
+    first_stays (route_to lib (r ++ n ∷ [])) (place_at lib (r ++ n ∷ []) m ∷ []) (place_at lib [] n) (first_of_route lib r n)
+
+resource_outside : (plan : Plan) (r : List Name) (n : Name) → resource_of plan (r ++ n ∷ []) ≡ holder plan n
+resource_outside plan [] n = refl
+resource_outside plan (m ∷ []) n = refl
+resource_outside plan (m ∷ k ∷ r) n = resource_outside plan (k ∷ r) n
+
+some_of : {A : Type 0} (o : Option A) → is_some o ≡ true → (x : A) × (o ≡ Some x)
+some_of None h = absurd (cc)
+some_of (Some x) h = (x, refl)
+
+-- the resource of an instance of the application, by its place
+holder_there :
+    (lib : Library) (plan : Plan) (x : Linked) (i : Instance) → IsLinked lib plan x → Contains lib.application.network.instances i
+    → holder_at x (place_at lib [] i.name) ≡ holder plan i.name
+holder_there lib plan x i linked among =
+    let own : Instance → Name = λ y. y.name in
+    let is = lib.application.network.instances in
+    let at = some_of (position (same_name i.name) (map own is))
+    (is_some-position (same_name i.name) (map own is) ∙ any_from_contains i.name (map own is) (Contains-map own is i among)) in
+    let there = position_is own i.name is at.0 at.1 in
+    ap (λ (o : Option ℕ). holder_at x (unwrap_or o 0)) at.1 ∙ linked.holders at.0 there.0 there.1 ∙ ap (holder plan) there.2
+
+abbrev pub places_through : (lib : Library) (k : ℕ) → k < length (paths_of lib) → ℕ
+places_through lib k h = place_at lib [] (through lib k h).instance.name
+
+pub first_place : (lib : Library) (k : ℕ) (h : k < length (paths_of lib)) → slice_get (route_to lib (path_of lib k)) 0 ≡ Some (places_through lib k h)
+first_place lib k h =
+    let t = through lib k h in
+    ap (λ (q : Path). slice_get (route_to lib q) 0) t.path ∙ first_of_route lib t.deeper t.instance.name
+
+-- the resource of an instance, by the first place on the way to it
+pub resource_by_place :
+    (lib : Library) (plan : Plan) (x : Linked) (k place : ℕ) → IsLinked lib plan x → k < length (paths_of lib)
+    → slice_get (route_to lib (path_of lib k)) 0 ≡ Some place → holder_at x place ≡ resource_of plan (path_of lib k)
+resource_by_place lib plan x k place linked h found =
+    let t = through lib k h in
+    let same : place ≡ places_through lib k h = same_Some place (places_through lib k h) (sym found ∙ first_place lib k h) in
+    ap (holder_at x) same
+    ∙ holder_there lib plan x t.instance linked t.among
+    ∙ sym (ap (resource_of plan) t.path ∙ resource_outside plan t.deeper t.instance.name)
+
+-- ---- In a system
+
+pub resource_seen :
+    (v w : Whole) (i : Inputs) (k place : ℕ) (route : List ℕ) → StandFor w → v ≡ w → inputs_of w ≡ i → k < length (paths_of i.library)
+    → route ≡ route_to i.library (path_of i.library k) → slice_get route 0 ≡ Some place → holder_at v.links place ≡ resource_of i.plan (path_of i.library k)
+resource_seen v w i k place route is e s h r found =
+    ap (λ (w : Whole). holder_at w.links place) e
+    ∙ resource_by_place i.library i.plan w.links k place (linked_seen w i is s) h (ap (λ (ks : List ℕ). slice_get ks 0) (sym r) ∙ found)
+
+-- a way has a first place
+pub first_there : (lib : Library) (k : ℕ) (route : List ℕ) → k < length (paths_of lib) → route ≡ route_to lib (path_of lib k) → slice_get route 0 ≡ None → ⊥
+first_there lib k route h r none =
+    let g : None ≡ Some (places_through lib k h) = sym none ∙ ap (λ (ks : List ℕ). slice_get ks 0) r ∙ first_place lib k h in cc

@@ -1,0 +1,5 @@
+mod Seen
+mod Holding
+mod Interfaces
+mod Stimuli
+mod Beginning

@@ -1,0 +1,241 @@
+-- What the tables say of the inputs as which a system is seen.
+use Rattle.std.proofs.Common.{◌≡◌, ℕ, ◌<◌, ◌≤◌, ◌+◌, List, [], length, get_or, Option, Some, None, refl, sym, ◌∙◌, ap, subst, inl, inr}
+use Rattle.std.specs.Prelude.{IfOk, IfSome, Result, option_map, slice_get}
+use Rattle.std.proofs.lemmas.Bool.{cases_lt}
+use Rattle.std.proofs.lemmas.List.{length-map}
+use Rattle.std.proofs.lemmas.Option.{slice_get-get_or}
+use Rattle.fb_types.specs.Flat.{kind_at, latency_at, link_between, number_of, paths_of, source_of, targets_of}
+use Rattle.fb_types.specs.Headline.{AreAccepted, Inputs, system_of}
+use Rattle.fb_types.specs.Joined.{TooHigh}
+use Rattle.fb_types.specs.Mapped.{NotMapped}
+use Rattle.fb_types.specs.Numbers.{port_of}
+use Rattle.fb_types.specs.Repeated.{NameTwice}
+use Rattle.fb_types.specs.Text.{path_text}
+use Rattle.fb_types.specs.Unknown.{NameUnknown}
+use Rattle.fb_types.specs.declared.deploy.Link.{Link}
+use Rattle.fb_types.specs.declared.deploy.Plan.{Plan}
+use Rattle.fb_types.specs.declared.deploy.Resource.{Resource}
+use Rattle.fb_types.specs.declared.deploy.Stimulus.{Stimulus}
+use Rattle.fb_types.specs.declared.library.Library.{Library}
+use Rattle.fb_types.specs.declared.library.Ports.{Ports}
+use Rattle.fb_types.specs.declared.run.Target.{Target}
+use Rattle.fb_resolve.specs.Numbers.{kind_of_number}
+use Rattle.fb_resolve.specs.declared.numbers.TypeNumber.{TypeNumber}
+use Rattle.fb_layout.specs.Layouts.{AreComponents, AreNumbers, IsParent, path_of, route_to}
+use Rattle.fb_fabric.specs.Fabrics as fabric
+use Rattle.fb_fabric.specs.declared.fabric.Place.{Place}
+use Rattle.fb_interfaces.specs.Tables.{AreInterfaces}
+use Rattle.fb_interfaces.specs.declared.interfaces.Interfaces.{Interfaces}
+use Rattle.fb_resolve.specs.Types.{ArePortsOfKinds}
+use Rattle.fb_rows.specs.Rows.{AreRows}
+use Rattle.fb_rows.specs.declared.rows.StimulusRow.{StimulusRow}
+use Rattle.fb_links.specs.Linking.{IsLinked, Linked, link_at, receiver_at, sender_at}
+use Rattle.fb_system.specs.Systems.{inputs, inputs_of, IsPort, IsSource, IsTarget, IsVariable, StandFor, variable_of}
+use Rattle.fb_system.specs.declared.whole.Whole.{Whole}
+
+-- ---- What acceptance says
+
+pub once_of : (i : Inputs) → AreAccepted i → ¬ (NameTwice i.library i.plan)
+once_of i h t = h 20 (inl (refl, t))
+
+pub known_of : (i : Inputs) → AreAccepted i → ¬ (NameUnknown i.library i.plan)
+known_of i h t = h 21 (inr (inl (refl, t)))
+
+pub low_of : (i : Inputs) → AreAccepted i → ¬ (TooHigh i.library)
+low_of i h t = h 25 (inr (inr (inr (inr (inr (inl (refl, t)))))))
+
+pub mapped_of : (i : Inputs) → AreAccepted i → ¬ (NotMapped i.library i.plan)
+mapped_of i h t = h 26 (inr (inr (inr (inr (inr (inr (inl (refl, t))))))))
+
+pub few_of : (i : Inputs) → AreAccepted i → length (paths_of i.library) ≤ 4096
+few_of i h =
+    elim (cases_lt 4096 (length (paths_of i.library))) [
+      | inl over ↦ absurd (h 30 (inr (inr (inr (inr (inr (inr (inr (inr (inr (inr (refl, inl over))))))))))))
+      | inr within ↦ within
+    ]
+
+-- ---- The tables are those of the inputs
+
+pub library_seen : (v w : Whole) (i : Inputs) → v ≡ w → inputs_of w ≡ i → v.fabric ≡ i.library
+library_seen v w i e s = ap (λ (w : Whole). w.fabric) e ∙ ap (λ (i : Inputs). i.library) s
+
+pub plan_seen : (v w : Whole) (i : Inputs) → v ≡ w → inputs_of w ≡ i → v.deploy ≡ i.plan
+plan_seen v w i e s = ap (λ (w : Whole). w.deploy) e ∙ ap (λ (i : Inputs). i.plan) s
+
+pub accepted_seen : (w : Whole) (i : Inputs) → StandFor w → inputs_of w ≡ i → AreAccepted i
+accepted_seen w i is s = subst (λ (i : Inputs). AreAccepted i) s is.accepted
+
+pub within_seen : (v w : Whole) (i : Inputs) (k : ℕ) → v ≡ w → inputs_of w ≡ i → k < length (paths_of i.library) → k < length (paths_of v.fabric)
+within_seen v w i k e s h = subst (λ (lib : Library). k < length (paths_of lib)) (sym (library_seen v w i e s)) h
+
+pub count_seen : (v w : Whole) (i : Inputs) → v ≡ w → inputs_of w ≡ i → length (paths_of v.fabric) ≡ length (paths_of i.library)
+count_seen v w i e s = ap (λ (lib : Library). length (paths_of lib)) (library_seen v w i e s)
+
+pub stand_seen : (v w : Whole) → v ≡ w → StandFor w → StandFor v
+stand_seen v w e is = subst (λ (w : Whole). StandFor w) (sym e) is
+
+-- ---- Instances
+
+abbrev Numbered : Library → Type 0
+Numbered lib = (k : ℕ) → k < length (paths_of lib) → number_of (paths_of lib) (path_of lib k) ≡ k
+
+pub numbered_seen : (v w : Whole) (i : Inputs) → v ≡ w → inputs_of w ≡ i → Numbered v.fabric → Numbered i.library
+numbered_seen v w i e s h = subst (λ (lib : Library). Numbered lib) (library_seen v w i e s) h
+
+pub kind_seen :
+    (v w : Whole) (i : Inputs) (k : ℕ) (t : TypeNumber) → v ≡ w → inputs_of w ≡ i → kind_of_number v.fabric t ≡ kind_at v.fabric (path_of v.fabric k)
+    → kind_of_number i.library t ≡ kind_at i.library (path_of i.library k)
+kind_seen v w i k t e s h =
+    subst (λ (lib : Library). kind_of_number lib t ≡ kind_at lib (path_of lib k)) (library_seen v w i e s) h
+
+pub text_seen :
+    (v w : Whole) (i : Inputs) (k : ℕ) (bytes : List ℕ) → v ≡ w → inputs_of w ≡ i → bytes ≡ path_text (path_of v.fabric k)
+    → bytes ≡ path_text (path_of i.library k)
+text_seen v w i k bytes e s h = subst (λ (lib : Library). bytes ≡ path_text (path_of lib k)) (library_seen v w i e s) h
+
+pub parent_seen :
+    (v w : Whole) (i : Inputs) (k : ℕ) (o : Option ℕ) → v ≡ w → inputs_of w ≡ i → IsParent v.fabric k o → IsParent i.library k o
+parent_seen v w i k o e s h = subst (λ (lib : Library). IsParent lib k o) (library_seen v w i e s) h
+
+pub route_seen :
+    (v w : Whole) (i : Inputs) (k : ℕ) (places : List ℕ) → v ≡ w → inputs_of w ≡ i → places ≡ route_to v.fabric (path_of v.fabric k)
+    → places ≡ route_to i.library (path_of i.library k)
+route_seen v w i k places e s h =
+    subst (λ (lib : Library). places ≡ route_to lib (path_of lib k)) (library_seen v w i e s) h
+
+pub components_seen :
+    (v w : Whole) (i : Inputs) (k : ℕ) (numbers : List ℕ) → v ≡ w → inputs_of w ≡ i → AreComponents v.fabric (path_of v.fabric k) numbers
+    → AreComponents i.library (path_of i.library k) numbers
+components_seen v w i k numbers e s h =
+    subst (λ (lib : Library). AreComponents lib (path_of lib k) numbers) (library_seen v w i e s) h
+
+pub top_seen :
+    (v w : Whole) (i : Inputs) (numbers : List ℕ) → v ≡ w → inputs_of w ≡ i → AreNumbers v.fabric [] v.fabric.application.network.instances numbers
+    → AreNumbers i.library [] i.library.application.network.instances numbers
+top_seen v w i numbers e s h =
+    subst (λ (lib : Library). AreNumbers lib [] lib.application.network.instances numbers) (library_seen v w i e s) h
+
+-- ---- Events
+
+pub port_there : (v w : Whole) (i : Inputs) (t : Target) → v ≡ w → inputs_of w ≡ i → IsPort (system_of i) t → fabric.IsPort v.fabric t
+port_there v w i t e s h =
+    subst (λ (lib : Library). fabric.IsPort lib t) (sym (library_seen v w i e s)) (record { instance = h.instance; event = h.event })
+
+targets_up : (i : Inputs) (o : Option Target) → IfSome o (fabric.IsTarget i.library) → IfSome o (IsTarget (system_of i))
+targets_up i None h = h
+targets_up i (Some t) h = record { port = record { instance = h.port.instance; event = h.port.event }; composite = h.composite }
+
+pub targets_seen :
+    (v w : Whole) (i : Inputs) (o : Option Target) → v ≡ w → inputs_of w ≡ i → IfSome o (fabric.IsTarget v.fabric) → IfSome o (IsTarget (system_of i))
+targets_seen v w i o e s h =
+    targets_up i o (subst (λ (lib : Library). IfSome o (fabric.IsTarget lib)) (library_seen v w i e s) h)
+
+pub leads_seen :
+    (v w : Whole) (i : Inputs) (from : Target) (place : ℕ) (o : Option Target) → v ≡ w → inputs_of w ≡ i
+    → option_map (fabric.port_of v.fabric) o ≡ slice_get (targets_of v.fabric (fabric.port_of v.fabric from)) place
+    → option_map (port_of (system_of i)) o ≡ slice_get ((system_of i).targets (port_of (system_of i) from)) place
+leads_seen v w i from place o e s h =
+    subst (λ (lib : Library). option_map (fabric.port_of lib) o ≡ slice_get (targets_of lib (fabric.port_of lib from)) place)
+    (library_seen v w i e s) h
+
+-- ---- Variables
+
+pub variable_there : (v w : Whole) (i : Inputs) (x : Place) → v ≡ w → inputs_of w ≡ i → IsVariable (system_of i) x → fabric.IsVariable v.fabric x
+variable_there v w i x e s h =
+    subst (λ (lib : Library). fabric.IsVariable lib x) (sym (library_seen v w i e s)) (record { instance = h.instance; variable = h.variable })
+
+sources_up : (i : Inputs) (o : Option Place) → IfSome o (fabric.IsSource i.library) → IfSome o (IsSource (system_of i))
+sources_up i None h = h
+sources_up i (Some x) h = record { variable = record { instance = h.variable.instance; variable = h.variable.variable }; composite = h.composite }
+
+pub sources_seen :
+    (v w : Whole) (i : Inputs) (o : Option Place) → v ≡ w → inputs_of w ≡ i → IfSome o (fabric.IsSource v.fabric)
+    → IfSome o (IsSource (system_of i))
+sources_seen v w i o e s h =
+    sources_up i o (subst (λ (lib : Library). IfSome o (fabric.IsSource lib)) (library_seen v w i e s) h)
+
+pub comes_seen :
+    (v w : Whole) (i : Inputs) (to : Place) (o : Option Place) → v ≡ w → inputs_of w ≡ i
+    → option_map (fabric.variable_of v.fabric) o ≡ source_of v.fabric (fabric.variable_of v.fabric to)
+    → option_map (variable_of (system_of i)) o ≡ (system_of i).source (variable_of (system_of i) to)
+comes_seen v w i to o e s h =
+    subst (λ (lib : Library). option_map (fabric.variable_of lib) o ≡ source_of lib (fabric.variable_of lib to)) (library_seen v w i e s) h
+
+-- ---- The deployment
+
+pub stimuli_seen : (v w : Whole) (i : Inputs) → v ≡ w → inputs_of w ≡ i → v.stimuli ≡ i.stimuli
+stimuli_seen v w i e s = ap (λ (w : Whole). w.stimuli) e ∙ ap (λ (i : Inputs). i.stimuli) s
+
+-- the plan that is read of the tables
+pub plan_read : (v w : Whole) (i : Inputs) (p : Plan) → v ≡ w → inputs_of w ≡ i → p ≡ v.deploy → p ≡ i.plan
+plan_read v w i p e s r = r ∙ plan_seen v w i e s
+
+pub links_counted : (v w : Whole) (i : Inputs) (p : Plan) → v ≡ w → inputs_of w ≡ i → p ≡ v.deploy → length p.links ≡ (system_of i).links
+links_counted v w i p e s r = ap (λ (p : Plan). length p.links) (plan_read v w i p e s r)
+
+pub resources_counted :
+    (v w : Whole) (i : Inputs) (p : Plan) → v ≡ w → inputs_of w ≡ i → p ≡ v.deploy → length p.resources ≡ length (system_of i).resource_names
+resources_counted v w i p e s r =
+    ap (λ (p : Plan). length p.resources) (plan_read v w i p e s r) ∙ sym (length-map i.plan.resources (λ (x : Resource). x.name))
+
+-- ---- Links
+
+pub linked_seen : (w : Whole) (i : Inputs) → StandFor w → inputs_of w ≡ i → IsLinked i.library i.plan w.links
+linked_seen w i is s = subst (λ (i : Inputs). IsLinked i.library i.plan w.links) s is.links
+
+pub sender_seen : (v w : Whole) (i : Inputs) (l : ℕ) → StandFor w → v ≡ w → inputs_of w ≡ i → sender_at v.links l ≡ (system_of i).sender l
+sender_seen v w i l is e s = ap (λ (w : Whole). sender_at w.links l) e ∙ (linked_seen w i is s).senders l
+
+pub receiver_seen : (v w : Whole) (i : Inputs) (l : ℕ) → StandFor w → v ≡ w → inputs_of w ≡ i → receiver_at v.links l ≡ (system_of i).receiver l
+receiver_seen v w i l is e s = ap (λ (w : Whole). receiver_at w.links l) e ∙ (linked_seen w i is s).receivers l
+
+pub link_seen :
+    (v w : Whole) (i : Inputs) (from to : ℕ) → StandFor w → v ≡ w → inputs_of w ≡ i → from < length (system_of i).resource_names
+    → to < length (system_of i).resource_names → link_at v.links from to ≡ link_between i.plan from to
+link_seen v w i from to is e s f t =
+    let counted : length (system_of i).resource_names ≡ length i.plan.resources = length-map i.plan.resources (λ (x : Resource). x.name) in
+    ap (λ (w : Whole). link_at w.links from to) e ∙ (linked_seen w i is s).links from to (subst (λ n. from < n) counted f) (subst (λ n. to < n) counted t)
+
+pub link_within :
+    (v w : Whole) (i : Inputs) (p : Plan) (l : ℕ) → v ≡ w → inputs_of w ≡ i → p ≡ v.deploy → l < (system_of i).links → l < length p.links
+link_within v w i p l e s r h = subst (λ (p : Plan). l < length p.links) (sym (plan_read v w i p e s r)) h
+
+pub latency_there :
+    (v w : Whole) (i : Inputs) (p : Plan) (l : ℕ) (x : Link) (sent : ℕ) → v ≡ w → inputs_of w ≡ i → p ≡ v.deploy → slice_get p.links l ≡ Some x
+    → (system_of i).arrival l sent ≡ sent + latency_at x.latency sent
+latency_there v w i p l x sent e s r h =
+    let there : slice_get i.plan.links l ≡ Some x = ap (λ (p : Plan). slice_get p.links l) (sym (plan_read v w i p e s r)) ∙ h in
+    ap (λ (o : Option Link). sent + elim o [ None ↦ 1 | Some x ↦ latency_at x.latency sent ]) there
+
+pub latency_read :
+    (v w : Whole) (i : Inputs) (p : Plan) (links : List Link) (l : ℕ) (d : Link) (sent : ℕ) → v ≡ w → inputs_of w ≡ i → p ≡ v.deploy → links ≡ p.links
+    → l < (system_of i).links → (system_of i).arrival l sent ≡ sent + latency_at (get_or links l d).latency sent
+latency_read v w i p links l d sent e s r q h =
+    let within : l < length links = subst (λ (ls : List Link). l < length ls) (sym q) (link_within v w i p l e s r h) in
+    latency_there v w i p l (get_or links l d) sent e s r (ap (λ (ls : List Link). slice_get ls l) (sym q) ∙ slice_get-get_or links l d within)
+
+-- ---- Making
+
+abbrev whole_of : Plan → List Stimulus → Library → Linked → List Ports → Interfaces → List StimulusRow → Whole
+whole_of plan stimuli lib links blocks interfaces rows =
+    record { deploy = plan; stimuli = stimuli; fabric = lib; links = links; event_blocks = blocks; interfaces = interfaces; rows = rows }
+
+pub view_made : (lib f : Library) (plan : Plan) (stimuli xs : List Stimulus) → f ≡ lib → xs ≡ stimuli → inputs f plan xs ≡ inputs lib plan stimuli
+view_made lib f plan stimuli xs library same = λ j. inputs (library j) plan (same j)
+
+pub ok_seen : {A E : Type 0} (r : Result A E) (a b : A) → a ≡ b → IfOk r (λ s. s ≡ a) → IfOk r (λ s. s ≡ b)
+ok_seen {A} r a b e h = subst (λ (x : A). IfOk r (λ s. s ≡ x)) e h
+
+pub made :
+    (lib : Library) (plan p : Plan) (stimuli xs : List Stimulus) (f : Library) (links : Linked) (blocks : List Ports) (interfaces : Interfaces) (rows : List StimulusRow)
+    → AreAccepted (inputs lib plan stimuli) → p ≡ plan → IsLinked lib p links → f ≡ lib → xs ≡ stimuli → ArePortsOfKinds blocks → AreInterfaces lib interfaces
+    → AreRows lib stimuli rows → StandFor (whole_of plan xs f links blocks interfaces rows)
+made lib plan p stimuli xs f links blocks interfaces rows accepted read linked library same of_kinds of_types by_number =
+    let view = view_made lib f plan stimuli xs library same in
+    record {
+      accepted = subst (λ (i : Inputs). AreAccepted i) (sym view) accepted;
+      links = subst (λ (l : Library). IsLinked l plan links) (sym library) (subst (λ (p : Plan). IsLinked lib p links) read linked);
+      event_blocks = of_kinds;
+      interfaces = subst (λ (l : Library). AreInterfaces l interfaces) (sym library) of_types;
+      rows = subst (λ (l : Library). AreRows l xs rows) (sym library) (subst (λ (ss : List Stimulus). AreRows lib ss rows) (sym same) by_number);
+    }

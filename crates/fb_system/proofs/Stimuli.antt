@@ -1,0 +1,104 @@
+-- The stimuli by number, as of the inputs as which a system is seen.
+use Rattle.std.proofs.Common.{◌≡◌, ℕ, zero, suc, ◌<◌, false, All, List, [], ◌∷◌, map, length, Option, Some, None, refl, sym, ◌∙◌, ap, subst, arith}
+use Rattle.std.specs.Prelude.{option_map, slice_get, unwrap_or}
+use Rattle.std.specs.Borrow.{Bor}
+use Rattle.std.proofs.lemmas.List.{length-map}
+use Rattle.std.proofs.lemmas.Option.{same_Some, get_or_from_slice_get, slice_get-map, slice_get_within}
+use Rattle.fb_types.specs.Names.{Name, Path}
+use Rattle.fb_types.specs.Blocks.{Kind, event_names, ports, ports_of}
+use Rattle.fb_types.specs.Flat.{kind_at, paths_of}
+use Rattle.fb_types.specs.Headline.{Inputs, system_of}
+use Rattle.fb_types.specs.Numbers.{event_at, path_at, ports_at}
+use Rattle.fb_types.specs.Simulation.{stimulus_of}
+use Rattle.fb_types.specs.declared.deploy.Stimulus.{Stimulus}
+use Rattle.fb_types.specs.declared.library.EventPort.{EventPort}
+use Rattle.fb_types.specs.declared.library.Instance.{Instance}
+use Rattle.fb_types.specs.declared.library.Library.{Library}
+use Rattle.fb_types.specs.declared.library.Ports.{Ports}
+use Rattle.fb_layout.specs.Layouts.{AreNumbers, path_of}
+use Rattle.fb_rows.specs.Rows.{AreRows, IsRow, set_at}
+use Rattle.fb_rows.specs.declared.rows.SlotValue.{SlotValue}
+use Rattle.fb_rows.specs.declared.rows.StimulusRow.{StimulusRow}
+use Rattle.fb_system.specs.Stimuli.{IsStimulusAt, set_of}
+use Rattle.fb_system.specs.Systems.{inputs_of, StandFor}
+use Rattle.fb_system.specs.declared.whole.Whole.{Whole}
+
+-- ---- The rows
+
+pub rows_seen : (v w : Whole) (i : Inputs) → StandFor w → v ≡ w → inputs_of w ≡ i → AreRows i.library i.stimuli v.rows
+rows_seen v w i is e s =
+    subst (λ (x : Whole). AreRows i.library i.stimuli x.rows) (sym e) (subst (λ (i : Inputs). AreRows i.library i.stimuli w.rows) s is.rows)
+
+pub row_within : (v w : Whole) (i : Inputs) (k : ℕ) → StandFor w → v ≡ w → inputs_of w ≡ i → k < length i.stimuli → k < length v.rows
+row_within v w i k is e s h = let counted = (rows_seen v w i is e s).counted in omega (arith, h, counted)
+
+-- ---- The instance of a row
+
+all_at : {X : Type 0} (P : X → Type 0) (xs : List X) (k : ℕ) (x : X) → All P xs → slice_get xs k ≡ Some x → P x
+all_at {X} P xs k x all h =
+    subst (λ (y : X). P y) (get_or_from_slice_get xs k x x h) (all k x (slice_get_within xs k x h))
+
+-- the path of an instance of the application, by its place
+path_there :
+    (lib : Library) (is : List Instance) (numbers : List ℕ) (place : ℕ) (n : ℕ) (x : Instance) → AreNumbers lib [] is numbers → slice_get numbers place ≡ Some n
+    → slice_get is place ≡ Some x → path_of lib n ≡ x.name ∷ []
+path_there lib is numbers place n x are number instance =
+    same_Some (path_of lib n) (x.name ∷ [])
+    (ap (option_map (path_of lib)) (sym number) ∙ sym (slice_get-map (path_of lib) numbers place)
+    ∙ ap (λ (ps : List Path). slice_get ps place) are.paths
+    ∙ slice_get-map (λ (i : Instance). i.name ∷ []) is place ∙ ap (option_map (λ (i : Instance). i.name ∷ [])) instance)
+
+pub number_there :
+    (lib : Library) (is : List Instance) (numbers : List ℕ) (place : ℕ) (x : Instance) → AreNumbers lib [] is numbers → slice_get is place ≡ Some x
+    → place < length numbers
+number_there lib is numbers place x are instance =
+    let within : place < length is = slice_get_within is place x instance in
+    let counted : length numbers ≡ length is =
+    sym (length-map numbers (path_of lib)) ∙ ap (λ (ps : List Path). length ps) are.paths ∙ length-map is (λ (i : Instance). i.name ∷ []) in
+    omega (arith, within, counted)
+
+-- ---- The stimulus of a row
+
+element_of : {X : Type 0} (xs : List X) (k : ℕ) → k < length xs → (x : X) × (slice_get xs k ≡ Some x)
+element_of [] k h = absurd (omega (arith, h))
+element_of (x ∷ xs) zero h = (x, refl)
+element_of (x ∷ xs) (suc k) h = element_of xs k (omega (arith, h))
+
+pub row_is : (lib : Library) (ss : List Stimulus) (rows : List StimulusRow) (k : ℕ) (row : StimulusRow) → AreRows lib ss rows → slice_get rows k ≡ Some row → (s : Stimulus) × (slice_get ss k ≡ Some s) × IsRow lib s row
+row_is lib ss rows k row are there =
+    let within : k < length rows = slice_get_within rows k row there in
+    let s = element_of ss k (omega (arith, within, are.counted)) in
+    (s.0, s.1, are.each k s.0 row s.1 there)
+
+pub stimulus_stands :
+    (i : Inputs) (rows : List StimulusRow) (k : ℕ) (row : StimulusRow) (top : List ℕ) (n : ℕ) (sets : Bor (List SlotValue)) → AreRows i.library i.stimuli rows
+    → slice_get rows k ≡ Some row → AreNumbers i.library [] i.library.application.network.instances top → slice_get top row.instance ≡ Some n → sets.now ≡ row.sets
+    → IsStimulusAt i k (record { tick = row.tick; target = record { instance = n; event = row.event; is_output = false }; sets = sets })
+stimulus_stands i rows k row top n sets are there numbers number same =
+    let lib = i.library in
+    let sys = system_of i in
+    let s = row_is lib i.stimuli rows k row are there in
+    let is = s.2 in
+    let path : path_of lib n ≡ s.0.instance ∷ [] =
+    path_there lib lib.application.network.instances top row.instance n is.instance numbers number is.at ∙ ap (λ (m : Name). m ∷ []) is.called in
+    let kind : kind_at lib (path_of lib n) ≡ Some is.kind = ap (kind_at lib) path ∙ is.of_kind in
+    let its : ports_at sys (path_at sys n) ≡ ports_of is.kind = ap (λ (o : Option Kind). elim o as (λ _. Ports) [ None ↦ ports [] [] [] [] | Some k ↦ ports_of k ]) kind in
+    let event : event_at (ports_at sys (path_at sys n)).event_inputs row.event ≡ s.0.event =
+    ap (λ (p : Ports). event_at p.event_inputs row.event) its ∙ ap (λ (o : Option Name). unwrap_or o []) is.event in
+    let within : row.event < length (ports_of is.kind).event_inputs =
+    subst (λ (m : ℕ). row.event < m) (length-map (ports_of is.kind).event_inputs (λ (e : EventPort). e.name))
+    (slice_get_within (event_names (ports_of is.kind).event_inputs) row.event s.0.event is.event) in
+    record {
+      stimulus = stimulus_of s.0;
+      is = slice_get-map stimulus_of i.stimuli k ∙ ap (option_map stimulus_of) s.1;
+      tick = is.tick;
+      port = λ j. record { at = path j; name = event j };
+      is_port = record {
+        instance = all_at (λ (m : ℕ). m < length (paths_of lib)) top row.instance n numbers.within number;
+        event = subst (λ (p : Ports). row.event < length p.event_inputs) (sym its) within;
+      };
+      input = refl;
+      sets = ap (map (set_of sys n)) same ∙ ap (λ (p : Ports). map (set_at p.inputs) row.sets) its ∙ is.sets.named;
+      within = subst (λ (xs : List SlotValue). All (λ (x : SlotValue). x.place < length (ports_at sys (path_at sys n)).inputs) xs) (sym same)
+          (subst (λ (p : Ports). All (λ (x : SlotValue). x.place < length p.inputs) row.sets) (sym its) is.sets.within);
+    }

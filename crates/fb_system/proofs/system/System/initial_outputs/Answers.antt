@@ -1,0 +1,10 @@
+use Rattle.fb_types.specs.Headline.{system_of}
+use Rattle.fb_types.specs.Numbers.{path_at}
+use Rattle.fb_system.proofs.Beginning.{outputs_begun}
+use Rattle.fb_system.proofs.Seen.{ok_seen}
+use Rattle.fb_system.proofs.system.System.initial_outputs.Goals as goal
+
+pub returns : goal.returns
+returns c =
+    let sys = system_of c.args.self.now in
+    ok_seen _ _ _ (outputs_begun c.args.self.now (path_at sys c.args.instance) _ c.facts.ensures.accepted c.ports.ensures) c.output_values.ensures

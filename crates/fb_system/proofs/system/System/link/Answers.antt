@@ -1,0 +1,8 @@
+use Rattle.std.proofs.Common.{◌∙◌, ap, ℕ, Option}
+use Rattle.std.specs.Prelude.{unwrap_or}
+use Rattle.fb_system.proofs.Seen.{link_seen}
+use Rattle.fb_system.proofs.system.System.link.Goals as goal
+
+pub returns : goal.returns
+returns c =
+    c.unwrap_or.ensures ∙ ap (λ (o : Option ℕ). unwrap_or o 0) (c.between.ensures ∙ link_seen _ _ _ _ _ c.self.invariant c.deref.ensures c.self.view_is c.requires.from c.requires.to)

@@ -1,0 +1,371 @@
+//! The system that stands for accepted inputs.
+
+ghost use Rattle.std.specs.Prelude.{◌≡◌, ◌+◌, ◌<◌, ◌≤◌, [], ℕ, length, option_map, slice_get, slice_index_or, IfOk, IfSome};
+ghost use Rattle.fb_types.specs.Flat.{latency_at};
+ghost use Rattle.fb_types.specs.Headline.{AreAccepted, system_of};
+ghost use Rattle.fb_types.specs.Limits.{IsWithinLimits};
+ghost use Rattle.fb_types.specs.Numbers.{event_at, path_at, port_of, ports_at};
+ghost use Rattle.fb_types.specs.Blocks.{inputs_with, outputs_with};
+ghost use Rattle.fb_interfaces.specs.Stands.{ArePlaces, AreWithPlaces};
+ghost use Rattle.fb_interfaces.specs.Tables.{AreInterfaces};
+ghost use Rattle.fb_rows.specs.Rows.{AreRows};
+ghost use Rattle.fb_system.specs.Stimuli.{IsStimulusAt, initial_inputs, initial_outputs};
+ghost use Rattle.fb_types.specs.Text.{path_text};
+ghost use Rattle.fb_layout.specs.Layouts.{AreComponents, AreNumbers, IsParent, route_to};
+ghost use Rattle.fb_resolve.specs.Numbers.{IsResolved, kind_of_number};
+ghost use Rattle.fb_system.specs.Systems.{inputs, inputs_of, IsPort, IsSource, IsTarget, IsVariable, StandFor, variable_of};
+
+use crate::event_blocks::event_blocks;
+use crate::stimulus::StimulusAt;
+use crate::types::{ports_of_type, with_places_of_type};
+use crate::whole::{Whole, row_at};
+use fb_fabric::fabric::{Fabric, Place};
+use fb_initial::values::{input_values, output_values};
+use fb_interfaces::interfaces::Interfaces;
+use fb_interfaces::with_places::WithPlaces;
+use fb_links::links::Links;
+use fb_resolve::numbers::{Resolved, TypeNumber};
+use fb_rows::rows::StimulusRow;
+use fb_types::deploy::{Deploy, Plan, Stimulus};
+use fb_types::items::Items;
+use fb_types::latency::Latency;
+use fb_types::library::{Library, Ports};
+use fb_types::run::Target;
+use fb_types::value::Value;
+use std::alloc::{AllocError, Global};
+use std::marker::Model;
+use std::sync::Arc;
+
+/// An accepted system. Contracts see the inputs that it stands for, and by them the flat system of the definitions.
+/// Instances, events, variables, resources and links are numbers here, each from 0.
+#[derive(Drop)]
+pub struct System {
+    whole: Arc<Whole, Global>,
+}
+
+impl Model for System {
+    ghost use Rattle.std.specs.Arc.{arc_value};
+    ghost use Rattle.fb_types.specs.Headline.{Inputs};
+
+    ghost Value = { Inputs };
+
+    ghost use Rattle.fb_types.specs.contracts.text.Expr as expr;
+    ghost use Rattle.fb_types.specs.contracts.text.Stmt as stmt;
+    ghost use Rattle.std.specs.Coded.{codes};
+
+    ghost coded = { Prim.hlevel (codes, expr.the_row.coded, stmt.the_row.coded) };
+
+    ghost use Rattle.fb_system.specs.Systems.{inputs_of, StandFor};
+
+    ghost view = { λ s. inputs_of (arc_value s.whole) };
+
+    ghost invariant = { λ s. StandFor (arc_value s.whole) };
+}
+
+impl System {
+    /// The system of accepted inputs, with the numbers of the declaration and the deployment, which are taken apart.
+    pub fn of(
+        alloc: Global,
+        library: Library,
+        deploy: Deploy,
+        stimuli: Vec<Stimulus>,
+        numbers: Resolved,
+        interfaces: Interfaces,
+        rows: Items<StimulusRow>,
+    ) -> Result<System, AllocError>
+        requires accepted { AreAccepted (inputs library deploy stimuli.items) }
+        requires numbers { IsResolved library deploy numbers }
+        requires interfaces { AreInterfaces library interfaces }
+        requires rows { AreRows library stimuli.items rows }
+        ensures { IfOk result (λ s. s ≡ inputs library deploy stimuli.items) }
+    {
+        let links = Links::of(alloc, &library, deploy.plan(), &numbers)?;
+        let fabric = Fabric::of(alloc, library, numbers)?;
+        let event_blocks = event_blocks(alloc)?;
+        let tables = Whole {
+            deploy,
+            stimuli: Items::from_vec(stimuli),
+            fabric,
+            links,
+            event_blocks,
+            interfaces,
+            rows,
+        };
+        System::of_tables(alloc, tables)
+    }
+
+    /// The system of tables that stand for accepted inputs.
+    fn of_tables(alloc: Global, tables: Whole) -> Result<System, AllocError>
+        requires { StandFor tables }
+        ensures { IfOk result (λ s. s ≡ inputs_of tables) }
+    {
+        let whole = Arc::new(alloc, tables)?;
+        Ok(System { whole })
+    }
+
+    /// The same system. No table is copied.
+    pub fn share(&self) -> Result<System, AllocError>
+        ensures { IfOk result (λ s. s ≡ self.now) }
+    {
+        let whole = Arc::try_clone(&self.whole)?;
+        Ok(System { whole })
+    }
+
+    /// What was accepted, and what every system keeps.
+    pub fn facts(&self)
+        ensures accepted { AreAccepted self.now }
+        ensures limits { IsWithinLimits self.now.plan }
+        ensures few { length (system_of self.now).paths ≤ 4096 }
+        ensures numbered { (i : ℕ) → i < length (system_of self.now).paths → (system_of self.now).number (path_at (system_of self.now) i) ≡ i }
+    {
+        let whole = &*self.whole;
+        let _plan = whole.deploy.plan();
+        whole.fabric.facts();
+    }
+
+    /// The declaration.
+    pub fn library(&self) -> &Library
+        ensures { result.now ≡ self.now.library }
+    {
+        self.whole.fabric.library()
+    }
+
+    /// The resources and links.
+    pub fn plan(&self) -> &Plan
+        ensures { result.now ≡ self.now.plan }
+    {
+        self.whole.deploy.plan()
+    }
+
+    /// The stimuli, each at its row.
+    pub fn stimuli(&self) -> &[Stimulus]
+        ensures { result.now ≡ self.now.stimuli }
+    {
+        self.whole.stimuli.as_slice()
+    }
+
+    /// How many instances there are, at most 4,096.
+    pub fn count(&self) -> usize
+        ensures { result ≡ length (system_of self.now).paths }
+    {
+        self.whole.fabric.count()
+    }
+
+    /// The type of an instance.
+    pub fn kind(&self, instance: u32) -> TypeNumber
+        requires { instance < length (system_of self.now).paths }
+        ensures { kind_of_number self.now.library result ≡ (system_of self.now).kind (path_at (system_of self.now) instance) }
+    {
+        self.whole.fabric.kind(instance)
+    }
+
+    /// The instance names from the outermost, joined by full stops.
+    pub fn path(&self, instance: u32) -> &[u8]
+        requires { instance < length (system_of self.now).paths }
+        ensures { result.now ≡ path_text (path_at (system_of self.now) instance) }
+    {
+        self.whole.fabric.path(instance)
+    }
+
+    /// The number of the composite that an instance is in, less than its own, or none where it is one of the application.
+    pub fn parent(&self, instance: u32) -> Option<u32>
+        requires { instance < length (system_of self.now).paths }
+        ensures { IsParent self.now.library instance result }
+    {
+        self.whole.fabric.parent(instance)
+    }
+
+    /// The places on the way to an instance, each in its network, from the outermost.
+    pub fn route(&self, instance: u32) -> &[u32]
+        requires { instance < length (system_of self.now).paths }
+        ensures { result.now ≡ route_to self.now.library (path_at (system_of self.now) instance) }
+    {
+        self.whole.fabric.route(instance)
+    }
+
+    /// The numbers of the instances inside a composite, in the order of the text. There are none in any other instance.
+    pub fn components(&self, instance: u32) -> &[u32]
+        requires { instance < length (system_of self.now).paths }
+        ensures { AreComponents self.now.library (path_at (system_of self.now) instance) result.now }
+    {
+        self.whole.fabric.components(instance)
+    }
+
+    /// The numbers of the instances of the application itself, in the order of the text.
+    pub fn top(&self) -> &[u32]
+        ensures { AreNumbers self.now.library [] self.now.library.application.network.instances result.now }
+    {
+        self.whole.fabric.top()
+    }
+
+    /// Where the event connection leads that stands at a place among those that leave a port, in the order of the text:
+    /// from an event output to what is around the instance, from an event input of a composite to what is inside.
+    pub fn target(&self, from: Target, place: usize) -> Option<Target>
+        requires { IsPort (system_of self.now) from }
+        ensures leads { option_map (port_of (system_of self.now)) result ≡ slice_get ((system_of self.now).targets (port_of (system_of self.now) from)) place }
+        ensures within { IfSome result (IsTarget (system_of self.now)) }
+    {
+        self.whole.fabric.target(from, place)
+    }
+
+    /// What a variable is connected to: a data input to what is around the instance, a data output of a composite to
+    /// what is inside.
+    pub fn source(&self, to: Place) -> Option<Place>
+        requires { IsVariable (system_of self.now) to }
+        ensures comes { option_map (variable_of (system_of self.now)) result ≡ (system_of self.now).source (variable_of (system_of self.now) to) }
+        ensures within { IfSome result (IsSource (system_of self.now)) }
+    {
+        self.whole.fabric.source(to)
+    }
+
+    /// The resource that holds an instance.
+    pub fn resource(&self, instance: u32) -> usize
+        requires { instance < length (system_of self.now).paths }
+        ensures { result ≡ (system_of self.now).resource (path_at (system_of self.now) instance) }
+    {
+        match self.route(instance).first() {
+            Some(place) => self.whole.links.holder(*place as usize),
+            None => 0,
+        }
+    }
+
+    /// How many resources there are, at most 256.
+    pub fn resources(&self) -> usize
+        ensures { result ≡ length (system_of self.now).resource_names }
+    {
+        self.whole.deploy.plan().resources.len()
+    }
+
+    /// The name of a resource.
+    pub fn resource_name(&self, resource: usize) -> &[u8]
+        requires { resource < length (system_of self.now).resource_names }
+        ensures { result.now ≡ slice_index_or (system_of self.now).resource_names resource [] }
+    {
+        self.whole.deploy.plan().resources.as_slice()[resource]
+            .name
+            .as_bytes()
+    }
+
+    /// How many links there are, at most 1,024.
+    pub fn links(&self) -> usize
+        ensures { result ≡ (system_of self.now).links }
+    {
+        self.whole.deploy.plan().links.len()
+    }
+
+    /// The link from one resource to another, or 0 where there is none.
+    pub fn link(&self, from: usize, to: usize) -> usize
+        requires from { from < length (system_of self.now).resource_names }
+        requires to { to < length (system_of self.now).resource_names }
+        ensures { result ≡ (system_of self.now).link from to }
+    {
+        self.whole.links.between(from, to).unwrap_or(0)
+    }
+
+    /// The resource from which a link leads.
+    pub fn sender(&self, link: usize) -> usize
+        ensures { result ≡ (system_of self.now).sender link }
+    {
+        self.whole.links.sender(link)
+    }
+
+    /// The resource to which a link leads.
+    pub fn receiver(&self, link: usize) -> usize
+        ensures { result ≡ (system_of self.now).receiver link }
+    {
+        self.whole.links.receiver(link)
+    }
+
+    /// The latencies of a link.
+    pub fn latency(&self, link: usize) -> &Latency
+        requires { link < (system_of self.now).links }
+        ensures { (sent : ℕ) → (system_of self.now).arrival link sent ≡ sent + latency_at result.now sent }
+    {
+        &self.whole.deploy.plan().links.as_slice()[link].latency
+    }
+
+    /// The interface of an instance's type.
+    pub fn ports(&self, instance: u32) -> &Ports
+        requires { instance < length (system_of self.now).paths }
+        ensures { result.now ≡ ports_at (system_of self.now) (path_at (system_of self.now) instance) }
+    {
+        let whole = &*self.whole;
+        ports_of_type(whole, whole.fabric.kind(instance))
+    }
+
+    /// For each event of an instance's type, the places of the variables WITH it.
+    fn with_places(&self, instance: u32) -> &WithPlaces
+        requires { instance < length (system_of self.now).paths }
+        ensures { AreWithPlaces (ports_at (system_of self.now) (path_at (system_of self.now) instance)) result.now }
+    {
+        let whole = &*self.whole;
+        with_places_of_type(whole, whole.fabric.kind(instance))
+    }
+
+    /// The places of the data inputs WITH an event input of an instance, in the order in which the inputs are declared.
+    pub fn inputs_with(&self, instance: u32, event: u32) -> &[u32]
+        requires instance { instance < length (system_of self.now).paths }
+        requires event { event < length (ports_at (system_of self.now) (path_at (system_of self.now) instance)).event_inputs }
+        ensures { let its = ports_at (system_of self.now) (path_at (system_of self.now) instance) in ArePlaces its.inputs (inputs_with its (event_at its.event_inputs event)) result.now }
+    {
+        self.with_places(instance).inputs.as_slice()[event as usize].as_slice()
+    }
+
+    /// The places of the data outputs WITH an event output of an instance, in the order in which the outputs are declared.
+    pub fn outputs_with(&self, instance: u32, event: u32) -> &[u32]
+        requires instance { instance < length (system_of self.now).paths }
+        requires event { event < length (ports_at (system_of self.now) (path_at (system_of self.now) instance)).event_outputs }
+        ensures { let its = ports_at (system_of self.now) (path_at (system_of self.now) instance) in ArePlaces its.outputs (outputs_with its (event_at its.event_outputs event)) result.now }
+    {
+        self.with_places(instance).outputs.as_slice()[event as usize].as_slice()
+    }
+
+    /// What each data input of an instance begins with: the parameter, else the declared initial value, else 0 or FALSE.
+    ///
+    /// # Errors
+    ///
+    /// Want of memory.
+    pub fn initial_inputs(&self, alloc: Global, instance: u32) -> Result<Items<Value>, AllocError>
+        requires { instance < length (system_of self.now).paths }
+        ensures { IfOk result (λ vs. vs ≡ initial_inputs (system_of self.now) (path_at (system_of self.now) instance)) }
+    {
+        let fabric = &self.whole.fabric;
+        let declared = fabric.declared(instance);
+        input_values(
+            alloc,
+            self.ports(instance),
+            declared.parameters.as_slice(),
+            fabric.parameters(instance),
+        )
+    }
+
+    /// What each data output of an instance begins with: the declared initial value, else 0 or FALSE.
+    ///
+    /// # Errors
+    ///
+    /// Want of memory.
+    pub fn initial_outputs(&self, alloc: Global, instance: u32) -> Result<Items<Value>, AllocError>
+        requires { instance < length (system_of self.now).paths }
+        ensures { IfOk result (λ vs. vs ≡ initial_outputs (system_of self.now) (path_at (system_of self.now) instance)) }
+    {
+        self.facts();
+        output_values(alloc, self.ports(instance))
+    }
+
+    /// The stimulus at a row, from 0.
+    pub fn stimulus(&self, row: u32) -> StimulusAt<'_>
+        requires { row < length self.now.stimuli }
+        ensures { IsStimulusAt self.now row result }
+    {
+        let row = row_at(&self.whole, row);
+        StimulusAt {
+            tick: row.tick,
+            target: Target {
+                instance: self.top()[row.instance as usize],
+                event: row.event,
+                is_output: false,
+            },
+            sets: row.sets.as_slice(),
+        }
+    }
+}

@@ -1,0 +1,47 @@
+//! The interfaces of types, by the numbers of the types.
+
+ghost use Rattle.std.specs.Prelude.{◌≡◌, Some, option_map};
+ghost use Rattle.fb_types.specs.Blocks.{Kind, ports_of};
+ghost use Rattle.fb_types.specs.Flat.{kind_of};
+ghost use Rattle.fb_interfaces.specs.Stands.{AreWithPlaces};
+ghost use Rattle.fb_resolve.specs.Numbers.{kind_of_number};
+ghost use Rattle.fb_system.specs.Systems.{StandFor};
+
+use crate::event_blocks::place_of_kind;
+use crate::whole::Whole;
+use fb_interfaces::with_places::WithPlaces;
+use fb_resolve::numbers::TypeNumber;
+use fb_types::library::{BlockType, Ports};
+
+fn ports_in(block: &BlockType) -> &Ports
+    ensures { result.now ≡ ports_of (kind_of block.now) }
+{
+    match block {
+        BlockType::Basic(basic) => &basic.ports,
+        BlockType::Composite(composite) => &composite.ports,
+    }
+}
+
+/// The interface of a type.
+pub(crate) fn ports_of_type(tables: &Whole, kind: TypeNumber) -> &Ports
+    requires tables { StandFor tables.now }
+    requires known { (k : Kind) × (kind_of_number tables.now.fabric kind ≡ Some k) }
+    ensures { option_map ports_of (kind_of_number tables.now.fabric kind) ≡ Some result.now }
+{
+    match kind {
+        TypeNumber::Event(kind) => &tables.event_blocks.as_slice()[place_of_kind(kind)],
+        TypeNumber::Declared(place) => ports_in(&tables.fabric.library().blocks.as_slice()[place]),
+    }
+}
+
+/// For each event of a type, the places of the variables WITH it.
+pub(crate) fn with_places_of_type(tables: &Whole, kind: TypeNumber) -> &WithPlaces
+    requires tables { StandFor tables.now }
+    requires known { (k : Kind) × (kind_of_number tables.now.fabric kind ≡ Some k) }
+    ensures { (k : Kind) → kind_of_number tables.now.fabric kind ≡ Some k → AreWithPlaces (ports_of k) result.now }
+{
+    match kind {
+        TypeNumber::Event(kind) => tables.interfaces.of_event_block(kind),
+        TypeNumber::Declared(place) => tables.interfaces.of_block(place),
+    }
+}

@@ -1,0 +1,36 @@
+//! What a system keeps.
+
+ghost use Rattle.std.specs.Prelude.{◌≡◌, ◌<◌, Some, length, slice_get};
+
+use fb_fabric::fabric::Fabric;
+use fb_interfaces::interfaces::Interfaces;
+use fb_links::links::Links;
+use fb_rows::rows::StimulusRow;
+use fb_types::deploy::{Deploy, Stimulus};
+use fb_types::items::Items;
+use fb_types::library::Ports;
+
+/// Accepted inputs, with the tables by which their numbers are looked up.
+#[derive(Drop)]
+pub(crate) struct Whole {
+    pub deploy: Deploy,
+    pub stimuli: Items<Stimulus>,
+    /// The declaration, its instances, and what their ports are connected to.
+    pub fabric: Fabric,
+    /// The resources of the instances, and the links.
+    pub links: Links,
+    /// The interfaces of the event blocks, in the order of their kinds.
+    pub event_blocks: Items<Ports>,
+    /// The variables WITH the events of each type.
+    pub interfaces: Interfaces,
+    /// The stimuli by number.
+    pub rows: Items<StimulusRow>,
+}
+
+/// The stimulus at a row.
+pub(crate) fn row_at(tables: &Whole, row: u32) -> &StimulusRow
+    requires { row < length tables.now.rows }
+    ensures { slice_get tables.now.rows row ≡ Some result.now }
+{
+    &tables.rows.as_slice()[row as usize]
+}

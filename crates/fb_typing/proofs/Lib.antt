@@ -1,0 +1,16 @@
+pub mod Lookups
+pub mod Bodies
+pub mod Charts
+pub mod Values
+pub mod Worlds
+pub mod Sampling
+pub mod Emitting
+pub mod EventBlocks
+pub mod Kept
+pub mod Agendas
+pub mod Simulated
+pub mod Declared
+pub mod Ends
+pub mod Sources
+pub mod Initials
+pub mod Accepted

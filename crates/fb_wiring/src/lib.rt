@@ -1,0 +1,7 @@
+//! Where the connections of a network lead, and where its data comes from, by the places of components and ports.
+#![tactic(auto)]
+
+mod table;
+#[cfg(test)]
+mod tests;
+pub mod wiring;
