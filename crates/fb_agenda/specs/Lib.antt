@@ -1,2 +1,0 @@
-pub mod Agendas
-pub mod Inside

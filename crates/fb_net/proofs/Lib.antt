@@ -1,5 +1,0 @@
-pub mod Arriving
-pub mod Charting
-pub mod Crossing
-pub mod Sampling
-pub mod Taking

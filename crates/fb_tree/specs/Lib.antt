@@ -1,5 +1,0 @@
-pub mod Blocks
-pub mod Changes
-pub mod Trees
-pub mod Worlds
-pub mod formers
