@@ -9,6 +9,8 @@ mod number;
 mod row;
 pub mod stimuli;
 mod table;
+#[cfg(test)]
+mod tests;
 mod text;
 
 pub use deployment::read_deploy;

@@ -9,4 +9,6 @@ mod mentions;
 pub mod parts;
 mod scope;
 mod sorts;
+#[cfg(test)]
+mod tests;
 mod values;

@@ -5,4 +5,6 @@ mod interfaces;
 pub mod links;
 pub mod mapping;
 mod serving;
+#[cfg(test)]
+mod tests;
 pub mod uncarried;

@@ -6,3 +6,5 @@ mod named;
 pub mod places;
 mod repeats;
 mod spaces;
+#[cfg(test)]
+mod tests;

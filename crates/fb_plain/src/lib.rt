@@ -11,4 +11,6 @@ mod parameters;
 mod rows;
 pub mod system;
 pub mod tables;
+#[cfg(test)]
+mod tests;
 mod wires;

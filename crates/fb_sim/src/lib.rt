@@ -10,3 +10,5 @@ pub mod outcome;
 mod react;
 mod reading;
 pub mod serial;
+#[cfg(test)]
+mod tests;

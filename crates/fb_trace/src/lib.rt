@@ -8,4 +8,6 @@ mod names;
 mod number;
 mod page;
 mod pieces;
+#[cfg(test)]
+mod tests;
 pub mod trace;
