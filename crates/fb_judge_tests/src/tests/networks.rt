@@ -70,8 +70,8 @@ fn types_that_hold_themselves(rt: HostRuntime) -> Result<(), Fail> {
     expect(&rt, rt.alloc(), &TYPES, HELD.as_slice())
 }
 
-/// Composite types `T1` to the last, the first without components, and each of the others with one component of the
-/// type before it; then an application with one instance.
+/// Composite types by number from 1 to the last, the first without components, and each of the others with one
+/// component of the type before it; then an application with one instance.
 fn tower(alloc: Global, last: u32, instance_type: &str) -> Result<String, AllocError> {
     let mut text = String::from_str(alloc, "FUNCTION_BLOCK T1 FBS END_FBS END_FUNCTION_BLOCK")?;
     for height in 2..=last {
