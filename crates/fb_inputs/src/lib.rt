@@ -9,8 +9,6 @@ mod number;
 mod row;
 pub mod stimuli;
 mod table;
-#[cfg(test)]
-mod tests;
 mod text;
 
 pub use deployment::read_deploy;

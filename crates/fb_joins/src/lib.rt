@@ -7,7 +7,5 @@ pub mod heights;
 pub mod parameters;
 pub mod ranges;
 pub mod sources;
-#[cfg(test)]
-mod tests;
 mod values;
 mod variables;

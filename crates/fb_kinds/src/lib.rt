@@ -9,6 +9,4 @@ mod mentions;
 pub mod parts;
 mod scope;
 mod sorts;
-#[cfg(test)]
-mod tests;
 mod values;

@@ -5,6 +5,4 @@ mod interfaces;
 pub mod links;
 pub mod mapping;
 mod serving;
-#[cfg(test)]
-mod tests;
 pub mod uncarried;

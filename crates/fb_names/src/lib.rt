@@ -6,5 +6,3 @@ mod named;
 pub mod places;
 mod repeats;
 mod spaces;
-#[cfg(test)]
-mod tests;

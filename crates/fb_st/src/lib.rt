@@ -10,5 +10,3 @@ pub mod known;
 pub mod meter;
 mod operator;
 mod range;
-#[cfg(test)]
-mod tests;

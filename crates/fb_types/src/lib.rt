@@ -13,7 +13,5 @@ pub mod library;
 pub mod name;
 pub mod reference;
 pub mod run;
-#[cfg(test)]
-mod tests;
 pub mod text;
 pub mod value;

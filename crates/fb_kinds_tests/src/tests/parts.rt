@@ -4,7 +4,7 @@ use super::trees::{
     DOES, Does, Given, INTERNALS, STEP, Step, WITHS, Withs, assign, basic, binary, call, count,
     library, network, otherwise, ports, repeat, unary, variable,
 };
-use crate::parts::{are_parts_known, has_wrong_part};
+use fb_kinds::parts::{are_parts_known, has_wrong_part};
 use fb_names::catalog::catalog_of;
 use fb_types::deploy::Deploy;
 use fb_types::library::{BlockType, CompositeType};

@@ -1,6 +1,6 @@
 //! Trees and frames, made by hand.
 
-use crate::frame::Frame;
+use fb_st::frame::Frame;
 use fb_types::boxed::Boxed;
 use fb_types::items::Items;
 use fb_types::name::Name;

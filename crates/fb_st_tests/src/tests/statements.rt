@@ -3,10 +3,10 @@
 use super::trees::{
     LEAST, MOST, assign, binary, call, frame, of_whole, one, reference, two, unary, variable, whole,
 };
-use crate::exec::exec;
-use crate::frame::Frame;
-use crate::known::knows;
-use crate::meter::{Flow, Meter};
+use fb_st::exec::exec;
+use fb_st::frame::Frame;
+use fb_st::known::knows;
+use fb_st::meter::{Flow, Meter};
 use fb_types::items::Items;
 use fb_types::name::Name;
 use fb_types::text::{BinaryOperator, Body, Branch, Choice, Expr, Label, Stmt, UnaryOperator};

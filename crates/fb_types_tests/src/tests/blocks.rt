@@ -1,11 +1,11 @@
 //! The event blocks, row by row: type name, event inputs, event outputs, data inputs and data outputs.
 
-use crate::event_kind::EventKind;
-use crate::event_ports::{kind_named, ports_of};
-use crate::items::Items;
-use crate::library::{EventPort, Variable};
-use crate::name::Name;
-use crate::value::Ty;
+use fb_types::event_kind::EventKind;
+use fb_types::event_ports::{kind_named, ports_of};
+use fb_types::items::Items;
+use fb_types::library::{EventPort, Variable};
+use fb_types::name::Name;
+use fb_types::value::Ty;
 use std::alloc::{AllocError, Global};
 use std::test::Fail;
 

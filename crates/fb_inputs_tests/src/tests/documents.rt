@@ -1,6 +1,6 @@
 //! Documents of deployments, and what is refused of them.
 
-use crate::read_deploy;
+use fb_inputs::read_deploy;
 use std::alloc::Global;
 use std::test::Fail;
 

@@ -3,7 +3,7 @@
 use super::trees::{
     LEAST, MOST, binary, call, frame, of_truth, of_whole, reference, unary, variable, whole,
 };
-use crate::eval::{eval, holds};
+use fb_st::eval::{eval, holds};
 use fb_types::boxed::Boxed;
 use fb_types::items::Items;
 use fb_types::name::Name;

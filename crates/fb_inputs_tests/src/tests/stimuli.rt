@@ -1,6 +1,6 @@
 //! Stimuli, and rows that are refused.
 
-use crate::read_stimuli;
+use fb_inputs::read_stimuli;
 use fb_types::name::Name;
 use fb_types::value::Value;
 use std::alloc::Global;

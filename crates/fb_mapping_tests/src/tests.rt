@@ -2,8 +2,8 @@
 
 ghost use Rattle.std.specs.Prelude.{◌≡◌, IfOk, false};
 
-use crate::links::lacks_link;
-use crate::mapping::{Mapping, holder, mapping_of};
+use fb_mapping::links::lacks_link;
+use fb_mapping::mapping::{Mapping, holder, mapping_of};
 use fb_types::deploy::{Link, Plan, Resource};
 use fb_types::items::Items;
 use fb_types::latency::Latency;

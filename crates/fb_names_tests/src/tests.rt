@@ -1,7 +1,7 @@
 //! Declarations and deployments with few names, and whether one is given twice. Worked out by hand.
 
-use crate::catalog::{Catalog, catalog_of};
-use crate::places::{Places, place_of};
+use fb_names::catalog::{Catalog, catalog_of};
+use fb_names::places::{Places, place_of};
 use fb_types::deploy::{Link, Plan, Resource};
 use fb_types::items::Items;
 use fb_types::latency::Latency;

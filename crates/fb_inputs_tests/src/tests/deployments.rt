@@ -1,6 +1,6 @@
 //! Deployments, their latencies and their counts.
 
-use crate::read_deploy;
+use fb_inputs::read_deploy;
 use fb_types::latency::Entry;
 use fb_types::name::Name;
 use std::alloc::Global;

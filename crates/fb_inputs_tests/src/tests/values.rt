@@ -1,6 +1,6 @@
 //! Ticks and values of stimuli, at their limits and beyond.
 
-use crate::read_stimuli;
+use fb_inputs::read_stimuli;
 use fb_types::value::Value;
 use std::alloc::Global;
 use std::test::Fail;

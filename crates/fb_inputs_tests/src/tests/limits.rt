@@ -1,6 +1,6 @@
 //! Inputs at the limits of their sizes.
 
-use crate::{read_deploy, read_stimuli};
+use fb_inputs::{read_deploy, read_stimuli};
 use std::alloc::Global;
 use std::test::Fail;
 

@@ -1,12 +1,12 @@
 //! Lists, names, references, keys, latencies and deployments.
 
-use crate::boxed::Boxed;
-use crate::deploy::{Deploy, Link, Plan, Resource};
-use crate::items::Items;
-use crate::key::{Key, compare};
-use crate::latency::{Entry, Latency};
-use crate::name::Name;
-use crate::reference::Reference;
+use fb_types::boxed::Boxed;
+use fb_types::deploy::{Deploy, Link, Plan, Resource};
+use fb_types::items::Items;
+use fb_types::key::{Key, compare};
+use fb_types::latency::{Entry, Latency};
+use fb_types::name::Name;
+use fb_types::reference::Reference;
 use std::alloc::{AllocError, Global};
 use std::cmp::Ordering;
 use std::test::Fail;

@@ -1,11 +1,11 @@
 //! Networks with their numbers, and what is answered for each. The numbers and the answers were worked out by hand.
 //! Most names are left empty, since the numbers stand for them.
 
-use crate::counts::has_too_many_instances;
-use crate::heights::is_too_high;
-use crate::parameters::has_wrong_parameter;
-use crate::ranges::leads_out_of_range;
-use crate::sources::has_two_sources;
+use fb_joins::counts::has_too_many_instances;
+use fb_joins::heights::is_too_high;
+use fb_joins::parameters::has_wrong_parameter;
+use fb_joins::ranges::leads_out_of_range;
+use fb_joins::sources::has_two_sources;
 use fb_resolve::numbers::{End, NetworkNumbers, Resolved, TypeNumber, Wire};
 use fb_types::event_kind::EventKind;
 use fb_types::items::Items;
