@@ -1,5 +1,5 @@
 -- Charts with places in place of names, made one element at a time.
-use Rattle.std.proofs.Common.{◌≡◌, ℕ, suc, ◌+◌, ◌<◌, ◌≤◌, Bool, true, false, cond, ◌&&◌, List, [], ◌∷◌, ◌++◌, length, get_or, drop, take, refl, sym, ◌∙◌, ap, arith}
+use Rattle.std.proofs.Common.{◌≡◌, ℕ, suc, ◌+◌, ◌<◌, ◌≤◌, Bool, true, false, cond, ◌&&◌, ◌||◌, List, [], ◌∷◌, ◌++◌, length, map, Bor, get_or, drop, take, refl, sym, ◌∙◌, ap, arith}
 use Rattle.std.specs.List.{filter, list_any}
 use Rattle.std.proofs.lemmas.List.{take_more, map-append}
 use Rattle.std.proofs.lemmas.List.Elements.{filter-append}
@@ -82,3 +82,28 @@ pub with_skip :
 with_skip events vs e i x names h is apart told =
     told ∙ sym (append-nil (variables_with events (take i vs) e))
     ∙ sym (with_more events vs e i x h is ∙ ap (λ b. variables_with events (take i vs) e ++ cond b (x.name ∷ []) []) apart)
+
+any_of_named :
+    (events : List EventPort) (e v : Name)
+    → list_any (λ p. among p.with v) (filter (λ p. same_name p.name e) events) ≡ goes_with events e v
+any_of_named [] e v = refl
+any_of_named (p ∷ events) e v =
+    let rest = any_of_named events e v in
+    elim (same_name p.name e) as (λ b. list_any (λ p. among p.with v) (cond b (p ∷ filter (λ p. same_name p.name e) events) (filter (λ p. same_name p.name e) events)) ≡ ◌||◌ (b && among p.with v) (goes_with events e v)) [
+      | true ↦ ap (λ b. ◌||◌ (among p.with v) b) rest
+      | false ↦ rest
+    ]
+
+any_of_borrowed :
+    (named : List (Bor EventPort)) (v : Name)
+    → list_any (λ p. among p.now.with v) named ≡ list_any (λ (p : EventPort). among p.with v) (map (λ p. p.now) named)
+any_of_borrowed [] v = refl
+any_of_borrowed (p ∷ named) v = ap (λ b. ◌||◌ (among p.now.with v) b) (any_of_borrowed named v)
+
+-- A variable goes WITH an event where it goes WITH one of those that have its name.
+pub goes_with_named :
+    (events : List EventPort) (named : List (Bor EventPort)) (e v : Name)
+    → map (λ p. p.now) named ≡ filter (λ (p : EventPort). same_name p.name e) events
+    → list_any (λ p. among p.now.with v) named ≡ goes_with events e v
+goes_with_named events named e v is =
+    any_of_borrowed named v ∙ ap (list_any (λ (p : EventPort). among p.with v)) is ∙ any_of_named events e v

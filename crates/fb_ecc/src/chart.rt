@@ -1,8 +1,8 @@
 //! The chart of a basic type, with places in place of names. It is made once for a block, so that no name of
 //! a state, an algorithm or an event is compared during a reaction.
 
-ghost use Rattle.std.specs.Prelude.{◌≡◌, ◌&&◌, IfOk, map, option_map, position};
-ghost use Rattle.std.specs.List.{list_any};
+ghost use Rattle.std.specs.Prelude.{◌≡◌, IfOk, map, option_map, position};
+ghost use Rattle.std.specs.List.{filter, list_any};
 ghost use Rattle.fb_types.specs.Names.{same_name};
 ghost use Rattle.fb_types.specs.Blocks.{among, variables_with};
 ghost use Rattle.fb_ecc.specs.Numbered.{number_in, exit_of, exits_at, exits_from, act_of, row_of, names_with_each, chart_of};
@@ -174,11 +174,30 @@ fn is_among(names: &[Name], name: &Name) -> bool
     names.iter().any(|other| name.is(other))
 }
 
-/// Whether a variable goes WITH an event.
-fn is_with(events: &[EventPort], event: &Name, variable: &Name) -> bool
-    ensures { result ≡ list_any (λ p. same_name p.name event.now && among p.with variable.now) events.now }
+/// The events of a name.
+fn events_named<'a>(
+    alloc: Global,
+    events: &'a [EventPort],
+    name: &Name,
+) -> Result<Vec<&'a EventPort>, AllocError>
+    ensures { IfOk result (λ named. map (λ p. p.now) named.items ≡ filter (λ p. same_name p.name name.now) events.now) }
 {
-    events.iter().any(|port| port.name.is(event) && is_among(port.with.as_slice(), variable))
+    let mut named = Vec::new(alloc);
+    for port in events {
+        if port.name.is(name) {
+            named.push(port)?;
+        }
+    }
+    Ok(named)
+}
+
+/// Whether a variable goes WITH one of the events.
+fn is_with(events: &[&EventPort], variable: &Name) -> bool
+    ensures { result ≡ list_any (λ p. among p.now.with variable.now) events.now }
+{
+    events
+        .iter()
+        .any(|port| is_among(port.with.as_slice(), variable))
 }
 
 /// The variables WITH an event, in the order of the declaration. The first of the variables is expected at
@@ -192,9 +211,11 @@ fn names_with(
 ) -> Result<Items<Reference>, AllocError>
     ensures { IfOk result (λ names. names ≡ variables_with events.now variables.now event.now) }
 {
+    // Each variable is looked for in these alone: a search through all events would take long in a large type.
+    let named = events_named(alloc, events, event)?;
     let mut names = Items::new(alloc);
     for (place, variable) in variables.iter().enumerate() {
-        if is_with(events, event, &variable.name) {
+        if is_with(named.as_slice(), &variable.name) {
             let name = Reference::new(variable.name.try_clone(alloc)?);
             name.expect_at(first.saturating_add(place));
             names.push(name)?;

@@ -24,7 +24,7 @@ module _ (sys : System) (sound : IsTypedSystem sys) where
   abbrev AreTypedEvents : List (Key × AnEvent) → Type 0
   AreTypedEvents = All (λ (e : Key × AnEvent). IsTypedEvent sys e.1)
 
-  abbrev IsTypedAgenda : Agenda → Type 0
+  abbrev pub IsTypedAgenda : Agenda → Type 0
   IsTypedAgenda a = (k : Key) → Holds (IsTypedEvent sys) (a k)
 
   -- ---- What a reaction puts out
@@ -64,9 +64,9 @@ module _ (sys : System) (sound : IsTypedSystem sys) where
 
   -- ---- The taking
 
-  record IsTypedConfig (c : Config) : Type 0 where
-    state : IsTypedState sys c.state
-    agenda : IsTypedAgenda c.agenda
+  pub record IsTypedConfig (c : Config) : Type 0 where
+    pub state : IsTypedState sys c.state
+    pub agenda : IsTypedAgenda c.agenda
 
   state_after : (k : Key) (event : AnEvent) (m : Meter) (s : State) (o : Outcome) → IsTypedState sys s → AreTyped sys o.world
       → IsTypedState sys (effect_of sys k event m s o).state
@@ -101,7 +101,7 @@ module _ (sys : System) (sound : IsTypedSystem sys) where
         agenda = λ j. agenda_after-typed k event (posts_of sys k m s h.0.outs) h.0.timer a j posts waits;
       })
 
-  takes-typed : (limit : ℕ) (k : Key) (event : AnEvent) (s : State) (a : Agenda) (x : Effect) → IsTypedState sys s → IsTypedAgenda a
+  pub takes-typed : (limit : ℕ) (k : Key) (event : AnEvent) (s : State) (a : Agenda) (x : Effect) → IsTypedState sys s → IsTypedAgenda a
       → IsTypedEvent sys event → Takes sys limit s k event x → IsTypedConfig (record { state = x.state; agenda = agenda_after k a x })
   unfolding Takes
   takes-typed limit k event s a x typed waits e h =
@@ -137,7 +137,7 @@ module _ (sys : System) (sound : IsTypedSystem sys) where
   restarts-typed (p ∷ ps) =
       All-append (λ (e : Key × AnEvent). IsTypedEvent sys e.1) (restart_of sys p) (flat_map (restart_of sys) ps) (restart-typed p) (restarts-typed ps)
 
-  opening_agenda-typed : (ss : List Stimulus) → All (IsTypedStimulus sys) ss → IsTypedAgenda (opening_agenda sys ss)
+  pub opening_agenda-typed : (ss : List Stimulus) → All (IsTypedStimulus sys) ss → IsTypedAgenda (opening_agenda sys ss)
   opening_agenda-typed ss h j =
       holds_or_else (IsTypedEvent sys) (found j (opening_events sys ss)) None
       (holds_found (IsTypedEvent sys) j (opening_events sys ss)
@@ -149,7 +149,7 @@ module _ (sys : System) (sound : IsTypedSystem sys) where
   opening_memory-typed (Event CountUp) = record { count = 0; reached = false; is = refl; most = omega arith }
   opening_memory-typed _ = tt
 
-  opening_state-typed : BeginsTyped sys → IsTypedState sys (opening_state sys)
+  pub opening_state-typed : BeginsTyped sys → IsTypedState sys (opening_state sys)
   opening_state-typed begins r = record {
     blocks = λ p k is. record {
       memory = rw is (opening_memory-typed k);

@@ -1,20 +1,23 @@
 -- Lists of ends by an end, and what the tables of a network's wiring hold (IEC 61499-1, 5.3).
-use Rattle.std.specs.Prelude.{◌≡◌, ℕ, List, [], map, Option, Some, None, slice_index_or}
+use Rattle.std.specs.Prelude.{◌≡◌, ℕ, List, [], map, Option, Some, None, slice_index_or, unwrap_or}
+use Rattle.std.specs.BTreeMap.{is_at}
 use Rattle.std.specs.List.{filter}
+use Rattle.std.specs.Map.{lookup}
+use Rattle.std.specs.Ordering.{nat_cmp}
 use Rattle.fb_resolve.specs.declared.numbers.End.{End}
 use Rattle.fb_resolve.specs.declared.numbers.NetworkNumbers.{NetworkNumbers}
 use Rattle.fb_wiring.specs.declared.table.Table.{Table}
 use Rattle.fb_wiring.specs.Wirings.{same_end, targets_in}
 
--- the ends at a port
-abbrev pub ends_of : List (List End) → ℕ → List End
-ends_of row port = slice_index_or row port []
+-- the ends at a port, of the ends at the ports that have any
+abbrev pub ends_of : List (ℕ × List End) → ℕ → List End
+ends_of row port = unwrap_or (lookup (is_at (nat_cmp port)) row) []
 
 -- the ports of a component
-abbrev pub row_of : List (List (List End)) → ℕ → List (List End)
+abbrev pub row_of : List (List (ℕ × List End)) → ℕ → List (ℕ × List End)
 row_of rows component = slice_index_or rows component []
 
-abbrev pub row_at : Table → Option ℕ → List (List End)
+abbrev pub row_at : Table → Option ℕ → List (ℕ × List End)
 row_at t None = t.boundary
 row_at t (Some component) = row_of t.components.items component
 

@@ -8,21 +8,23 @@ ghost use Rattle.fb_wiring.specs.Wirings.{same_end};
 use fb_resolve::numbers::End;
 use fb_types::items::Items;
 use std::alloc::{AllocError, Global};
+use std::collections::BTreeMap;
 use std::marker::Model;
 
-/// For each port of one component, or of the boundary, a list of ends. A port that was not reached yet has no ends.
+/// For each port of one component, or of the boundary, a list of ends. A port that was not reached yet has no ends,
+/// and takes no memory, since a component may have many ports of which few are connected.
 #[derive(Drop)]
 pub(crate) struct Row {
-    ports: Vec<Items<End>>,
+    ports: BTreeMap<usize, Items<End>>,
 }
 
 impl Model for Row {
-    ghost use Rattle.std.specs.Prelude.{List};
+    ghost use Rattle.std.specs.Prelude.{List, ℕ};
     ghost use Rattle.fb_resolve.specs.declared.numbers.End.{End};
 
-    ghost Value = { List (List End) };
+    ghost Value = { List (ℕ × List End) };
 
-    ghost view = { λ r. r.ports.items };
+    ghost view = { λ r. r.ports.entries };
 }
 
 impl Row {
@@ -30,7 +32,7 @@ impl Row {
         ensures { result ≡ [] }
     {
         Row {
-            ports: Vec::new(alloc),
+            ports: BTreeMap::new(alloc),
         }
     }
 
@@ -38,7 +40,7 @@ impl Row {
     fn get(&self, port: usize) -> &[End]
         ensures { result.now ≡ ends_of self.now port }
     {
-        match self.ports.get(port) {
+        match self.ports.get(&port) {
             Some(ends) => ends.as_slice(),
             None => &[],
         }
@@ -48,11 +50,13 @@ impl Row {
     fn push(&mut self, alloc: Global, port: usize, end: End) -> Result<(), AllocError>
         ensures { OnOk result ((p : ℕ) → ends_of self.new p ≡ cond (nat_eq port p) (ends_of self.old p ++ end ∷ []) (ends_of self.old p)) }
     {
-        while self.ports.len() <= port {
-            self.ports.push(Items::new(alloc))?;
+        if let Some(ends) = self.ports.get_mut(&port) {
+            ends.push(end)?;
+            return Ok(());
         }
-        let ends = &mut self.ports[port];
+        let mut ends = Items::new(alloc);
         ends.push(end)?;
+        self.ports.insert(port, ends)?;
         Ok(())
     }
 }

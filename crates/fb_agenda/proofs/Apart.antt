@@ -1,0 +1,233 @@
+-- The events of an agenda: local ones and all others.
+use Rattle.std.proofs.Common.{◌≡◌, ◌≢◌, Bool, true, false, cond, ◌<◌, List, [], ◌∷◌, ◌++◌, length, get_or, arith, refl, sym, ap, subst, ◌∙◌, Option, Some, None, Result, Ok, Err}
+use Rattle.std.specs.BTreeMap.{insert_entry}
+use Rattle.std.specs.Prelude.{IsSome, IfSome, IfNone, OnOk, OnErr, is_some, option_to_list, ℕ}
+use Rattle.std.specs.List.Sorted.{IsStrictlySortedBy}
+use Rattle.std.specs.Map.{keys_of, lookup}
+use Rattle.std.proofs.lemmas.Map.Keys.{sorted_tail}
+use Rattle.std.proofs.lemmas.Cmp.{alike_right}
+use Rattle.std.specs.Ordering.{is_eq, is_gt, is_lt}
+use Rattle.std.specs.declared.cmp.Ordering.{Ordering}
+use Rattle.std.specs.declared.cmp.Ordering.TheVariants.{Less, Equal, Greater}
+use Rattle.fb_types.specs.Keys.{Precedes, key_cmp, or_else, same_key}
+use Rattle.fb_types.specs.declared.key.Key.{Key}
+use Rattle.fb_types.proofs.KeyLaws.{key_cmp_total, same_key_is, same_key_from, same_key_itself}
+use Rattle.fb_agenda.specs.Agendas.{Contents, waiting, AreRising, AreApart, IsFirst, IsLeast}
+use Rattle.fb_agenda.specs.declared.agenda.Event.{Event}
+use Rattle.fb_agenda.proofs.Orders.{not_none, absent, all_later, found_after, rise_after, not_after, precedes, without_first}
+
+-- new has w at the key, and at each other key what old has
+abbrev pub Sets : (k : Key) (w : Option Event) (old new : List (Key × Event)) → Type 0
+Sets k w old new = (j : Key) → lookup (same_key j) new ≡ cond (same_key k j) w (lookup (same_key j) old)
+
+pub or_else_none : {X : Type 0} (o : Option X) → or_else o None ≡ o
+or_else_none None = refl
+or_else_none (Some x) = refl
+
+module _ (c : Contents) (apart : AreApart c) (k : Key) (w : Option Event) where
+  -- ---- Changes of the local events
+
+  module _ (local : k.class ≡ 3) (new : List (Key × Event)) (sets : Sets k w c.local new) where
+    pub local_waits : (j : Key) → waiting (record { local = new; later = c.later; due = c.due }) j ≡ cond (same_key k j) w (waiting c j)
+    local_waits j = ap (λ o. or_else o (lookup (same_key j) c.later)) (sets j) ∙ go (same_key k j) refl
+      where
+        go : (s : Bool) → same_key k j ≡ s → or_else (cond s w (lookup (same_key j) c.local)) (lookup (same_key j) c.later) ≡ cond s w (waiting c j)
+        go true same =
+            let here : j.class ≡ 3 = sym (ap (λ (z : Key). z.class) (same_key_is k j same)) ∙ local in
+            ap (λ o. or_else w o) (apart.later j here) ∙ or_else_none w
+        go false same = refl
+
+    pub local_apart : AreRising new → AreApart (record { local = new; later = c.later; due = c.due })
+    local_apart rising = record { rising = rising; local = λ j other. sets j ∙ go j other (same_key k j) refl; later = apart.later }
+      where
+        go : (j : Key) → j.class ≢ 3 → (s : Bool) → same_key k j ≡ s → cond s w (lookup (same_key j) c.local) ≡ None
+        go j other true same = absurd (other (sym (ap (λ (z : Key). z.class) (same_key_is k j same)) ∙ local))
+        go j other false same = apart.local j other
+
+  -- ---- Changes of the others
+
+  module _ (new : List (Key × Event)) (sets : Sets k w c.later new) (due : List ℕ) where
+    pub later_waits : k.class ≢ 3 → (j : Key) → waiting (record { local = c.local; later = new; due = due }) j ≡ cond (same_key k j) w (waiting c j)
+    later_waits other j = ap (λ o. or_else (lookup (same_key j) c.local) o) (sets j) ∙ go (same_key k j) refl
+      where
+        go : (s : Bool) → same_key k j ≡ s → or_else (lookup (same_key j) c.local) (cond s w (lookup (same_key j) c.later)) ≡ cond s w (waiting c j)
+        go true same =
+            let one : k ≡ j = same_key_is k j same in
+            ap (λ o. or_else o w) (apart.local j (λ h. other (ap (λ (z : Key). z.class) one ∙ h)))
+        go false same = refl
+
+    pub later_apart : (k.class ≡ 3 → w ≡ None) → AreApart (record { local = c.local; later = new; due = due })
+    later_apart gone = record { rising = apart.rising; local = apart.local; later = λ j here. sets j ∙ go j here (same_key k j) refl }
+      where
+        go : (j : Key) → j.class ≡ 3 → (s : Bool) → same_key k j ≡ s → cond s w (lookup (same_key j) c.later) ≡ None
+        go j here true same = gone (ap (λ (z : Key). z.class) (same_key_is k j same) ∙ here)
+        go j here false same = apart.later j here
+
+-- ---- The least key
+
+-- an event that waits, under a key that is not after the least, is the least
+pub same_least : (c : Contents) (k f : Key) → IsLeast c k → IsSome (waiting c f) → is_gt (key_cmp f k) ≡ false → f ≡ k
+same_least c k f least there le = go (key_cmp f k) refl
+  where
+    go : (r : Ordering) → key_cmp f k ≡ r → f ≡ k
+    go Less h =
+        let none : waiting c f ≡ None = least.none_before f h in
+        absurd (not_none (waiting c f) there none)
+    go Equal h = same_key_is f k (ap is_eq h)
+    go Greater h =
+        let no : is_gt Greater ≡ false = subst (λ o. is_gt o ≡ false) h le in
+        absurd cc
+
+-- the least, where it is a local event, is among these
+pub least_local : (c : Contents) (k : Key) → AreApart c → IsLeast c k → k.class ≡ 3 → IsSome (lookup (same_key k) c.local)
+least_local c k apart least local =
+    subst (λ o. IsSome o) (ap (λ o. or_else (lookup (same_key k) c.local) o) (apart.later k local) ∙ or_else_none (lookup (same_key k) c.local)) least.waits
+
+pub least_later : (c : Contents) (k : Key) → AreApart c → IsLeast c k → k.class ≢ 3 → IsSome (lookup (same_key k) c.later)
+least_later c k apart least other =
+    subst (λ o. IsSome o) (ap (λ o. or_else o (lookup (same_key k) c.later)) (apart.local k other)) least.waits
+
+-- the first of those whose keys rise
+pub first_is : (es : List (Key × Event)) (k : Key) (d : Key × Event) → AreRising es → 0 < length es → k ≡ (get_or es 0 d).0 → IsFirst es k
+unfolding IsStrictlySortedBy
+first_is [] k d rise some is = absurd (omega arith)
+first_is (f ∷ es) k d rise some is = record {
+  there = ap (λ b. is_some (cond b (Some f.1) (lookup (same_key k) es))) (same_key_from k f.0 is);
+  none_before = λ j before. let first : Precedes j f.0 = subst (λ (z : Key). Precedes j z) is before in absent j (f ∷ es) (first, all_later j f.0 es first rise.0);
+}
+
+-- ---- The least of all
+
+either_some : {X : Type 0} (o p : Option X) → IsSome p → IsSome (or_else o p)
+either_some None p there = there
+either_some (Some x) p there = refl
+
+first_some : {X : Type 0} (o p : Option X) → IsSome o → IsSome (or_else o p)
+first_some {X} None p there = absurd (not_none {X = X} None there refl)
+first_some (Some x) p there = refl
+
+neither : {X : Type 0} (o p : Option X) → o ≡ None → p ≡ None → or_else o p ≡ None
+neither o p h k = ap (λ z. or_else z p) h ∙ k
+
+-- where no local event waits
+pub least_of_later : (c : Contents) (o : Option Key) → c.local ≡ [] → IfSome o (IsFirst c.later) → IfSome o (IsLeast c)
+least_of_later c None none first = tt
+least_of_later c (Some k) none first = record {
+  waits = either_some (lookup (same_key k) c.local) (lookup (same_key k) c.later) first.there;
+  none_before = λ j before. neither (lookup (same_key j) c.local) (lookup (same_key j) c.later) (ap (λ es. lookup (same_key j) es) none) (first.none_before j before);
+}
+
+-- where the first of the others comes before the first local event
+pub least_is_later : (c : Contents) (k l : Key) → IsFirst c.local l → IsFirst c.later k → Precedes k l → IsLeast c k
+least_is_later c k l local later less = record {
+  waits = either_some (lookup (same_key k) c.local) (lookup (same_key k) c.later) later.there;
+  none_before = λ j before.
+      neither (lookup (same_key j) c.local) (lookup (same_key j) c.later) (local.none_before j (key_cmp_total.trans j k l before less)) (later.none_before j before);
+}
+
+-- where no other event comes before the first local event
+pub least_is_local : (c : Contents) (k : Key) → IsFirst c.local k → ((j : Key) → Precedes j k → lookup (same_key j) c.later ≡ None) → IsLeast c k
+least_is_local c k local none = record {
+  waits = first_some (lookup (same_key k) c.local) (lookup (same_key k) c.later) local.there;
+  none_before = λ j before. neither (lookup (same_key j) c.local) (lookup (same_key j) c.later) (local.none_before j before) (none j before);
+}
+
+before_both : (j k l : Key) → Precedes j k → is_lt (key_cmp l k) ≡ false → Precedes j l
+before_both j k l before not_less = go (key_cmp l k) refl
+  where
+    go : (r : Ordering) → key_cmp l k ≡ r → Precedes j l
+    go Less h =
+        let no : is_lt Less ≡ false = subst (λ o. is_lt o ≡ false) h not_less in
+        absurd cc
+    go Equal h = alike_right key_cmp_total l k j h ∙ before
+    go Greater h = key_cmp_total.trans j k l before (precedes l k h)
+
+pub least_not_later : (c : Contents) (k l : Key) → IsFirst c.local k → IsFirst c.later l → is_lt (key_cmp l k) ≡ false → IsLeast c k
+least_not_later c k l local later not_less = least_is_local c k local (λ j before. later.none_before j (before_both j k l before not_less))
+
+-- ---- Taking the first local event
+
+module _ (c : Contents) (apart : AreApart c) (k : Key) (least : IsLeast c k) (rest : List (Key × Event)) where
+  front_there : (f : Key × Event) → c.local ≡ f ∷ rest → waiting c f.0 ≡ Some f.1
+  front_there f items =
+      ap (λ l. or_else (lookup (same_key f.0) l) (lookup (same_key f.0) c.later)) items
+      ∙ ap (λ b. or_else (cond b (Some f.1) (lookup (same_key f.0) rest)) (lookup (same_key f.0) c.later)) (same_key_itself f.0)
+
+  front_rises : (f : Key × Event) → c.local ≡ f ∷ rest → AreRising (f ∷ rest)
+  front_rises f items = subst (λ l. AreRising l) items apart.rising
+
+  front_is : k.class ≡ 3 → (f : Key × Event) → c.local ≡ f ∷ rest → f.0 ≡ k
+  front_is local f items =
+      same_least c k f.0 least (ap is_some (front_there f items))
+      (not_after f rest (front_rises f items) k (subst (λ l. IsSome (lookup (same_key k) l)) items (least_local c k apart least local)))
+
+  front_sets : (f : Key × Event) → c.local ≡ f ∷ rest → Sets f.0 None c.local rest
+  front_sets f items j = without_first f rest (front_rises f items) j ∙ ap (λ l. cond (same_key f.0 j) None (lookup (same_key j) l)) (sym items)
+
+  module _ (local : k.class ≡ 3) where
+    front_class : (f : Key × Event) → c.local ≡ f ∷ rest → f.0.class ≡ 3
+    front_class f items = ap (λ (z : Key). z.class) (front_is local f items) ∙ local
+
+    pub front_apart : (o : Option (Key × Event)) → c.local ≡ option_to_list o ++ rest → AreApart (record { local = rest; later = c.later; due = c.due })
+    front_apart None items = subst (λ l. AreApart (record { local = l; later = c.later; due = c.due })) items apart
+    front_apart (Some f) items = local_apart c apart f.0 None (front_class f items) rest (front_sets f items) (sorted_tail key_cmp f.0 (keys_of rest) (front_rises f items))
+
+    pub front_below : (horizon : ℕ) → k.tick < horizon → (o : Option (Key × Event)) → c.local ≡ option_to_list o ++ rest → IfSome o (λ r. r.0.tick < horizon)
+    front_below horizon below None items = tt
+    front_below horizon below (Some f) items = subst (λ (z : Key). z.tick < horizon) (sym (front_is local f items)) below
+
+    pub front_least : (o : Option (Key × Event)) → c.local ≡ option_to_list o ++ rest → IfSome o (λ r. (j : Key) → Precedes j r.0 → waiting c j ≡ None)
+    front_least None items = tt
+    front_least (Some f) items = λ j before. least.none_before j (subst (λ (z : Key). Precedes j z) (front_is local f items) before)
+
+    pub front_left : (o : Option (Key × Event)) → c.local ≡ option_to_list o ++ rest
+        → IfSome o (λ r. (j : Key) → waiting (record { local = rest; later = c.later; due = c.due }) j ≡ cond (same_key r.0 j) None (waiting c j))
+    front_left None items = tt
+    front_left (Some f) items = local_waits c apart f.0 None (front_class f items) rest (front_sets f items)
+
+-- ---- Taking the first of the others
+
+module _ (c : Contents) (apart : AreApart c) (k : Key) (least : IsLeast c k) (other : k.class ≢ 3) where
+  -- the first of the others is the least
+  pub first_later_is : (f : Key × Event) → lookup (same_key f.0) c.later ≡ Some f.1
+      → ((q : Key) → IsSome (lookup (same_key q) c.later) → is_gt (key_cmp f.0 q) ≡ false) → f.0 ≡ k
+  first_later_is f value lower =
+      same_least c k f.0 least (either_some (lookup (same_key f.0) c.local) (lookup (same_key f.0) c.later) (ap is_some value)) (lower k (least_later c k apart least other))
+
+  pub popped_below : (horizon : ℕ) → k.tick < horizon → (o : Option (Key × Event)) → IfSome o (λ p. lookup (same_key p.0) c.later ≡ Some p.1)
+      → IfSome o (λ p. (q : Key) → IsSome (lookup (same_key q) c.later) → is_gt (key_cmp p.0 q) ≡ false) → IfSome o (λ r. r.0.tick < horizon)
+  popped_below horizon below None value lower = tt
+  popped_below horizon below (Some f) value lower = subst (λ (z : Key). z.tick < horizon) (sym (first_later_is f value lower)) below
+
+  pub popped_least : (o : Option (Key × Event)) → IfSome o (λ p. lookup (same_key p.0) c.later ≡ Some p.1)
+      → IfSome o (λ p. (q : Key) → IsSome (lookup (same_key q) c.later) → is_gt (key_cmp p.0 q) ≡ false)
+      → IfSome o (λ r. (j : Key) → Precedes j r.0 → waiting c j ≡ None)
+  popped_least None value lower = tt
+  popped_least (Some f) value lower = λ j before. least.none_before j (subst (λ (z : Key). Precedes j z) (first_later_is f value lower) before)
+
+  pub popped_left : (new : List (Key × Event)) (o : Option (Key × Event)) {U : Key × Event → Type 0} → ((p : Key × Event) → U p → Sets p.0 None c.later new)
+      → IfSome o (λ p. lookup (same_key p.0) c.later ≡ Some p.1) → IfSome o (λ p. (q : Key) → IsSome (lookup (same_key q) c.later) → is_gt (key_cmp p.0 q) ≡ false)
+      → IfSome o U → IfSome o (λ r. (j : Key) → waiting (record { local = c.local; later = new; due = c.due }) j ≡ cond (same_key r.0 j) None (waiting c j))
+  popped_left new None sets value lower updates = tt
+  popped_left new (Some f) sets value lower updates =
+      later_waits c apart f.0 None new (sets f updates) c.due (λ h. other (sym (ap (λ (z : Key). z.class) (first_later_is f value lower)) ∙ h))
+
+pub popped_apart : (c : Contents) → AreApart c → (new : List (Key × Event)) (o : Option (Key × Event)) {U : Key × Event → Type 0}
+    → ((p : Key × Event) → U p → Sets p.0 None c.later new) → IfSome o U → IfNone o (new ≡ c.later) → AreApart (record { local = c.local; later = new; due = c.due })
+popped_apart c apart new None sets updates kept = subst (λ l. AreApart (record { local = c.local; later = l; due = c.due })) (sym kept) apart
+popped_apart c apart new (Some f) sets updates kept = later_apart c apart f.0 None new (sets f updates) c.due (λ h. refl)
+
+-- ---- Putting
+
+pub put_local_apart : {A E : Type 0} (c : Contents) → AreApart c → (k : Key) (e : Event) → k.class ≡ 3 → (r : Result A E) (new : List (Key × Event))
+    → OnOk r (new ≡ insert_entry key_cmp c.local k e) → OnErr r (new ≡ c.local) → AreApart (record { local = new; later = c.later; due = c.due })
+put_local_apart c apart k e local (Ok x) new ok err =
+    local_apart c apart k (Some e) local new (λ j. ap (λ l. lookup (same_key j) l) ok ∙ found_after j k e c.local)
+    (subst (λ l. AreRising l) (sym ok) (rise_after k e c.local apart.rising))
+put_local_apart c apart k e local (Err x) new ok err = subst (λ l. AreApart (record { local = l; later = c.later; due = c.due })) (sym err) apart
+
+pub put_local_waits : {A E : Type 0} (c : Contents) → AreApart c → (k : Key) (e : Event) → k.class ≡ 3 → (r : Result A E) (new : List (Key × Event))
+    → OnOk r (new ≡ insert_entry key_cmp c.local k e)
+    → OnOk r ((j : Key) → waiting (record { local = new; later = c.later; due = c.due }) j ≡ cond (same_key k j) (Some e) (waiting c j))
+put_local_waits c apart k e local (Ok x) new ok = local_waits c apart k (Some e) local new (λ j. ap (λ l. lookup (same_key j) l) ok ∙ found_after j k e c.local)
+put_local_waits c apart k e local (Err x) new ok = tt

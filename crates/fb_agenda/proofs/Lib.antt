@@ -1,0 +1,3 @@
+pub mod Orders
+pub mod Apart
+pub mod Timers

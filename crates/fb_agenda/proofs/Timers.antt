@@ -1,0 +1,164 @@
+-- The timers on the agenda.
+use Rattle.std.proofs.Common.{◌≡◌, ◌≢◌, ℕ, ◌<◌, Bool, true, false, cond, eqb, ◌&&◌, List, length, refl, sym, ap, subst, ◌∙◌, Option, Some, None, Result, Ok, Err, get_or-set_same, get_or-set_other}
+use Rattle.std.specs.Prelude.{slice_index, slice_set, OnOk}
+use Rattle.std.specs.Cmp.{first_so, second_so}
+use Rattle.std.proofs.lemmas.Bool.{eqb-true, eq-eqb}
+use Rattle.fb_types.specs.Keys.{changed_to, same_key, timer_key}
+use Rattle.fb_types.specs.Takes.{is_timer_of}
+use Rattle.fb_types.specs.declared.key.Key.{Key}
+use Rattle.fb_types.specs.declared.run.TimerAsk.{TimerAsk}
+use Rattle.fb_types.specs.declared.run.TimerAsk.TheVariants.{Keep, Clear, At}
+use Rattle.fb_types.proofs.KeyLaws.{same_key_is}
+use Rattle.fb_agenda.specs.Agendas.{Contents, waiting, IsTimed, LiesIn, timer_set}
+use Rattle.fb_agenda.specs.declared.agenda.Event.{Event}
+use Rattle.fb_agenda.specs.declared.agenda.Event.TheVariants.{Timer}
+
+pub timer_of_timer_key : (t r i : ℕ) → is_timer_of r i (timer_key t r i) ≡ true
+timer_of_timer_key t r i = ap (λ b. b && true && eqb i i) (eq-eqb r r refl) ∙ eq-eqb i i refl
+
+pub timer_instance : (r i : ℕ) (j : Key) → is_timer_of r i j ≡ true → j.a ≡ i
+timer_instance r i j h = eqb-true j.a i (second_so (eqb j.resource r && eqb j.class 1) (eqb j.a i) h)
+
+pub timer_resource : (r i : ℕ) (j : Key) → is_timer_of r i j ≡ true → j.resource ≡ r
+timer_resource r i j h =
+    eqb-true j.resource r (first_so (eqb j.resource r) (eqb j.class 1) (first_so (eqb j.resource r && eqb j.class 1) (eqb j.a i) h))
+
+pub timer_class : (r i : ℕ) (j : Key) → is_timer_of r i j ≡ true → j.class ≡ 1
+timer_class r i j h =
+    eqb-true j.class 1 (second_so (eqb j.resource r) (eqb j.class 1) (first_so (eqb j.resource r && eqb j.class 1) (eqb j.a i) h))
+
+-- where each timer that waits is the one that is noted, to take that one out is to take them all out
+pub cleared : (c : Contents) (r i due : ℕ) → due ≡ slice_index c.due i → IsTimed c → (j : Key)
+    → cond (same_key (timer_key due r i) j) None (waiting c j) ≡ cond (is_timer_of r i j) None (waiting c j)
+cleared c r i due noted timed j = go (is_timer_of r i j) refl (same_key (timer_key due r i) j) refl (waiting c j) refl
+  where
+    go : (t : Bool) → is_timer_of r i j ≡ t → (s : Bool) → same_key (timer_key due r i) j ≡ s → (o : Option Event) → waiting c j ≡ o → cond s None o ≡ cond t None o
+    go true is true same o e = refl
+    go true is false same None e = refl
+    go true is false same (Some x) e =
+        let found : same_key (timer_key (slice_index c.due i) r i) j ≡ true = timed j r i x e is in
+        let again : same_key (timer_key due r i) j ≡ true = subst (λ (d : ℕ). same_key (timer_key d r i) j ≡ true) (sym noted) found in
+        absurd cc
+    go false is true same o e =
+        let one : timer_key due r i ≡ j = same_key_is (timer_key due r i) j same in
+        let yes : is_timer_of r i j ≡ true = subst (λ (k : Key). is_timer_of r i k ≡ true) one (timer_of_timer_key due r i) in
+        absurd cc
+    go false is false same o e = refl
+
+-- a timer that is taken out is not on the agenda, and no other comes
+pub timed_without : (old new : Contents) (r i : ℕ) → IsTimed old
+    → ((j : Key) → waiting new j ≡ cond (is_timer_of r i j) None (waiting old j)) → new.due ≡ old.due → IsTimed new
+timed_without old new r i timed left same j s n e found is = go (is_timer_of r i j) refl
+  where
+    go : (t : Bool) → is_timer_of r i j ≡ t → same_key (timer_key (slice_index new.due n) s n) j ≡ true
+    go true mine =
+        let none : waiting new j ≡ None = left j ∙ ap (λ b. cond b None (waiting old j)) mine in
+        absurd cc
+    go false mine =
+        let kept : waiting old j ≡ Some e = sym (left j ∙ ap (λ b. cond b None (waiting old j)) mine) ∙ found in
+        subst (λ (d : List ℕ). same_key (timer_key (slice_index d n) s n) j ≡ true) (sym same) (timed j s n e kept is)
+
+-- a timer that is set is the one of its instance that waits
+pub timed_after : (old : Contents) (mid : Key → Option Event) (new : Contents) (r i tick : ℕ) → IsTimed old → LiesIn r i old → i < length old.due
+    → ((j : Key) → mid j ≡ cond (is_timer_of r i j) None (waiting old j))
+    → ((j : Key) → waiting new j ≡ cond (same_key (timer_key tick r i) j) (Some (Timer i)) (mid j))
+    → new.due ≡ slice_set old.due i tick
+    → IsTimed new
+timed_after old mid new r i tick timed home within left put noted j s n e found is = go (same_key (timer_key tick r i) j) refl
+  where
+    go : (b : Bool) → same_key (timer_key tick r i) j ≡ b → same_key (timer_key (slice_index new.due n) s n) j ≡ true
+    go true same =
+        let one : timer_key tick r i ≡ j = same_key_is (timer_key tick r i) j same in
+        let a : i ≡ n = ap (λ (k : Key). k.a) one ∙ timer_instance s n j is in
+        let b : r ≡ s = ap (λ (k : Key). k.resource) one ∙ timer_resource s n j is in
+        let d : slice_index new.due n ≡ tick = ap (λ xs. slice_index xs n) noted ∙ ap (λ m. slice_index (slice_set old.due i tick) m) (sym a) ∙ get_or-set_same old.due i tick 0 within in
+        subst (λ (q : ℕ). same_key (timer_key (slice_index new.due n) q n) j ≡ true) b
+        (subst (λ (m : ℕ). same_key (timer_key (slice_index new.due n) r m) j ≡ true) a (subst (λ (m : ℕ). same_key (timer_key m r i) j ≡ true) (sym d) same))
+    go false same = other (is_timer_of r i j) refl
+      where
+        other : (t : Bool) → is_timer_of r i j ≡ t → same_key (timer_key (slice_index new.due n) s n) j ≡ true
+        other true mine =
+            let none : waiting new j ≡ None = put j ∙ ap (λ b. cond b (Some (Timer i)) (mid j)) same ∙ left j ∙ ap (λ b. cond b None (waiting old j)) mine in
+            absurd cc
+        other false mine =
+            let kept : waiting old j ≡ Some e = sym (put j ∙ ap (λ b. cond b (Some (Timer i)) (mid j)) same ∙ left j ∙ ap (λ b. cond b None (waiting old j)) mine) ∙ found in
+            let apart : n ≢ i = λ q. not_both (at_home q kept) mine in
+            let d : slice_index new.due n ≡ slice_index old.due n = ap (λ xs. slice_index xs n) noted ∙ get_or-set_other old.due i n tick 0 apart in
+            subst (λ (m : ℕ). same_key (timer_key m s n) j ≡ true) (sym d) (timed j s n e kept is)
+          where
+            at_home : n ≡ i → waiting old j ≡ Some e → is_timer_of r i j ≡ true
+            at_home q kept =
+                let mine_there : is_timer_of s i j ≡ true = subst (λ (m : ℕ). is_timer_of s m j ≡ true) q is in
+                subst (λ (m : ℕ). is_timer_of m i j ≡ true) (home j s e kept mine_there) mine_there
+
+            not_both : is_timer_of r i j ≡ true → is_timer_of r i j ≡ false → ⊥
+            not_both x y = absurd cc
+
+-- what an ask at a tick changes
+pub changed_is : (s t : Bool) (x : Event) (o : Option Event) → cond s (Some x) (cond t None o) ≡ changed_to (cond s (Some (Some x)) (cond t (Some None) None)) o
+changed_is true true x o = refl
+changed_is true false x o = refl
+changed_is false true x o = refl
+changed_is false false x o = refl
+
+pub on_ok_both : {A E : Type 0} {P Q R : Type 0} (r : Result A E) → (P → Q → R) → OnOk r P → OnOk r Q → OnOk r R
+on_ok_both (Ok a) f h k = f h k
+on_ok_both (Err e) f h k = tt
+
+-- what lies in a resource still does after an ask, where an instance has one home
+pub lies_after : (old new : Contents) (r i : ℕ) (ask : TimerAsk) (s n : ℕ) → LiesIn s n old → (i ≡ n → r ≡ s)
+    → ((j : Key) → waiting new j ≡ changed_to (timer_set r i ask j) (waiting old j)) → LiesIn s n new
+lies_after old new r i Keep s n lies home changed j q e found is = lies j q e (sym (changed j) ∙ found) is
+lies_after old new r i Clear s n lies home changed j q e found is = go (is_timer_of r i j) refl
+  where
+    go : (t : Bool) → is_timer_of r i j ≡ t → q ≡ s
+    go true mine =
+        let none : waiting new j ≡ None = changed j ∙ ap (λ b. changed_to (cond b (Some None) None) (waiting old j)) mine in
+        absurd cc
+    go false mine = lies j q e (sym (changed j ∙ ap (λ b. changed_to (cond b (Some None) None) (waiting old j)) mine) ∙ found) is
+lies_after old new r i (At t) s n lies home changed j q e found is = go (same_key (timer_key t r i) j) refl (is_timer_of r i j) refl
+  where
+    changed_at : (a b : Bool) → same_key (timer_key t r i) j ≡ a → is_timer_of r i j ≡ b
+        → waiting new j ≡ changed_to (cond a (Some (Some (Timer i))) (cond b (Some None) None)) (waiting old j)
+    changed_at a b same mine =
+        changed j ∙ ap (λ z. changed_to (cond z (Some (Some (Timer i))) (cond (is_timer_of r i j) (Some None) None)) (waiting old j)) same
+        ∙ ap (λ z. changed_to (cond a (Some (Some (Timer i))) (cond z (Some None) None)) (waiting old j)) mine
+
+    go : (a : Bool) → same_key (timer_key t r i) j ≡ a → (b : Bool) → is_timer_of r i j ≡ b → q ≡ s
+    go true same b mine =
+        let one : timer_key t r i ≡ j = same_key_is (timer_key t r i) j same in
+        sym (ap (λ (k : Key). k.resource) one ∙ timer_resource q n j is) ∙ home (ap (λ (k : Key). k.a) one ∙ timer_instance q n j is)
+    go false same true mine =
+        let none : waiting new j ≡ None = changed_at false true same mine in
+        absurd cc
+    go false same false mine = lies j q e (sym (changed_at false false same mine) ∙ found) is
+
+-- ---- What sets no timer keeps each in its place
+
+-- each timer that waits has waited before
+abbrev pub NoneNew : (old new : Contents) → Type 0
+NoneNew old new = (j : Key) (e : Event) → j.class ≡ 1 → waiting new j ≡ Some e → waiting old j ≡ Some e
+
+pub none_put : (old new : Contents) (k : Key) (e : Event) → k.class ≢ 1
+    → ((j : Key) → waiting new j ≡ cond (same_key k j) (Some e) (waiting old j)) → NoneNew old new
+none_put old new k e other put j f timer found = go (same_key k j) refl
+  where
+    go : (s : Bool) → same_key k j ≡ s → waiting old j ≡ Some f
+    go true same = absurd (other (ap (λ (z : Key). z.class) (same_key_is k j same) ∙ timer))
+    go false same = sym (put j ∙ ap (λ b. cond b (Some e) (waiting old j)) same) ∙ found
+
+pub none_taken : (old new : Contents) (k : Key) → ((j : Key) → waiting new j ≡ cond (same_key k j) None (waiting old j)) → NoneNew old new
+none_taken old new k left j f timer found = go (same_key k j) refl
+  where
+    go : (s : Bool) → same_key k j ≡ s → waiting old j ≡ Some f
+    go true same =
+        let none : waiting new j ≡ None = left j ∙ ap (λ b. cond b None (waiting old j)) same in
+        absurd cc
+    go false same = sym (left j ∙ ap (λ b. cond b None (waiting old j)) same) ∙ found
+
+pub timed_kept : (old new : Contents) → NoneNew old new → new.due ≡ old.due → IsTimed old → IsTimed new
+timed_kept old new none same timed j r i e found is =
+    subst (λ (d : List ℕ). same_key (timer_key (slice_index d i) r i) j ≡ true) (sym same) (timed j r i e (none j e (timer_class r i j is) found) is)
+
+pub lies_kept : (old new : Contents) → NoneNew old new → (r i : ℕ) → LiesIn r i old → LiesIn r i new
+lies_kept old new none r i lies j s e found is = lies j s e (none j e (timer_class s i j is) found) is

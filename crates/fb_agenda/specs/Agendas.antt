@@ -1,0 +1,65 @@
+-- What an agenda contains, and what its timers must be (this project's profile).
+use Rattle.std.specs.Prelude.{◌≡◌, ◌≢◌, ◌≤◌, ℕ, true, List, Option, Some, None, IsSome, if◌then◌else◌, slice_index}
+use Rattle.std.specs.List.Sorted.{IsStrictlySortedBy}
+use Rattle.std.specs.Map.{keys_of, lookup}
+use Rattle.fb_types.specs.Keys.{Map, Precedes, key_cmp, or_else, same_key, timer_key}
+use Rattle.fb_types.specs.Takes.{is_timer_of}
+use Rattle.fb_types.specs.declared.key.Key.{Key}
+use Rattle.fb_types.specs.declared.run.TimerAsk.{TimerAsk}
+use Rattle.fb_types.specs.declared.run.TimerAsk.TheVariants.{Keep, Clear, At}
+use Rattle.fb_agenda.specs.declared.agenda.Event.{Event}
+use Rattle.fb_agenda.specs.declared.agenda.Event.TheVariants.{Timer}
+
+-- The local events, all others, and for each instance the tick that is noted for its timer.
+pub record Contents : Type 0 where
+  pub local : List (Key × Event)
+  pub later : List (Key × Event)
+  pub due : List ℕ
+
+-- what waits under a key
+abbrev pub waiting : Contents → Map Event
+waiting c j = or_else (lookup (same_key j) c.local) (lookup (same_key j) c.later)
+
+-- the keys of a list rise
+abbrev pub AreRising : List (Key × Event) → Type 0
+AreRising es = IsStrictlySortedBy key_cmp (keys_of es)
+
+-- Local events, and they alone, are among the local ones, whose keys rise.
+pub record AreApart (c : Contents) : Type 0 where
+  pub rising : AreRising c.local
+  pub local : (j : Key) → j.class ≢ 3 → lookup (same_key j) c.local ≡ None
+  pub later : (j : Key) → j.class ≡ 3 → lookup (same_key j) c.later ≡ None
+
+-- The list has the key, and none before it.
+pub record IsFirst (es : List (Key × Event)) (k : Key) : Type 0 where
+  pub there : IsSome (lookup (same_key k) es)
+  pub none_before : (j : Key) → Precedes j k → lookup (same_key j) es ≡ None
+
+-- An event waits under the key, and none under a key before it.
+pub record IsLeast (c : Contents) (k : Key) : Type 0 where
+  pub waits : IsSome (waiting c k)
+  pub none_before : (j : Key) → Precedes j k → waiting c j ≡ None
+
+-- Nothing waits below this tick, and something waits at it.
+pub record IsNext (c : Contents) (t : ℕ) : Type 0 where
+  pub waits : (j : Key) × (j.tick ≡ t) × IsSome (waiting c j)
+  pub none_below : (j : Key) → IsSome (waiting c j) → t ≤ j.tick
+
+-- ---- Timers
+
+-- A timer that waits is under the key of its instance at the tick that is noted for it.
+abbrev pub IsTimed : Contents → Type 0
+IsTimed c =
+    (j : Key) (r i : ℕ) (e : Event) → waiting c j ≡ Some e → is_timer_of r i j ≡ true
+    → same_key (timer_key (slice_index c.due i) r i) j ≡ true
+
+-- A timer of the instance that waits is of this resource.
+abbrev pub LiesIn : (resource instance : ℕ) → Contents → Type 0
+LiesIn r i c = (j : Key) (s : ℕ) (e : Event) → waiting c j ≡ Some e → is_timer_of s i j ≡ true → s ≡ r
+
+-- what an ask changes on the agenda
+abbrev pub timer_set : (resource instance : ℕ) → TimerAsk → Key → Option (Option Event)
+timer_set r i Keep j = None
+timer_set r i Clear j = if is_timer_of r i j then Some None else None
+timer_set r i (At t) j =
+    if same_key (timer_key t r i) j then Some (Some (Timer i)) else if is_timer_of r i j then Some None else None

@@ -1,0 +1,6 @@
+-- What the fields of an agenda stand for (this project's profile).
+use Rattle.fb_agenda.specs.Agendas.{Contents}
+use Rattle.fb_agenda.specs.declared.agenda.Agenda.TheInside.{Inside}
+
+abbrev pub contents_of : Inside → Contents
+contents_of a = record { local = a.local.items; later = a.later.entries; due = a.due.items }

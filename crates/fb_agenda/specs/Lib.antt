@@ -1,0 +1,2 @@
+pub mod Agendas
+pub mod Inside

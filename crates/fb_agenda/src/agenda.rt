@@ -1,0 +1,216 @@
+//! The events that wait, under their keys.
+
+ghost use Rattle.std.specs.Prelude.{◌≡◌, ◌<◌, if◌then◌else◌, [], length, Some, None, IfSome, IfNone, IfOk, OnOk, OnErr, slice_set};
+ghost use Rattle.fb_types.specs.Keys.{Precedes, changed_to, same_key, timer_key};
+ghost use Rattle.fb_types.specs.Takes.{is_timer_of};
+ghost use Rattle.fb_agenda.specs.Agendas.{waiting, IsFirst, IsLeast, IsNext, IsTimed, LiesIn, timer_set};
+ghost use Rattle.fb_agenda.specs.declared.agenda.Event.TheVariants.{Timer};
+
+use crate::rising;
+use fb_types::key::Key;
+use fb_types::run::{Message, Target, TimerAsk};
+use std::alloc::{AllocError, Global};
+use std::collections::{BTreeMap, VecDeque};
+use std::marker::Model;
+
+/// The class of the keys of timers.
+const TIMER: u8 = 1;
+
+/// The class of the keys of local events.
+const LOCAL: u8 = 3;
+
+/// An event that waits.
+#[derive(Drop)]
+pub enum Event {
+    /// A stimulus, by its row.
+    Stimulus(u32),
+    /// The timer of an instance.
+    Timer(u32),
+    /// A message, at its arrival.
+    Arrival(Message),
+    /// A local event, at its target.
+    Local(Target),
+}
+
+/// The events that wait, one at most under each key, and when the timers of the instances go off.
+#[derive(Drop)]
+pub struct Agenda {
+    /// The local events, in the order of their keys, in which they also come: so one is put, and the next
+    /// one found, in constant time.
+    local: VecDeque<(Key, Event)>,
+    /// All other events.
+    later: BTreeMap<Key, Event>,
+    /// For each instance the tick at which its timer goes off, or went off last.
+    due: Vec<u64>,
+}
+
+impl Model for Agenda {
+    ghost use Rattle.fb_agenda.specs.Agendas.{Contents, AreApart};
+
+    ghost Value = { Contents };
+
+    ghost use Rattle.fb_agenda.specs.Inside.{contents_of};
+
+    ghost view = { contents_of };
+
+    ghost invariant = { λ a. AreApart (contents_of a) };
+}
+
+/// The key under which the timer of an instance goes off.
+fn key_of_timer(tick: u64, resource: u32, instance: u32) -> Key
+    ensures { result ≡ timer_key tick resource instance }
+{
+    Key {
+        tick,
+        resource,
+        class: TIMER,
+        a: u128::from(instance),
+        b: 0,
+    }
+}
+
+/// The first key of a map.
+fn first_of(events: &BTreeMap<Key, Event>) -> Option<Key>
+    ensures some { IfSome result (IsFirst events.now.entries) }
+    ensures none { IfNone result (events.now.entries ≡ []) }
+{
+    let (key, _) = events.first_key_value()?;
+    Some(*key)
+}
+
+impl Agenda {
+    /// An agenda on which nothing waits, for so many instances.
+    ///
+    /// # Errors
+    ///
+    /// When memory runs out.
+    pub fn new(alloc: Global, instances: usize) -> Result<Agenda, AllocError>
+        ensures empty { IfOk result (λ a. (j : Key) → waiting a j ≡ None) }
+        ensures due { IfOk result (λ a. length a.due ≡ instances) }
+    {
+        let due = vec![in alloc; 0u64; instances]?;
+        Ok(Agenda {
+            local: VecDeque::new(alloc),
+            later: BTreeMap::new(alloc),
+            due,
+        })
+    }
+
+    /// Puts an event under its key, in the place of one that waits there.
+    ///
+    /// # Errors
+    ///
+    /// When memory runs out. The agenda is then as it was.
+    pub fn put(&mut self, key: Key, event: Event) -> Result<(), AllocError>
+        ensures put { OnOk result ((j : Key) → waiting self.new j ≡ (if same_key key j then Some event else waiting self.old j)) }
+        ensures due { self.new.due ≡ self.old.due }
+        ensures err { OnErr result (self.new ≡ self.old) }
+    {
+        if key.class == LOCAL {
+            rising::insert(&mut self.local, key, event)
+        } else {
+            self.later.insert(key, event)?;
+            Ok(())
+        }
+    }
+
+    /// The event under the least key, if its tick is below the horizon. It leaves the agenda.
+    pub fn take_least(&mut self, horizon: u64) -> Option<(Key, Event)>
+        ensures found { IfSome result (λ r. waiting self.old r.0 ≡ Some r.1) }
+        ensures below { IfSome result (λ r. r.0.tick < horizon) }
+        ensures least { IfSome result (λ r. (j : Key) → Precedes j r.0 → waiting self.old j ≡ None) }
+        ensures left { IfSome result (λ r. (j : Key) → waiting self.new j ≡ (if same_key r.0 j then None else waiting self.old j)) }
+        ensures due { self.new.due ≡ self.old.due }
+        ensures none { IfNone result ((j : Key) → j.tick < horizon → waiting self.old j ≡ None) }
+        ensures kept { IfNone result (self.new ≡ self.old) }
+    {
+        let key = self.least_key()?;
+        if key.tick >= horizon {
+            return None;
+        }
+        if key.class == LOCAL {
+            self.local.pop_front()
+        } else {
+            self.later.pop_first()
+        }
+    }
+
+    /// The tick of the next event, if one waits.
+    pub fn next(&self) -> Option<u64>
+        ensures some { IfSome result (IsNext self.now) }
+        ensures none { IfNone result ((j : Key) → waiting self.now j ≡ None) }
+    {
+        let key = self.least_key()?;
+        Some(key.tick)
+    }
+
+    fn least_key(&self) -> Option<Key>
+        ensures some { IfSome result (IsLeast self.now) }
+        ensures none { IfNone result ((j : Key) → waiting self.now j ≡ None) }
+    {
+        let Some(local) = rising::first(&self.local) else {
+            return first_of(&self.later);
+        };
+        let Some(later) = first_of(&self.later) else {
+            return Some(local);
+        };
+        if later < local {
+            Some(later)
+        } else {
+            Some(local)
+        }
+    }
+
+    /// Does what a reaction asks of the timer of its instance, which lies in this resource.
+    ///
+    /// # Errors
+    ///
+    /// When memory runs out. The timer may then be gone.
+    pub fn set_timer(
+        &mut self,
+        resource: u32,
+        instance: u32,
+        ask: TimerAsk,
+    ) -> Result<(), AllocError>
+        requires instance { instance < length self.old.due }
+        requires timed { IsTimed self.old }
+        requires home { LiesIn resource instance self.old }
+        ensures changed { OnOk result ((j : Key) → waiting self.new j ≡ changed_to (timer_set resource instance ask j) (waiting self.old j)) }
+        ensures timed { OnOk result (IsTimed self.new) }
+        ensures counted { length self.new.due ≡ length self.old.due }
+    {
+        match ask {
+            TimerAsk::Keep => Ok(()),
+            TimerAsk::Clear => {
+                self.clear_timer(resource, instance);
+                Ok(())
+            }
+            TimerAsk::At(tick) => {
+                self.clear_timer(resource, instance);
+                self.start_timer(resource, instance, tick)
+            }
+        }
+    }
+
+    fn clear_timer(&mut self, resource: u32, instance: u32)
+        requires instance { instance < length self.old.due }
+        requires timed { IsTimed self.old }
+        ensures cleared { (j : Key) → waiting self.new j ≡ (if is_timer_of resource instance j then None else waiting self.old j) }
+        ensures due { self.new.due ≡ self.old.due }
+    {
+        let due = self.due[instance as usize];
+        self.later.remove(&key_of_timer(due, resource, instance));
+    }
+
+    fn start_timer(&mut self, resource: u32, instance: u32, tick: u64) -> Result<(), AllocError>
+        requires { instance < length self.old.due }
+        ensures put { OnOk result ((j : Key) → waiting self.new j ≡ (if same_key (timer_key tick resource instance) j then Some (Timer instance) else waiting self.old j)) }
+        ensures due { OnOk result (self.new.due ≡ slice_set self.old.due instance tick) }
+        ensures counted { length self.new.due ≡ length self.old.due }
+    {
+        let key = key_of_timer(tick, resource, instance);
+        self.later.insert(key, Event::Timer(instance))?;
+        self.due[instance as usize] = tick;
+        Ok(())
+    }
+}

@@ -1,0 +1,75 @@
+//! Lists of events whose keys rise.
+
+ghost use Rattle.std.specs.Prelude.{◌≡◌, [], IfSome, IfNone, OnOk, OnErr};
+ghost use Rattle.std.specs.Bool.{OnTrue};
+ghost use Rattle.std.specs.List.{AllByRecursion};
+ghost use Rattle.std.specs.Map.{keys_of};
+ghost use Rattle.std.specs.BTreeMap.{insert_entry};
+ghost use Rattle.fb_types.specs.Keys.{Precedes, key_cmp};
+ghost use Rattle.fb_agenda.specs.Agendas.{AreRising, IsFirst};
+
+use crate::agenda::Event;
+use fb_types::key::Key;
+use std::alloc::AllocError;
+use std::collections::VecDeque;
+
+/// Puts an event at the place of its key. After the last key this takes constant time.
+pub(crate) fn insert(
+    events: &mut VecDeque<(Key, Event)>,
+    key: Key,
+    event: Event,
+) -> Result<(), AllocError>
+    requires { AreRising events.old.items }
+    ensures ok { OnOk result (events.new.items ≡ insert_entry key_cmp events.old.items key event) }
+    ensures err { OnErr result (events.new.items ≡ events.old.items) }
+{
+    if is_past(events, key) {
+        events.push_back((key, event))?;
+        Ok(())
+    } else {
+        insert_within(events, key, event)
+    }
+}
+
+/// The first key.
+pub(crate) fn first(events: &VecDeque<(Key, Event)>) -> Option<Key>
+    requires { AreRising events.now.items }
+    ensures some { IfSome result (IsFirst events.now.items) }
+    ensures none { IfNone result (events.now.items ≡ []) }
+{
+    let (key, _) = events.front()?;
+    Some(*key)
+}
+
+/// Whether the key comes after all that are there.
+fn is_past(events: &VecDeque<(Key, Event)>, key: Key) -> bool
+    requires { AreRising events.now.items }
+    ensures { OnTrue result (AllByRecursion (λ j. Precedes j key) (keys_of events.now.items)) }
+{
+    match events.back() {
+        Some((last, _)) => *last < key,
+        None => true,
+    }
+}
+
+/// Puts an event at the place of its key, which is searched for.
+fn insert_within(
+    events: &mut VecDeque<(Key, Event)>,
+    key: Key,
+    event: Event,
+) -> Result<(), AllocError>
+    requires { AreRising events.old.items }
+    ensures ok { OnOk result (events.new.items ≡ insert_entry key_cmp events.old.items key event) }
+    ensures err { OnErr result (events.new.items ≡ events.old.items) }
+{
+    match events.binary_search_by_key(&key, |(other, _)| *other) {
+        Ok(index) => {
+            events[index] = (key, event);
+            Ok(())
+        }
+        Err(index) => {
+            events.insert(index, (key, event))?;
+            Ok(())
+        }
+    }
+}

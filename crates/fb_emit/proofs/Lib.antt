@@ -1,0 +1,4 @@
+pub mod Bounds
+pub mod Emitting
+pub mod Going
+pub mod Publishing

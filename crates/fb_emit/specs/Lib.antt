@@ -1,0 +1,2 @@
+pub mod Emitting
+pub mod Outs

@@ -1,0 +1,28 @@
+//! What the taking of an event puts out.
+
+use fb_types::items::Items;
+use fb_types::run::{Carried, Line, Target, TimerAsk};
+
+/// An event on its way to another resource, before it has a number and a tick of arrival.
+#[derive(Drop)]
+pub struct Sending {
+    pub link: u32,
+    pub target: Target,
+    /// The values of the variables WITH the event that was emitted.
+    pub values: Items<Carried>,
+}
+
+/// What a reaction puts out: an event in the same resource, or one that goes to another.
+#[derive(Drop)]
+pub enum Out {
+    Local(Target),
+    Send(Sending),
+}
+
+/// The lines, the events that go out in their order, and what the reaction asks of the timer of its instance.
+#[derive(Drop)]
+pub struct Outbox {
+    pub lines: Vec<Line>,
+    pub outs: Vec<Out>,
+    pub timer: TimerAsk,
+}

@@ -1,0 +1,5 @@
+pub mod Counts
+pub mod Machines
+pub mod Openings
+pub mod Posts
+pub mod Runs

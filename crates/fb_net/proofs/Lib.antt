@@ -1,0 +1,5 @@
+pub mod Arriving
+pub mod Charting
+pub mod Crossing
+pub mod Sampling
+pub mod Taking

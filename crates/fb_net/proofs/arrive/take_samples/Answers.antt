@@ -1,0 +1,18 @@
+use Rattle.std.proofs.Common.{List, subst}
+use Rattle.std.proofs.lemmas.Result.{on_ok_weaker}
+use Rattle.fb_types.specs.Headline.{system_of}
+use Rattle.fb_types.specs.declared.value.Value.{Value}
+use Rattle.fb_sample.specs.Samples.{all_sampled, names_in}
+use Rattle.fb_tree.specs.Changes.{Changes}
+use Rattle.fb_net.proofs.Sampling.{sampling-stands}
+use Rattle.fb_net.proofs.arrive.take_samples.Goals as goal
+
+pub returns-clause-taken : goal.returns-clause-taken
+returns-clause-taken c =
+    let i = c.args.system.now in
+    let at = c.args.at in
+    let kept = subst (λ (vs : List Value). Changes i c.args.forest.now at.instance (all_sampled (names_in (system_of i) at) vs) c.keep_samples.new.forest) c.as_slice.ensures c.keep_samples.ensures in
+    on_ok_weaker c.write_taken.result
+    (λ written. sampling-stands i c.args.key.now at c.args.forest.now c.keep_samples.new.forest c.args.outbox.now c.write_taken.new.outbox c.in_ok-values.values
+    c.requires.ready c.requires.input c.requires.here c.in_ok-values.ensures.sampled kept written c.write_taken.ensures.outs c.write_taken.ensures.timer)
+    c.write_taken.ensures.written

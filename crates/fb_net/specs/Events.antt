@@ -1,0 +1,71 @@
+-- Events by number, and what the taking of one comes to in its resource (IEC 61499-1, 5.2.2 and 5.3.2; keys, links and the count of steps are this project's profile).
+use Rattle.std.specs.Prelude.{◌≡◌, ◌<◌, ℕ, List, [], map, length, All, Option, Some, None, Result, Ok, Err, slice_get}
+use Rattle.fb_types.specs.Headline.{Inputs, system_of, stimuli_of}
+use Rattle.fb_types.specs.Numbers.{path_at, port_of, carried_of, line_of}
+use Rattle.fb_types.specs.Reactions.{World, Outcome, Reacts}
+use Rattle.fb_types.specs.Simulation.{Stimulus}
+use Rattle.fb_types.specs.States.{Stimulated, Expired, Arrived, Raised, Line, path_of}
+use Rattle.fb_types.specs.States as model
+use Rattle.fb_types.specs.declared.key.Key.{Key}
+use Rattle.fb_types.specs.declared.run.Halt.{Halt}
+use Rattle.fb_types.specs.declared.run.Halt.TheVariants as halt
+use Rattle.fb_types.specs.declared.value.Reason.{Reason}
+use Rattle.fb_agenda.specs.declared.agenda.Event.{Event}
+use Rattle.fb_agenda.specs.declared.agenda.Event.TheVariants as waits
+use Rattle.fb_emit.specs.Outs.{Stands}
+use Rattle.fb_emit.specs.declared.outbox.Outbox.{Outbox}
+use Rattle.fb_system.specs.Systems.{IsCarried, IsTarget}
+use Rattle.fb_tree.specs.Worlds.{IsForest}
+use Rattle.fb_tree.specs.declared.resource.Forest.{Forest}
+
+-- ---- Events
+
+abbrev pub stimulated : Option Stimulus → model.Event
+stimulated None = Expired []
+stimulated (Some s) = Stimulated s.port s.sets
+
+-- what an event that waits is in the model
+abbrev pub event_of : Inputs → Event → model.Event
+event_of i (waits.Stimulus row) = stimulated (slice_get (stimuli_of i) row)
+event_of i (waits.Timer k) = Expired (path_at (system_of i) k)
+event_of i (waits.Arrival m) = Arrived (port_of (system_of i) m.target) (map (carried_of (system_of i)) m.values)
+event_of i (waits.Local t) = Raised (port_of (system_of i) t)
+
+-- the numbers of an event stand for something in the system
+abbrev pub IsNumbered : Inputs → Event → Type 0
+IsNumbered i (waits.Stimulus row) = row < length i.stimuli
+IsNumbered i (waits.Timer k) = k < length (system_of i).paths
+IsNumbered i (waits.Arrival m) = IsTarget (system_of i) m.target × All (IsCarried (system_of i)) m.values
+IsNumbered i (waits.Local t) = IsTarget (system_of i) t
+
+-- An event of a resource.
+pub record IsEventIn (i : Inputs) (resource : ℕ) (e : Event) : Type 0 where
+  pub numbered : IsNumbered i e
+  pub here : (system_of i).resource (path_of (event_of i e)) ≡ resource
+
+-- ---- The taking
+
+-- An event was taken as the model takes it, from the world on, and the resource goes on, or stops for a reason.
+pub record CameTo (i : Inputs) (k : Key) (e : Event) (before : List Line) (left : ℕ) (stop : Option Reason) (new : Forest) (after : ℕ) (x : Outbox) (w : World) : Type 0 where
+  pub outcome : Outcome
+  pub reacts : Reacts (system_of i) k w (event_of i e) left outcome
+  pub stops : outcome.stop ≡ stop
+  pub leaves : outcome.left ≡ after
+  pub stands : Stands i before new x outcome
+
+-- .. in each world for which the blocks stood, where lines stood before
+abbrev pub Came : Inputs → Key → Event → Forest → Outbox → (left : ℕ) → Option Reason → Forest → (after : ℕ) → Outbox → Type 0
+Came i k e old before left stop new after x =
+    (w : World) → IsForest i old w → CameTo i k e (map (line_of (system_of i)) before.lines.items) left stop new after x w
+
+-- How a taking ended. After want of memory nothing is said.
+abbrev pub HasTaken : Inputs → Key → Event → Forest → Outbox → (left : ℕ) → Result (Unit {0}) Halt → Forest → (after : ℕ) → Outbox → Type 0
+HasTaken i k e old before left (Ok _) new after x = Came i k e old before left None new after x
+HasTaken i k e old before left (Err (halt.Stop r)) new after x = Came i k e old before left (Some r) new after x
+HasTaken i k e old before left (Err halt.Memory) new after x = Unit {0}
+
+-- said of all that does not end with want of memory
+abbrev pub Remembered : Result (Unit {0}) Halt → Type 0 → Type 0
+Remembered (Ok _) holds = holds
+Remembered (Err (halt.Stop r)) holds = holds
+Remembered (Err halt.Memory) holds = Unit {0}

@@ -1,0 +1,2 @@
+pub mod Arrivals
+pub mod Events

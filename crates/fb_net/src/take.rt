@@ -1,0 +1,157 @@
+//! The taking of an event, by what it is.
+
+ghost use Rattle.std.specs.Prelude.{◌≡◌, ◌<◌, ◌≤◌, ◌^◌, ℕ, None, OnOk, Some, length};
+ghost use Rattle.fb_types.specs.Blocks as model;
+ghost use Rattle.fb_types.specs.Headline.{system_of};
+ghost use Rattle.fb_types.specs.Numbers.{path_at};
+ghost use Rattle.fb_emit.specs.Outs.{AreOuts};
+ghost use Rattle.fb_react.specs.Leaves.{IsOne};
+ghost use Rattle.fb_tree.specs.Worlds.{InForest};
+ghost use Rattle.fb_typing.specs.Typed.{IsTypedEvent};
+ghost use Rattle.fb_net.specs.Arrivals.{ComesTo, IsReady, StandTyped, expiring};
+ghost use Rattle.fb_net.specs.Events.{Came, HasTaken, IsEventIn, Remembered, event_of};
+
+use crate::arrive::{arrive, or_halt};
+use fb_agenda::agenda::Event;
+use fb_emit::emit::emit_all;
+use fb_emit::outbox::Outbox;
+use fb_react::event::expire_event;
+use fb_resolve::numbers::TypeNumber;
+use fb_sample::bring::{hold_carried, set_slots};
+use fb_st::meter::Meter;
+use fb_system::system::System;
+use fb_tree::resource::Forest;
+use fb_types::event_kind::EventKind;
+use fb_types::items::Items;
+use fb_types::key::Key;
+use fb_types::run::{Halt, Message};
+use std::alloc::AllocError;
+
+/// Takes a stimulus, which sets slots before its event arrives.
+///
+/// # Errors
+/// As `arrive`.
+fn take_stimulus(
+    forest: &mut Forest,
+    outbox: &mut Outbox,
+    system: &System,
+    key: &Key,
+    row: u32,
+    meter: &mut Meter,
+) -> Result<(), Halt>
+    requires event { IsEventIn system.now forest.old.resource (Event.Stimulus row) }
+    requires ready { IsReady system.now key.now forest.old outbox.old }
+    requires early { key.now.tick ≤ 10 ^ 12 }
+    requires belongs { StandTyped system.now forest.old }
+    requires typed { IsTypedEvent (system_of system.now) (event_of system.now (Event.Stimulus row)) }
+    ensures taken { HasTaken system.now key.now (Event.Stimulus row) forest.old outbox.old meter.old.left result forest.new meter.new.left outbox.new }
+    ensures outs { Remembered result (AreOuts (system_of system.now) forest.new.resource outbox.new) }
+    ensures fewer { meter.new.left ≤ meter.old.left }
+    ensures resource { forest.new.resource ≡ forest.old.resource }
+{
+    let stimulus = system.stimulus(row);
+    set_slots(forest, system, stimulus.target.instance, stimulus.sets);
+    arrive(forest, outbox, system, key, stimulus.target, meter)
+}
+
+/// Takes a message, whose values are held before its event arrives.
+///
+/// # Errors
+/// As `arrive`.
+fn take_arrival(
+    forest: &mut Forest,
+    outbox: &mut Outbox,
+    system: &System,
+    key: &Key,
+    message: &Message,
+    meter: &mut Meter,
+) -> Result<(), Halt>
+    requires event { IsEventIn system.now forest.old.resource (Event.Arrival message.now) }
+    requires ready { IsReady system.now key.now forest.old outbox.old }
+    requires early { key.now.tick ≤ 10 ^ 12 }
+    requires belongs { StandTyped system.now forest.old }
+    requires typed { IsTypedEvent (system_of system.now) (event_of system.now (Event.Arrival message.now)) }
+    ensures taken { HasTaken system.now key.now (Event.Arrival message.now) forest.old outbox.old meter.old.left result forest.new meter.new.left outbox.new }
+    ensures outs { Remembered result (AreOuts (system_of system.now) forest.new.resource outbox.new) }
+    ensures fewer { meter.new.left ≤ meter.old.left }
+    ensures resource { forest.new.resource ≡ forest.old.resource }
+{
+    hold_carried(forest, system, message.values.as_slice());
+    arrive(forest, outbox, system, key, message.target, meter)
+}
+
+/// The timer of an event block goes off, in a tick that is at most 10^12.
+fn expire(
+    forest: &mut Forest,
+    outbox: &mut Outbox,
+    system: &System,
+    kind: EventKind,
+    key: &Key,
+    instance: u32,
+) -> Result<(), AllocError>
+    requires instance { instance < length (system_of system.now).paths }
+    requires kind { (system_of system.now).kind (path_at (system_of system.now) instance) ≡ Some (model.Event kind) }
+    requires here { InForest system.now forest.old instance }
+    requires one { IsOne system.now forest.old instance }
+    requires ready { IsReady system.now key.now forest.old outbox.old }
+    requires early { key.now.tick ≤ 10 ^ 12 }
+    ensures expired { OnOk result (ComesTo system.now (expiring system.now key.now kind instance) forest.old outbox.old forest.new outbox.new) }
+    ensures outs { OnOk result (AreOuts (system_of system.now) forest.new.resource outbox.new) }
+    ensures resource { forest.new.resource ≡ forest.old.resource }
+{
+    let mut emits = Items::new(*outbox.lines.allocator());
+    outbox.timer = expire_event(forest, system, kind, instance, key.tick, &mut emits)?;
+    emit_all(forest, outbox, system, key, instance, emits)
+}
+
+/// Takes the timer of an instance. Nothing happens where it is no event block.
+fn take_timer(
+    forest: &mut Forest,
+    outbox: &mut Outbox,
+    system: &System,
+    key: &Key,
+    instance: u32,
+) -> Result<(), AllocError>
+    requires event { IsEventIn system.now forest.old.resource (Event.Timer instance) }
+    requires ready { IsReady system.now key.now forest.old outbox.old }
+    requires early { key.now.tick ≤ 10 ^ 12 }
+    requires belongs { StandTyped system.now forest.old }
+    ensures taken { OnOk result ((left : ℕ) → Came system.now key.now (Event.Timer instance) forest.old outbox.old left None forest.new left outbox.new) }
+    ensures outs { OnOk result (AreOuts (system_of system.now) forest.new.resource outbox.new) }
+    ensures resource { forest.new.resource ≡ forest.old.resource }
+{
+    match system.kind(instance) {
+        TypeNumber::Event(kind) => expire(forest, outbox, system, kind, key, instance),
+        TypeNumber::Declared(_) => Ok(()),
+    }
+}
+
+/// Takes an event, whatever it is.
+///
+/// # Errors
+/// As `arrive`.
+pub(crate) fn take_event(
+    forest: &mut Forest,
+    outbox: &mut Outbox,
+    system: &System,
+    key: &Key,
+    event: &Event,
+    meter: &mut Meter,
+) -> Result<(), Halt>
+    requires event { IsEventIn system.now forest.old.resource event.now }
+    requires ready { IsReady system.now key.now forest.old outbox.old }
+    requires early { key.now.tick ≤ 10 ^ 12 }
+    requires belongs { StandTyped system.now forest.old }
+    requires typed { IsTypedEvent (system_of system.now) (event_of system.now event.now) }
+    ensures taken { HasTaken system.now key.now event.now forest.old outbox.old meter.old.left result forest.new meter.new.left outbox.new }
+    ensures outs { Remembered result (AreOuts (system_of system.now) forest.new.resource outbox.new) }
+    ensures fewer { meter.new.left ≤ meter.old.left }
+    ensures resource { forest.new.resource ≡ forest.old.resource }
+{
+    match event {
+        Event::Stimulus(row) => take_stimulus(forest, outbox, system, key, *row, meter),
+        Event::Timer(instance) => or_halt(take_timer(forest, outbox, system, key, *instance)),
+        Event::Arrival(message) => take_arrival(forest, outbox, system, key, message, meter),
+        Event::Local(target) => arrive(forest, outbox, system, key, *target, meter),
+    }
+}

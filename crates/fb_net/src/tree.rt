@@ -1,0 +1,86 @@
+//! The blocks of one resource.
+
+ghost use Rattle.std.specs.Prelude.{◌≡◌, ◌<◌, ◌≤◌, ◌^◌, [], length, IfOk};
+ghost use Rattle.fb_types.specs.Headline.{system_of};
+ghost use Rattle.fb_types.specs.Reactions.{World};
+ghost use Rattle.fb_types.specs.Simulation.{opening_state};
+ghost use Rattle.fb_types.specs.Takes.{world_of};
+ghost use Rattle.fb_types.specs.declared.run.TimerAsk.TheVariants.{Keep};
+ghost use Rattle.fb_emit.specs.Outs.{AreOuts};
+ghost use Rattle.fb_tree.specs.Worlds.{IsForest};
+ghost use Rattle.fb_typing.specs.Typed.{AreTyped, IsTypedEvent};
+ghost use Rattle.fb_net.specs.Events.{HasTaken, IsEventIn, Remembered, event_of};
+
+use crate::take::take_event;
+use fb_agenda::agenda::Event;
+use fb_emit::outbox::Outbox;
+use fb_st::meter::Meter;
+use fb_system::system::System;
+use fb_tree::resource::Forest;
+use fb_types::key::Key;
+use fb_types::run::Halt;
+use std::alloc::{AllocError, Global};
+use std::marker::Model;
+
+/// The blocks and held copies of one resource of a system. Contracts see what the blocks stand for in the model.
+#[derive(Drop)]
+pub struct Tree {
+    forest: Forest,
+}
+
+impl Model for Tree {
+    ghost use Rattle.fb_tree.specs.declared.resource.Forest.{Forest};
+    ghost use Rattle.fb_tree.specs.contracts.resource.Forest.{the_row};
+
+    ghost Value = { Forest };
+
+    ghost coded = { the_row.coded };
+
+    ghost view = { λ t. t.forest };
+}
+
+impl Tree {
+    /// The blocks of a resource, as they are before the first event, and its held copies.
+    ///
+    /// # Errors
+    /// When memory runs out.
+    pub fn build(alloc: Global, system: &System, resource: u32) -> Result<Tree, AllocError>
+        requires { resource < length (system_of system.now).resource_names }
+        ensures opened { IfOk result (λ t. IsForest system.now t (world_of (opening_state (system_of system.now)) resource)) }
+        ensures resource { IfOk result (λ t. t.resource ≡ resource) }
+    {
+        let forest = fb_build::build::build(alloc, system, resource)?;
+        Ok(Tree { forest })
+    }
+
+    /// Takes an event of the resource, under its key. `meter` has the steps that are left in the tick behind that of the
+    /// event itself. The lines are put behind those in the outbox, which has no events before.
+    ///
+    /// # Errors
+    /// `Halt::Stop` where a reason stops the resource: the lines before it stand. `Halt::Memory`, after which nothing
+    /// is said of the blocks.
+    pub fn take(
+        &mut self,
+        system: &System,
+        event: &Event,
+        key: &Key,
+        meter: &mut Meter,
+        outbox: &mut Outbox,
+    ) -> Result<(), Halt>
+        requires event { IsEventIn system.now self.old.resource event.now }
+        requires key { key.now.resource ≡ self.old.resource }
+        requires named { key.now.resource < length (system_of system.now).resource_names }
+        requires early { key.now.tick ≤ 10 ^ 12 }
+        requires belongs { (w : World) × IsForest system.now self.old w × AreTyped (system_of system.now) w }
+        requires typed { IsTypedEvent (system_of system.now) (event_of system.now event.now) }
+        requires outs { AreOuts (system_of system.now) self.old.resource outbox.old }
+        requires none { outbox.old.outs.items ≡ [] }
+        requires keeps { outbox.old.timer ≡ Keep }
+        ensures taken { HasTaken system.now key.now event.now self.old outbox.old meter.old.left result self.new meter.new.left outbox.new }
+        ensures outs { Remembered result (AreOuts (system_of system.now) self.new.resource outbox.new) }
+        ensures fewer { meter.new.left ≤ meter.old.left }
+        ensures resource { self.new.resource ≡ self.old.resource }
+    {
+        take_event(&mut self.forest, outbox, system, key, event, meter)
+    }
+}

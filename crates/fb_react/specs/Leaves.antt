@@ -1,0 +1,84 @@
+-- How a leaf reacts among the blocks of its resource (IEC 61499-1, 5.2.2; event blocks are this project's profile).
+use Rattle.std.specs.Prelude.{◌≡◌, ℕ, List, [], map, Option, Some, None, Result, Ok, Err}
+use Rattle.fb_types.specs.Blocks.{inputs_with, ports_of_event_block}
+use Rattle.fb_types.specs.Charts.{Place, ChartReacts}
+use Rattle.fb_types.specs.EventBlocks.{Reaction, reaction, expiry, output_of}
+use Rattle.fb_types.specs.Headline.{Inputs, system_of}
+use Rattle.fb_types.specs.Numbers.{path_at, event_at, emission_of, pair_up}
+use Rattle.fb_types.specs.Reactions.{World, state_of, memory_of, emissions, with_values}
+use Rattle.fb_types.specs.States.{InState, Remembers}
+use Rattle.fb_types.specs.States as model
+use Rattle.fb_types.specs.declared.event_kind.EventKind.{EventKind}
+use Rattle.fb_types.specs.declared.library.BasicType.{BasicType}
+use Rattle.fb_types.specs.declared.run.Emission as run
+use Rattle.fb_types.specs.declared.run.Halt.{Halt}
+use Rattle.fb_types.specs.declared.run.Halt.TheVariants as halt
+use Rattle.fb_types.specs.declared.run.Target.{Target}
+use Rattle.fb_types.specs.declared.run.TimerAsk.{TimerAsk}
+use Rattle.fb_types.specs.declared.value.Reason.{Reason}
+use Rattle.fb_types.specs.declared.value.Value.{Value}
+use Rattle.fb_event.specs.Reactions.{FitTheirTypes}
+use Rattle.fb_tree.specs.Changes.{block_in, with_instance}
+use Rattle.fb_tree.specs.Worlds.{InForest, IsForest, input_names}
+use Rattle.fb_tree.specs.declared.resource.Forest.{Forest}
+
+-- The blocks stand for a world, in which the instance lies in the resource.
+abbrev pub IsOne : Inputs → Forest → (instance : ℕ) → Type 0
+IsOne i f k = (w : World) × IsForest i f w × InForest i f k
+
+-- ---- Basic blocks
+
+-- where a chart begins, with the sampled values of the variables WITH the event
+abbrev pub chart_start : BasicType → model.Block → (event : ℕ) → List Value → (left : ℕ) → Place
+chart_start t b e values left =
+    record {
+      state = state_of b.memory;
+      vars = with_values (pair_up (inputs_with t.ports (event_at t.ports.event_inputs e)) values) b.variables;
+      left = left;
+      emitted = [];
+    }
+
+-- the block where its chart has come to a place
+abbrev pub charted_block : Place → model.Block → model.Block
+charted_block c b = record b { memory = InState c.state; variables = c.vars }
+
+-- A basic block has reacted: its chart came to a place, for a reason to stop or none, and emitted so.
+pub record ChartCame (i : Inputs) (old : Forest) (at : Target) (t : BasicType) (values : List Value) (before : ℕ) (stop : Option Reason) (new : Forest) (after : ℕ) (emits : List run.Emission) (w : World) : Type 0 where
+  pub place : Place
+  pub reacts : ChartReacts t (event_at t.ports.event_inputs at.event) (chart_start t (block_in i w at.instance) at.event values before) stop place
+  pub stands : IsForest i new (with_instance i at.instance (charted_block place (block_in i w at.instance)) w)
+  pub left : after ≡ place.left
+  pub emitted : map (emission_of t.ports) emits ≡ place.emitted
+
+abbrev pub EachWorld : Inputs → Forest → Target → (World → Type 0) → Type 0
+EachWorld i f at holds = (w : World) → IsForest i f w → InForest i f at.instance → holds w
+
+-- How the reaction of a basic block ended. After want of memory nothing is said.
+abbrev pub ChartEnded : Inputs → Forest → Target → BasicType → List Value → (before : ℕ) → Result (Unit {0}) Halt → Forest → (after : ℕ) → List run.Emission → Type 0
+ChartEnded i old at t values before (Ok _) new after emits = EachWorld i old at (ChartCame i old at t values before None new after emits)
+ChartEnded i old at t values before (Err (halt.Stop r)) new after emits = EachWorld i old at (ChartCame i old at t values before (Some r) new after emits)
+ChartEnded i old at t values before (Err halt.Memory) new after emits = Unit {0}
+
+-- ---- Event blocks
+
+abbrev pub remembering_block : Reaction → model.Block → model.Block
+remembering_block x b = record b { memory = Remembers x.memory }
+
+-- An event block has reacted so, and asks this of its timer.
+pub record EventCame (i : Inputs) (k : ℕ) (kind : EventKind) (x : Reaction) (new : Forest) (ask : TimerAsk) (emits : List run.Emission) (w : World) : Type 0 where
+  pub stands : IsForest i new (with_instance i k (remembering_block x (block_in i w k)) w)
+  pub timer : ask ≡ x.timer
+  pub emitted : map (emission_of (ports_of_event_block kind)) emits ≡ emissions (ports_of_event_block kind) (output_of x.memory) x.emits
+
+abbrev pub taken_reaction : Inputs → EventKind → Target → (tick : ℕ) → World → Reaction
+taken_reaction i kind at tick w =
+    let b = block_in i w at.instance in
+    reaction kind (memory_of b.memory) (event_at (ports_of_event_block kind).event_inputs at.event) tick b.variables
+
+abbrev pub expiry_reaction : Inputs → EventKind → (instance tick : ℕ) → World → Reaction
+expiry_reaction i kind k tick w = expiry kind (memory_of (block_in i w k).memory) tick
+
+-- The values of the data inputs of an event block are of their types.
+abbrev pub HasTypedInputs : Inputs → EventKind → (instance : ℕ) → World → Type 0
+HasTypedInputs i kind k w =
+    FitTheirTypes (ports_of_event_block kind).inputs (map (block_in i w k).variables (input_names (system_of i) (path_at (system_of i) k)))

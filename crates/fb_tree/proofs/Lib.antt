@@ -1,0 +1,12 @@
+pub mod Alone
+pub mod Apart
+pub mod Components
+pub mod Holding
+pub mod Others
+pub mod Reading
+pub mod Routes
+pub mod Sampling
+pub mod Shells
+pub mod Taking
+pub mod Ways
+pub mod Writing

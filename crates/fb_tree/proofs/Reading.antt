@@ -1,0 +1,159 @@
+-- What is read at a place of a block is what the model's block holds for the name there.
+use Rattle.std.proofs.Common.{◌≡◌, ℕ, ◌<◌, zero, suc, List, [], ◌∷◌, length, true, false, refl, ap, sym, ◌∙◌, subst, arith}
+use Rattle.std.specs.Prelude.{Option, Some, None, unwrap_or, slice_get, if◌then◌else◌}
+use Rattle.fb_types.specs.Names.{Path}
+use Rattle.fb_types.specs.Values.{Values}
+use Rattle.fb_types.specs.Blocks.{Kind, Basic, Event, Composite, variable_names}
+use Rattle.fb_types.specs.Flat.{zero_value}
+use Rattle.fb_types.specs.Headline.{Inputs, system_of}
+use Rattle.fb_types.specs.Numbers.{path_at, ports_at}
+use Rattle.fb_types.specs.Reactions.{World}
+use Rattle.fb_types.specs.States as model
+use Rattle.fb_types.specs.Systems.{System}
+use Rattle.fb_types.specs.declared.library.CompositeType.{CompositeType}
+use Rattle.fb_types.specs.declared.library.Variable.{Variable}
+use Rattle.fb_types.specs.declared.value.Value.{Value}
+use Rattle.fb_fabric.specs.declared.fabric.Place.{Place}
+use Rattle.fb_layout.proofs.Inside.{map_parts}
+use Rattle.fb_layout.specs.Layouts.{route_to}
+use Rattle.fb_system.specs.Systems.{IsVariable, data_input, data_output, variable_of, variables_at}
+use Rattle.fb_tree.specs.Blocks.{inputs_in, inputs_of, own_of, shell_in, shell_of}
+use Rattle.fb_tree.specs.Trees.{block_at}
+use Rattle.fb_tree.specs.Worlds.{CompositeStands, Found, InForest, IsComposite, IsForest, NodeStands, Reads, ShellStands, StandsFor, ValuesStand, route_in_tree, seat, seat_in, seated, value_in}
+use Rattle.fb_tree.specs.declared.block.Block.{Block}
+use Rattle.fb_tree.specs.declared.block.Block.TheOpen.{Block-F}
+use Rattle.fb_tree.specs.declared.block.Block.TheViews.{out-Block}
+use Rattle.fb_tree.specs.declared.block.CompositeBlock.{CompositeBlock}
+use Rattle.fb_tree.specs.declared.resource.Forest.{Forest}
+use Rattle.fb_tree.proofs.Shells.{shell_of-own, inputs_of-own}
+
+-- ---- Values
+
+pub there_is : {A : Type 0} (xs : List A) (k : ℕ) → k < length xs → (x : A) × (slice_get xs k ≡ Some x)
+there_is [] k h = absurd (omega (arith, h))
+there_is (x ∷ xs) zero h = (x, refl)
+there_is (x ∷ xs) (suc k) h = there_is xs k (omega (arith, h))
+
+pub as_many : (vs : List Variable) → length (variable_names vs) ≡ length vs
+as_many [] = refl
+as_many (v ∷ vs) = ap suc (as_many vs)
+
+value_stands : (sys : System) (p : Path) (vs : List Variable) (values : List Value) (all : Values) → ValuesStand sys p (variable_names vs) values all →
+    (k : ℕ) → k < length vs → value_in values k ≡ all (unwrap_or (slice_get (variable_names vs) k) [])
+value_stands sys p vs values all s k h =
+    let n = there_is (variable_names vs) k (subst (λ l. k < l) (sym (as_many vs)) h) in
+    let v = there_is values k (subst (λ l. k < l) (sym (s.each ∙ as_many vs)) h) in
+    ap (λ o. unwrap_or o zero_value) v.1 ∙ sym (s.at_place k n.0 v.0 n.1 v.1) ∙ ap (λ o. all (unwrap_or o [])) (sym n.1)
+
+reads_at : (sys : System) (p : Path) (vs these : List Variable) → vs ≡ these → (values : List Value) (all : Values) →
+    ValuesStand sys p (variable_names these) values all → (k : ℕ) → k < length vs → value_in values k ≡ all (unwrap_or (slice_get (variable_names vs) k) [])
+reads_at sys p vs these is values all s k h =
+    value_stands sys p these values all s k (subst (λ l. k < length l) is h) ∙ ap (λ l. all (unwrap_or (slice_get (variable_names l) k) [])) (sym is)
+
+-- ---- Variables by place
+
+-- the port of a variable, whichever variables it is among
+pub variable_is : (sys : System) (x : Place) → variable_of sys x ≡ record { at = path_at sys x.instance; name = unwrap_or (slice_get (variable_names (variables_at sys x)) x.variable) [] }
+variable_is sys x =
+    let its = ports_at sys (path_at sys x.instance) in
+    elim x.is_output as
+    (λ o. (if o then data_output sys x.instance x.variable else data_input sys x.instance x.variable)
+    ≡ record { at = path_at sys x.instance; name = unwrap_or (slice_get (variable_names (if o then its.outputs else its.inputs)) x.variable) [] }) [ true ↦ refl | false ↦ refl ]
+
+pub name_is : (sys : System) (x : Place) → (variable_of sys x).name ≡ unwrap_or (slice_get (variable_names (variables_at sys x)) x.variable) []
+name_is sys x = ap (λ q. q.name) (variable_is sys x)
+
+pub at_is : (sys : System) (x : Place) → (variable_of sys x).at ≡ path_at sys x.instance
+at_is sys x = ap (λ q. q.at) (variable_is sys x)
+
+-- its name stands at its place
+pub name_there : (sys : System) (x : Place) → IsVariable sys x → slice_get (variable_names (variables_at sys x)) x.variable ≡ Some (variable_of sys x).name
+name_there sys x variable =
+    let n = there_is (variable_names (variables_at sys x)) x.variable (subst (λ l. x.variable < l) (sym (as_many (variables_at sys x))) variable.variable) in
+    n.1 ∙ ap Some (sym (name_is sys x ∙ ap (λ o. unwrap_or o []) n.1))
+
+pub among_inputs : (sys : System) (x : Place) → x.is_output ≡ false → variables_at sys x ≡ (ports_at sys (path_at sys x.instance)).inputs
+among_inputs sys x e = ap (λ o. if o then (ports_at sys (path_at sys x.instance)).outputs else (ports_at sys (path_at sys x.instance)).inputs) e
+
+pub among_outputs : (sys : System) (x : Place) → x.is_output ≡ true → variables_at sys x ≡ (ports_at sys (path_at sys x.instance)).outputs
+among_outputs sys x e = ap (λ o. if o then (ports_at sys (path_at sys x.instance)).outputs else (ports_at sys (path_at sys x.instance)).inputs) e
+
+-- ---- One block
+
+pub shell_stands : (sys : System) (p : Path) (k : Option Kind) (x : Block-F Block CompositeBlock) (m : model.Block) → NodeStands sys p k x m → ShellStands sys p (shell_in x) m
+shell_stands sys p None (Block-F.Basic x) m s = absurd s
+shell_stands sys p None (Block-F.Event x) m s = absurd s
+shell_stands sys p None (Block-F.Composite x) m s = absurd s
+shell_stands sys p (Some (Basic t)) (Block-F.Basic x) m s = s.1
+shell_stands sys p (Some (Basic t)) (Block-F.Event x) m s = absurd s
+shell_stands sys p (Some (Basic t)) (Block-F.Composite x) m s = absurd s
+shell_stands sys p (Some (Event k)) (Block-F.Basic x) m s = absurd s
+shell_stands sys p (Some (Event k)) (Block-F.Event x) m s = s.1
+shell_stands sys p (Some (Event k)) (Block-F.Composite x) m s = absurd s
+shell_stands sys p (Some (Composite t)) (Block-F.Basic x) m s = absurd s
+shell_stands sys p (Some (Composite t)) (Block-F.Event x) m s = absurd s
+shell_stands sys p (Some (Composite t)) (Block-F.Composite x) m s = s.1
+
+copies_stand : (sys : System) (p : Path) (t : CompositeType) (x : Block-F Block CompositeBlock) (m : model.Block) →
+    NodeStands sys p (Some (Composite t)) x m → CompositeStands sys p (inputs_in x) m
+copies_stand sys p t (Block-F.Basic x) m s = absurd s
+copies_stand sys p t (Block-F.Event x) m s = absurd s
+copies_stand sys p t (Block-F.Composite x) m s = s.0
+
+module _ (sys : System) (x : Place) (b : Block) (m : model.Block) (variable : IsVariable sys x) (stands : StandsFor sys (path_at sys x.instance) (own_of b) m) where
+  shell : ShellStands sys (path_at sys x.instance) (shell_of b) m
+  shell =
+      subst (λ s. ShellStands sys (path_at sys x.instance) s m) (shell_of-own b)
+      (shell_stands sys (path_at sys x.instance) (sys.kind (path_at sys x.instance)) (out-Block (own_of b)) m stands)
+
+  pub slot_stands : x.is_output ≡ false → value_in (shell_of b).slots x.variable ≡ m.slots (variable_of sys x).name
+  slot_stands e =
+      reads_at sys (path_at sys x.instance) (variables_at sys x) _ (among_inputs sys x e) (shell_of b).slots m.slots shell.slots x.variable variable.variable
+      ∙ ap m.slots (sym (name_is sys x))
+
+  pub published_stands : x.is_output ≡ true → value_in (shell_of b).published x.variable ≡ m.published (variable_of sys x).name
+  published_stands e =
+      reads_at sys (path_at sys x.instance) (variables_at sys x) _ (among_outputs sys x e) (shell_of b).published m.published shell.published x.variable variable.variable
+      ∙ ap m.published (sym (name_is sys x))
+
+  pub copy_stands : IsComposite sys x → x.is_output ≡ false → value_in (inputs_of b) x.variable ≡ m.variables (variable_of sys x).name
+  copy_stands composite e =
+      let copies = copies_stand sys (path_at sys x.instance) composite.0 (out-Block (own_of b)) m
+      (subst (λ k. NodeStands sys (path_at sys x.instance) k (out-Block (own_of b)) m) composite.1 stands) in
+      ap (λ vs. value_in vs x.variable) (sym (inputs_of-own b))
+      ∙ reads_at sys (path_at sys x.instance) (variables_at sys x) _ (among_inputs sys x e) (inputs_of (own_of b)) m.variables copies.variables x.variable variable.variable
+      ∙ ap m.variables (sym (name_is sys x))
+
+-- ---- The trees
+
+-- a route by the seats
+pub seated_so : (f g : ℕ → ℕ) → ((place : ℕ) → f place ≡ g place) → (route : List ℕ) → seated f route ≡ seated g route
+seated_so f g same [] = refl
+seated_so f g same (place ∷ rest) = ap (λ seat. seat ∷ rest) (same place)
+
+same_found : {A : Type 0} (o : Option A) (a b : A) → o ≡ Some a → o ≡ Some b → a ≡ b
+same_found o a b e f = cc
+
+pub found_reads :
+    (i : Inputs) (t : Forest) (x : Place) (part : model.Block → Values) (b : Block) (v : Value) (o : Option Block) → o ≡ Some b →
+    ((w : World) → IsForest i t w → InForest i t x.instance → Found i x.instance (w.blocks (path_at (system_of i) x.instance)) o) →
+    ((m : model.Block) → StandsFor (system_of i) (path_at (system_of i) x.instance) (own_of b) m → v ≡ part m (variable_of (system_of i) x).name) →
+    Reads i t x part v
+found_reads i t x part b v o is found reads w tree within =
+    let f = found w tree within in
+    let p = path_at (system_of i) x.instance in
+    reads (w.blocks p) (subst (λ (y : Block). StandsFor (system_of i) p (own_of y) (w.blocks p)) (same_found o f.block b f.is is) f.stands)
+    ∙ ap (λ q. part (w.blocks q) (variable_of (system_of i) x).name) (sym (at_is (system_of i) x))
+
+-- the block at the route of an instance stands for it
+pub found_at :
+    (i : Inputs) (t : Forest) (k : ℕ) → k < length (system_of i).paths → (route : List ℕ) → route ≡ seated (seat_in t.seats) (route_to i.library (path_at (system_of i) k)) →
+    (o : Option Block) → o ≡ block_at t.blocks route → (w : World) → IsForest i t w → InForest i t k → Found i k (w.blocks (path_at (system_of i) k)) o
+found_at i t k number route is o at w forest lies =
+    let stands = forest.blocks k number lies in
+    let b = map_parts own_of (block_at t.blocks (route_in_tree i k)) stands.own stands.stood in
+    record {
+      block = b.0;
+      is = at ∙ ap (block_at t.blocks) (is ∙ seated_so (seat_in t.seats) (seat i.library i.plan) forest.seats (route_to i.library (path_at (system_of i) k))) ∙ b.1;
+      stands = subst (λ own. StandsFor (system_of i) (path_at (system_of i) k) own (w.blocks (path_at (system_of i) k))) (sym b.2) stands.stands;
+    }

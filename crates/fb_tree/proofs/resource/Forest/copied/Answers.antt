@@ -1,0 +1,10 @@
+use Rattle.std.proofs.Common.{rules, ap, ◌∙◌}
+use Rattle.fb_tree.specs.Worlds.{value_in}
+use Rattle.fb_tree.proofs.Reading.{found_reads, copy_stands}
+use Rattle.fb_tree.proofs.resource.Forest.copied.Goals as goal
+
+pub returns-in-Some : goal.returns-in-Some
+returns-in-Some c = λ composite.
+    found_reads _ _ _ (λ b. b.variables) c.in-Some.block.now _ _ (search rules) c.block.ensures
+    (λ m s. c.value_of.ensures ∙ ap (λ vs. value_in vs c.args.input.variable) c.inputs.ensures
+    ∙ copy_stands _ _ _ m c.requires.variable s composite c.requires.input)

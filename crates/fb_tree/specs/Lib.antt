@@ -1,0 +1,5 @@
+pub mod Blocks
+pub mod Changes
+pub mod Trees
+pub mod Worlds
+pub mod formers

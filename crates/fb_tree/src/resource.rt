@@ -1,0 +1,270 @@
+//! The blocks and the held copies of one resource.
+
+ghost use Rattle.std.specs.Prelude.{◌≡◌, ◌<◌, ◌∷◌, [], length, true, false, unwrap_or};
+ghost use Rattle.std.specs.BTreeMap.{get};
+ghost use Rattle.std.specs.Option.{option_copied};
+ghost use Rattle.fb_types.specs.Flat.{zero_value};
+ghost use Rattle.fb_types.specs.Headline.{system_of};
+ghost use Rattle.fb_types.specs.Numbers.{path_at};
+ghost use Rattle.fb_types.specs.Reactions.{World};
+ghost use Rattle.fb_types.specs.States as model;
+ghost use Rattle.fb_layout.specs.Layouts.{route_to};
+ghost use Rattle.fb_system.specs.Systems.{IsVariable, variable_of};
+ghost use Rattle.fb_tree.specs.Blocks.{components_of, own_of};
+ghost use Rattle.fb_tree.specs.Changes.{Changes, Holds, IsForestBut, IsOut, ShowsInside, input_sampled, output_shown, slot_set, with_instance};
+ghost use Rattle.fb_tree.specs.Worlds.{IsLeaf, StandsFor, TakesSamples, Found, InForest, IsComposite, IsForest, Reads, Samples, Sees, Shows, key_cmp, key_of, seat_in, seated, value_in};
+
+use crate::block::{Block, EventBlock};
+use crate::places::Places;
+use crate::shell::Shell;
+use crate::tree::find;
+use crate::values::{publish, replace, set_input, set_slot};
+use fb_event::state::EventState;
+use fb_fabric::fabric::Place;
+use fb_system::system::System;
+use fb_types::event_kind::EventKind;
+use fb_types::value::Value;
+use std::alloc::Global;
+use std::collections::BTreeMap;
+
+/// Values of variables of other resources, by instance, place, and whether it is an output.
+pub type Held = BTreeMap<(u32, u32, bool), Value, Global>;
+
+/// The instances of one resource, and the held copies of the variables of other resources to which they are
+/// connected.
+#[derive(Drop)]
+pub struct Forest {
+    /// The number of the resource.
+    pub resource: usize,
+    /// For each instance of the application, its place among the blocks of its resource.
+    pub seats: Places<u32>,
+    /// The instances of the application that lie in the resource, in the order of the text.
+    pub blocks: Places<Block>,
+    pub held: Held,
+}
+
+/// What stands for a value that is not there.
+const NOTHING: Value = Value::Whole(0);
+
+impl Forest {
+    /// The place of an instance of the application among the blocks of its resource.
+    fn seat(&self, place: u32) -> u32
+        ensures { result ≡ seat_in self.now.seats place }
+    {
+        self.seats.value(place as usize).unwrap_or(0)
+    }
+
+    /// The route of an instance that lies in the resource: its first place among the blocks, and the rest.
+    fn route<'a>(&self, system: &'a System, instance: u32) -> (u32, &'a [u32])
+        requires { instance < length (system_of system.now).paths }
+        ensures { result.0 ∷ result.1.now ≡ seated (seat_in self.now.seats) (route_to system.now.library (path_at (system_of system.now) instance)) }
+    {
+        system.facts();
+        match system.route(instance) {
+            [] => unreachable!(),
+            [place, rest @ ..] => (self.seat(*place), rest),
+        }
+    }
+
+    /// The block of an instance that lies in the resource.
+    pub fn block(&self, system: &System, instance: u32) -> Option<&Block>
+        requires { instance < length (system_of system.now).paths }
+        ensures { (w : World) → IsForest system.now self.now w → InForest system.now self.now instance →
+            Found system.now instance (w.blocks (path_at (system_of system.now) instance)) (option_copied result) }
+    {
+        let (first, rest) = self.route(system, instance);
+        find(self.blocks.as_slice(), first, rest)
+    }
+
+    /// What a connection or a stimulus has set at a data input of an instance that lies in the resource.
+    pub fn slot(&self, system: &System, input: Place) -> Value
+        requires variable { IsVariable (system_of system.now) input }
+        requires input { input.is_output ≡ false }
+        ensures { Reads system.now self.now input (λ b. b.slots) result }
+    {
+        match self.block(system, input.instance) {
+            Some(block) => value_of(block.shell().slots.as_slice(), input.variable),
+            None => NOTHING,
+        }
+    }
+
+    /// What connections see at a data output of an instance that lies in the resource.
+    pub fn published(&self, system: &System, output: Place) -> Value
+        requires variable { IsVariable (system_of system.now) output }
+        requires output { output.is_output ≡ true }
+        ensures { Reads system.now self.now output (λ b. b.published) result }
+    {
+        match self.block(system, output.instance) {
+            Some(block) => value_of(block.shell().published.as_slice(), output.variable),
+            None => NOTHING,
+        }
+    }
+
+    /// The copy of a data input that a composite block in the resource shows to its components.
+    pub fn copied(&self, system: &System, input: Place) -> Value
+        requires variable { IsVariable (system_of system.now) input }
+        requires input { input.is_output ≡ false }
+        ensures { IsComposite (system_of system.now) input → Reads system.now self.now input (λ b. b.variables) result }
+    {
+        match self.block(system, input.instance) {
+            Some(block) => value_of(block.inputs(), input.variable),
+            None => NOTHING,
+        }
+    }
+
+    /// What connections see at a source that lies in the resource.
+    fn seen(&self, system: &System, source: Place) -> Value
+        requires { IsVariable (system_of system.now) source }
+        ensures { Sees system.now self.now source result }
+    {
+        system.facts();
+        if source.is_output {
+            self.published(system, source)
+        } else {
+            self.copied(system, source)
+        }
+    }
+
+    /// The held copy of a variable of another resource, or 0 where there is none.
+    fn held(&self, source: Place) -> Value
+        ensures { result ≡ unwrap_or (get key_cmp self.now.held (key_of source)) zero_value }
+    {
+        let key = (source.instance, source.variable, source.is_output);
+        self.held.get(&key).copied().unwrap_or(NOTHING)
+    }
+
+    /// What a source shows in the resource: what connections see at it, or the held copy where it lies in another
+    /// resource.
+    pub fn shown(&self, system: &System, source: Place) -> Value
+        requires { IsVariable (system_of system.now) source }
+        ensures { Shows system.now self.now source result }
+    {
+        if system.resource(source.instance) == self.resource {
+            self.seen(system, source)
+        } else {
+            self.held(source)
+        }
+    }
+
+    /// What a data input of an instance that lies in the resource samples: what its source shows, or else what a
+    /// stimulus has set.
+    pub fn sampled(&self, system: &System, input: Place) -> Value
+        requires variable { IsVariable (system_of system.now) input }
+        requires input { input.is_output ≡ false }
+        ensures { Samples system.now self.now input result }
+    {
+        match system.source(input) {
+            Some(source) => self.shown(system, source),
+            None => self.slot(system, input),
+        }
+    }
+
+    /// What a data output of a composite that lies in the resource shows from inside: what its inner source shows, or
+    /// else what it showed before.
+    pub fn shown_inside(&self, system: &System, output: Place) -> Value
+        requires variable { IsVariable (system_of system.now) output }
+        requires output { output.is_output ≡ true }
+        requires composite { IsComposite (system_of system.now) output }
+        ensures { ShowsInside system.now self.now output result }
+    {
+        match system.source(output) {
+            Some(source) => self.shown(system, source),
+            None => self.published(system, output),
+        }
+    }
+
+    /// A stimulus brings a value to a data input of an instance that lies in the resource.
+    pub fn set_slot(&mut self, system: &System, input: Place, value: Value)
+        requires variable { IsVariable (system_of system.now) input }
+        requires input { input.is_output ≡ false }
+        ensures { Changes system.now self.old input.instance (slot_set (variable_of (system_of system.now) input).name value) self.new }
+    {
+        system.facts();
+        let (first, rest) = self.route(system, input.instance);
+        let place = input.variable as usize;
+        set_slot(&mut self.blocks, first, rest, place, value);
+    }
+
+    /// A data output of an instance that lies in the resource shows another value to connections.
+    pub fn publish(&mut self, system: &System, output: Place, value: Value)
+        requires variable { IsVariable (system_of system.now) output }
+        requires output { output.is_output ≡ true }
+        ensures { Changes system.now self.old output.instance (output_shown (variable_of (system_of system.now) output).name value) self.new }
+    {
+        system.facts();
+        let (first, rest) = self.route(system, output.instance);
+        let place = output.variable as usize;
+        publish(&mut self.blocks, first, rest, place, value);
+    }
+
+    /// An event block or a composite that lies in the resource samples a data input.
+    pub fn set_input(&mut self, system: &System, input: Place, value: Value)
+        requires variable { IsVariable (system_of system.now) input }
+        requires input { input.is_output ≡ false }
+        requires takes { TakesSamples (system_of system.now) input }
+        ensures { Changes system.now self.old input.instance (input_sampled (variable_of (system_of system.now) input).name value) self.new }
+    {
+        system.facts();
+        let (first, rest) = self.route(system, input.instance);
+        let place = input.variable as usize;
+        set_input(&mut self.blocks, first, rest, place, value);
+    }
+
+    /// A message brings a value of a variable of another resource. Where nothing in this resource is connected to the
+    /// variable, nothing is kept.
+    pub fn hold(&mut self, system: &System, output: Place, value: Value)
+        requires { IsVariable (system_of system.now) output }
+        ensures { Holds system.now self.old output value self.new }
+    {
+        system.facts();
+        let key = (output.instance, output.variable, output.is_output);
+        if let Some(held) = self.held.get_mut(&key) {
+            *held = value;
+        }
+    }
+
+    /// Takes the block of a leaf that lies in the resource out, while it reacts. `put_back` puts it there again.
+    pub fn take_out(&mut self, alloc: Global, system: &System, instance: u32) -> Option<Block>
+        requires instance { instance < length (system_of system.now).paths }
+        requires leaf { IsLeaf (system_of system.now) instance }
+        ensures resource { self.new.resource ≡ self.old.resource }
+        ensures out { (w : World) → IsForest system.now self.old w → InForest system.now self.old instance → IsOut system.now instance w result self.new }
+    {
+        system.facts();
+        let (first, rest) = self.route(system, instance);
+        replace(&mut self.blocks, first, rest, stub(alloc))
+    }
+
+    /// Puts the block of a leaf back.
+    pub fn put_back(&mut self, system: &System, instance: u32, block: Block)
+        requires { instance < length (system_of system.now).paths }
+        ensures resource { self.new.resource ≡ self.old.resource }
+        ensures back { (w : World) (b : model.Block) → IsForestBut system.now self.old instance w → components_of block ≡ [] →
+            StandsFor (system_of system.now) (path_at (system_of system.now) instance) (own_of block) b → IsForest system.now self.new (with_instance system.now instance b w) }
+    {
+        system.facts();
+        let (first, rest) = self.route(system, instance);
+        replace(&mut self.blocks, first, rest, block);
+    }
+}
+
+/// The value at a place.
+fn value_of(values: &[Value], place: u32) -> Value
+    ensures { result ≡ value_in values.now place }
+{
+    values.get(place as usize).copied().unwrap_or(NOTHING)
+}
+
+/// What stands in the place of a block that was taken out: an event block without variables, which takes no memory.
+fn stub(alloc: Global) -> Block
+    ensures { components_of result ≡ [] }
+{
+    Block::Event(EventBlock {
+        state: EventState::new(EventKind::Restart),
+        inputs: Places::new(alloc),
+        shell: Shell {
+            slots: Places::new(alloc),
+            published: Places::new(alloc),
+        },
+    })
+}

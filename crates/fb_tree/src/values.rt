@@ -1,0 +1,49 @@
+//! What is changed of one block among the trees.
+
+ghost use Rattle.std.specs.Prelude.{◌≡◌, ◌∷◌, IfNone, IfSome};
+ghost use Rattle.fb_tree.specs.Blocks.{with_input, with_published, with_slot};
+ghost use Rattle.fb_tree.specs.Trees.{block_at, put_at, ChangedAlone};
+
+use crate::block::Block;
+use crate::places::Places;
+use crate::tree::change;
+use fb_types::value::Value;
+use std::mem;
+
+/// A connection or a stimulus brings a value to a data input of the block at a route.
+pub fn set_slot(blocks: &mut Places<Block>, first: u32, rest: &[u32], input: usize, value: Value)
+    ensures { ChangedAlone (with_slot input value) blocks.old (first ∷ rest.now) blocks.new }
+{
+    change(blocks, first, rest, |block| {
+        block.shell_mut().slots.set(input, value);
+    });
+}
+
+/// A data output of the block at a route shows another value to connections.
+pub fn publish(blocks: &mut Places<Block>, first: u32, rest: &[u32], output: usize, value: Value)
+    ensures { ChangedAlone (with_published output value) blocks.old (first ∷ rest.now) blocks.new }
+{
+    change(blocks, first, rest, |block| {
+        block.shell_mut().published.set(output, value);
+    });
+}
+
+/// The event block or the composite block at a route samples a data input. For another block nothing changes.
+pub fn set_input(blocks: &mut Places<Block>, first: u32, rest: &[u32], input: usize, value: Value)
+    ensures { ChangedAlone (with_input input value) blocks.old (first ∷ rest.now) blocks.new }
+{
+    change(blocks, first, rest, |block| {
+        if let Some(inputs) = block.inputs_mut() {
+            inputs.set(input, value);
+        }
+    });
+}
+
+/// Puts a block in the place of the one at a route, and gives that one. Where no block stands there nothing happens.
+pub fn replace(blocks: &mut Places<Block>, first: u32, rest: &[u32], block: Block) -> Option<Block>
+    ensures found { result ≡ block_at blocks.old (first ∷ rest.now) }
+    ensures put { IfSome result (λ was. blocks.new ≡ put_at blocks.old (first ∷ rest.now) block) }
+    ensures none { IfNone result (blocks.new ≡ blocks.old) }
+{
+    change(blocks, first, rest, |place| mem::replace(place, block))
+}
