@@ -1,16 +1,3 @@
-pub mod BegunIs
-pub mod FactsAre
-pub mod OpenIs
 pub mod Outcomes
-pub mod PublishLaws
-pub mod RaiseLaws
-pub mod ReactLaws
-pub mod ReactionIs
 pub mod Refused
 pub mod SerialIs
-pub mod StepIs
-pub mod RunIs
-pub mod SteppedLaws
-pub mod TakeIs
-pub mod TakenLaws
-pub mod TimerLaws

@@ -8,7 +8,6 @@ use Rattle.fb_types.specs.Simulation.{Ending, AtHorizon, AtStop}
 use Rattle.fb_types.specs.declared.deploy.Plan.{Plan}
 use Rattle.fb_types.specs.declared.deploy.Stimulus.{Stimulus}
 use Rattle.fb_types.specs.declared.library.Library.{Library}
-use Rattle.fb_types.specs.declared.run.Form.TheVariants.{One}
 use Rattle.fb_read.specs.Whole.{IsLibraryText}
 use Rattle.fb_inputs.specs.Deployments.{deploy_of}
 use Rattle.fb_inputs.specs.Stimuli.{stimuli_of}
@@ -22,7 +21,7 @@ use Rattle.fb_sim.specs.declared.outcome.Outcome.TheVariants.{End, Stop}
 use Rattle.fb_sim.specs.declared.outcome.Refusal.{Refusal}
 use Rattle.fb_sim.specs.declared.outcome.Refusal.TheVariants.{Declaration, Deployment, Stimuli, Check}
 use Rattle.fb_sim.specs.declared.outcome.RunError.{RunError}
-use Rattle.fb_sim.specs.declared.outcome.RunError.TheVariants.{Refused, Unsupported, Memory, Write, BadOption}
+use Rattle.fb_sim.specs.declared.outcome.RunError.TheVariants.{Refused, Memory, Write, BadOption}
 
 -- each option is in its range
 pub record AreWithin (o : Options) : Type 0 where
@@ -106,18 +105,9 @@ IsRightly given (Check f) = AreNotAccepted given (judge.number_of f)
 -- why inputs are not known to be accepted
 abbrev pub IsRefusal : Given → RunError → Type 0
 IsRefusal given (Refused r) = IsRightly given r
-IsRefusal given Unsupported = ⊥
 IsRefusal given Memory = Unit {0}
 IsRefusal given (Write n) = ⊥
 IsRefusal given BadOption = ⊥
-
--- why nothing is run: what is not simulated yet is accepted
-abbrev pub IsUnopened : Given → RunError → Type 0
-IsUnopened given (Refused r) = IsRightly given r
-IsUnopened given Unsupported = IsDeclared given
-IsUnopened given Memory = Unit {0}
-IsUnopened given (Write n) = ⊥
-IsUnopened given BadOption = ⊥
 
 -- ---- What is written
 
@@ -129,7 +119,7 @@ ending_of (Stop m) = AtStop m.tick m.resource m.reason
 pub record AreTrace (given : Given) (o : Options) (bytes : List ℕ) (end : Ending) : Type 0 where
   pub inputs : Inputs
   pub declared : Declares given inputs
-  pub trace : IsTrace inputs One o.horizon o.steps bytes end
+  pub trace : IsTrace inputs o.form o.horizon o.steps bytes end
 
 -- A writer got the whole trace, and the run ended so.
 pub record Writes (given : Given) (o : Options) (old new : Option (List ℕ)) (end : Ending) : Type 0 where
@@ -149,5 +139,4 @@ abbrev pub Fails : Given → Options → (old new : Option (List ℕ)) → RunEr
 Fails given o old new BadOption = (AreWithin o → ⊥) × (new ≡ old)
 Fails given o old new (Write n) = WritesPart given o old new n
 Fails given o old new (Refused r) = IsRightly given r × (new ≡ old)
-Fails given o old new Unsupported = IsDeclared given × (new ≡ old)
 Fails given o old new Memory = new ≡ old

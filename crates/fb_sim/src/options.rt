@@ -3,6 +3,7 @@
 ghost use Rattle.std.specs.Prelude.{◌↔◌, IsTrue};
 ghost use Rattle.fb_sim.specs.Serial.{AreWithin};
 
+use fb_types::run::Form;
 use std::marker::Model;
 
 /// What is read. Contracts see the bytes.
@@ -34,6 +35,8 @@ pub struct Options {
     pub steps: u64,
     /// How many workers there are, 1 to 64. A run on one thread has one, whatever stands here.
     pub workers: u64,
+    /// The form of the trace: with `Two`, each line but the last begins with the class and the parts of its key.
+    pub form: Form,
 }
 
 impl Options {

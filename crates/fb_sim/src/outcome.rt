@@ -42,9 +42,6 @@ pub enum RunError {
     /// The inputs are refused.
     #[error("{0}")]
     Refused(Refusal),
-    /// A limit of today: the inputs are accepted, but what they have is not simulated yet.
-    #[error("accepted, but not simulated yet")]
-    Unsupported,
     #[error("out of memory")]
     Memory,
     /// The writer failed when it had taken so many bytes of the trace.

@@ -2,22 +2,22 @@
 
 ghost use Rattle.std.specs.Prelude.{IfOk, IfErr, OnOk};
 ghost use Rattle.fb_read.specs.Whole.{IsLibraryText};
-ghost use Rattle.fb_plain.specs.Stands as stands;
-ghost use Rattle.fb_sim.specs.Serial.{AreStimuli, Declares, IsDeclared, IsPlan, IsRefusal, IsUnopened, Reads};
+ghost use Rattle.fb_system.specs.Systems.{inputs as inputs_from};
+ghost use Rattle.fb_sim.specs.Serial.{AreStimuli, Declares, IsDeclared, IsPlan, IsRefusal, Reads};
 
 use crate::options::Inputs;
 use crate::outcome::{Refusal, RunError};
+use fb_check::accept::accept;
+use fb_check::error::CheckError;
 use fb_inputs::deployment::read_deploy;
 use fb_inputs::error::InputError;
 use fb_inputs::stimuli::read_stimuli;
 use fb_judge::case::Case;
 use fb_judge::fault;
 use fb_judge::judge::judge;
-use fb_plain::accept::accept;
-use fb_plain::error::CheckError;
-use fb_plain::system::System;
 use fb_read::error::ReadError;
 use fb_read::read::read_library;
+use fb_system::system::System;
 use fb_types::deploy::{Deploy, Stimulus};
 use fb_types::library::Library;
 use std::alloc::Global;
@@ -81,7 +81,7 @@ fn stimuli_of(
 
 /// Reads what is given.
 fn read(alloc: Global, inputs: &Inputs<'_>) -> Result<Reading, RunError>
-    ensures read { IfOk result (λ r. Reads inputs.now (stands.inputs r.library r.deploy r.stimuli.items)) }
+    ensures read { IfOk result (λ r. Reads inputs.now (inputs_from r.library r.deploy r.stimuli.items)) }
     ensures refused { IfErr result (IsRefusal inputs.now) }
 {
     let library = library_of(alloc, inputs)?;
@@ -115,13 +115,12 @@ pub fn judge_inputs(alloc: Global, inputs: &Inputs<'_>) -> Result<(), RunError>
 /// Reads what is given, and makes the system that stands for it.
 pub fn open(alloc: Global, inputs: &Inputs<'_>) -> Result<System, RunError>
     ensures system { IfOk result (Declares inputs.now) }
-    ensures unopened { IfErr result (IsUnopened inputs.now) }
+    ensures refused { IfErr result (IsRefusal inputs.now) }
 {
     let read = read(alloc, inputs)?;
     match accept(alloc, read.library, read.deploy, read.stimuli) {
         Ok(system) => Ok(system),
         Err(CheckError::Memory) => Err(RunError::Memory),
-        Err(CheckError::Unsupported) => Err(RunError::Unsupported),
         Err(CheckError::Refused(fault)) => Err(RunError::Refused(Refusal::Check(fault))),
     }
 }

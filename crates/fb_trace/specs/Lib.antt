@@ -1,4 +1,3 @@
 pub mod Page
 pub mod Progress
-pub mod Lines
 pub mod End

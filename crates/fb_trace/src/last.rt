@@ -11,7 +11,7 @@ ghost use Rattle.fb_trace.specs.Progress.{Gathers, IsPartWritten};
 use crate::fault::WriteFault;
 use crate::page::Page;
 use crate::pieces::put_place;
-use fb_plain::system::System;
+use fb_system::system::System;
 use fb_types::run::StopMark;
 use fb_types::value::Reason;
 use std::io::Write;

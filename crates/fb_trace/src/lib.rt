@@ -8,6 +8,4 @@ mod names;
 mod number;
 mod page;
 mod pieces;
-#[cfg(test)]
-mod tests;
 pub mod trace;

@@ -5,14 +5,14 @@ ghost use Rattle.std.specs.Io.KnownBytes.{Appends};
 ghost use Rattle.fb_types.specs.Headline.{system_of};
 ghost use Rattle.fb_types.specs.Numbers.{line_of};
 ghost use Rattle.fb_types.specs.Text.{line_text, lines_text};
-ghost use Rattle.fb_trace.specs.Lines.{BelongsTo};
+ghost use Rattle.fb_system.specs.Lines.{BelongsTo};
 ghost use Rattle.fb_trace.specs.Progress.{Gathers, IsPartWritten};
 
 use crate::fault::WriteFault;
 use crate::names::names_of;
 use crate::page::Page;
 use crate::pieces::{put_key, put_place, put_values};
-use fb_plain::system::System;
+use fb_system::system::System;
 use fb_types::run::{Form, Line};
 use std::io::Write;
 
@@ -38,7 +38,7 @@ fn put_line<W: Write>(
     put_key(page, out, form, &line.key)?;
     put_place(page, out, system, line.key.tick, line.key.resource)?;
     page.put(out, sign(line.taken))?;
-    page.put(out, system.path(line.instance as usize))?;
+    page.put(out, system.path(line.instance))?;
     page.put(out, b".")?;
     page.put(out, names.event)?;
     put_values(

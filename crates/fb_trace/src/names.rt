@@ -3,10 +3,10 @@
 ghost use Rattle.std.specs.Prelude.{◌≡◌};
 ghost use Rattle.fb_types.specs.Headline.{system_of};
 ghost use Rattle.fb_types.specs.Numbers.{line_of};
-ghost use Rattle.fb_plain.specs.Stands.{ArePlaces};
-ghost use Rattle.fb_trace.specs.Lines.{BelongsTo, line_variables};
+ghost use Rattle.fb_interfaces.specs.Stands.{ArePlaces};
+ghost use Rattle.fb_system.specs.Lines.{BelongsTo, line_variables};
 
-use fb_plain::system::System;
+use fb_system::system::System;
 use fb_types::library::Variable;
 use fb_types::run::Line;
 
@@ -24,20 +24,19 @@ pub(crate) fn names_of<'a>(system: &'a System, line: &Line) -> Names<'a>
     ensures event { result.event.now ≡ (line_of (system_of system.now) line.now).event }
     ensures places { ArePlaces result.variables.now (line_variables (system_of system.now) line.now) result.places.now }
 {
-    let interface = system.interface(line.instance as usize);
-    let ports = &interface.ports;
+    let ports = system.ports(line.instance);
     let event = line.event as usize;
     if line.taken {
         Names {
             event: ports.event_inputs.as_slice()[event].name.as_bytes(),
             variables: ports.inputs.as_slice(),
-            places: interface.inputs_with.as_slice()[event].as_slice(),
+            places: system.inputs_with(line.instance, line.event),
         }
     } else {
         Names {
             event: ports.event_outputs.as_slice()[event].name.as_bytes(),
             variables: ports.outputs.as_slice(),
-            places: interface.outputs_with.as_slice()[event].as_slice(),
+            places: system.outputs_with(line.instance, line.event),
         }
     }
 }

@@ -4,12 +4,12 @@ ghost use Rattle.std.specs.Prelude.{◌≡◌, ◌<◌, ◌++◌, length, map, A
 ghost use Rattle.fb_types.specs.Headline.{system_of};
 ghost use Rattle.fb_types.specs.Numbers.{pair_up};
 ghost use Rattle.fb_types.specs.Text.{key_text, place_text, value_text, values_text};
-ghost use Rattle.fb_plain.specs.Stands.{variable_at};
+ghost use Rattle.fb_interfaces.specs.Stands.{variable_at};
 ghost use Rattle.fb_trace.specs.Progress.{Gathers};
 
 use crate::fault::WriteFault;
 use crate::page::Page;
-use fb_plain::system::System;
+use fb_system::system::System;
 use fb_types::key::Key;
 use fb_types::library::Variable;
 use fb_types::run::Form;
@@ -56,7 +56,7 @@ pub(crate) fn put_place<W: Write>(
 {
     page.put_number(out, tick as u128)?;
     page.put(out, b" ")?;
-    page.put(out, system.resource(resource as usize))
+    page.put(out, system.resource_name(resource as usize))
 }
 
 fn put_whole<W: Write>(page: &mut Page, out: &mut W, number: i128) -> Result<(), WriteFault>

@@ -6,14 +6,14 @@ ghost use Rattle.fb_types.specs.Headline.{system_of};
 ghost use Rattle.fb_types.specs.Numbers.{line_of};
 ghost use Rattle.fb_types.specs.Text.{trace_text};
 ghost use Rattle.fb_trace.specs.End.{ending_of, EndsIn};
-ghost use Rattle.fb_trace.specs.Lines.{BelongsTo};
+ghost use Rattle.fb_system.specs.Lines.{BelongsTo};
 ghost use Rattle.fb_trace.specs.Progress.{IsPartWritten};
 
 use crate::fault::WriteFault;
 use crate::last::{End, put_last};
 use crate::lines::put_lines;
 use crate::page::Page;
-use fb_plain::system::System;
+use fb_system::system::System;
 use fb_types::run::{Form, Line};
 use std::io::Write;
 

@@ -1,2 +1,6 @@
+pub mod AlikeFaults
+pub mod AlikeTakes
+pub mod AlikeWalk
+pub mod FormLaws
 pub mod GetterLaws
 pub mod LineLaws

@@ -1,11 +1,15 @@
 -- Where the words name no call.
-use Rattle.std.proofs.Common.{◌≡◌, ℕ, Option, Some, None, Result, Ok, Err, List, true, refl, sym, ◌∙◌, subst, inl, inr, codes}
-use Rattle.std.specs.Prelude.{IfNone, IfErr}
+use Rattle.std.proofs.Common.{◌≡◌, ℕ, Option, Some, None, Result, Ok, Err, List, true, refl, sym, ap, ◌∙◌, subst, inl, inr, codes}
+use Rattle.std.specs.Prelude.{IfNone, IfOk, IfErr}
 use Rattle.clap.specs.Words.{App, Row, Text, HasKind, IsAmong, first_of, fault_of, kind_of, is_simple, is_simple_and_free, takes, matches_of, subcommand_of}
 use Rattle.clap.specs.declared.error.Error.{Error}
 use Rattle.clap.specs.declared.error.kind.ErrorKind.{ErrorKind}
 use Rattle.clap.specs.declared.error.kind.ErrorKind.TheVariants.{DisplayHelp, OutOfMemory}
-use Rattle.fbsim.specs.Line.{AreNoCall, AskHelp, IsNumber, IsOrder, IsCall, IsCallOf, IsFault, command_name, simulator}
+use Rattle.fb_types.specs.declared.run.Form.{Form}
+use Rattle.fb_types.specs.declared.run.Form.TheVariants.{One, Two}
+use Rattle.clap.specs.declared.builder.value_parser.ValueParser.{ValueParser}
+use Rattle.fbsim.specs.Line.{AreCall, AreNoCall, AskHelp, IsForm, IsNumber, IsOrder, IsCall, IsCallOf, IsFault, command_name, AreForms, simulator, simulator_with}
+use Rattle.fbsim.proofs.FormLaws.{same_fault, same_subcommand, same_takes}
 use Rattle.fbsim.specs.declared.line.LineFault.{LineFault}
 use Rattle.fbsim.specs.declared.line.Call.{Call}
 use Rattle.fbsim.specs.declared.line.Order.{Order}
@@ -15,35 +19,61 @@ pub if_none : {T : Type 0} (r : Option T) (P : Type 0) → P → IfNone r P
 if_none (Some x) P p = tt
 if_none None P p = p
 
+some_is : {T : Type 0} {x y : T} → Some x ≡ Some y → x ≡ y
+some_is {T} {x} {y} e = ap (unwrap_or_of x) e
+  where
+    unwrap_or_of : T → Option T → T
+    unwrap_or_of d (Some z) = z
+    unwrap_or_of d None = d
+
 pub no_horizon : (rows : List Row) (name : Text) → name ≡ codes "run" → ((n : ℕ) → IsNumber rows (codes "horizon") n → ⊥)
     → (o : Order) → name ≡ command_name o → IsOrder rows o → ⊥
 no_horizon rows name is none Check named order = let bad : codes "run" ≡ codes "check" = sym is ∙ named in cc
-no_horizon rows name is none (Run horizon steps) named order = none horizon order.horizon_is
+no_horizon rows name is none (Run horizon steps form) named order = none horizon order.horizon_is
 
 pub no_steps : (rows : List Row) (name : Text) → name ≡ codes "run" → ((n : ℕ) → IsNumber rows (codes "steps") n → ⊥)
     → (o : Order) → name ≡ command_name o → IsOrder rows o → ⊥
 no_steps rows name is none Check named order = let bad : codes "run" ≡ codes "check" = sym is ∙ named in cc
-no_steps rows name is none (Run horizon steps) named order = none steps order.steps_is
+no_steps rows name is none (Run horizon steps form) named order = none steps order.steps_is
+
+pub no_form : (rows : List Row) (name : Text) → name ≡ codes "run" → ((f : Form) → IsForm rows f → ⊥)
+    → (o : Order) → name ≡ command_name o → IsOrder rows o → ⊥
+no_form rows name is none Check named order = let bad : codes "run" ≡ codes "check" = sym is ∙ named in cc
+no_form rows name is none (Run horizon steps form) named order = none form order.form_is
+
+-- ---- The word of the form
+
+pub no_word : (rows : List Row) → first_of (codes "trace") rows ≡ None → (f : Form) → IsForm rows f → ⊥
+no_word rows none f is = absurd cc
+
+pub other_word : (rows : List Row) (word : Text) → first_of (codes "trace") rows ≡ Some word → (word ≡ codes "1" → ⊥) → (word ≡ codes "2" → ⊥) → (f : Form) → IsForm rows f → ⊥
+other_word rows word given not_one not_two One is = not_one (some_is (sym given ∙ is))
+other_word rows word given not_one not_two Two is = not_two (some_is (sym given ∙ is))
 
 pub no_declaration : (rows : List Row) (name : Text) → first_of (codes "DECL") rows ≡ None → (c : Call) → name ≡ command_name c.order → IsCall rows c → ⊥
 no_declaration rows name none c named is = let given = is.declaration in absurd cc
 
 -- ---- The words, by what the parser says of them
 
-pub asks_help : (a : App) (words : List Text) (e : Error) → a ≡ simulator → (is_simple_and_free a ≡ true → HasKind (fault_of a words) e) → kind_of e ≡ DisplayHelp → AskHelp words
-asks_help a words e is kinds help = go (subst (λ (x : App). is_simple_and_free x ≡ true → HasKind (fault_of x words) e) is kinds refl)
-  where
-    go : HasKind (fault_of simulator words) e → AskHelp words
-    go (inl memory) = let bad : OutOfMemory ≡ DisplayHelp = sym memory ∙ help in cc
-    go (inr among) = subst (λ (k : ErrorKind). IsAmong k (fault_of simulator words)) help among
+module _ (values : ValueParser) (are : AreForms values) (a : App) (words : List Text) (is : a ≡ simulator_with values) where
+  pub asks_help : (e : Error) → (is_simple_and_free a ≡ true → HasKind (fault_of a words) e) → kind_of e ≡ DisplayHelp → AskHelp words
+  asks_help e kinds help = go (subst (λ (x : App). is_simple_and_free x ≡ true → HasKind (fault_of x words) e) is kinds refl)
+    where
+      go : HasKind (fault_of (simulator_with values) words) e → AskHelp words
+      go (inl memory) = let bad : OutOfMemory ≡ DisplayHelp = sym memory ∙ help in cc
+      go (inr among) = subst (IsAmong DisplayHelp) (same_fault values are words) (subst (λ (k : ErrorKind). IsAmong k (fault_of (simulator_with values) words)) help among)
 
-pub are_refused : (a : App) (words : List Text) (e : Error) → a ≡ simulator → (takes a words ≡ true → kind_of e ≡ OutOfMemory) → (kind_of e ≡ OutOfMemory → ⊥) → AreNoCall words
-are_refused a words e is passes other = λ taken c named. other (passes (subst (λ (x : App). takes x words ≡ true) (sym is) taken))
+  pub are_refused : (e : Error) → (takes a words ≡ true → kind_of e ≡ OutOfMemory) → (kind_of e ≡ OutOfMemory → ⊥) → AreNoCall words
+  are_refused e passes other = λ taken c named. other (passes (ap (λ (x : App). takes x words) is ∙ same_takes values are words ∙ taken))
 
-pub make_no_call : (a : App) (words : List Text) (rows : List Row) (found : Option (Text × List Row)) (r : Result Call LineFault) → a ≡ simulator
-    → (is_simple a ≡ true → (rows ≡ matches_of a words) × (found ≡ subcommand_of a words))
-    → IfErr r (λ e. IsFault e → (c : Call) → IsCallOf found c → ⊥) → IfErr r (λ e. IsFault e → AreNoCall words)
-make_no_call a words rows found (Ok x) is matches none = tt
-make_no_call a words rows found (Err e) is matches none = λ fault taken c named.
-    let same : found ≡ subcommand_of simulator words = (subst (λ (x : App). is_simple x ≡ true → (rows ≡ matches_of x words) × (found ≡ subcommand_of x words)) is matches refl).1 in
-    none fault c (subst (λ (x : Option (Text × List Row)). IsCallOf x c) (sym same) named)
+  module _ (rows : List Row) (found : Option (Text × List Row)) (matches : is_simple a ≡ true → (rows ≡ matches_of a words) × (found ≡ subcommand_of a words)) where
+    found_is : found ≡ subcommand_of simulator words
+    found_is = (subst (λ (x : App). is_simple x ≡ true → (rows ≡ matches_of x words) × (found ≡ subcommand_of x words)) is matches refl).1 ∙ same_subcommand values are words
+
+    pub make_call : (r : Result Call LineFault) → IfOk r (IsCallOf found) → IfOk r (AreCall words)
+    make_call (Err e) named = tt
+    make_call (Ok c) named = subst (λ (x : Option (Text × List Row)). IsCallOf x c) found_is named
+
+    pub make_no_call : (r : Result Call LineFault) → IfErr r (λ e. IsFault e → (c : Call) → IsCallOf found c → ⊥) → IfErr r (λ e. IsFault e → AreNoCall words)
+    make_no_call (Ok x) none = tt
+    make_no_call (Err e) none = λ fault taken c named. none fault c (subst (λ (x : Option (Text × List Row)). IsCallOf x c) (sym found_is) named)

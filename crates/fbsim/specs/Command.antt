@@ -14,7 +14,7 @@ use Rattle.fb_sim.specs.declared.outcome.RunError.{RunError}
 use Rattle.fbsim.specs.Failures.{IsPartWritten, failure_of, failure_of_source}
 use Rattle.fbsim.specs.Line.{AreCall, AreNoCall, AskHelp}
 use Rattle.fbsim.specs.declared.failure.Failure.{Failure}
-use Rattle.fbsim.specs.declared.failure.Failure.TheVariants.{Refused, Unsupported, File, Write, Memory, Line, BadOption}
+use Rattle.fbsim.specs.declared.failure.Failure.TheVariants.{Refused, File, Write, Memory, Line, BadOption}
 use Rattle.fbsim.specs.declared.failure.Refusal.{Refusal}
 use Rattle.fbsim.specs.declared.line.Call.{Call}
 use Rattle.fbsim.specs.declared.line.Order.{Order}
@@ -44,7 +44,6 @@ Checks given old new (Ok Helped) = ⊥
 Checks given old new (Ok Ended) = ⊥
 Checks given old new (Ok Stopped) = ⊥
 Checks given old new (Err (Refused refusal)) = IsRefused given refusal × (new ≡ old)
-Checks given old new (Err Unsupported) = ⊥
 Checks given old new (Err (Write n)) = IsDeclared given × IsPartWritten old new (codes "accepted\n") n
 Checks given old new (Err Memory) = new ≡ old
 Checks given old new (Err File) = ⊥
@@ -58,7 +57,6 @@ Runs given o old new (Ok Stopped) = (tick : ℕ) × (resource : ℕ) × (reason 
 Runs given o old new (Ok Helped) = ⊥
 Runs given o old new (Ok Accepted) = ⊥
 Runs given o old new (Err (Refused refusal)) = IsRefused given refusal × (new ≡ old)
-Runs given o old new (Err Unsupported) = IsDeclared given × (new ≡ old)
 Runs given o old new (Err (Write n)) = sim.WritesPart given o old new n
 Runs given o old new (Err Memory) = new ≡ old
 Runs given o old new (Err BadOption) = (AreWithin o → ⊥) × (new ≡ old)
@@ -68,7 +66,8 @@ Runs given o old new (Err (Line message)) = ⊥
 -- what a call asks for is done with the inputs
 abbrev pub Meets : Given → Order → (old new : Held) → End → Type 0
 Meets given Check old new end = Checks given old new end
-Meets given (Run horizon steps) old new end = Runs given (record { horizon = horizon; steps = steps; workers = 1 }) old new end
+Meets given (Run horizon steps form) old new end =
+    Runs given (record { horizon = horizon; steps = steps; workers = 1; form = form }) old new end
 
 -- ---- The files
 
@@ -156,7 +155,6 @@ Explains words old new (Err (Write n)) = AskHelp words × ((help : Text) × IsPa
 Explains words old new (Err (Line message)) = AreNoCall words × (new ≡ old)
 Explains words old new (Err Memory) = new ≡ old
 Explains words old new (Err (Refused refusal)) = ⊥
-Explains words old new (Err Unsupported) = ⊥
 Explains words old new (Err File) = ⊥
 Explains words old new (Err BadOption) = ⊥
 

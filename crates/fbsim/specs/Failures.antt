@@ -11,7 +11,7 @@ use Rattle.fb_sim.specs.declared.outcome.Refusal.TheVariants as of
 use Rattle.fb_sim.specs.declared.outcome.RunError.{RunError}
 use Rattle.fb_sim.specs.declared.outcome.RunError.TheVariants as run
 use Rattle.fbsim.specs.declared.failure.Failure.{Failure}
-use Rattle.fbsim.specs.declared.failure.Failure.TheVariants.{Refused, Unsupported, File, Write, Memory, Line, BadOption}
+use Rattle.fbsim.specs.declared.failure.Failure.TheVariants.{Refused, File, Write, Memory, Line, BadOption}
 use Rattle.fbsim.specs.declared.failure.Refusal.{Refusal}
 use Rattle.fbsim.specs.declared.failure.Refusal.TheVariants.{Numbered, Syntax}
 use Rattle.fbsim.specs.declared.source.SourceFault.{SourceFault}
@@ -45,7 +45,6 @@ failure_of_refusal (of.Check f) = Refused (Numbered (judge.number_of f))
 
 abbrev pub failure_of : RunError → Failure
 failure_of (run.Refused r) = failure_of_refusal r
-failure_of run.Unsupported = Unsupported
 failure_of run.Memory = Memory
 failure_of (run.Write n) = Write n
 failure_of run.BadOption = BadOption
@@ -62,7 +61,6 @@ refusal_text (Syntax line) = codes "refused E03 line " ++ decimal line
 
 abbrev pub failure_text : Failure → List ℕ
 failure_text (Refused refusal) = refusal_text refusal
-failure_text Unsupported = codes "refused: not supported yet"
 failure_text File = codes "file fault"
 failure_text (Write n) = codes "write fault after " ++ decimal n ++ codes " bytes"
 failure_text Memory = codes "out of memory"
@@ -77,7 +75,6 @@ status_of (Ok Accepted) = 0
 status_of (Ok Ended) = 0
 status_of (Ok Stopped) = 1
 status_of (Err (Refused refusal)) = 2
-status_of (Err Unsupported) = 2
 status_of (Err File) = 3
 status_of (Err (Write n)) = 3
 status_of (Err Memory) = 4
@@ -93,7 +90,6 @@ pub record IsPartWritten (old new : Option (List ℕ)) (text : List ℕ) (writte
 
 abbrev pub WritesPart : (old new : Option (List ℕ)) → List ℕ → Failure → Type 0
 WritesPart old new text (Refused refusal) = ⊥
-WritesPart old new text Unsupported = ⊥
 WritesPart old new text File = ⊥
 WritesPart old new text (Write n) = IsPartWritten old new text n
 WritesPart old new text Memory = ⊥

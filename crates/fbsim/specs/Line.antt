@@ -1,10 +1,13 @@
 -- The command line (this project's own): the program's commands, and the call that a parse of the words stands for.
-use Rattle.std.specs.Prelude.{◌≡◌, ◌<◌, ◌^◌, ℕ, true, List, [], ◌∷◌, Option, Some, option_map, codes}
+use Rattle.std.specs.Prelude.{◌≡◌, ◌<◌, ◌^◌, ℕ, true, List, [], ◌∷◌, Option, Some, map, option_map, codes}
+use Rattle.std.specs.Borrow.{Bor}
 use Rattle.std.specs.Str.Parse.{IsNumeral, digits_value, without_leading_plus}
 use Rattle.clap.specs.Words.{App, Rule, Row, Text, new_app, new_rule, with_rule, with_subcommand, subcommand_of, first_of, one_of, takes, fault_of, IsAmong}
 use Rattle.clap.specs.declared.error.kind.ErrorKind.TheVariants.{DisplayHelp}
 use Rattle.clap.specs.declared.builder.value_parser.ValueParser.{ValueParser}
 use Rattle.clap.specs.declared.builder.value_parser.ValueParser.TheVariants as parser
+use Rattle.fb_types.specs.declared.run.Form.{Form}
+use Rattle.fb_types.specs.declared.run.Form.TheVariants.{One, Two}
 use Rattle.fbsim.specs.declared.line.Order.{Order}
 use Rattle.fbsim.specs.declared.line.Order.TheVariants.{Check, Run}
 use Rattle.fbsim.specs.declared.line.Call.{Call}
@@ -16,6 +19,26 @@ use Rattle.fbsim.specs.declared.line.LineFault.TheVariants.{Memory, Help, Fault}
 -- whole numbers from 1 to `most`
 abbrev pub up_to : ℕ → ValueParser
 up_to most = parser.Unsigned 1 most
+
+-- the word that stands for a form of the trace
+abbrev pub word_of : Form → Text
+word_of One = codes "1"
+word_of Two = codes "2"
+
+abbrev pub form_words : List Text
+form_words = word_of One ∷ word_of Two ∷ []
+
+-- the parser takes the words of the forms, and no others
+abbrev pub AreForms : ValueParser → Type 0
+AreForms (parser.Names words) = map (λ w. w.now) words.now ≡ form_words
+AreForms _ = ⊥
+
+-- A value as a parser refers to it. Where it lies in memory changes no answer of the parser, so it may be anywhere.
+abbrev pub placed : {X : Type 0} → X → Bor X
+placed x = record { ref_ptr = (0, 0); now = x }
+
+abbrev pub forms : ValueParser
+forms = parser.Names (placed (map placed form_words))
 
 -- an option with a value of this kind
 abbrev pub limited : Text → ValueParser → Rule
@@ -33,22 +56,28 @@ files name =
     (file (codes "deploy")))
     (file (codes "stim"))
 
-abbrev pub with_numbers : App → App
-with_numbers a = with_rule (with_rule a
+-- how far a run goes, and the form of its trace
+abbrev pub with_run_options : ValueParser → App → App
+with_run_options values a = with_rule (with_rule (with_rule a
     (record (limited (codes "horizon") (up_to 1000000000000)) { required = true }))
-    (record (limited (codes "steps") (up_to 10000000)) { defaults = codes "10000" ∷ [] })
+    (record (limited (codes "steps") (up_to 10000000)) { defaults = codes "10000" ∷ [] }))
+    (record (limited (codes "trace") values) { defaults = word_of One ∷ [] })
+
+-- the program's command, with this parser for the form of the trace
+abbrev pub simulator_with : ValueParser → App
+simulator_with values = with_subcommand (with_subcommand
+    (record { top = record (new_app (codes "fbsim")).top { subcommand_required = true }; subs = [] })
+    (with_run_options values (files (codes "run"))).top)
+    (files (codes "check")).top
 
 abbrev pub simulator : App
-simulator = with_subcommand (with_subcommand
-    (record { top = record (new_app (codes "fbsim")).top { subcommand_required = true }; subs = [] })
-    (with_numbers (files (codes "run"))).top)
-    (files (codes "check")).top
+simulator = simulator_with forms
 
 -- ---- The call
 
 abbrev pub command_name : Order → Text
 command_name Check = codes "check"
-command_name (Run horizon steps) = codes "run"
+command_name (Run horizon steps form) = codes "run"
 
 -- the option has one text, a decimal numeral that may begin with a plus, and this is its number
 pub record IsNumber (rows : List Row) (id : Text) (n : ℕ) : Type 0 where
@@ -58,13 +87,18 @@ pub record IsNumber (rows : List Row) (id : Text) (n : ℕ) : Type 0 where
   pub value : digits_value 10 (without_leading_plus text) ≡ n
   pub small : n < 2 ^ 64
 
-pub record IsRun (rows : List Row) (horizon steps : ℕ) : Type 0 where
+-- the option for the form has the word of this form
+abbrev pub IsForm : List Row → Form → Type 0
+IsForm rows form = first_of (codes "trace") rows ≡ Some (word_of form)
+
+pub record IsRun (rows : List Row) (horizon steps : ℕ) (form : Form) : Type 0 where
   pub horizon_is : IsNumber rows (codes "horizon") horizon
   pub steps_is : IsNumber rows (codes "steps") steps
+  pub form_is : IsForm rows form
 
 abbrev pub IsOrder : List Row → Order → Type 0
 IsOrder rows Check = Unit {0}
-IsOrder rows (Run horizon steps) = IsRun rows horizon steps
+IsOrder rows (Run horizon steps form) = IsRun rows horizon steps form
 
 -- the call has what the rows of its command say
 pub record IsCall (rows : List Row) (c : Call) : Type 0 where

@@ -115,11 +115,16 @@ fn meet<W: Write>(alloc: Global, order: Order, texts: &Texts, out: &mut W) -> Re
     let inputs = texts.inputs();
     match order {
         Order::Check => check_inputs(alloc, &inputs, out),
-        Order::Run { horizon, steps } => {
+        Order::Run {
+            horizon,
+            steps,
+            form,
+        } => {
             let options = Options {
                 horizon,
                 steps,
                 workers: 1,
+                form,
             };
             run_inputs(alloc, &inputs, options, out)
         }

@@ -23,8 +23,6 @@ pub enum Refusal {
 #[derive(Debug, Drop)]
 pub enum Failure {
     Refused(Refusal),
-    /// The inputs are accepted, but have what is not simulated yet.
-    Unsupported,
     /// A file could not be read.
     File,
     /// The output failed when it had taken so many bytes.
@@ -81,7 +79,6 @@ impl From<RunError> for Failure {
     fn from(error: RunError) -> Failure {
         match error {
             RunError::Refused(refusal) => Failure::from(refusal),
-            RunError::Unsupported => Failure::Unsupported,
             RunError::Memory => Failure::Memory,
             RunError::Write(written) => Failure::Write(written),
             RunError::BadOption => Failure::BadOption,
@@ -127,7 +124,6 @@ impl fmt::Display for Failure {
     fn fmt<W: fmt::Write>(&self, f: &mut fmt::Formatter<W>) -> fmt::Result {
         match self {
             Failure::Refused(refusal) => write!(f, "{refusal}"),
-            Failure::Unsupported => write!(f, "refused: not supported yet"),
             Failure::File => write!(f, "file fault"),
             Failure::Write(written) => write!(f, "write fault after {written} bytes"),
             Failure::Memory => write!(f, "out of memory"),

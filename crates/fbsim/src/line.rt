@@ -2,16 +2,18 @@
 
 ghost use Rattle.std.specs.Prelude.{◌≡◌, ◌≢◌, ℕ, IfOk, IfErr, IfSome, IfNone, map, false};
 ghost use Rattle.fbsim.specs.Line as spec;
-ghost use Rattle.fbsim.specs.Line.{AreCall, AreNoCall, AskHelp, IsCall, IsCallOf, IsFault, IsHelp, IsNumber, IsOrder, command_name};
+ghost use Rattle.fbsim.specs.Line.{AreCall, AreNoCall, AskHelp, AreForms, IsCall, IsCallOf, IsFault, IsForm, IsHelp, IsNumber, IsOrder, command_name};
 ghost use Rattle.fbsim.specs.declared.line.LineFault.TheVariants.{Memory};
 ghost use Rattle.fbsim.specs.declared.line.Call.{Call};
 ghost use Rattle.fbsim.specs.declared.line.Order.{Order};
+ghost use Rattle.fb_types.specs.declared.run.Form.{Form};
 ghost use Rattle.clap.specs.Words.{app_of, rows_of, found_of, rule_of, kind_of, subcommand_rows_of};
 ghost use Rattle.clap.specs.declared.builder.command.Command.TheViews.{out-Command as fields_of};
 
 use clap::builder::ValueParser;
 use clap::error::ErrorKind;
 use clap::{Arg, ArgMatches, Command, Error, value_parser};
+use fb_types::run::Form;
 use std::alloc::{AllocError, Global};
 
 /// What is asked for, and of which files.
@@ -37,6 +39,8 @@ pub enum Order {
         horizon: u64,
         /// The most steps that a resource makes in one tick, 1 to 10,000,000.
         steps: u64,
+        /// The form of the trace.
+        form: Form,
     },
 }
 
@@ -60,6 +64,9 @@ impl From<AllocError> for LineFault {
 
 /// What is said of words that the parser takes and that name no call all the same.
 const NO_CALL: &str = "error: the words name no call\n";
+
+/// What the forms of the trace are called.
+const FORM_WORDS: &[&str] = &["1", "2"];
 
 /// An option that takes the name of a file.
 fn file<'a>(alloc: Global, id: &'a str) -> Arg<'a>
@@ -103,20 +110,33 @@ fn up_to_steps<'a>() -> ValueParser<'a>
     value_parser!(u64).range(1..=10_000_000)
 }
 
-fn with_numbers<'a>(alloc: Global, command: Command<'a>) -> Result<Command<'a>, AllocError>
+/// The words of the forms of the trace, and no others.
+fn forms<'a>() -> ValueParser<'a>
+    ensures { AreForms result }
+{
+    ValueParser::Names(FORM_WORDS)
+}
+
+/// The command with the options that say how far a run goes and what its trace is like.
+fn with_run_options<'a>(
+    alloc: Global,
+    command: Command<'a>,
+    forms: ValueParser<'a>,
+) -> Result<Command<'a>, AllocError>
     requires { (fields_of command).has_globals ≡ false }
-    ensures app { IfOk result (λ c. app_of c ≡ spec.with_numbers (app_of command.entry)) }
+    ensures app { IfOk result (λ c. app_of c ≡ spec.with_run_options forms.entry (app_of command.entry)) }
     ensures globals { IfOk result (λ c. (fields_of c).has_globals ≡ false) }
 {
     let horizon = limited(alloc, "horizon", up_to_horizon()).required(true);
     let steps = limited(alloc, "steps", up_to_steps()).default_value("10000");
-    command.arg(horizon)?.arg(steps)
+    let trace = limited(alloc, "trace", forms).default_value("1");
+    command.arg(horizon)?.arg(steps)?.arg(trace)
 }
 
-fn simulator<'a>(alloc: Global) -> Result<Command<'a>, AllocError>
-    ensures { IfOk result (λ c. app_of c ≡ spec.simulator) }
+fn simulator<'a>(alloc: Global, forms: ValueParser<'a>) -> Result<Command<'a>, AllocError>
+    ensures { IfOk result (λ c. app_of c ≡ spec.simulator_with forms.entry) }
 {
-    let run = with_numbers(alloc, files(alloc, "run")?)?;
+    let run = with_run_options(alloc, files(alloc, "run")?, forms)?;
     let check = files(alloc, "check")?;
     Command::new(alloc, "fbsim")
         .subcommand_required(true)
@@ -131,9 +151,21 @@ fn number(found: &ArgMatches<'_>, id: &str) -> Option<u64>
     found.get_one::<u64>(id)
 }
 
+/// The form of the trace that is asked for.
+fn form_of(found: &ArgMatches<'_>) -> Option<Form>
+    ensures form { IfSome result (IsForm (rows_of (found_of found.now))) }
+    ensures none { IfNone result ((f : Form) → IsForm (rows_of (found_of found.now)) f → ⊥) }
+{
+    match found.get_str("trace")? {
+        "1" => Some(Form::One),
+        "2" => Some(Form::Two),
+        _ => None,
+    }
+}
+
 fn order_of(name: &str, found: &ArgMatches<'_>) -> Option<Order>
     ensures name { IfSome result (λ o. name.now ≡ command_name o) }
-    ensures numbers { IfSome result (λ o. IsOrder (rows_of (found_of found.now)) o) }
+    ensures options { IfSome result (λ o. IsOrder (rows_of (found_of found.now)) o) }
     ensures none { IfNone result ((o : Order) → name.now ≡ command_name o → IsOrder (rows_of (found_of found.now)) o → ⊥) }
 {
     if name == "check" {
@@ -143,6 +175,7 @@ fn order_of(name: &str, found: &ArgMatches<'_>) -> Option<Order>
         return Some(Order::Run {
             horizon: number(found, "horizon")?,
             steps: number(found, "steps")?,
+            form: form_of(found)?,
         });
     }
     None
@@ -203,7 +236,7 @@ pub fn parse<'a>(alloc: Global, words: &'a [&'a str]) -> Result<Call<'a>, LineFa
     ensures help { IfErr result (λ e. IsHelp e → AskHelp (map (λ w. w.now) words.entry.now)) }
     ensures none { IfErr result (λ e. IsFault e → AreNoCall (map (λ w. w.now) words.entry.now)) }
 {
-    let command = simulator(alloc)?;
+    let command = simulator(alloc, forms())?;
     match command.try_get_matches_from(words) {
         Ok(matches) => call_in(alloc, &matches),
         Err(error) => Err(fault(alloc, &error)),

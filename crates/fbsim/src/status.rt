@@ -18,7 +18,7 @@ pub enum Done {
     Stopped,
 }
 
-/// The status of the program: 0 where all went well, 1 where the run stopped, 2 where the declaration is refused,
+/// The status of the program: 0 where all went well, 1 where the run stopped, 2 where the inputs are refused,
 /// 3 where a file or the output failed, 4 where memory was wanting, and 5 where the words name no call.
 pub fn status(end: &Result<Done, Failure>) -> u8
     ensures { result ≡ status_of end.now }
@@ -26,7 +26,7 @@ pub fn status(end: &Result<Done, Failure>) -> u8
     match end {
         Ok(Done::Helped | Done::Accepted | Done::Ended) => 0,
         Ok(Done::Stopped) => 1,
-        Err(Failure::Refused(_) | Failure::Unsupported) => 2,
+        Err(Failure::Refused(_)) => 2,
         Err(Failure::File | Failure::Write(_)) => 3,
         Err(Failure::Memory) => 4,
         Err(Failure::Line(_) | Failure::BadOption) => 5,

@@ -6,6 +6,7 @@ mod lines;
 mod outputs;
 mod refusals;
 mod runs;
+mod systems;
 
 use crate::command::command;
 use crate::source::{Source, SourceFault};
@@ -104,6 +105,11 @@ impl Answer {
     fn is(&self, status: u8, out: &[u8], err: &[u8]) -> bool {
         self.status == status && self.out.as_slice() == out && self.err.as_slice() == err
     }
+}
+
+/// The words of a call, parted by blanks.
+fn words_of<'a>(alloc: Global, call: &'a str) -> Result<Vec<&'a str>, AllocError> {
+    call.split(' ').collect(alloc)
 }
 
 /// What the program does by these words, the file `d` having these bytes.

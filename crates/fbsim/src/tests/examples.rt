@@ -1,7 +1,12 @@
 //! The applications of the folder `examples`, with the traces that stand there, which were worked out by hand. The script
 //! `examples/check` says whether the texts here are those of the files.
 
-use super::ask;
+mod conveyor;
+mod crossing;
+mod press;
+mod tank;
+
+use super::{File, ask, ask_of};
 use std::alloc::Global;
 use std::test::Fail;
 
@@ -146,8 +151,19 @@ fn runs(alloc: Global, declaration: &str, horizon: &str, trace: &str) -> Result<
     Ok(answer.is(0, trace.as_bytes(), b""))
 }
 
+/// Whether a call over these files runs to this trace.
+fn runs_files(
+    alloc: Global,
+    words: &[&str],
+    files: &[File<'_>],
+    trace: &str,
+) -> Result<bool, Fail> {
+    let answer = ask_of(alloc, words, files)?;
+    Ok(answer.is(0, trace.as_bytes(), b""))
+}
+
 #[test]
-fn the_examples_have_their_traces(rt: HostRuntime) -> Result<(), Fail> {
+fn event_blocks_alone_have_their_traces(rt: HostRuntime) -> Result<(), Fail> {
     let alloc = rt.alloc();
     assert!(rt; runs(alloc, FLASHER, "2500", FLASHER_TRACE)?);
     assert!(rt; runs(alloc, STARTUP, "4000", STARTUP_TRACE)?);

@@ -2,13 +2,14 @@
 
 use super::ask;
 use crate::line::{Call, Order, parse};
+use fb_types::run::Form;
 use std::alloc::Global;
 use std::test::Fail;
 
 const EMPTY: &[u8] = b"APPLICATION A FBS END_FBS END_APPLICATION";
 
 /// Words that are no call.
-const FAULTS: [&[&str]; 22] = [
+const FAULTS: [&[&str]; 24] = [
     &[],
     &["d"],
     &["walk", "d"],
@@ -28,11 +29,16 @@ const FAULTS: [&[&str]; 22] = [
     &["check", "d", "--horizon", "1"],
     &["run", "d", "--horizon", "1", "--deploy"],
     &["check", "d", "--stim", "e", "--stim", "e"],
+    &["run", "d", "--horizon", "1", "--trace"],
+    &["run", "d", "--horizon", "1", "--trace", "1", "--trace", "1"],
+    &["check", "d", "--trace", "1"],
     // Options that are not there yet.
     &["run", "d", "--horizon", "1", "--workers", "1"],
     &["run", "d", "--horizon", "1", "--serial"],
-    &["run", "d", "--horizon", "1", "--trace", "1"],
 ];
+
+/// Words that stand for no form of the trace.
+const NO_FORMS: [&str; 10] = ["0", "3", "x", "01", "+1", "12", "1 ", "1,2", "One", ""];
 
 #[test]
 fn words_that_are_no_call_are_a_fault(rt: HostRuntime) -> Result<(), Fail> {
@@ -40,6 +46,17 @@ fn words_that_are_no_call_are_a_fault(rt: HostRuntime) -> Result<(), Fail> {
         let answer = ask(rt.alloc(), words, EMPTY)?;
         assert!(rt; answer.status == 5 && answer.out.is_empty(), "{words:?}");
         assert!(rt; !answer.err.is_empty(), "{words:?}");
+    }
+    Ok(())
+}
+
+#[test]
+fn a_form_has_one_word_alone(rt: HostRuntime) -> Result<(), Fail> {
+    for word in NO_FORMS {
+        let words = ["run", "d", "--horizon", "8", "--trace", word];
+        let answer = ask(rt.alloc(), words.as_slice(), EMPTY)?;
+        assert!(rt; answer.status == 5 && answer.out.is_empty(), "{word}");
+        assert!(rt; !answer.err.is_empty(), "{word}");
     }
     Ok(())
 }
@@ -83,6 +100,19 @@ fn help_is_no_fault(rt: HostRuntime) -> Result<(), Fail> {
     Ok(())
 }
 
+#[test]
+fn the_help_of_a_run_lists_its_options(rt: HostRuntime) -> Result<(), Fail> {
+    let answer = ask(rt.alloc(), ["run", "--help"].as_slice(), EMPTY)?;
+    for option in ["--deploy", "--stim", "--horizon", "--steps", "--trace"] {
+        let is_listed = answer
+            .out
+            .windows(option.len())
+            .any(|part| part == option.as_bytes());
+        assert!(rt; is_listed, "{option}");
+    }
+    Ok(())
+}
+
 /// Whether the words are this call.
 fn names(alloc: Global, words: &[&str], call: Call<'_>) -> bool {
     match parse(alloc, words) {
@@ -105,6 +135,7 @@ fn words_name_their_call(rt: HostRuntime) -> Result<(), Fail> {
         order: Order::Run {
             horizon: 8,
             steps: 10_000,
+            form: Form::One,
         },
         declaration: "a.iec",
         deploy: None,
@@ -112,6 +143,23 @@ fn words_name_their_call(rt: HostRuntime) -> Result<(), Fail> {
     };
     let words = ["fbsim", "run", "a.iec", "--horizon=8"];
     assert!(rt; names(alloc, words.as_slice(), run));
+    let keyed = Call {
+        order: Order::Run {
+            horizon: 8,
+            steps: 9,
+            form: Form::Two,
+        },
+        ..run
+    };
+    let words = [
+        "fbsim",
+        "run",
+        "--trace=2",
+        "a.iec",
+        "--steps=9",
+        "--horizon=8",
+    ];
+    assert!(rt; names(alloc, words.as_slice(), keyed));
     let fed = Call {
         order: Order::Check,
         declaration: "a.iec",

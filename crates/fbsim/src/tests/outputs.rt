@@ -11,10 +11,13 @@ const CYCLE: &[u8] =
 const TO_8: &[u8] =
     b"0 MAIN < S.COLD\n0 MAIN > C.START DT=3\n3 MAIN < C.EO\n6 MAIN < C.EO\nend 8\n";
 
-/// How a writer fails: so many bytes fit, so many of them at each call, and this is what is told.
-type Fault = (usize, usize, &'static [u8]);
+const KEYED_TO_8: &[u8] =
+    b"1 0 0 0 MAIN < S.COLD\n3 0 0 0 MAIN > C.START DT=3\n1 1 0 3 MAIN < C.EO\n1 1 0 6 MAIN < C.EO\nend 8\n";
 
-const FAULTS: [Fault; 5] = [
+/// How a writer fails: so many bytes fit, so many of them at each call, and this is what is told.
+type Fault<'a> = (usize, usize, &'a [u8]);
+
+const FAULTS: [Fault<'static>; 5] = [
     (0, 100, b"write fault after 0 bytes\n"),
     (1, 100, b"write fault after 1 bytes\n"),
     (8, 1, b"write fault after 8 bytes\n"),
@@ -23,7 +26,7 @@ const FAULTS: [Fault; 5] = [
 ];
 
 /// Whether the words fail by this fault, the output having got the first bytes of the text.
-fn fails(alloc: Global, words: &[&str], text: &[u8], fault: Fault) -> bool {
+fn fails(alloc: Global, words: &[&str], text: &[u8], fault: Fault<'_>) -> bool {
     let (room, step, told) = fault;
     let mut source = OneFile {
         name: "d",
@@ -47,9 +50,28 @@ fn a_fault_of_the_output_tells_what_it_took(rt: HostRuntime) -> Result<(), Fail>
         assert!(rt; fails(alloc, run.as_slice(), TO_8, fault));
         assert!(rt; fails(alloc, check.as_slice(), b"accepted\n", fault));
     }
-    let last = (71, 100, b"write fault after 71 bytes\n".as_slice());
-    assert!(rt; TO_8.len() == 72);
-    assert!(rt; fails(alloc, run.as_slice(), TO_8, last));
+    Ok(())
+}
+
+/// The words of a run, and its trace.
+const RUNS: [(&[&str], &[u8]); 2] = [
+    (&["fbsim", "run", "d", "--horizon", "8"], TO_8),
+    (
+        &["fbsim", "run", "d", "--horizon", "8", "--trace", "2"],
+        KEYED_TO_8,
+    ),
+];
+
+#[test]
+fn the_output_may_fail_at_any_byte_of_a_trace(rt: HostRuntime) -> Result<(), Fail> {
+    let alloc = rt.alloc();
+    for (words, trace) in RUNS {
+        for room in 0..trace.len() {
+            let told = format!(in alloc; "write fault after {room} bytes\n")?;
+            let fault = (room, 100, told.as_bytes());
+            assert!(rt; fails(alloc, words, trace, fault), "{room}");
+        }
+    }
     Ok(())
 }
 

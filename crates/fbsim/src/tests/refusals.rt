@@ -60,25 +60,6 @@ fn a_refusal_is_told_by_its_number(rt: HostRuntime) -> Result<(), Fail> {
     Ok(())
 }
 
-/// Block types and data connections are accepted, but not run yet.
-const ACCEPTED: [&str; 2] = [
-    "FUNCTION_BLOCK F FBS END_FBS END_FUNCTION_BLOCK APPLICATION A FBS X : F; END_FBS END_APPLICATION",
-    "APPLICATION A FBS F : E_SR; W : E_SWITCH; END_FBS DATA_CONNECTIONS F.Q TO W.G; END_CONNECTIONS END_APPLICATION",
-];
-
-#[test]
-fn what_is_not_run_yet_is_accepted(rt: HostRuntime) -> Result<(), Fail> {
-    let alloc = rt.alloc();
-    for text in ACCEPTED {
-        let checked = ask(alloc, ["check", "d"].as_slice(), text.as_bytes())?;
-        assert!(rt; checked.is(0, b"accepted\n", b""), "{text}");
-        let words = ["run", "d", "--horizon", "5"];
-        let run = ask(alloc, words.as_slice(), text.as_bytes())?;
-        assert!(rt; run.is(2, b"", b"refused: not supported yet\n"), "{text}");
-    }
-    Ok(())
-}
-
 /// An application without blocks, with blanks behind it up to this length.
 fn padded(alloc: Global, length: usize) -> Result<Vec<u8>, AllocError> {
     let mut text = Vec::new(alloc);

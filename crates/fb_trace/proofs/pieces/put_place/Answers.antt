@@ -14,5 +14,5 @@ returns-in_err-put g c =
 
 pub returns : goal.returns
 returns g c =
-    let name = c.resource.ensures ∙ sym (unwrap_or-slice_get (system_of c.args.system.now).resource_names c.args.resource []) in
+    let name = c.resource_name.ensures ∙ sym (unwrap_or-slice_get (system_of c.args.system.now).resource_names c.args.resource []) in
     Gathers-after _ (Puts-more c.in_ok-put_number.ensures.whole c.in_ok-put.ensures.whole) (rw name at c.put-2.ensures)

@@ -12,7 +12,7 @@ returns-clause-rows c =
       declaration = sym (first_value-rows m (codes "DECL")) ∙ given;
       deploy = sym (first_value-rows m (codes "deploy")) ∙ sym c.get_str-deploy.ensures;
       stimuli = sym (first_value-rows m (codes "stim")) ∙ sym c.get_str-stimuli.ensures;
-      order = c.in_ok-order.ensures.numbers;
+      order = c.in_ok-order.ensures.options;
     }
 
 pub returns-in_err-declaration-clause-none : goal.returns-in_err-declaration-clause-none

@@ -1,0 +1,138 @@
+//! Declarations, deployments and stimuli, and the traces that follow from the rules, worked out by hand.
+
+mod algorithms;
+mod charts;
+mod composites;
+mod event_blocks;
+mod forms;
+mod latencies;
+mod limits;
+mod links;
+mod options;
+mod refusals;
+mod rings;
+mod stimuli;
+mod stops;
+mod writers;
+
+use fb_sim::options::{Inputs, Options};
+use fb_sim::outcome::Outcome;
+use fb_sim::serial::run_serial;
+use fb_types::run::{Form, StopMark};
+use fb_types::value::Reason;
+use std::alloc::Global;
+use std::io;
+use std::io::Write;
+use std::process::Abort;
+use std::str::from_utf8;
+use std::test::Fail;
+
+/// More steps than any tick of these runs needs that does not stop.
+const ENOUGH: u64 = 10_000;
+
+/// A run, and what it comes to. An empty text stands for no deployment, or for no stimuli.
+#[derive(Clone, Copy)]
+struct Case {
+    declaration: &'static str,
+    deploy: &'static str,
+    stimuli: &'static str,
+    horizon: u64,
+    steps: u64,
+    trace: &'static str,
+    outcome: Outcome,
+}
+
+fn given(text: &str) -> Option<&[u8]> {
+    if text.is_empty() {
+        None
+    } else {
+        Some(text.as_bytes())
+    }
+}
+
+fn inputs_of<'a>(declaration: &'a str, deploy: &'a str, stimuli: &'a str) -> Inputs<'a> {
+    Inputs {
+        declaration: declaration.as_bytes(),
+        deploy: given(deploy),
+        stimuli: given(stimuli),
+    }
+}
+
+fn to(horizon: u64, steps: u64, form: Form) -> Options {
+    Options {
+        horizon,
+        steps,
+        workers: 1,
+        form,
+    }
+}
+
+fn stop(tick: u64, resource: u32, reason: Reason) -> Outcome {
+    Outcome::Stop(StopMark {
+        tick,
+        resource,
+        reason,
+    })
+}
+
+/// The inputs run to this trace and this outcome.
+fn expect_run(
+    rt: &impl Abort,
+    alloc: Global,
+    inputs: &Inputs<'_>,
+    options: Options,
+    trace: &str,
+    outcome: Outcome,
+) -> Result<(), Fail> {
+    let mut out = Vec::new(alloc);
+    let found = run_serial(alloc, inputs, options, &mut out)?;
+    assert_eq!(rt; from_utf8(out.as_slice())?, trace);
+    assert_eq!(rt; found, outcome);
+    Ok(())
+}
+
+/// Each of the cases runs to its trace, in this form, and to its outcome.
+fn expect(rt: &impl Abort, alloc: Global, form: Form, cases: &[Case]) -> Result<(), Fail> {
+    for case in cases {
+        let inputs = inputs_of(case.declaration, case.deploy, case.stimuli);
+        let options = to(case.horizon, case.steps, form);
+        expect_run(rt, alloc, &inputs, options, case.trace, case.outcome)?;
+    }
+    Ok(())
+}
+
+/// Takes at most `step` bytes at each call and `room` bytes in all, and then gives an error.
+#[derive(Drop)]
+struct Narrow {
+    got: Vec<u8>,
+    step: usize,
+    room: usize,
+}
+
+impl Write for Narrow {
+    ghost use Rattle.std.specs.Prelude.{Some};
+
+    ghost contents = { λ w. Some w.got.items };
+
+    fn write(&mut self, bytes: &[u8]) -> io::Result<usize> {
+        if self.room == 0 {
+            return Err(io::Error::from(io::ErrorKind::BrokenPipe));
+        }
+        let count = bytes.len().min(self.step).min(self.room);
+        self.got.extend_from_slice(&bytes[..count])?;
+        self.room -= count;
+        Ok(count)
+    }
+
+    fn flush(&mut self) -> io::Result<()> {
+        Ok(())
+    }
+}
+
+fn with_room(alloc: Global, step: usize, room: usize) -> Narrow {
+    Narrow {
+        got: Vec::new(alloc),
+        step,
+        room,
+    }
+}

@@ -1,0 +1,91 @@
+//! Declarations and deployments at their limits.
+
+use super::refusals::refusal_of;
+use super::{ENOUGH, expect_run, inputs_of, to};
+use fb_sim::outcome::Outcome;
+use fb_types::run::Form;
+use std::alloc::{AllocError, Global};
+use std::process::Abort;
+use std::test::Fail;
+
+/// Composite types by number from 1 to the last, the first without components, and each of the others with one
+/// component of the type before it; then an application with one instance of the last.
+fn tower(alloc: Global, last: u32) -> Result<String, AllocError> {
+    let mut text = String::from_str(alloc, "FUNCTION_BLOCK T1 FBS END_FBS END_FUNCTION_BLOCK")?;
+    for height in 2..=last {
+        let below = height - 1;
+        let next = format!(in alloc;
+            " FUNCTION_BLOCK T{height} FBS X : T{below}; END_FBS END_FUNCTION_BLOCK"
+        )?;
+        text.push_str(next.as_str())?;
+    }
+    let application = format!(in alloc; " APPLICATION A FBS X : T{last}; END_FBS END_APPLICATION")?;
+    text.push_str(application.as_str())?;
+    Ok(text)
+}
+
+/// An application of so many merges.
+fn crowd(alloc: Global, count: u32) -> Result<String, AllocError> {
+    let mut text = String::from_str(alloc, "APPLICATION A FBS")?;
+    for i in 0..count {
+        text.push_str(format!(in alloc; " M{i} : E_MERGE;")?.as_str())?;
+    }
+    text.push_str(" END_FBS END_APPLICATION")?;
+    Ok(text)
+}
+
+/// So many resources without instances.
+fn resources(alloc: Global, count: u32) -> Result<String, AllocError> {
+    let mut text = String::new(alloc);
+    for i in 0..count {
+        let next = format!(in alloc;
+            "[[resource]]\ndevice = 'D'\nname = 'R{i}'\ninstances = []\n"
+        )?;
+        text.push_str(next.as_str())?;
+    }
+    Ok(text)
+}
+
+const EMPTY: &str = "APPLICATION A FBS END_FBS END_APPLICATION";
+
+/// Where the declaration and the deployment are within the limits, nothing happens up to the first tick.
+fn expect_nothing(
+    rt: &impl Abort,
+    alloc: Global,
+    declaration: &str,
+    deploy: &str,
+) -> Result<(), Fail> {
+    let inputs = inputs_of(declaration, deploy, "");
+    let options = to(1, ENOUGH, Form::One);
+    expect_run(rt, alloc, &inputs, options, "end 1\n", Outcome::End(1))
+}
+
+#[test]
+fn composites_may_have_a_height_of_16(rt: HostRuntime) -> Result<(), Fail> {
+    let alloc = rt.alloc();
+    expect_nothing(&rt, alloc, tower(alloc, 16)?.as_str(), "")?;
+    let higher = tower(alloc, 17)?;
+    let inputs = inputs_of(higher.as_str(), "", "");
+    assert_eq!(rt; refusal_of(&rt, alloc, &inputs), Some(25));
+    Ok(())
+}
+
+#[test]
+fn there_may_be_4096_instances(rt: HostRuntime) -> Result<(), Fail> {
+    let alloc = rt.alloc();
+    expect_nothing(&rt, alloc, crowd(alloc, 4096)?.as_str(), "")?;
+    let more = crowd(alloc, 4097)?;
+    let inputs = inputs_of(more.as_str(), "", "");
+    assert_eq!(rt; refusal_of(&rt, alloc, &inputs), Some(30));
+    Ok(())
+}
+
+#[test]
+fn there_may_be_256_resources(rt: HostRuntime) -> Result<(), Fail> {
+    let alloc = rt.alloc();
+    expect_nothing(&rt, alloc, EMPTY, resources(alloc, 256)?.as_str())?;
+    let more = resources(alloc, 257)?;
+    let inputs = inputs_of(EMPTY, more.as_str(), "");
+    assert_eq!(rt; refusal_of(&rt, alloc, &inputs), Some(15));
+    Ok(())
+}
