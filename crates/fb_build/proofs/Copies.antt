@@ -19,7 +19,7 @@ use Rattle.fb_types.specs.declared.library.Variable.{Variable}
 use Rattle.fb_types.specs.declared.value.Value.{Value}
 use Rattle.fb_names.proofs.Positions.{position_of_once}
 use Rattle.fb_fabric.specs.declared.fabric.Place.{Place}
-use Rattle.fb_system.specs.Systems.{IsVariable, variable_of, variables_at}
+use Rattle.fb_system.specs.Ports.{IsVariable, variable_of, variables_at}
 use Rattle.fb_tree.specs.Worlds.{key_cmp, key_of}
 use Rattle.fb_build.specs.Opening.{Covers, CoversPlaces, Held, KeepsCovers}
 use Rattle.fb_build.proofs.Known.{data_names, kind_once, kind_there, known_of, once_of, stood}

@@ -15,7 +15,7 @@ use Rattle.fb_types.specs.declared.value.Value.{Value}
 use Rattle.fb_st.specs.Frames.{Declared, is_declared}
 use Rattle.fb_fabric.specs.declared.fabric.Place.{Place}
 use Rattle.fb_layout.specs.Layouts.{AreNumbers}
-use Rattle.fb_system.specs.Systems.{IsVariable, variable_of}
+use Rattle.fb_system.specs.Ports.{IsVariable, variable_of}
 use Rattle.fb_tree.specs.Blocks.{components_of, own_of}
 use Rattle.fb_tree.specs.Worlds.{StandsFor, key_cmp, key_of}
 use Rattle.fb_tree.specs.declared.block.Block.{Block}

@@ -2,7 +2,7 @@
 
 ghost use Rattle.std.specs.Prelude.{◌≡◌, ◌<◌, ◌≤◌, ℕ, length, IfOk, OnOk};
 ghost use Rattle.fb_types.specs.Headline.{system_of};
-ghost use Rattle.fb_system.specs.Systems.{IsVariable, variable_of};
+ghost use Rattle.fb_system.specs.Ports.{IsVariable, variable_of};
 ghost use Rattle.fb_build.specs.Opening.{Covers, CoversAll, CoversPlaces, KeepsCovers};
 
 use fb_fabric::fabric::Place;

@@ -1,11 +1,10 @@
 //! The system that stands for what was read, where it is accepted.
 
 ghost use Rattle.std.specs.Prelude.{◌≡◌, IfOk, IfErr};
-ghost use Rattle.fb_types.specs.Headline.{AreAccepted};
+ghost use Rattle.fb_types.specs.Headline.{AreAccepted, inputs};
 ghost use Rattle.fb_interfaces.specs.Tables.{AreInterfaces};
 ghost use Rattle.fb_resolve.specs.Numbers.{IsResolved};
 ghost use Rattle.fb_rows.specs.Rows.{AreRows};
-ghost use Rattle.fb_system.specs.Systems.{inputs};
 ghost use Rattle.fb_check.specs.Refusals.{IsRightly, inputs_in};
 
 use crate::error::CheckError;

@@ -17,7 +17,7 @@ use Rattle.fb_types.specs.declared.run.Emission as run
 use Rattle.fb_types.specs.declared.run.Line.{Line}
 use Rattle.fb_types.specs.declared.value.Value.{Value}
 use Rattle.fb_system.specs.Lines.{BelongsTo, IsEmission}
-use Rattle.fb_system.specs.Systems.{IsCarried}
+use Rattle.fb_system.specs.Ports.{IsCarried}
 use Rattle.fb_tree.specs.Changes.{Changes}
 use Rattle.fb_tree.specs.Worlds.{IsForest}
 use Rattle.fb_tree.specs.declared.resource.Forest.{Forest}

@@ -13,7 +13,7 @@ use Rattle.fb_types.specs.Systems.{System}
 use Rattle.fb_types.specs.declared.run.Carried.{Carried}
 use Rattle.fb_types.specs.declared.run.Target.{Target}
 use Rattle.fb_types.specs.declared.value.Value.{Value}
-use Rattle.fb_system.specs.Systems.{IsCarried, IsTarget}
+use Rattle.fb_system.specs.Ports.{IsCarried, IsTarget}
 use Rattle.fb_emit.specs.Emitting.{GoesTo, out_at}
 use Rattle.fb_emit.specs.Outs.{IsOut, out_of}
 use Rattle.fb_emit.specs.declared.outbox.Out.{Out}

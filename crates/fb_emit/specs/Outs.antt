@@ -8,7 +8,7 @@ use Rattle.fb_types.specs.States.{Line}
 use Rattle.fb_types.specs.Systems.{System}
 use Rattle.fb_types.specs.declared.run.Target.{Target}
 use Rattle.fb_system.specs.Lines.{BelongsTo}
-use Rattle.fb_system.specs.Systems.{IsCarried, IsTarget}
+use Rattle.fb_system.specs.Ports.{IsCarried, IsTarget}
 use Rattle.fb_tree.specs.Worlds.{IsForest}
 use Rattle.fb_tree.specs.declared.resource.Forest.{Forest}
 use Rattle.fb_emit.specs.declared.outbox.Out.{Out}

@@ -6,7 +6,7 @@ ghost use Rattle.fb_types.specs.Numbers.{carried_of, emission_of, line_of, path_
 ghost use Rattle.fb_types.specs.Reactions.{Outcome, emitted_all, spread};
 ghost use Rattle.fb_types.specs.States as model;
 ghost use Rattle.fb_system.specs.Lines.{BelongsTo, IsEmission};
-ghost use Rattle.fb_system.specs.Systems.{IsCarried, IsPort, IsTarget};
+ghost use Rattle.fb_system.specs.Ports.{IsCarried, IsPort, IsTarget};
 ghost use Rattle.fb_tree.specs.Changes.{Changes};
 ghost use Rattle.fb_emit.specs.Emitting.{GoesTo, HasEmitted, carried_by, outputs_at, outputs_shown};
 ghost use Rattle.fb_emit.specs.Outs.{AreOuts, IsOut, Stands, out_of};

@@ -17,10 +17,10 @@ use Rattle.fb_types.specs.declared.key.Key.{Key}
 use Rattle.fb_types.specs.declared.run.TimerAsk.{TimerAsk}
 use Rattle.fb_types.specs.declared.run.TimerAsk.TheVariants.{Keep, Clear, At}
 use Rattle.fb_types.proofs.KeyLaws.{same_key_is}
-use Rattle.fb_resource.specs.Sound.{IsSound}
-use Rattle.fb_resource.proofs.Accepting.{sound_of}
-use Rattle.fb_resource.proofs.Outs.{GoodOutcome, IsGood, reacts_good}
-use Rattle.fb_resource.proofs.Timers as timers
+use Rattle.fb_sound.specs.Sound.{IsSound}
+use Rattle.fb_sound.proofs.Accepting.{sound_of}
+use Rattle.fb_sound.proofs.Outs.{GoodOutcome, IsGood, reacts_good}
+use Rattle.fb_sound.proofs.Timers as timers
 use Rattle.fb_agenda.specs.Agendas.{Contents, IsTimed, LiesIn, timer_set, waiting}
 use Rattle.fb_agenda.specs.declared.agenda.Event.{Event}
 use Rattle.fb_agenda.specs.declared.agenda.Event.TheVariants.{Timer}

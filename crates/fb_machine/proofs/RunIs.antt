@@ -22,7 +22,8 @@ use Rattle.fb_net.specs.Events.{event_of}
 use Rattle.fb_typing.specs.Typed.{IsTypedEvent}
 use Rattle.fb_machine.specs.Counts.{fuel, fuel_of_all, meter_of}
 use Rattle.fb_machine.specs.Machines.{IsAt, IsInOrder, IsReady, IsTaken, meaning}
-use Rattle.fb_machine.specs.Runs.{Completes, IsSpent}
+use Rattle.fb_machine.specs.Completions.{Completes}
+use Rattle.fb_machine.specs.Runs.{IsSpent}
 use Rattle.fb_machine.specs.declared.machine.Machine.{Machine}
 use Rattle.fb_machine.specs.declared.meter.Meter.{Meter}
 

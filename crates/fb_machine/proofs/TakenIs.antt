@@ -17,14 +17,14 @@ use Rattle.fb_types.specs.declared.run.TimerAsk.TheVariants.{Keep, Clear, At}
 use Rattle.fb_types.specs.declared.value.Reason.{Reason}
 use Rattle.fb_types.specs.declared.value.Reason.TheVariants as reason
 use Rattle.fb_types.proofs.PathLaws.{same_path_is}
-use Rattle.fb_resource.proofs.Stays.{reacts_stays}
+use Rattle.fb_sound.proofs.Stays.{reacts_stays}
 use Rattle.fb_agenda.specs.Agendas.{Contents, waiting, timer_set}
 use Rattle.fb_agenda.specs.declared.agenda.Event.{Event}
 use Rattle.fb_agenda.specs.declared.agenda.Event.TheVariants.{Timer}
 use Rattle.fb_emit.specs.Outs.{out_of}
 use Rattle.fb_emit.specs.declared.outbox.Outbox.{Outbox}
 use Rattle.fb_net.specs.Events.{CameTo, event_of}
-use Rattle.fb_system.specs.Systems.{variable_of}
+use Rattle.fb_system.specs.Ports.{variable_of}
 use Rattle.fb_tree.specs.Worlds.{IsForest, StandsAt}
 use Rattle.fb_tree.specs.declared.resource.Forest.{Forest}
 use Rattle.fb_typing.specs.Typed.{IsTypedEvent, IsTypedSystem}

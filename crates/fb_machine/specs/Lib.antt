@@ -1,3 +1,4 @@
+pub mod Completions
 pub mod Counts
 pub mod Machines
 pub mod Openings

@@ -1,9 +1,7 @@
--- What a run takes, from a state and an agenda on (this project's profile).
-use Rattle.std.specs.Prelude.{◌≡◌, ◌<◌, ◌≤◌, ◌++◌, ℕ, suc, List, map, All, Option, Some, None, slice_get, slice_set}
-use Rattle.fb_types.specs.Headline.{Inputs, system_of}
-use Rattle.fb_types.specs.Numbers.{line_of}
+-- The taking of one event in the run of all resources, and how far a run has come (this project's profile).
+use Rattle.std.specs.Prelude.{◌≡◌, ◌≤◌, ℕ, suc, List, Option, Some, slice_get, slice_set}
+use Rattle.fb_types.specs.Headline.{Inputs}
 use Rattle.fb_types.specs.States.{Config}
-use Rattle.fb_types.specs.Simulation.{Taken, Chain, RestsAt, Ending, AtHorizon, AtStop, last, lines_of, ending_of}
 use Rattle.fb_types.specs.Keys.{changed_to}
 use Rattle.fb_types.specs.Takes.{Posts, begun}
 use Rattle.fb_types.specs.declared.key.Key.{Key}
@@ -12,25 +10,12 @@ use Rattle.fb_types.specs.declared.run.StopMark.{StopMark}
 use Rattle.fb_types.specs.declared.run.TimerAsk.{TimerAsk}
 use Rattle.fb_types.specs.declared.run.TimerAsk.TheVariants.{Keep, Clear, At}
 use Rattle.fb_agenda.specs.Agendas.{Contents, waiting, timer_set}
+use Rattle.fb_machine.specs.Completions.{Completes}
 use Rattle.fb_machine.specs.Counts.{meter_of}
 use Rattle.fb_machine.specs.Machines.{IsAt}
 use Rattle.fb_machine.specs.Posts.{IsPosted}
 use Rattle.fb_machine.specs.declared.machine.Machine.{Machine}
 use Rattle.fb_machine.specs.declared.meter.Meter.{Meter}
-
--- how a run ends: at its horizon, or where a resource stopped before
-abbrev pub ending_at : (horizon : ℕ) → Option StopMark → Ending
-ending_at horizon None = AtHorizon horizon
-ending_at horizon (Some m) = AtStop m.tick m.resource m.reason
-
--- From here on all is taken below the horizon, or up to the first stop, and the lines are put behind those that were there.
-pub record Completes (i : Inputs) (horizon limit : ℕ) (c : Config) (before after : List Line) (stop : Option StopMark) : Type 0 where
-  pub taken : List Taken
-  pub chain : Chain (system_of i) limit c taken
-  pub below : All (λ t. t.key.tick < horizon) taken
-  pub rests : RestsAt horizon (ending_of horizon taken) (last c taken).agenda
-  pub lines : map (line_of (system_of i)) after ≡ map (line_of (system_of i)) before ++ lines_of taken
-  pub ending : ending_at horizon stop ≡ ending_of horizon taken
 
 -- ---- The taking of one event
 

@@ -17,7 +17,8 @@ ghost use Rattle.fb_tree.specs.Worlds.{IsForest};
 ghost use Rattle.fb_typing.specs.Typed.{AreTyped, IsTypedEvent};
 ghost use Rattle.fb_machine.specs.Machines.{IsAt, IsInOrder, IsReady, IsTaken};
 ghost use Rattle.fb_machine.specs.Posts.{CountsAre, IsPostable};
-ghost use Rattle.fb_machine.specs.Runs.{Completes, IsLater, IsSettled, IsSpent};
+ghost use Rattle.fb_machine.specs.Completions.{Completes};
+ghost use Rattle.fb_machine.specs.Runs.{IsLater, IsSettled, IsSpent};
 
 use crate::meter::Meter;
 use crate::post::post_all;

@@ -4,7 +4,7 @@ ghost use Rattle.std.specs.Prelude.{◌≡◌, ◌^◌, ◌<◌, ◌≤◌, All,
 ghost use Rattle.fb_types.specs.Headline.{system_of, stimuli_of};
 ghost use Rattle.fb_types.specs.Simulation.{opening};
 ghost use Rattle.fb_system.specs.Lines.{BelongsTo};
-ghost use Rattle.fb_machine.specs.Runs.{Completes};
+ghost use Rattle.fb_machine.specs.Completions.{Completes};
 
 use crate::machine::Machine;
 use fb_emit::outbox::Outbox;

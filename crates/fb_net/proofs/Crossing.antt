@@ -26,7 +26,7 @@ use Rattle.fb_types.specs.declared.run.Target.{Target}
 use Rattle.fb_emit.specs.declared.outbox.Outbox.{Outbox}
 use Rattle.fb_names.proofs.NameLemmas.{Contains-cons_cases, Contains-nil, Twice-append_left, any_from_contains, contains_from_any}
 use Rattle.fb_names.proofs.NameTwice.{block_twice}
-use Rattle.fb_system.specs.Systems.{IsPort}
+use Rattle.fb_system.specs.Ports.{IsPort}
 use Rattle.fb_tree.specs.declared.resource.Forest.{Forest}
 use Rattle.fb_net.specs.Arrivals.{Arrives, ComesTo, HasReacted, entering, leaving, reacting}
 use Rattle.fb_net.proofs.Charting.{emitted_all-left, emitted_all-stop}

@@ -9,7 +9,7 @@ ghost use Rattle.fb_emit.specs.Outs.{AreOuts};
 ghost use Rattle.fb_react.specs.Leaves.{IsOne};
 ghost use Rattle.fb_sample.specs.Samples.{names_in};
 ghost use Rattle.fb_system.specs.Lines.{IsEmission};
-ghost use Rattle.fb_system.specs.Systems.{IsCompositeAt, IsPort, IsTarget};
+ghost use Rattle.fb_system.specs.Ports.{IsCompositeAt, IsPort, IsTarget};
 ghost use Rattle.fb_tree.specs.Worlds.{InForest};
 ghost use Rattle.fb_typing.specs.Typed.{IsTypedSystem};
 ghost use Rattle.fb_net.specs.Arrivals.{Arrives, ComesTo, HasReacted, IsReady, StandTyped, Tells, entering, leaving, reacting, sampling};

@@ -5,7 +5,7 @@ ghost use Rattle.fb_types.specs.Blocks.{Basic, inputs_with};
 ghost use Rattle.fb_types.specs.Headline.{system_of};
 ghost use Rattle.fb_types.specs.Numbers.{event_at, path_at};
 ghost use Rattle.fb_system.specs.Lines.{IsEmission};
-ghost use Rattle.fb_system.specs.Systems.{IsPort};
+ghost use Rattle.fb_system.specs.Ports.{IsPort};
 ghost use Rattle.fb_react.specs.Leaves.{ChartEnded, IsOne};
 
 use fb_ecc::reaction::react;

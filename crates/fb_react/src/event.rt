@@ -6,7 +6,7 @@ ghost use Rattle.fb_types.specs.Headline.{system_of};
 ghost use Rattle.fb_types.specs.Numbers.{path_at};
 ghost use Rattle.fb_types.specs.Reactions.{World};
 ghost use Rattle.fb_system.specs.Lines.{IsEmission};
-ghost use Rattle.fb_system.specs.Systems.{IsPort};
+ghost use Rattle.fb_system.specs.Ports.{IsPort};
 ghost use Rattle.fb_tree.specs.Worlds.{InForest, IsForest};
 ghost use Rattle.fb_react.specs.Leaves.{EventCame, HasTypedInputs, IsOne, taken_reaction, expiry_reaction};
 

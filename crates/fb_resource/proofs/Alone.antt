@@ -10,9 +10,9 @@ use Rattle.fb_resource.specs.Worlds.{World, next, Simulates, last, Simulation, I
 use Rattle.fb_types.specs.Machines.{at}
 use Rattle.fb_resource.specs.Worlds.{far, HasTold, taken_at, left_at, apart}
 use Rattle.fb_types.specs.Histories.{IsSameAt}
-use Rattle.fb_resource.proofs.Lookups.{tick_before}
+use Rattle.fb_types.proofs.Lookups.{tick_before}
 use Rattle.fb_resource.proofs.Chains.{Agree, agree_chain, agree_end, cut_run, cut_in, cut_out}
-use Rattle.fb_resource.proofs.Late.{each_map}
+use Rattle.fb_types.proofs.EachLaws.{each_map}
 use Rattle.fb_resource.proofs.Families.{start}
 use Rattle.fb_resource.proofs.Global.{at_mine, at_other, sim_late, Like, like_chain}
 use Rattle.fb_resource.proofs.Ends.{each_at, like_start, Story, story, reach_high, reach_least}

@@ -13,9 +13,9 @@ use Rattle.fb_types.specs.Parts.{Part, part_of, outcome_of, machine, item_of, it
 use Rattle.fb_types.specs.States.{Line}
 use Rattle.fb_types.specs.declared.key.Key.{Key}
 use Rattle.fb_types.specs.declared.value.Reason.{Reason}
-use Rattle.fb_resource.specs.Sound.{IsSound}
+use Rattle.fb_sound.specs.Sound.{IsSound}
 use Rattle.fb_resource.specs.Worlds.{World, TakesLeast, next, Simulates, Simulation}
-use Rattle.fb_resource.proofs.Lookups.{none_some}
+use Rattle.fb_types.proofs.Lookups.{none_some}
 use Rattle.fb_resource.proofs.Global.{with_at_same}
 use Rattle.fb_resource.proofs.Ends.{sim_ends}
 use Rattle.fb_resource.proofs.Stops.{stop_has}

@@ -6,7 +6,7 @@ use Rattle.fb_types.specs.declared.key.Key.{Key}
 use Rattle.fb_types.specs.Keys.{same_key, changed_to}
 use Rattle.fb_types.specs.Machines.{Outcome, Machine, Item, Local, Each, waiting, TakesAlone, after, Chain, end, Run, cut}
 use Rattle.fb_resource.specs.Facts.{IsLawful}
-use Rattle.fb_resource.proofs.Lookups.{key_cases, before_tick, tick_before, none_some}
+use Rattle.fb_types.proofs.Lookups.{key_cases, before_tick, tick_before, none_some}
 
 module _ (M : Machine) where
   -- two states of r are alike below t

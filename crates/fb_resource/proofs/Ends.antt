@@ -9,8 +9,9 @@ use Rattle.fb_types.specs.Machines.{Machine, Item, Each, sent_by}
 use Rattle.fb_resource.specs.Facts.{IsLawful}
 use Rattle.fb_resource.specs.Worlds.{World, TakesLeast, next, Simulates, last, Simulation, IsOpening, view, reach, StopsAt}
 use Rattle.fb_types.specs.Machines.{at}
-use Rattle.fb_resource.proofs.Lookups.{tick_before, resource_before, or_else_none, or_else_nones, none_some, none_since, option_cases, found-append, without_none, edit_none}
-use Rattle.fb_resource.proofs.Late.{Fair, each_map}
+use Rattle.fb_types.proofs.Lookups.{tick_before, resource_before, or_else_none, or_else_nones, none_some, none_since, option_cases, found-append, without_none, edit_none}
+use Rattle.fb_types.proofs.EachLaws.{each_map}
+use Rattle.fb_resource.proofs.Late.{Fair}
 use Rattle.fb_resource.proofs.Families.{Family, start}
 use Rattle.fb_resource.proofs.Global.{with_at_same, with_at_other, at_mine, at_other, least_fair, sim_fair, Like, like_waiting, like_chain}
 

@@ -4,9 +4,10 @@ use Rattle.fb_types.specs.declared.key.Key.{Key}
 use Rattle.fb_types.specs.Keys.{found}
 use Rattle.fb_types.specs.Machines.{Machine, Item, Local, Each, Run, sent_by, cut}
 use Rattle.fb_resource.specs.Facts.{IsLawful}
-use Rattle.fb_resource.proofs.Lookups.{none_since}
+use Rattle.fb_types.proofs.Lookups.{none_since}
 use Rattle.fb_resource.proofs.Chains.{Agree, run_unique, cut_run, cut_zero}
-use Rattle.fb_resource.proofs.Late.{each_both, Fair, chain_fair, found_cut}
+use Rattle.fb_types.proofs.EachLaws.{each_both}
+use Rattle.fb_resource.proofs.Late.{Fair, chain_fair, found_cut}
 
 module _ (M : Machine) where
   -- the same with these arrivals

@@ -10,7 +10,7 @@ use Rattle.fb_types.specs.Takes.{with_at}
 use Rattle.fb_resource.specs.Worlds.{World, TakesLeast, next, Simulates, last}
 use Rattle.fb_types.specs.Machines.{at}
 use Rattle.fb_types.proofs.KeyLaws.{same_key_is}
-use Rattle.fb_resource.proofs.Lookups.{before_tick, tick_before, same_cases, or_else_none, or_else_assoc, or_else_parts, or_else_nones, none_some, none_since, found-append, without_none, without_other, edit_none}
+use Rattle.fb_types.proofs.Lookups.{before_tick, tick_before, same_cases, or_else_none, or_else_assoc, or_else_parts, or_else_nones, none_some, none_since, found-append, without_none, without_other, edit_none}
 use Rattle.fb_resource.proofs.Late.{Fair}
 
 pub with_at_same : {A : Type 0} (r : ℕ) (x : A) (f : ℕ → A) (s : ℕ) → s ≡ r → with_at r x f s ≡ x

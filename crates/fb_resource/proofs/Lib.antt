@@ -1,6 +1,5 @@
 pub mod Rising
 pub mod Ahead
-pub mod Lookups
 pub mod Chains
 pub mod Late
 pub mod Families
@@ -13,13 +12,9 @@ pub mod Stopping
 pub mod BodyLaws
 pub mod ChartLaws
 pub mod Alike
-pub mod Stays
-pub mod Timers
-pub mod Outs
 pub mod Posting
 pub mod Effects
 pub mod OwnPart
-pub mod Accepting
 pub mod Bridge
 pub mod Opening
 pub mod Told

@@ -10,7 +10,8 @@ use Rattle.fb_resource.specs.Worlds.{World, next, Simulates}
 use Rattle.fb_types.specs.Machines.{at}
 use Rattle.fb_types.specs.Merges.{NotAfter, IsInOrder, lines_at, lines_before, IsMerge}
 use Rattle.fb_resource.proofs.Chains.{cut_in, cut_out}
-use Rattle.fb_resource.proofs.Late.{each_map, each_append, chain_late, late_after, takes_fair, takes_late}
+use Rattle.fb_types.proofs.EachLaws.{each_map, each_append}
+use Rattle.fb_resource.proofs.Late.{chain_late, late_after, takes_fair, takes_late}
 use Rattle.fb_resource.specs.Worlds.{IsCounted}
 use Rattle.fb_resource.proofs.Ends.{sim_after}
 use Rattle.fb_resource.proofs.Stops.{sim_counted}

@@ -8,7 +8,7 @@ use Rattle.fb_types.specs.Machines.{Each}
 use Rattle.fb_types.specs.Headline.{OneSimulation}
 use Rattle.fb_types.specs.declared.key.Key.{Key}
 use Rattle.fb_types.specs.declared.value.Reason.{Reason}
-use Rattle.fb_resource.proofs.Lookups.{key_cases, none_some, option_cases}
+use Rattle.fb_types.proofs.Lookups.{key_cases, none_some, option_cases}
 use Rattle.fb_resource.proofs.Alike.{reacts_one}
 use Rattle.fb_resource.proofs.Bridge.{all_each}
 

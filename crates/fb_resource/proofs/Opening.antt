@@ -11,10 +11,10 @@ use Rattle.fb_types.specs.Machines.{Each}
 use Rattle.fb_types.specs.Parts.{machine, count_of, IsAtResource}
 use Rattle.fb_types.specs.declared.key.Key.{Key}
 use Rattle.fb_types.specs.declared.event_kind.EventKind.TheVariants.{Restart, Split, Merge, Rendezvous, Permit, Select, Switch, Delay, Cycle, SetReset, DataLatch, RisingEdge, FallingEdge, CountUp}
-use Rattle.fb_resource.specs.Sound.{IsSound}
+use Rattle.fb_sound.specs.Sound.{IsSound}
 use Rattle.fb_resource.specs.Worlds.{IsOpening, IsCounted}
-use Rattle.fb_resource.proofs.Lookups.{none_some, none_since, or_else_some}
-use Rattle.fb_resource.proofs.Late.{each_append}
+use Rattle.fb_types.proofs.Lookups.{none_some, none_since, or_else_some}
+use Rattle.fb_types.proofs.EachLaws.{each_append}
 use Rattle.fb_resource.proofs.Posting.{each_found}
 use Rattle.fb_resource.proofs.Effects.{AllFit}
 use Rattle.fb_resource.proofs.Bridge.{world_of}

@@ -17,10 +17,10 @@ use Rattle.fb_types.specs.declared.event_kind.EventKind.TheVariants.{Restart, Sp
 use Rattle.fb_types.specs.declared.run.TimerAsk.{TimerAsk}
 use Rattle.fb_types.specs.declared.run.TimerAsk.TheVariants.{Keep, Clear, At}
 use Rattle.fb_types.proofs.KeyLaws.{same_key_is}
-use Rattle.fb_resource.specs.Sound.{IsSound}
+use Rattle.fb_sound.specs.Sound.{IsSound}
 use Rattle.fb_resource.specs.Law.{PutsLater}
-use Rattle.fb_resource.proofs.Lookups.{cmp_equal, tick_before, or_else_some, none_some, none_since, edit_some, without_some}
-use Rattle.fb_resource.proofs.Late.{each_map, each_append}
+use Rattle.fb_types.proofs.Lookups.{cmp_equal, tick_before, or_else_some, none_some, none_since, edit_some, without_some}
+use Rattle.fb_types.proofs.EachLaws.{each_map, each_append}
 use Rattle.fb_resource.proofs.Global.{with_at_same, with_at_other}
 use Rattle.fb_resource.proofs.Posting.{each_found}
 use Rattle.fb_resource.proofs.Effects.{if_some, takes_good, GoodEffect, AllFit, agenda_fits}

@@ -12,15 +12,15 @@ use Rattle.fb_resource.specs.Facts.{IsLawful}
 use Rattle.fb_resource.specs.Worlds.{NotBefore, World, Simulation, IsOpening, view, StopsAt}
 use Rattle.fb_types.specs.Machines.{at}
 use Rattle.fb_resource.specs.Worlds.{apart}
-use Rattle.fb_resource.proofs.Lookups.{none_some, option_cases}
+use Rattle.fb_types.proofs.Lookups.{none_some, option_cases}
 use Rattle.fb_resource.proofs.Chains.{Agree, run_unique, cut_run, cut_all}
-use Rattle.fb_resource.proofs.Late.{each_map}
+use Rattle.fb_types.proofs.EachLaws.{each_map}
 use Rattle.fb_resource.proofs.Families.{start}
 use Rattle.fb_resource.proofs.Ends.{Story, story, stop_stops, reach_high, reach_least}
 use Rattle.fb_resource.proofs.Stops.{HasStop, has_cut, has_at, has_whole, has_each, chain_stops, sim_one, sim_stops, stop_has}
 use Rattle.fb_resource.specs.Worlds.{Simulates, next}
 use Rattle.fb_types.specs.Merges.{lines_before}
-use Rattle.fb_resource.proofs.Lookups.{tick_before}
+use Rattle.fb_types.proofs.Lookups.{tick_before}
 use Rattle.fb_resource.proofs.Global.{sim_late, next_late, least_fair}
 use Rattle.fb_resource.proofs.Alone.{sim_cut}
 use Rattle.fb_resource.proofs.Lines.{Rises, lines_of_cut, sim_here}

@@ -7,7 +7,7 @@ use Rattle.fb_resource.specs.Facts.{IsLawful}
 use Rattle.fb_resource.specs.Worlds.{World, TakesLeast, next, Simulates, last, StopsAt}
 use Rattle.fb_types.specs.Machines.{at}
 use Rattle.fb_resource.specs.Worlds.{IsCounted}
-use Rattle.fb_resource.proofs.Lookups.{edit_none, without_none, none_some, none_since, or_else_nones}
+use Rattle.fb_types.proofs.Lookups.{edit_none, without_none, none_some, none_since, or_else_nones}
 use Rattle.fb_resource.proofs.Chains.{cut_in, cut_out}
 use Rattle.fb_resource.proofs.Late.{Fair}
 use Rattle.fb_resource.proofs.Global.{least_fair, at_mine, at_other, with_at_same}

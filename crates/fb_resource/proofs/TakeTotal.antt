@@ -18,7 +18,7 @@ use Rattle.fb_types.specs.declared.run.TimerAsk.{TimerAsk}
 use Rattle.fb_types.specs.declared.run.TimerAsk.TheVariants.{Keep, Clear, At}
 use Rattle.fb_types.proofs.KeyLaws.{same_key_is}
 use Rattle.fb_types.proofs.ReactionLaws.{emitted_all-left}
-use Rattle.fb_resource.proofs.Lookups.{or_else_some, none_some}
+use Rattle.fb_types.proofs.Lookups.{or_else_some, none_some}
 use Rattle.fb_resource.proofs.Global.{with_at_same}
 use Rattle.fb_resource.proofs.Effects.{if_some}
 use Rattle.fb_resource.proofs.ChartTotal.{chart_total}

@@ -13,11 +13,11 @@ use Rattle.fb_types.specs.Histories.{told_to, IsTold, takings_below, stop_of, hi
 use Rattle.fb_types.specs.Merges.{IsMerge, lines_before}
 use Rattle.fb_types.specs.declared.key.Key.{Key}
 use Rattle.fb_types.specs.declared.value.Reason.{Reason}
-use Rattle.fb_resource.specs.Sound.{IsSound}
+use Rattle.fb_sound.specs.Sound.{IsSound}
 use Rattle.fb_resource.specs.Facts.{IsLawful}
 use Rattle.fb_resource.specs.Worlds.{World, Simulates, last, Simulation, IsOpening, IsCounted, StopsAt, far, HasTold, NotBefore, left_at, taken_at, view}
 use Rattle.fb_resource.specs.Law.{HasHistories, OneRun, HasLines, lines_to_stop, HasStops}
-use Rattle.fb_resource.proofs.Lookups.{none_some, or_else_none}
+use Rattle.fb_types.proofs.Lookups.{none_some, or_else_none}
 use Rattle.fb_resource.proofs.Chains.{agree_refl, run_unique}
 use Rattle.fb_resource.proofs.Ends.{stop_stops}
 use Rattle.fb_resource.proofs.Stops.{sim_one, stop_has, has_each}

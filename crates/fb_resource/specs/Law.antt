@@ -1,7 +1,6 @@
 -- The law of one resource (this project's profile).
 use Rattle.std.specs.Prelude.{◌≡◌, ◌⊎◌, ◌<◌, ◌+◌, ℕ, nat_lt, if◌then◌else◌, Some, List}
-use Rattle.fb_types.specs.Headline.{Inputs, AreAccepted, system_of, stimuli_of}
-use Rattle.fb_types.specs.Limits.{IsWithinLimits}
+use Rattle.fb_types.specs.Headline.{Inputs, system_of, stimuli_of}
 use Rattle.fb_types.specs.Systems.{System}
 use Rattle.fb_types.specs.Keys.{Precedes, found}
 use Rattle.fb_types.specs.States.{Event, Line}
@@ -12,11 +11,7 @@ use Rattle.fb_types.specs.Histories.{IsTold, history, taken, alone, IsSameAt, Is
 use Rattle.fb_types.specs.Merges.{IsMerge, lines_before}
 use Rattle.fb_types.specs.declared.key.Key.{Key}
 use Rattle.fb_types.specs.declared.value.Reason.{Reason}
-
--- Inputs that are accepted, with a deployment that keeps the limits of its type.
-pub record AreGood (i : Inputs) : Type 0 where
-  pub accepted : AreAccepted i
-  pub limits : IsWithinLimits i.plan
+use Rattle.fb_sound.specs.Sound.{AreGood}
 
 -- Said of every simulation of accepted inputs.
 abbrev pub OfEach : ((sys : System) → List Stimulus → (horizon limit : ℕ) → List Taken → Type 0) → Type 0

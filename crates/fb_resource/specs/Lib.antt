@@ -1,4 +1,3 @@
 pub mod Worlds
 pub mod Facts
-pub mod Sound
 pub mod Law

@@ -7,7 +7,7 @@ use Rattle.fb_types.specs.Reactions.{World, from_inside, sampled_from}
 use Rattle.fb_types.specs.declared.library.Variable.{Variable}
 use Rattle.fb_types.specs.declared.value.Value.{Value}
 use Rattle.fb_interfaces.specs.Stands.{ArePlaces, variable_at}
-use Rattle.fb_system.specs.Systems.{data_input, data_output}
+use Rattle.fb_system.specs.Ports.{data_input, data_output}
 use Rattle.fb_tree.specs.Worlds.{InForest, IsForest}
 use Rattle.fb_tree.specs.declared.resource.Forest.{Forest}
 

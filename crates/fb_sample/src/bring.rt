@@ -5,7 +5,7 @@ ghost use Rattle.fb_types.specs.Blocks.{Basic};
 ghost use Rattle.fb_types.specs.Headline.{system_of};
 ghost use Rattle.fb_types.specs.Numbers.{path_at, ports_at};
 ghost use Rattle.fb_types.specs.declared.library.BasicType.{BasicType};
-ghost use Rattle.fb_system.specs.Systems.{IsCarried, IsPort};
+ghost use Rattle.fb_system.specs.Ports.{IsCarried, IsPort};
 ghost use Rattle.fb_tree.specs.Changes.{Changes};
 ghost use Rattle.fb_sample.specs.Samples.{HoldsAll, all_sampled, names_in, slots_set};
 

@@ -2,7 +2,7 @@
 
 ghost use Rattle.std.specs.Prelude.{◌≡◌, false, true, length, IfOk};
 ghost use Rattle.fb_types.specs.Headline.{system_of};
-ghost use Rattle.fb_system.specs.Systems.{IsCompositeAt, IsPort};
+ghost use Rattle.fb_system.specs.Ports.{IsCompositeAt, IsPort};
 ghost use Rattle.fb_sample.specs.Samples.{AreSampled, AreShown, names_in, names_out};
 
 use fb_fabric::fabric::Place;

@@ -6,7 +6,7 @@ use Rattle.fb_types.specs.Simulation.{lines_of, opening}
 use Rattle.fb_types.specs.Text.{trace_text}
 use Rattle.fb_types.specs.declared.run.Line.{Line}
 use Rattle.fb_types.specs.declared.run.StopMark.{StopMark}
-use Rattle.fb_machine.specs.Runs.{Completes, ending_at}
+use Rattle.fb_machine.specs.Completions.{Completes, ending_at}
 use Rattle.fb_trace.specs.End as trace
 use Rattle.fb_trace.specs.declared.last.End.{End}
 use Rattle.fb_sim.specs.Given.{Given}

@@ -2,7 +2,7 @@
 
 ghost use Rattle.std.specs.Prelude.{IfOk, IfErr, OnOk};
 ghost use Rattle.fb_read.specs.Whole.{IsLibraryText};
-ghost use Rattle.fb_system.specs.Systems.{inputs as inputs_from};
+ghost use Rattle.fb_types.specs.Headline.{inputs as inputs_from};
 ghost use Rattle.fb_sim.specs.Serial.{AreStimuli, Declares, IsDeclared, IsPlan, IsRefusal, Reads};
 
 use crate::options::Inputs;

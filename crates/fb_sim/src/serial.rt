@@ -1,7 +1,7 @@
 //! A run on one thread.
 
 ghost use Rattle.std.specs.Prelude.{◌≡◌, IfOk, IfErr, OnOk, Option};
-ghost use Rattle.fb_machine.specs.Runs.{ending_at};
+ghost use Rattle.fb_machine.specs.Completions.{ending_at};
 ghost use Rattle.fb_trace.specs.End as trace;
 ghost use Rattle.fb_sim.specs.Serial.{IsDeclared, IsRefusal, Writes, Fails, ending_of};
 

@@ -5,7 +5,7 @@ use Rattle.std.proofs.lemmas.Bool.{cases_lt}
 use Rattle.std.proofs.lemmas.List.{length-map}
 use Rattle.std.proofs.lemmas.Option.{slice_get-get_or}
 use Rattle.fb_types.specs.Flat.{kind_at, latency_at, link_between, number_of, paths_of, source_of, targets_of}
-use Rattle.fb_types.specs.Headline.{AreAccepted, Inputs, system_of}
+use Rattle.fb_types.specs.Headline.{AreAccepted, Inputs, system_of, inputs}
 use Rattle.fb_types.specs.Joined.{TooHigh}
 use Rattle.fb_types.specs.Mapped.{NotMapped}
 use Rattle.fb_types.specs.Numbers.{port_of}
@@ -30,7 +30,8 @@ use Rattle.fb_resolve.specs.Types.{ArePortsOfKinds}
 use Rattle.fb_rows.specs.Rows.{AreRows}
 use Rattle.fb_rows.specs.declared.rows.StimulusRow.{StimulusRow}
 use Rattle.fb_links.specs.Linking.{IsLinked, Linked, link_at, receiver_at, sender_at}
-use Rattle.fb_system.specs.Systems.{inputs, inputs_of, IsPort, IsSource, IsTarget, IsVariable, StandFor, variable_of}
+use Rattle.fb_system.specs.Ports.{IsPort, IsSource, IsTarget, IsVariable, variable_of}
+use Rattle.fb_system.specs.Systems.{inputs_of, StandFor}
 use Rattle.fb_system.specs.declared.whole.Whole.{Whole}
 
 -- ---- What acceptance says

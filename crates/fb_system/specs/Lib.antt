@@ -1,3 +1,4 @@
 pub mod Lines
+pub mod Ports
 pub mod Stimuli
 pub mod Systems

@@ -2,7 +2,7 @@
 
 ghost use Rattle.std.specs.Prelude.{◌≡◌, ◌+◌, ◌<◌, ◌≤◌, [], ℕ, length, option_map, slice_get, slice_index_or, IfOk, IfSome};
 ghost use Rattle.fb_types.specs.Flat.{latency_at};
-ghost use Rattle.fb_types.specs.Headline.{AreAccepted, system_of};
+ghost use Rattle.fb_types.specs.Headline.{AreAccepted, system_of, inputs};
 ghost use Rattle.fb_types.specs.Limits.{IsWithinLimits};
 ghost use Rattle.fb_types.specs.Numbers.{event_at, path_at, port_of, ports_at};
 ghost use Rattle.fb_types.specs.Blocks.{inputs_with, outputs_with};
@@ -13,7 +13,8 @@ ghost use Rattle.fb_system.specs.Stimuli.{IsStimulusAt, initial_inputs, initial_
 ghost use Rattle.fb_types.specs.Text.{path_text};
 ghost use Rattle.fb_layout.specs.Layouts.{AreComponents, AreNumbers, IsParent, route_to};
 ghost use Rattle.fb_resolve.specs.Numbers.{IsResolved, kind_of_number};
-ghost use Rattle.fb_system.specs.Systems.{inputs, inputs_of, IsPort, IsSource, IsTarget, IsVariable, StandFor, variable_of};
+ghost use Rattle.fb_system.specs.Ports.{IsPort, IsSource, IsTarget, IsVariable, variable_of};
+ghost use Rattle.fb_system.specs.Systems.{inputs_of, StandFor};
 
 use crate::event_blocks::event_blocks;
 use crate::stimulus::StimulusAt;

@@ -19,7 +19,7 @@ use Rattle.fb_types.specs.declared.value.Value.{Value}
 use Rattle.fb_types.proofs.PathLaws.{same_path_is, same_path_itself}
 use Rattle.fb_names.proofs.NameLemmas.{Contains-nil, any_from_contains, same_from_same_name, same_name-itself}
 use Rattle.fb_fabric.specs.declared.fabric.Place.{Place}
-use Rattle.fb_system.specs.Systems.{IsVariable, variable_of}
+use Rattle.fb_system.specs.Ports.{IsVariable, variable_of}
 use Rattle.fb_tree.specs.Changes.{Holds}
 use Rattle.fb_tree.specs.Worlds.{input_names, key_cmp, key_of, output_names}
 use Rattle.fb_tree.specs.declared.resource.Forest.{Forest}

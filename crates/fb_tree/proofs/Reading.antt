@@ -16,7 +16,7 @@ use Rattle.fb_types.specs.declared.value.Value.{Value}
 use Rattle.fb_fabric.specs.declared.fabric.Place.{Place}
 use Rattle.fb_layout.proofs.Inside.{map_parts}
 use Rattle.fb_layout.specs.Layouts.{route_to}
-use Rattle.fb_system.specs.Systems.{IsVariable, data_input, data_output, variable_of, variables_at}
+use Rattle.fb_system.specs.Ports.{IsVariable, data_input, data_output, variable_of, variables_at}
 use Rattle.fb_tree.specs.Blocks.{inputs_in, inputs_of, own_of, shell_in, shell_of}
 use Rattle.fb_tree.specs.Trees.{block_at}
 use Rattle.fb_tree.specs.Worlds.{CompositeStands, Found, InForest, IsComposite, IsForest, NodeStands, Reads, ShellStands, StandsFor, ValuesStand, route_in_tree, seat, seat_in, seated, value_in}

@@ -9,7 +9,7 @@ use Rattle.fb_types.specs.declared.library.Ports.{Ports}
 use Rattle.fb_types.specs.declared.value.Value.{Value}
 use Rattle.fb_fabric.specs.declared.fabric.Place.{Place}
 use Rattle.fb_names.proofs.NameLemmas.{Contains-here, Contains-there, any_from_contains}
-use Rattle.fb_system.specs.Systems.{IsSource, IsVariable, variable_of, variables_at}
+use Rattle.fb_system.specs.Ports.{IsSource, IsVariable, variable_of, variables_at}
 use Rattle.fb_tree.specs.Changes.{ShowsInside}
 use Rattle.fb_tree.specs.Worlds.{IsComposite, Samples, Shows}
 use Rattle.fb_tree.specs.declared.resource.Forest.{Forest}

@@ -7,13 +7,12 @@ use Rattle.fb_types.specs.Reactions.{World, with_block, with_held, from_inside}
 use Rattle.fb_types.specs.States as model
 use Rattle.fb_types.specs.declared.value.Value.{Value}
 use Rattle.fb_fabric.specs.declared.fabric.Place.{Place}
-use Rattle.fb_system.specs.Systems.{variable_of}
+use Rattle.fb_system.specs.Ports.{variable_of, IsVariable}
 use Rattle.fb_tree.specs.Blocks.{own_of, components_of}
 use Rattle.fb_tree.specs.Trees.{block_at}
 use Rattle.fb_tree.specs.Worlds.{InForest, IsForest, StandsAt, StandsFor, IsRead, key_cmp, key_of, route_in_tree, seat, seat_in}
 use Rattle.fb_tree.specs.declared.block.Block.{Block}
 use Rattle.fb_tree.specs.declared.resource.Forest.{Forest}
-use Rattle.fb_system.specs.Systems.{IsVariable}
 use Rattle.std.specs.BTreeMap.{get}
 
 -- the model's block of an instance

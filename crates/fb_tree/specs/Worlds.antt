@@ -26,7 +26,7 @@ use Rattle.fb_ecc.specs.Sound.{IsSound}
 use Rattle.fb_ecc.specs.declared.state.BasicState.{BasicState}
 use Rattle.fb_layout.specs.Layouts.{route_to}
 use Rattle.fb_fabric.specs.declared.fabric.Place.{Place}
-use Rattle.fb_system.specs.Systems.{IsCompositeAt, IsSource, IsVariable, variable_of}
+use Rattle.fb_system.specs.Ports.{IsCompositeAt, IsSource, IsVariable, variable_of}
 use Rattle.fb_tree.specs.Blocks.{own_of}
 use Rattle.fb_tree.specs.Trees.{own_at}
 use Rattle.fb_tree.specs.declared.block.Block.{Block}

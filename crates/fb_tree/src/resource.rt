@@ -9,7 +9,7 @@ ghost use Rattle.fb_types.specs.Numbers.{path_at};
 ghost use Rattle.fb_types.specs.Reactions.{World};
 ghost use Rattle.fb_types.specs.States as model;
 ghost use Rattle.fb_layout.specs.Layouts.{route_to};
-ghost use Rattle.fb_system.specs.Systems.{IsVariable, variable_of};
+ghost use Rattle.fb_system.specs.Ports.{IsVariable, variable_of};
 ghost use Rattle.fb_tree.specs.Blocks.{components_of, own_of};
 ghost use Rattle.fb_tree.specs.Changes.{Changes, Holds, IsForestBut, IsOut, ShowsInside, input_sampled, output_shown, slot_set, with_instance};
 ghost use Rattle.fb_tree.specs.Worlds.{IsLeaf, StandsFor, TakesSamples, Found, InForest, IsComposite, IsForest, Reads, Samples, Sees, Shows, key_cmp, key_of, seat_in, seated, value_in};

@@ -1,4 +1,6 @@
 pub mod KeyLaws
+pub mod EachLaws
+pub mod Lookups
 pub mod PathLaws
 pub mod ReactionLaws
 pub mod TakeLaws

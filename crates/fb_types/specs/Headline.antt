@@ -22,6 +22,9 @@ pub record Inputs : Type 0 where
   pub plan : Plan
   pub stimuli : List deploy.Stimulus
 
+abbrev pub inputs : Library → Plan → List deploy.Stimulus → Inputs
+inputs library plan stimuli = record { library = library; plan = plan; stimuli = stimuli }
+
 abbrev pub AreAccepted : Inputs → Type 0
 AreAccepted i = IsAccepted i.library i.plan i.stimuli
 

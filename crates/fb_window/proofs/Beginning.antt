@@ -7,7 +7,7 @@ use Rattle.fb_types.specs.Machines.{Machine, Each}
 use Rattle.fb_types.specs.Merges.{NotAfter, IsInOrder, IsMerge, lines_at, lines_before}
 use Rattle.fb_types.specs.Cores.{Core, floor, floor_of}
 use Rattle.fb_types.specs.Schedules.{IsFinal}
-use Rattle.fb_resource.proofs.Late.{each_map}
+use Rattle.fb_types.proofs.EachLaws.{each_map}
 use Rattle.fb_resource.proofs.Lines.{filter_joined, filter_all, filter_nothing}
 
 each_filter : {A : Type 0} (P : A → Type 0) (p : A → Bool) (xs : List A) → Each P xs → Each (λ x. P x × (p x ≡ true)) (filter p xs)

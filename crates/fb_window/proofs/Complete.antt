@@ -11,9 +11,10 @@ use Rattle.fb_types.specs.Schedules.{IsSchedule}
 use Rattle.fb_window.proofs.Start.{opening}
 use Rattle.fb_resource.specs.Worlds.{IsCounted}
 use Rattle.fb_types.specs.Schedules.{IsLeastStop, IsAtHorizon}
-use Rattle.fb_resource.proofs.Lookups.{none_some, option_cases}
+use Rattle.fb_types.proofs.Lookups.{none_some, option_cases}
 use Rattle.fb_resource.proofs.Chains.{cut_all}
-use Rattle.fb_resource.proofs.Late.{each_map, Fair, chain_fair}
+use Rattle.fb_types.proofs.EachLaws.{each_map}
+use Rattle.fb_resource.proofs.Late.{Fair, chain_fair}
 use Rattle.fb_resource.proofs.Ends.{each_at, Story, story, reach_high, reach_least, reach_most}
 use Rattle.fb_resource.proofs.Stops.{HasStop, has_cut, has_at, has_whole, chain_stops, chain_one, sim_one, sim_stops, stop_has, sim_counted, has_each}
 use Rattle.fb_window.proofs.Keeps.{passed, limit, done_of, StopIn, Inv, passed_limit}

@@ -10,9 +10,10 @@ use Rattle.fb_types.specs.Takes.{with_at}
 use Rattle.fb_resource.specs.Worlds.{World, TakesLeast, next, Simulation, IsOpening, view}
 use Rattle.fb_resource.specs.Worlds.{IsCounted}
 use Rattle.fb_types.proofs.KeyLaws.{same_key_is}
-use Rattle.fb_resource.proofs.Lookups.{before_cases, before_irrefl, key_cases, before_tick, tick_before, before_trans, same_cases, none_some, none_since, option_cases, or_else_none, or_else_nones, or_else_parts, found-append, without_other}
+use Rattle.fb_types.proofs.Lookups.{before_cases, before_irrefl, key_cases, before_tick, tick_before, before_trans, same_cases, none_some, none_since, option_cases, or_else_none, or_else_nones, or_else_parts, found-append, without_other}
 use Rattle.fb_resource.proofs.Chains.{cut_run}
-use Rattle.fb_resource.proofs.Late.{each_map, each_both, Fair, chain_fair, takes_late, chain_late, found_none, found_cut}
+use Rattle.fb_types.proofs.EachLaws.{each_map, each_both}
+use Rattle.fb_resource.proofs.Late.{Fair, chain_fair, takes_late, chain_late, found_none, found_cut}
 use Rattle.fb_resource.proofs.Families.{Family, start}
 use Rattle.fb_resource.proofs.Global.{with_at_same, with_at_other, least_fair, split_class, clash, clash', own_step, inbox_step, false≢true', true≢false'}
 use Rattle.fb_resource.proofs.Ends.{live_next}

@@ -11,7 +11,7 @@ use Rattle.fb_window.proofs.Start.{opening}
 use Rattle.fb_resource.specs.Worlds.{IsCounted}
 use Rattle.fb_types.specs.Merges.{lines_at, lines_before}
 use Rattle.fb_resource.proofs.Chains.{cut_all}
-use Rattle.fb_resource.proofs.Late.{each_map}
+use Rattle.fb_types.proofs.EachLaws.{each_map}
 use Rattle.fb_resource.proofs.Families.{start}
 use Rattle.fb_resource.proofs.Ends.{Story, story, reach_high, reach_least}
 use Rattle.fb_resource.proofs.Stops.{HasStop}

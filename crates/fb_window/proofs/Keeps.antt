@@ -11,9 +11,10 @@ use Rattle.fb_resource.specs.Worlds.{World, IsOpening, view}
 use Rattle.fb_types.specs.Cores.{bound_of, floor_of, clock_after, Member, CoreStep, Lend, Give, Exchange, Core, returned, exchanged, done, MayLend, MayGive, MayDo}
 use Rattle.fb_types.specs.Schedules.{IsSchedule, core_after, taken_by, taken_after}
 use Rattle.fb_window.proofs.Start.{opening}
-use Rattle.fb_resource.proofs.Lookups.{none_some, none_since, option_cases, or_else_nones, or_else_parts, same_apart, found-append}
+use Rattle.fb_types.proofs.Lookups.{none_some, none_since, option_cases, or_else_nones, or_else_parts, same_apart, found-append}
 use Rattle.fb_resource.proofs.Chains.{Agree, agree_chain, agree_end, agree_waiting}
-use Rattle.fb_resource.proofs.Late.{each_map, each_both, each_append, Fair, chain_fair, found_none, chain_late, end_late}
+use Rattle.fb_types.proofs.EachLaws.{each_map, each_both, each_append}
+use Rattle.fb_resource.proofs.Late.{Fair, chain_fair, found_none, chain_late, end_late}
 use Rattle.fb_resource.proofs.Families.{Family, start}
 use Rattle.fb_resource.proofs.Stops.{HasStop, has_append}
 use Rattle.fb_window.proofs.Steps.{put_ind, put_ind2, chain_append, end_append, sent_append, lines_append, Stopped, run_ends, end_more}

@@ -12,7 +12,7 @@ use Rattle.fb_types.specs.Schedules.{IsSchedule}
 use Rattle.fb_window.proofs.Start.{opening}
 use Rattle.fb_window.specs.Law.{has_key}
 use Rattle.fb_types.proofs.KeyLaws.{same_key_is}
-use Rattle.fb_resource.proofs.Lookups.{found-append}
+use Rattle.fb_types.proofs.Lookups.{found-append}
 use Rattle.fb_window.proofs.Keeps.{passed, mail, unposted}
 use Rattle.fb_window.proofs.Reached.{reached_by, runs_after, inv_after}
 

@@ -8,8 +8,9 @@ use Rattle.fb_types.specs.Takes.{with_at}
 use Rattle.fb_resource.specs.Worlds.{World, IsOpening}
 use Rattle.fb_types.specs.Cores.{Member, Lend, Give, Core, floor, IsLegal, MayGive, MayLend, done, returned}
 use Rattle.fb_window.proofs.Start.{opening}
-use Rattle.fb_resource.proofs.Lookups.{none_since, or_else_nones, found-append}
-use Rattle.fb_resource.proofs.Late.{Fair, chain_fair, found_none, each_both, end_late}
+use Rattle.fb_types.proofs.Lookups.{none_since, or_else_nones, found-append}
+use Rattle.fb_types.proofs.EachLaws.{each_both}
+use Rattle.fb_resource.proofs.Late.{Fair, chain_fair, found_none, end_late}
 use Rattle.fb_window.proofs.Steps.{put_ind}
 use Rattle.fb_window.proofs.Keeps.{seat_floor, floor_live, Inv, Moved, moved}
 

@@ -10,7 +10,7 @@ use Rattle.fb_window.proofs.Start.{opening}
 use Rattle.fb_resource.specs.Worlds.{HasTold, taken_at, left_at}
 use Rattle.fb_types.specs.Histories.{IsSameAt}
 use Rattle.fb_resource.proofs.Chains.{cut_all, cut_cut}
-use Rattle.fb_resource.proofs.Late.{each_map}
+use Rattle.fb_types.proofs.EachLaws.{each_map}
 use Rattle.fb_resource.proofs.Families.{start, family_unique}
 use Rattle.fb_resource.proofs.Ends.{Story, story}
 use Rattle.fb_resource.proofs.Alone.{at_cut, history_is, told_bound}

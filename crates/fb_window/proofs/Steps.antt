@@ -7,7 +7,7 @@ use Rattle.fb_types.specs.Machines.{Machine, Item, Local, Each, after, Chain, en
 use Rattle.fb_resource.specs.Facts.{IsLawful}
 use Rattle.fb_types.specs.Takes.{with_at}
 use Rattle.fb_types.specs.Cores.{stop_or, clock_after}
-use Rattle.fb_resource.proofs.Lookups.{none_some, option_cases, without_other}
+use Rattle.fb_types.proofs.Lookups.{none_some, option_cases, without_other}
 use Rattle.fb_resource.proofs.Late.{takes_fair, takes_late, late_after, chain_late}
 use Rattle.fb_resource.proofs.Stops.{HasStop}
 use Rattle.fb_resource.proofs.Global.{with_at_same, with_at_other}

@@ -9,7 +9,7 @@ use Rattle.fb_types.specs.Parts.{machine, items_of, count_of}
 use Rattle.fb_types.specs.Merges.{IsMerge, lines_before}
 use Rattle.fb_types.specs.Cores.{Core, CoreStep, opening_core}
 use Rattle.fb_types.specs.Schedules.{IsSchedule, core_after, taken_after}
-use Rattle.fb_resource.specs.Sound.{IsSound}
+use Rattle.fb_sound.specs.Sound.{IsSound}
 use Rattle.fb_resource.specs.Facts.{IsLawful}
 use Rattle.fb_resource.specs.Worlds.{World, IsOpening, IsCounted, reach}
 use Rattle.fb_resource.proofs.Lines.{merge_same, sim_merge}
@@ -18,7 +18,7 @@ use Rattle.fb_resource.proofs.Bridge.{world_of}
 use Rattle.fb_resource.proofs.Opening.{is_opening, is_counted}
 use Rattle.fb_resource.proofs.Back.{simulation_back}
 use Rattle.fb_resource.proofs.Told.{is_simulation, told, left_is, same_trans, lines_items, named, ends_as}
-use Rattle.fb_resource.proofs.Lookups.{none_some}
+use Rattle.fb_types.proofs.Lookups.{none_some}
 use Rattle.fb_resource.proofs.Ends.{stop_stops}
 use Rattle.fb_window.specs.Law.{HasStates, HasMessages, HasEnd, lines_to, HasStop, HasFinalLines}
 use Rattle.fb_window.specs.Phases.{HasPhases}

@@ -11,9 +11,9 @@ use Rattle.fb_types.specs.Schedules.{IsLeastStop, IsAtHorizon}
 use Rattle.std.proofs.Common.{◌+◌, ◌≤◌, ⊎_elim, arith}
 use Rattle.fb_types.specs.Machines.{cut}
 use Rattle.fb_types.specs.Machines.{at}
-use Rattle.fb_resource.proofs.Lookups.{none_some, option_cases}
+use Rattle.fb_types.proofs.Lookups.{none_some, option_cases}
 use Rattle.fb_resource.proofs.Chains.{cut_all}
-use Rattle.fb_resource.proofs.Late.{each_map}
+use Rattle.fb_types.proofs.EachLaws.{each_map}
 use Rattle.fb_resource.proofs.Ends.{story, Story, stop_stops}
 use Rattle.fb_window.proofs.Keeps.{passed, limit, done_of, passed_limit, known, Known, Inv}
 use Rattle.fb_resource.proofs.Stops.{HasStop}

@@ -1,6 +1,6 @@
 use Rattle.std.proofs.Common.{ℕ, ◌<◌}
 use Rattle.fb_types.specs.Headline.{system_of}
-use Rattle.fb_system.specs.Systems.{IsVariable}
+use Rattle.fb_system.specs.Ports.{IsVariable}
 use Rattle.fb_build.specs.Opening.{Covers, KeepsCovers}
 use Rattle.fb_build.proofs.held.hold_places.Given as goal
 

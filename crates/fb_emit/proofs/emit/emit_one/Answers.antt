@@ -5,7 +5,7 @@ use Rattle.fb_types.specs.Numbers.{carried_of, event_output}
 use Rattle.fb_types.specs.Reactions.{spread}
 use Rattle.fb_types.specs.declared.run.Carried.{Carried}
 use Rattle.fb_types.specs.declared.value.Value.{Value}
-use Rattle.fb_system.specs.Systems.{IsCarried}
+use Rattle.fb_system.specs.Ports.{IsCarried}
 use Rattle.fb_tree.specs.Changes.{Changes}
 use Rattle.fb_emit.specs.Emitting.{carried_by, outputs_at, outputs_shown}
 use Rattle.fb_emit.specs.Outs.{out_of}

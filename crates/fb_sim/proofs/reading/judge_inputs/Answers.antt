@@ -1,6 +1,5 @@
 use Rattle.std.proofs.Common.{◌≡◌, subst}
-use Rattle.fb_types.specs.Headline.{Inputs, AreAccepted}
-use Rattle.fb_system.specs.Systems.{inputs}
+use Rattle.fb_types.specs.Headline.{Inputs, AreAccepted, inputs}
 use Rattle.fb_sim.proofs.reading.judge_inputs.Goals as goal
 
 pub returns-in-Ok-clause-accepted : goal.returns-in-Ok-clause-accepted

@@ -1,5 +1,7 @@
--- What the law of one resource asks of a system, and what every accepted one keeps (links and their latencies are this project's profile).
+-- What every accepted system keeps of its links and resources (links and their latencies are this project's profile).
 use Rattle.std.specs.Prelude.{◌≡◌, ◌≢◌, ◌<◌, ℕ}
+use Rattle.fb_types.specs.Headline.{AreAccepted, Inputs, system_of}
+use Rattle.fb_types.specs.Limits.{IsWithinLimits}
 use Rattle.fb_types.specs.Names.{Path, Port}
 use Rattle.fb_types.specs.Systems.{System}
 use Rattle.fb_types.specs.Machines.{Each}
@@ -22,3 +24,12 @@ pub record IsSound (sys : System) : Type 0 where
   -- resources are those that have a name
   pub counted : (p : Path) → sys.resource p < count_of sys
   pub receivers : (link : ℕ) → link < sys.links → sys.receiver link < count_of sys
+  pub senders : (link : ℕ) → link < sys.links → sys.sender link < count_of sys
+
+-- Inputs that are accepted, with a deployment that keeps the limits of its type.
+pub record AreGood (i : Inputs) : Type 0 where
+  pub accepted : AreAccepted i
+  pub limits : IsWithinLimits i.plan
+
+abbrev pub AcceptedAreSound : Type 0
+AcceptedAreSound = (i : Inputs) → AreGood i → IsSound (system_of i)

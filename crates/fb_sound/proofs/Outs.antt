@@ -15,9 +15,9 @@ use Rattle.fb_types.specs.declared.value.Value.{Value}
 use Rattle.fb_types.specs.declared.value.Reason.{Reason}
 use Rattle.fb_types.specs.declared.library.Ports.{Ports}
 use Rattle.fb_types.specs.declared.event_kind.EventKind.{EventKind}
-use Rattle.fb_resource.specs.Sound.{IsLink, IsLinked, IsSound}
-use Rattle.fb_resource.proofs.Late.{each_append}
-use Rattle.fb_resource.proofs.Timers.{IsLater, reaction_later, expiry_later}
+use Rattle.fb_sound.specs.Sound.{IsLink, IsLinked, IsSound}
+use Rattle.fb_types.proofs.EachLaws.{each_append}
+use Rattle.fb_sound.proofs.Timers.{IsLater, reaction_later, expiry_later}
 
 module _ (sys : System) (sound : IsSound sys) (k : Key) where
   -- a local event is of the resource, and a message goes over a link from it

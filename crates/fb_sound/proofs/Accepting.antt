@@ -24,10 +24,9 @@ use Rattle.fb_types.specs.declared.latency.Entry.{Entry}
 use Rattle.fb_types.specs.declared.deploy.Plan.{Plan}
 use Rattle.fb_types.specs.declared.deploy.Link.{Link}
 use Rattle.fb_types.proofs.PathLaws.{same_name_is, same_name_itself, same_port_is}
-use Rattle.fb_resource.specs.Sound.{IsLink, IsLinked, IsSound}
-use Rattle.fb_resource.specs.Law.{AreGood}
-use Rattle.fb_resource.proofs.Lookups.{option_cases, none_some}
-use Rattle.fb_resource.proofs.Late.{each_append}
+use Rattle.fb_sound.specs.Sound.{AreGood, IsLink, IsLinked, IsSound}
+use Rattle.fb_types.proofs.Lookups.{option_cases, none_some}
+use Rattle.fb_types.proofs.EachLaws.{each_append}
 
 -- ---- Places in lists
 
@@ -222,4 +221,5 @@ sound_of i good =
       linked = λ p. targets_linked i.library i.plan some (no_twice i good) (no_link i good) p;
       counted = λ p. resource_below i.plan some p;
       receivers = λ l b. end_below i.plan some (λ x. x.to) l;
+      senders = λ l b. end_below i.plan some (λ x. x.from) l;
     }

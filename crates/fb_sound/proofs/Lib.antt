@@ -1,0 +1,4 @@
+pub mod Timers
+pub mod Outs
+pub mod Stays
+pub mod Accepting
