@@ -129,6 +129,8 @@ def keep_to(names):
         rtlib.stop_on_unread = lambda top, _: stop_on_unread(top, crates)
         return [it for it in crates if it.name in {*names, *below}]
 
+    # (the libraries below say that they are of kept work, and so do those above them)
+    rtlib.VERDICT = re.compile(rtlib.VERDICT.pattern.replace(r"\n\Z", r"( incremental=trusted)?\n\Z"), re.M)
     rt.Crate, rt.crates_of = Crate, crates_to_try
     rt.edits_of = lambda crate: edits_of(crate) if crate.name in names else ([], [])
 

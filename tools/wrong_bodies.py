@@ -35,15 +35,17 @@ class Function:
 
 
 def functions(path, text):
-    """Returns the functions of a formatted source text, whose last line is a brace below their first word."""
+    """Returns the functions of a formatted source text: from the attributes and comments above to a brace below their first word."""
     lines, found = text.split("\n"), []
     for at, line in enumerate(lines):
         start = FUNCTION.match(line)
         if start:
             ends = (i for i in range(at, len(lines)) if lines[i] == start[1] + "}" or i == at and line.endswith("}"))
-            last = next(ends, None)
+            last, first = next(ends, None), at
+            while first and lines[first - 1].strip() and not lines[first - 1].endswith(("{", "}", ";")):
+                first -= 1
             if last is not None:
-                found.append(Function(path, start[2], at + 1, last + 1))
+                found.append(Function(path, start[2], first + 1, last + 1))
     return found
 
 
