@@ -105,7 +105,7 @@ def keep_proofs():
 
 def keep_to(names):
     """Has the gate look at these crates alone. What is below them is built over the work that out/ keeps."""
-    crates_of, edits_of, stop_on_unread = rt.crates_of, rt.edits_of, rtlib.stop_on_unread
+    edits_of, stop_on_unread = rt.edits_of, rtlib.stop_on_unread
 
     class Crate(rt.Crate):
         def ci(self, flags, tests):
@@ -117,21 +117,18 @@ def keep_to(names):
         def has_tests(self):
             return self.name in names and super().has_tests()
 
-    def crates_to_try(root, aside):
-        crates = crates_of(root, aside)
+    def crates_to_try(root, _):
+        crates = rtlib.crates_below(root)
         lacking = sorted({*names} - {it.name for it in crates})
         if lacking:
             rtlib.stop(f"crates.txt names no {', '.join(lacking)}")
-        below = {dep.name for it in crates if it.name in names for dep in it.below()} - {*names}
-        for it in below:
-            if os.path.isdir(f"{aside}/{it}"):
-                os.rename(f"{aside}/{it}", f"{root}/crates/{it}/out")
+        below = {dep.name for it in crates if it.name in names for dep in it.below()}
         rtlib.stop_on_unread = lambda top, _: stop_on_unread(top, crates)
-        return [it for it in crates if it.name in {*names, *below}]
+        return sorted((it for it in crates if it.name in {*names, *below}), key=lambda it: len(it.below()))
 
     # (the libraries below say that they are of kept work, and so do those above them)
     rtlib.VERDICT = re.compile(rtlib.VERDICT.pattern.replace(r"\n\Z", r"( incremental=trusted)?\n\Z"), re.M)
-    rt.Crate, rt.crates_of = Crate, crates_to_try
+    rtlib.Crate, rt.crates_of = Crate, crates_to_try
     rt.edits_of = lambda crate: edits_of(crate) if crate.name in names else ([], [])
 
 
