@@ -20,12 +20,9 @@ TOP = os.path.dirname(os.path.dirname(os.path.realpath(__file__)))
 
 
 def crates_as_built():
-    """Returns the repository's crates, lowest first, as the kit's building commands see them: a program with its files args and status."""
-    made = rtlib.Crate.__init__
-
-    def make(crate, *given, **named):
-        made(crate, *given, **named)
-        rt.read_files(crate)
-
-    rtlib.Crate.__init__ = make
-    return sorted(rtlib.crates_below(TOP), key=lambda it: len(it.below()))
+    """Returns the repository's crates, lowest first, as the kit's building commands see them."""
+    rtlib.Crate, rt.Crate.allowed = rt.Crate, rt.handles_of(TOP)
+    crates = rtlib.crates_below(TOP)
+    for it in crates:
+        rt.read_files(it)
+    return sorted(crates, key=lambda it: len(it.below()))
