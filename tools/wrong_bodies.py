@@ -24,14 +24,21 @@ class Function:
 
     def __init__(self, path, name, first, last):
         self.path, self.name, self.first, self.last = path, name, first, last
+        self.module = path[len("src/") : -len(".rt")].removesuffix("/mod")
 
     def has(self, path, line):
         return path == self.path and self.first <= line <= self.last
 
     def has_goal(self, proof):
         """Says whether the proof file has the goals of this function's contract: proofs/MODULE/../FUNCTION/Answers.antt."""
-        module = self.path[len("src/") : -len(".rt")].removesuffix("/mod")
-        return proof.startswith(f"proofs/{module}/") and re.search(rf"/{self.name}/(\+\w+/)?Answers\.antt$", proof)
+        return proof.startswith(f"proofs/{self.module}/") and re.search(rf"/{self.name}/(\+\w+/)?Answers\.antt$", proof)
+
+    def is_refused(self, crate, lines):
+        """Says whether the prover has refused a function of this name in this module."""
+        inside = [] if self.module in ("lib", "main") else self.module.split("/")
+        begin, end = "::".join([crate, *inside, ""]), f"::{self.name}"
+        refused = (re.match(r"fn (\S+): (?:no proof|not proved)", line) for line in lines)
+        return any(it and it[1].startswith(begin) and it[1].endswith(end) for it in refused)
 
 
 def functions(path, text):
@@ -86,8 +93,10 @@ def all_changed(crate, edits):
     return texts
 
 
-def refusal(lines, function, texts):
-    """Returns the line by which antt refuses the function's body, or None."""
+def refusal(crate, lines, function, texts):
+    """Returns the line by which the prover refuses the function's body, or None."""
+    if not function.is_refused(crate, lines):
+        return None
     for line in lines:
         at = re.match(r"(?:note: )?(?:\./)?((?:src|proofs)/\S+?):(\d+):\d+: (.*)", line)
         if not at or NAMES_WHAT_IS_GONE.search(at[3]):
@@ -114,7 +123,7 @@ def try_together(crate, homes, kept):
         return {edit: said for half in halves for edit, said in try_together(crate, {it: homes[it] for it in half}, kept).items()}
     found = {}
     for edit, (path, number) in homes.items():
-        line = refusal(lines, functions(path, texts[path])[number], texts)
+        line = refusal(crate.name, lines, functions(path, texts[path])[number], texts)
         if line:
             found[edit] = f"must-fail {crate.name}/{os.path.basename(edit)}: refused, as it must be: {line[:160]}"
     return found
