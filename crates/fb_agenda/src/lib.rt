@@ -3,5 +3,3 @@
 
 pub mod agenda;
 mod rising;
-#[cfg(test)]
-mod tests;

@@ -2,5 +2,3 @@
 #![tactic(auto)]
 
 pub mod arrivals;
-#[cfg(test)]
-mod tests;

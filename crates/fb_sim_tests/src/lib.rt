@@ -1,5 +1,16 @@
-//! Tests of runs on one thread. They stand apart from `fb_sim`, so that a check of the tests does not prove it once more.
+//! Tests of event blocks, trees, the agenda, traces and whole runs: a module for each crate, and `runs` for the last.
+//! They stand apart, so that a check of the tests proves no crate once more.
 #![tactic(auto)]
 
 #[cfg(test)]
-mod tests;
+mod agenda;
+#[cfg(test)]
+mod event;
+#[cfg(test)]
+mod link;
+#[cfg(test)]
+mod runs;
+#[cfg(test)]
+mod trace;
+#[cfg(test)]
+mod tree;

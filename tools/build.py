@@ -1,0 +1,90 @@
+#!/usr/bin/env python3
+"""Builds the program and what it stands on, side by side: `./simulate` calls it where the program is missing or old.
+
+A library that has not changed is not built again, and out/ keeps what was proved of the others, so a build that was
+interrupted goes on where it was. Standard error tells how far it is. The crates of tests are left out."""
+
+import copy
+import os
+import signal
+import sys
+import tempfile
+import threading
+import time
+
+from kit import crates_as_built, rt, rtlib
+
+PROGRAM = "fbsim"
+
+
+class Progress:
+    """Tells how many of the crates are built."""
+
+    def __init__(self, count):
+        self.count, self.done, self.start, self.lock = count, 0, time.time(), threading.Lock()
+
+    def tell(self, crate):
+        with self.lock:
+            self.done += 1
+            minutes = (time.time() - self.start) / 60
+            say(f"crate {self.done} of {self.count} is built, {crate.name}; {minutes:.0f} minutes so far")
+
+
+def say(text):
+    print(f"simulate: {text}", file=sys.stderr, flush=True)
+
+
+def build(crate, jobs, progress):
+    """Proves and builds a library or the program, and returns whether that went well. What the prover said is told where it did not."""
+    crate = copy.copy(crate)
+    os.makedirs(f"{crate.folder}/out", exist_ok=True)
+    flags = ["--jobs", str(jobs)]
+    with tempfile.TemporaryFile("a+", errors="replace") as crate.out:
+        if crate.is_program:
+            made = f"out/{crate.name}"
+            status = crate.compile(flags, f"{made}.o") or crate.link(f"{made}.o", made)
+        else:
+            status = crate.build_rlib(flags, anew=False)
+        crate.out.seek(0)
+        said = crate.out.read()
+    if status:
+        print(said, file=sys.stderr)
+        say(f"{crate.name} could not be built: see above")
+    else:
+        progress.tell(crate)
+    return status == 0
+
+
+def lines_of(crate):
+    """Returns how many lines a check of the crate reads, which tells its work."""
+    return sum(rtlib.text_of(it).count("\n") for it in rtlib.files_of(crate.folder))
+
+
+def main():
+    os.environ.pop(rtlib.BACKEND, None)
+    rtlib.guarded()
+    # (with its own handler, Python would wait for the threads, and they for the prover)
+    signal.signal(signal.SIGINT, signal.SIG_DFL)
+    crates = crates_as_built()
+    program = next(it for it in crates if it.name == PROGRAM)
+    wanted = [*program.below(), program]
+    held = rtlib.lock(wanted)
+    left = [it for it in wanted if it.is_program or not it.is_built()]
+    progress, names = Progress(len(left)), {it.name for it in left}
+    say(f"proving and building the program, {len(left)} crates; it can be interrupted, and goes on the next time")
+
+    def work(crate, given, jobs):
+        return all(given[it.name, "proof"] for it in crate.below() if it.name in names) and build(crate, jobs, progress)
+
+    tasks = {}
+    for crate in left:
+        waits = [(it.name, "proof") for it in crate.below() if it.name in names]
+        tasks[crate.name, "proof"] = waits, lines_of(crate), rt.need(crate), lambda given, jobs, it=crate: work(it, given, jobs)
+    given = rt.in_lanes(tasks)
+    for it in held:
+        os.close(it)
+    return 0 if all(given.values()) else 1
+
+
+if __name__ == "__main__":
+    sys.exit(main())

@@ -1,0 +1,170 @@
+#!/usr/bin/env python3
+"""./gate [--jobs N] [CRATE..]: the test command and merge gate of this repository.
+
+Without a crate it is the whole gate: the examples are those of the tests; then, from nothing, every crate and its
+tests are proved, every wrong body in crates/*/must-fail is shown to be refused, and tests and programs are run. Then it
+tells the processor seconds of each crate. The last line is 'N passed, M failed', and the status 0 where none failed.
+
+With crates it does the same for these alone, over the libraries below them as they are built in out/.
+--jobs N uses N processors, and not all.
+
+It runs the kit's own `rt ci`, so it proves and judges as that does. Only how wrong bodies are tried is another way:
+several of them, in different functions of a crate, stand in one check, over the checked modules of the library that this
+same run has proved from nothing. See tools/wrong_bodies.py."""
+
+import os
+import re
+import resource
+import subprocess
+import sys
+import tempfile
+import time
+
+from kit import TOP, rt, rtlib
+from wrong_bodies import try_all
+
+# Runs a command and adds to a file how much processor time it took, as a line 'seconds', folder, and the command's words.
+MEASURE = """
+import os, signal, sys
+log, *words = sys.argv[1:]
+child = os.fork()
+if not child:
+    os.execvp(words[0], words)
+_, status, used = os.wait4(child, 0)
+with open(log, "a") as it:
+    it.write("\\t".join([str(used.ru_utime + used.ru_stime), os.getcwd(), *words]).replace("\\n", " ") + "\\n")
+if os.WIFSIGNALED(status):
+    signal.signal(os.WTERMSIG(status), signal.SIG_DFL)
+    os.kill(os.getpid(), os.WTERMSIG(status))
+sys.exit(os.WEXITSTATUS(status))
+"""
+TASKS = ("proof", "tests", "edits", "runs")
+
+
+class Times:
+    """The processor seconds of each crate's tasks. What the kit starts tells its own as it ends."""
+
+    def __init__(self, room):
+        self.log, self.runs, self.start = f"{room}/times", {}, time.time()
+        open(self.log, "w").close()
+        guarded = [*rtlib.guarded(), os.path.realpath("/proc/self/exe"), "-ISc", MEASURE, self.log]
+        rtlib.guarded = lambda: guarded
+        self.run, rt.run = rt.run, self.timed_run
+
+    def timed_run(self, crate, *given):
+        """Runs a program or tests. Nothing else runs beside it."""
+        before = used_by_children()
+        is_well = self.run(crate, *given)
+        self.runs[crate.name] = self.runs.get(crate.name, 0) + used_by_children() - before
+        return is_well
+
+    def of_crates(self):
+        """Returns the seconds by crate and task."""
+        found = {(name, "runs"): seconds for name, seconds in self.runs.items()}
+        with open(self.log, encoding="utf-8", errors="replace") as it:
+            rows = [line.rstrip("\n").split("\t") for line in it]
+        for seconds, folder, *words in rows:
+            name = words[words.index("--crate-name") + 1] if "--crate-name" in words else os.path.basename(folder)
+            is_of_tests = "--test" in words or words[-1].endswith("_tests.o")
+            task = "edits" if not folder.startswith(f"{TOP}/") else "tests" if is_of_tests else "proof"
+            found[name, task] = found.get((name, task), 0) + float(seconds)
+        return found
+
+    def tell(self):
+        found = self.of_crates()
+        names = sorted({name for name, _ in found}, key=lambda it: -sum(found.get((it, task), 0) for task in TASKS))
+        row = "{:24}" + "{:>8}" * (len(TASKS) + 1)
+        print(row.format("processor seconds", *TASKS, "sum"))
+        sums = [0] * (len(TASKS) + 1)
+        for name in names:
+            seconds = [found.get((name, task), 0) for task in TASKS]
+            seconds.append(sum(seconds))
+            sums = [a + b for a, b in zip(sums, seconds)]
+            print(row.format(name, *[f"{it:.0f}" for it in seconds]))
+        print(row.format(f"all {len(names)} crates", *[f"{it:.0f}" for it in sums]))
+        minutes = (time.time() - self.start) / 60
+        print(f"{used_by_children() / 60:.0f} processor minutes in {minutes:.0f} minutes on {rt.processors()} processors", flush=True)
+
+
+def used_by_children():
+    """Returns the processor seconds of all commands that have ended, with what they started."""
+    used = resource.getrusage(resource.RUSAGE_CHILDREN)
+    return used.ru_utime + used.ru_stime
+
+
+def keep_proofs():
+    """Has a library's proof, which is from nothing as ever, leave its checked modules: wrong bodies are tried over them."""
+
+    class Crate(rt.Crate):
+        def ci(self, flags, tests):
+            self.cuts_libraries = False
+            return super().ci(flags, tests)
+
+    rt.Crate = Crate
+
+
+def keep_to(names):
+    """Has the gate look at these crates alone. What is below them is built over the work that out/ keeps."""
+    edits_of, stop_on_unread = rt.edits_of, rtlib.stop_on_unread
+
+    class Crate(rt.Crate):
+        def ci(self, flags, tests):
+            if self.name in names:
+                return super().ci(flags, tests)
+            self.cuts_libraries = False
+            return self.build_rlib(flags, anew=False)
+
+        def has_tests(self):
+            return self.name in names and super().has_tests()
+
+    def crates_to_try(root, _):
+        crates = rtlib.crates_below(root)
+        lacking = sorted({*names} - {it.name for it in crates})
+        if lacking:
+            rtlib.stop(f"crates.txt names no {', '.join(lacking)}")
+        below = {dep.name for it in crates if it.name in names for dep in it.below()}
+        rtlib.stop_on_unread = lambda top, _: stop_on_unread(top, crates)
+        return sorted((it for it in crates if it.name in {*names, *below}), key=lambda it: len(it.below()))
+
+    # (the libraries below say that they are of kept work, and so do those above them)
+    rtlib.VERDICT = re.compile(rtlib.VERDICT.pattern.replace(r"\n\Z", r"( incremental=trusted)?\n\Z"), re.M)
+    rtlib.Crate, rt.crates_of = Crate, crates_to_try
+    rt.edits_of = lambda crate: edits_of(crate) if crate.name in names else ([], [])
+
+
+def tell_before_the_last_line(times):
+    """Has the kit's script print the times before its last line, which says how many passed and failed."""
+
+    def tell(*texts, **how):
+        if texts and re.fullmatch(r"\d+ passed, \d+ failed", str(texts[0])):
+            times.tell()
+        print(*texts, **how)
+
+    rt.print = tell
+
+
+def main(words):
+    if words[:1] in (["-h"], ["--help"]):
+        print(__doc__)
+        return 0
+    os.chdir(TOP)
+    if words[:1] == ["--jobs"] and len(words) > 1 and words[1].isdigit() and int(words[1]):
+        jobs, words = int(words[1]), words[2:]
+        rt.processors = lambda: jobs
+    if any(it.startswith("-") for it in words):
+        print(__doc__, file=sys.stderr)
+        return 2
+    if subprocess.run(["examples/check"]).returncode:
+        print("0 passed, 1 failed")
+        return 1
+    with tempfile.TemporaryDirectory(prefix="gate-") as room:
+        tell_before_the_last_line(Times(room))
+        rt.must_fail_all = try_all
+        keep_proofs()
+        if words:
+            keep_to(words)
+        return rt.ci()
+
+
+if __name__ == "__main__":
+    sys.exit(main(sys.argv[1:]))

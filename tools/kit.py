@@ -1,0 +1,28 @@
+"""The kit's own script `rt`, loaded as a module, so that the tools here prove and judge as the kit does."""
+
+import importlib.machinery
+import importlib.util
+import os
+import shutil
+import sys
+
+sys.dont_write_bytecode = True
+SCRIPT = shutil.which("rt") or sys.exit("this needs the Rattle kit: `rt version` must print a line")
+
+_loader = importlib.machinery.SourceFileLoader("rt", os.path.realpath(SCRIPT))
+_spec = importlib.util.spec_from_loader("rt", _loader)
+rt = importlib.util.module_from_spec(_spec)
+_loader.exec_module(rt)
+rtlib = rt.rtlib
+
+# The top of this repository.
+TOP = os.path.dirname(os.path.dirname(os.path.realpath(__file__)))
+
+
+def crates_as_built():
+    """Returns the repository's crates, lowest first, as the kit's building commands see them."""
+    rtlib.Crate, rt.Crate.allowed = rt.Crate, rt.handles_of(TOP)
+    crates = rtlib.crates_below(TOP)
+    for it in crates:
+        rt.read_files(it)
+    return sorted(crates, key=lambda it: len(it.below()))
