@@ -98,11 +98,11 @@ first_is (f ∷ es) k d rise some is = record {
 
 -- ---- The least of all
 
-either_some : {X : Type 0} (o p : Option X) → IsSome p → IsSome (or_else o p)
+pub either_some : {X : Type 0} (o p : Option X) → IsSome p → IsSome (or_else o p)
 either_some None p there = there
 either_some (Some x) p there = refl
 
-first_some : {X : Type 0} (o p : Option X) → IsSome o → IsSome (or_else o p)
+pub first_some : {X : Type 0} (o p : Option X) → IsSome o → IsSome (or_else o p)
 first_some {X} None p there = absurd (not_none {X = X} None there refl)
 first_some (Some x) p there = refl
 

@@ -1,3 +1,4 @@
 pub mod Orders
 pub mod Apart
 pub mod Timers
+pub mod Placing

@@ -1,2 +1,3 @@
 pub mod Agendas
+pub mod Arrivals
 pub mod Inside

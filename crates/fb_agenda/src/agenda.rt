@@ -1,12 +1,13 @@
 //! The events that wait, under their keys.
 
-ghost use Rattle.std.specs.Prelude.{◌≡◌, ◌<◌, if◌then◌else◌, [], length, Some, None, IfSome, IfNone, IfOk, OnOk, OnErr, slice_set};
-ghost use Rattle.fb_types.specs.Keys.{Precedes, changed_to, same_key, timer_key};
+ghost use Rattle.std.specs.Prelude.{◌≡◌, ◌<◌, if◌then◌else◌, [], length, Some, None, IfSome, IfNone, IfOk, IfErr, OnOk, OnErr, slice_set};
+ghost use Rattle.fb_types.specs.Keys.{Precedes, changed_to, found, or_else, same_key, timer_key};
 ghost use Rattle.fb_types.specs.Takes.{is_timer_of};
 ghost use Rattle.fb_agenda.specs.Agendas.{waiting, IsFirst, IsLeast, IsNext, IsTimed, LiesIn, timer_set};
+ghost use Rattle.fb_agenda.specs.Arrivals.{AreNew, arrivals_at};
 ghost use Rattle.fb_agenda.specs.declared.agenda.Event.TheVariants.{Timer};
 
-use crate::rising;
+use crate::{arrivals, rising};
 use fb_types::key::Key;
 use fb_types::run::{Message, Target, TimerAsk};
 use std::alloc::{AllocError, Global};
@@ -112,6 +113,30 @@ impl Agenda {
             self.later.insert(key, event)?;
             Ok(())
         }
+    }
+
+    /// Puts messages for a resource under their keys, or none of them.
+    ///
+    /// # Errors
+    ///
+    /// When memory runs out. The messages come back in their order, and where their keys were new the agenda is as
+    /// it was.
+    pub fn receive(
+        &mut self,
+        receiver: u32,
+        messages: Vec<Message>,
+    ) -> Result<(), (AllocError, Vec<Message>)>
+        ensures put { OnOk result ((j : Key) → waiting self.new j ≡ or_else (found j (arrivals_at receiver messages.items)) (waiting self.old j)) }
+        ensures back { IfErr result (λ e. e.1.items ≡ messages.items) }
+        ensures err { OnErr result (AreNew receiver messages.items self.old → (j : Key) → waiting self.new j ≡ waiting self.old j) }
+        ensures due { self.new.due ≡ self.old.due }
+    {
+        if arrivals::hold_places(&mut self.later, receiver, &messages).is_err() {
+            arrivals::free_places(&mut self.later, receiver, &messages);
+            return Err((AllocError, messages));
+        }
+        arrivals::fill_places(&mut self.later, receiver, messages);
+        Ok(())
     }
 
     /// The event under the least key, if its tick is below the horizon. It leaves the agenda.

@@ -2,4 +2,5 @@
 #![tactic(auto)]
 
 pub mod agenda;
+mod arrivals;
 mod rising;

@@ -1,0 +1,47 @@
+use Rattle.fb_agenda.specs.Arrivals.{KeepsOthers, LacksKeys, arrivals_at}
+use Rattle.fb_agenda.proofs.Placing.{filled_keeps, filled_waits, freed_keeps, freed_waits, kept_apart}
+use Rattle.fb_agenda.specs.Inside.{contents_of}
+use Rattle.fb_agenda.proofs.agenda.Agenda.receive.Goals as goal
+
+pub invariant_of-self : goal.invariant_of-self
+invariant_of-self c =
+    let v = contents_of c.self.inside in
+    let r = c.args.receiver in
+    let ms = c.args.messages.items in
+    let held = c.hold_places.new.events.entries in
+    let new = c.free_places.new.events.entries in
+    let kept : KeepsOthers (arrivals_at r ms) v.later held = rw c.deref.ensures.value at c.hold_places.ensures.kept in
+    let left : KeepsOthers (arrivals_at r ms) held new = rw c.deref-then-is_err.ensures.value at c.free_places.ensures.kept in
+    kept_apart r ms v c.self.invariant new (freed_keeps r ms v c.self.invariant held new kept left)
+
+pub returns-then-is_err-clause-err : goal.returns-then-is_err-clause-err
+returns-then-is_err-clause-err c =
+    let v = contents_of c.self.inside in
+    let r = c.args.receiver in
+    let ms = c.args.messages.items in
+    let held = c.hold_places.new.events.entries in
+    let new = c.free_places.new.events.entries in
+    let kept : KeepsOthers (arrivals_at r ms) v.later held = rw c.deref.ensures.value at c.hold_places.ensures.kept in
+    let left : KeepsOthers (arrivals_at r ms) held new = rw c.deref-then-is_err.ensures.value at c.free_places.ensures.kept in
+    let freed : LacksKeys (arrivals_at r ms) new = rw c.deref-then-is_err.ensures.value at c.free_places.ensures.freed in
+    rw (← c.self.view_is) (λ are_new. freed_waits r ms v c.self.invariant are_new new (freed_keeps r ms v c.self.invariant held new kept left) freed)
+
+pub invariant_of-self-2 : goal.invariant_of-self-2
+invariant_of-self-2 c =
+    let v = contents_of c.self.inside in
+    let r = c.args.receiver in
+    let ms = c.args.messages.items in
+    let held = c.hold_places.new.events.entries in
+    let new = c.fill_places.new.events.entries in
+    let kept : KeepsOthers (arrivals_at r ms) v.later held = rw c.deref.ensures.value at c.hold_places.ensures.kept in
+    kept_apart r ms v c.self.invariant new (filled_keeps r ms v c.self.invariant held new kept c.fill_places.ensures.filled)
+
+pub returns-clause-put : goal.returns-clause-put
+returns-clause-put c =
+    let v = contents_of c.self.inside in
+    let r = c.args.receiver in
+    let ms = c.args.messages.items in
+    let held = c.hold_places.new.events.entries in
+    let new = c.fill_places.new.events.entries in
+    let kept : KeepsOthers (arrivals_at r ms) v.later held = rw c.deref.ensures.value at c.hold_places.ensures.kept in
+    rw (← c.self.view_is) (filled_waits r ms v c.self.invariant held new kept c.fill_places.ensures.filled)
