@@ -1,6 +1,6 @@
 -- One more message is dealt, and one more list is sorted.
-use Rattle.std.proofs.Common.{◌≡◌, ◌≢◌, ℕ, ◌+◌, ◌<◌, ◌≤◌, ◌==◌, ◌++◌, List, [], ◌∷◌, filter, length, Some, sym, ap, subst, ◌∙◌, append-nil, arith, Vec}
-use Rattle.std.specs.Prelude.{flat_map, slice_get, slice_set}
+use Rattle.std.proofs.Common.{◌≡◌, ◌≢◌, ℕ, ◌+◌, ◌<◌, ◌≤◌, ◌++◌, List, [], ◌∷◌, filter, length, Some, sym, ap, subst, ◌∙◌, append-nil, arith, Vec}
+use Rattle.std.specs.Prelude.{slice_get, slice_set}
 use Rattle.std.specs.declared.alloc.Global.{Global}
 use Rattle.std.proofs.lemmas.Bool.{cond-true, cond-false, eq-eqb, ne_eqb}
 use Rattle.std.proofs.lemmas.Grind.{flat_map-append}

@@ -1,5 +1,5 @@
 -- Messages that were dealt to their receivers and sorted there.
-use Rattle.std.proofs.Common.{◌≡◌, ℕ, ◌==◌, ◌++◌, Bool, true, false, cond, List, [], ◌∷◌, map, filter, refl, sym, ap, ◌∙◌, subst, ⊎_elim, All, IsPermutation}
+use Rattle.std.proofs.Common.{◌≡◌, ℕ, Bool, true, false, List, [], ◌∷◌, filter, refl, sym, ap, ◌∙◌, subst, ⊎_elim, IsPermutation}
 use Rattle.std.specs.Cmp.{IsTotalOrder, nat_cmp_total, on_total}
 use Rattle.std.specs.List.Sorted.{IsSortedByKey, IsStableByKey}
 use Rattle.std.specs.declared.cmp.Ordering.{Ordering}
@@ -15,7 +15,7 @@ use Rattle.fb_types.specs.Systems.{System}
 use Rattle.fb_types.specs.declared.key.Key.{Key}
 use Rattle.fb_types.specs.declared.run.Message.{Message}
 use Rattle.fb_types.proofs.Lookups.{cmp_equal, same_cases}
-use Rattle.fb_link.specs.Exchanges.{receiver_of, key_of, goes_to, keyed, AreFor, AreSorted}
+use Rattle.fb_link.specs.Exchanges.{receiver_of, key_of, goes_to, keyed, AreSorted}
 use Rattle.fb_link.proofs.Keyed.{found_kept, found_stable, keys_rise}
 
 -- the parts of a key in which the messages for one resource differ

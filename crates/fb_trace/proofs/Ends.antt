@@ -20,7 +20,7 @@ part {a} {b} {text} t =
       counted = omega (arith, t.counted);
     }
 
-pub part_passed : {a b : Option (List ℕ)} {text : List ℕ} {f : WriteFault} (r : Result (Unit {0}) WriteFault) → IsErrAnd r (λ g. g ≡ f) → Fails a b empty text f.written → IfErr r (λ g. IsPartWritten a b text g.written)
+pub part_passed : {a b : Option (List ℕ)} {text : List ℕ} {f : WriteFault} {T : Type 0} (r : Result T WriteFault) → IsErrAnd r (λ g. g ≡ f) → Fails a b empty text f.written → IfErr r (λ g. IsPartWritten a b text g.written)
 part_passed (Ok u) h t = absurd h
 part_passed {a} {b} {text} (Err g) h t = subst (λ (y : WriteFault). IsPartWritten a b text y.written) (sym h) (part t)
 

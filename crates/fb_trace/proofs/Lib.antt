@@ -6,3 +6,6 @@ pub mod Signs
 pub mod LineParts
 pub mod Ends
 pub mod Texts
+pub mod Sorting
+pub mod Together
+pub mod Merged

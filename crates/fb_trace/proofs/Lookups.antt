@@ -1,11 +1,8 @@
 -- What was read at a place of an interface.
-use Rattle.std.proofs.Common.{◌≡◌, ℕ, ◌<◌, List, length, get_or, ap, sym, subst, refl, ◌∙◌}
+use Rattle.std.proofs.Common.{◌≡◌, ℕ, ◌<◌, List, length, get_or, refl}
 use Rattle.std.proofs.lemmas.Option.{slice_get-map, slice_get_read}
-use Rattle.fb_types.specs.Blocks.{inputs_with, outputs_with}
 use Rattle.fb_types.specs.Numbers.{event_at}
 use Rattle.fb_types.specs.declared.library.EventPort.{EventPort}
-use Rattle.fb_types.specs.declared.library.Ports.{Ports}
-use Rattle.fb_types.specs.declared.library.Variable.{Variable}
 
 -- the name of an event
 pub event_at_read : (es fs : List EventPort) (i : ℕ) (e : EventPort) → fs ≡ es → i < length es → e ≡ get_or fs i e → e.name ≡ event_at es i

@@ -1,3 +1,4 @@
 pub mod Page
 pub mod Progress
 pub mod End
+pub mod Merging

@@ -4,6 +4,7 @@
 pub mod fault;
 pub mod last;
 pub mod lines;
+pub mod merge;
 mod names;
 mod number;
 mod page;

@@ -1,12 +1,12 @@
 //! The lines of a trace.
 
-ghost use Rattle.std.specs.Prelude.{◌≡◌, map, All, IfErr, OnOk, codes, if◌then◌else◌};
+ghost use Rattle.std.specs.Prelude.{◌≡◌, map, length, All, IfErr, IfOk, OnOk, codes, if◌then◌else◌};
 ghost use Rattle.std.specs.Io.KnownBytes.{Appends};
 ghost use Rattle.fb_types.specs.Headline.{system_of};
 ghost use Rattle.fb_types.specs.Numbers.{line_of};
 ghost use Rattle.fb_types.specs.Text.{line_text, lines_text};
 ghost use Rattle.fb_system.specs.Lines.{BelongsTo};
-ghost use Rattle.fb_trace.specs.Progress.{Gathers, IsPartWritten};
+ghost use Rattle.fb_trace.specs.Progress.{Gathers, IsPartWritten, bounded};
 
 use crate::fault::WriteFault;
 use crate::names::names_of;
@@ -69,6 +69,31 @@ pub(crate) fn put_lines<W: Write>(
     Ok(())
 }
 
+/// Writes the text of lines that belong to the system, and tells how many bytes it has, up to the greatest `u128`. It
+/// takes no memory.
+///
+/// # Errors
+/// The writer gave an error or took no byte. It has then got the first bytes of the text, but not all, and
+/// the fault says how many.
+pub fn write_counted<W: Write>(
+    out: &mut W,
+    system: &System,
+    form: Form,
+    lines: &[Line],
+) -> Result<u128, WriteFault>
+    requires { All (BelongsTo (system_of system.now)) lines.now }
+    ensures whole { OnOk result (let sys = system_of system.now in
+        Appends (W.contents out.old) (W.contents out.new) (lines_text form sys (map (line_of sys) lines.now))) }
+    ensures counted { IfOk result (λ n. let sys = system_of system.now in n ≡ bounded (length (lines_text form sys (map (line_of sys) lines.now)))) }
+    ensures part { IfErr result (λ fault. let sys = system_of system.now in
+        IsPartWritten (W.contents out.old) (W.contents out.new) (lines_text form sys (map (line_of sys) lines.now)) fault.written) }
+{
+    let mut page = Page::new();
+    put_lines(&mut page, out, system, form, lines)?;
+    page.flush(out)?;
+    Ok(page.written())
+}
+
 /// Writes the text of lines that belong to the system. It takes no memory.
 ///
 /// # Errors
@@ -86,7 +111,6 @@ pub fn write_lines<W: Write>(
     ensures part { IfErr result (λ fault. let sys = system_of system.now in
         IsPartWritten (W.contents out.old) (W.contents out.new) (lines_text form sys (map (line_of sys) lines.now)) fault.written) }
 {
-    let mut page = Page::new();
-    put_lines(&mut page, out, system, form, lines)?;
-    page.flush(out)
+    write_counted(out, system, form, lines)?;
+    Ok(())
 }

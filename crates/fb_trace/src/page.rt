@@ -75,6 +75,13 @@ impl Page {
         }
     }
 
+    /// How many bytes were written, up to the greatest `u128`.
+    pub(crate) fn written(&self) -> u128
+        ensures { result ≡ self.now.written }
+    {
+        self.written
+    }
+
     /// Writes all that waits.
     pub(crate) fn flush<W: Write>(&mut self, out: &mut W) -> Result<(), WriteFault>
         ensures text { Gathers (W.contents out.old) (W.contents out.new) self.old self.new [] result }
