@@ -65,7 +65,7 @@ class Times:
             rows = [line.rstrip("\n").split("\t") for line in it]
         for seconds, folder, *words in rows:
             name = words[words.index("--crate-name") + 1] if "--crate-name" in words else os.path.basename(folder)
-            is_of_tests = "--test" in words or words[-1].endswith("_tests.o")
+            is_of_tests = "--test" in words or any(it.endswith("_tests.o") for it in words)
             task = "edits" if not folder.startswith(f"{TOP}/") else "tests" if is_of_tests else "proof"
             found[name, task] = found.get((name, task), 0) + float(seconds)
         return found

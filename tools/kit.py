@@ -6,7 +6,6 @@ import os
 import shutil
 import sys
 
-sys.dont_write_bytecode = True
 SCRIPT = shutil.which("rt") or sys.exit("this needs the Rattle kit: `rt version` must print a line")
 
 _loader = importlib.machinery.SourceFileLoader("rt", os.path.realpath(SCRIPT))
