@@ -14,6 +14,23 @@ rt = importlib.util.module_from_spec(_spec)
 _loader.exec_module(rt)
 rtlib = rt.rtlib
 
+
+def once_for_each_crate(work):
+    """Has a method of a crate do its work once in a run. The kit's own looks at each crate below along every way of
+    dependencies that leads there: for a crate high up that is minutes before the prover starts."""
+    known = {}
+
+    def answer(crate):
+        key = crate.folder
+        if key not in known:
+            known[key] = work(crate)
+        return known[key]
+
+    return answer
+
+
+rtlib.Crate.stamp = once_for_each_crate(rtlib.Crate.stamp)
+
 # The top of this repository.
 TOP = os.path.dirname(os.path.dirname(os.path.realpath(__file__)))
 
