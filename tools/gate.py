@@ -9,8 +9,7 @@ With crates it does the same for these alone, over the libraries below them as t
 --jobs N uses N processors, and not all.
 
 It runs the kit's own `rt ci`, so it proves and judges as that does. Only how wrong bodies are tried is another way:
-several of them, in different functions of a crate, stand in one check, over the checked modules of the library that this
-same run has proved from nothing. See tools/wrong_bodies.py."""
+several of them, in different functions of a crate, stand in one check. See tools/wrong_bodies.py."""
 
 import os
 import re
@@ -92,17 +91,6 @@ def used_by_children():
     return used.ru_utime + used.ru_stime
 
 
-def keep_proofs():
-    """Has a library's proof, which is from nothing as ever, leave its checked modules: wrong bodies are tried over them."""
-
-    class Crate(rt.Crate):
-        def ci(self, flags, tests):
-            self.cuts_libraries = False
-            return super().ci(flags, tests)
-
-    rt.Crate = Crate
-
-
 def keep_to(names):
     """Has the gate look at these crates alone. What is below them is built over the work that out/ keeps."""
     edits_of, stop_on_unread = rt.edits_of, rtlib.stop_on_unread
@@ -160,7 +148,6 @@ def main(words):
     with tempfile.TemporaryDirectory(prefix="gate-") as room:
         tell_before_the_last_line(Times(room))
         rt.must_fail_all = try_all
-        keep_proofs()
         if words:
             keep_to(words)
         return rt.ci()

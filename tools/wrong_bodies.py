@@ -5,8 +5,8 @@ check, in which antt goes on past what it refuses, and each must be refused at a
 check does not settle, as an edit that another one hides, goes on to the next check, and at last alone, and is then judged
 as the kit's own `rt must-fail` does. An edit that is not refused there is tried once more, from nothing.
 
-The checks rest on the crate's checked modules: those in the rlib that this run has just proved from nothing. They are
-copied into a folder of this call, so no check is over what an older run kept, and no function is proved twice."""
+The first check of a crate proves what the edited functions rest on, into a folder of this call, and the others take it from
+there. So no check is over what an older run kept, and what was proved for one edit is not proved again for the next."""
 
 import os
 import re
@@ -129,27 +129,6 @@ def try_together(crate, homes, kept):
     return found
 
 
-def unpack(rlib, into):
-    """Copies the checked modules of an rlib, an archive of the form of ar, into a folder as rattle keeps them between checks."""
-    build = re.search(r"(?m)^rattle-build (.*)$", rtlib.text_of(f"{rlib}/format"))[1].replace("/", "_")
-    os.makedirs(f"{into}/{build}")
-    with open(f"{rlib}/toolchain/checked.a", "rb") as archive:
-        long_names = archive.read(len(b"!<arch>\n")) and b""
-        while head := archive.read(60):
-            name, size = head[:16].decode().strip(), int(head[48:58])
-            data = archive.read(size)
-            archive.read(size % 2)
-            if name == "//":
-                long_names = data
-                continue
-            if re.fullmatch(r"/\d+", name):
-                name = long_names[int(name[1:]) :].partition(b"/\n")[0].decode()
-            name = name.removesuffix("/")
-            if name.endswith(".oantt") and "/" not in name:
-                with open(f"{into}/{build}/{name}", "wb") as it:
-                    it.write(data)
-
-
 def try_all(crate, edits, flags):
     """Stands in for the kit's must_fail_all: returns for each edit whether it is refused, and what to say."""
     said, left, alone = {}, {}, []
@@ -157,11 +136,7 @@ def try_all(crate, edits, flags):
         home = home_of(crate, edit)
         left.update({edit: home} if home else {})
         alone += [] if home else [edit]
-    with tempfile.TemporaryDirectory(prefix="gate-edits-") as room:
-        kept = f"{room}/kept"
-        os.mkdir(kept)
-        if crate.makes_rlib():
-            unpack(crate.rlib, kept)
+    with tempfile.TemporaryDirectory(prefix="gate-edits-") as kept:
         while left:
             # (of each function one edit)
             group = {edit: home for home, edit in {home: edit for edit, home in reversed([*left.items()])}.items()}
