@@ -5,8 +5,8 @@ check, in which antt goes on past what it refuses, and each must be refused at a
 check does not settle, as an edit that another one hides, goes on to the next check, and at last alone, and is then judged
 as the kit's own `rt must-fail` does. An edit that is not refused there is tried once more, from nothing.
 
-The first check of a crate proves all of it anew, into a folder of this call, which is empty when it begins; those after it
-are over what the earlier ones have proved there. So no check is over what an older run kept."""
+The first check of a crate proves what the edited functions rest on, into a folder of this call, and the others take it from
+there. So no check is over what an older run kept, and what was proved for one edit is not proved again for the next."""
 
 import os
 import re
@@ -136,9 +136,7 @@ def try_all(crate, edits, flags):
         home = home_of(crate, edit)
         left.update({edit: home} if home else {})
         alone += [] if home else [edit]
-    with tempfile.TemporaryDirectory(prefix="gate-edits-") as room:
-        kept = f"{room}/kept"
-        os.mkdir(kept)
+    with tempfile.TemporaryDirectory(prefix="gate-edits-") as kept:
         while left:
             # (of each function one edit)
             group = {edit: home for home, edit in {home: edit for edit, home in reversed([*left.items()])}.items()}

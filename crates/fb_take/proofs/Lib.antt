@@ -1,0 +1,9 @@
+pub mod Apart
+pub mod Begins
+pub mod Fuel
+pub mod Leaving
+pub mod Lists
+pub mod OpenIs
+pub mod PostLaws
+pub mod ReadyIs
+pub mod TakenIs

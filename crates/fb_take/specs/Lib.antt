@@ -1,0 +1,5 @@
+pub mod Counts
+pub mod Openings
+pub mod Posts
+pub mod Takings
+pub mod Waiting

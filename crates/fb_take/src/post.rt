@@ -1,0 +1,117 @@
+//! What the taking of an event puts out: local events onto the agenda, messages behind the mail.
+
+ghost use Rattle.std.specs.Prelude.{◌≡◌, ◌+◌, ◌<◌, ◌≤◌, ◌^◌, ◌++◌, ◌∷◌, ℕ, [], map, length, All, OnOk, slice_index, slice_set};
+ghost use Rattle.fb_types.specs.Headline.{system_of};
+ghost use Rattle.fb_types.specs.Keys.{local_key};
+ghost use Rattle.fb_types.specs.Takes as takes;
+ghost use Rattle.fb_agenda.specs.declared.agenda.Event.TheVariants.{Local};
+ghost use Rattle.fb_emit.specs.Outs.{out_of};
+ghost use Rattle.fb_take.specs.Posts.{ArePosted, CountsAre, IsMessage, IsPostable, IsPut, message_of};
+ghost use Rattle.fb_take.specs.Waiting.{IsInOrder};
+
+use fb_agenda::agenda::{Agenda, Event};
+use fb_emit::outbox::{Out, Sending};
+use fb_link::arrivals::arrival;
+use fb_system::system::System;
+use fb_types::key::Key;
+use fb_types::run::{Message, Target};
+use std::alloc::AllocError;
+
+/// The class of the keys of local events.
+const LOCAL: u8 = 3;
+
+/// Puts a local event on the agenda, under its number within the tick.
+fn post_local(
+    agenda: &mut Agenda,
+    locals: &mut u128,
+    key: &Key,
+    target: Target,
+) -> Result<(), AllocError>
+    requires { locals.old + 1 < 2 ^ 128 }
+    ensures put { OnOk result (IsPut agenda.old agenda.new (local_key key.now.tick key.now.resource locals.old) (Local target)) }
+    ensures due { agenda.new.due ≡ agenda.old.due }
+    ensures counted { OnOk result (locals.new ≡ locals.old + 1) }
+{
+    let local = Key {
+        tick: key.tick,
+        resource: key.resource,
+        class: LOCAL,
+        a: *locals,
+        b: 0,
+    };
+    agenda.put(local, Event::Local(target))?;
+    *locals += 1;
+    Ok(())
+}
+
+/// Puts a message behind the mail, with the tick of its arrival and its number on the link.
+///
+/// # Errors
+/// When memory runs out, or a link has carried 2^128 messages.
+fn post_message(
+    mail: &mut Vec<Message>,
+    sent: &mut Vec<u128>,
+    system: &System,
+    key: &Key,
+    sending: Sending,
+) -> Result<(), AllocError>
+    requires link { sending.link < (system_of system.now).links }
+    requires counted { length sent.old.items ≡ (system_of system.now).links }
+    requires early { key.now.tick ≤ 10 ^ 12 }
+    ensures put { OnOk result (mail.new.items ≡ mail.old.items ++ message_of (system_of system.now) key.now sending (slice_index sent.old.items sending.link) ∷ []) }
+    ensures counted { OnOk result (sent.new.items ≡ slice_set sent.old.items sending.link (slice_index sent.old.items sending.link + 1)) }
+    ensures later { OnOk result (key.now.tick < (system_of system.now).arrival sending.link key.now.tick) }
+{
+    let number = sent[sending.link as usize];
+    let next = number.checked_add(1).ok_or(AllocError)?;
+    let arrives = arrival(system.latency(sending.link as usize), key.tick);
+    sent[sending.link as usize] = next;
+    mail.push(Message {
+        link: sending.link,
+        number,
+        arrives,
+        target: sending.target,
+        values: sending.values,
+    })?;
+    Ok(())
+}
+
+/// Posts what the taking of a key's event put out, in its order. The room that it took is kept.
+///
+/// # Errors
+/// When memory runs out, or a link has carried 2^128 messages.
+pub(crate) fn post_all(
+    agenda: &mut Agenda,
+    mail: &mut Vec<Message>,
+    sent: &mut Vec<u128>,
+    outs: &mut Vec<Out>,
+    locals: &mut u128,
+    system: &System,
+    key: &Key,
+) -> Result<(), AllocError>
+    requires outs { All (IsPostable (system_of system.now) key.now.resource) outs.old.items }
+    requires room { locals.old + length outs.old.items < 2 ^ 128 }
+    requires counted { length sent.old.items ≡ (system_of system.now).links }
+    requires early { key.now.tick ≤ 10 ^ 12 }
+    requires named { key.now.resource < length (system_of system.now).resource_names }
+    requires order { IsInOrder system.now key.now.tick agenda.old }
+    requires mail { All (IsMessage system.now) mail.old.items }
+    ensures posted { OnOk result ((counts : ℕ → ℕ) → CountsAre sent.old.items counts →
+        ArePosted system.now (takes.post_all (system_of system.now) key.now (map (out_of (system_of system.now)) outs.old.items) (record { locals = locals.old; sent = counts; raised = []; messages = [] }))
+        agenda.old agenda.new mail.old.items mail.new.items locals.new sent.new.items) }
+    ensures few { OnOk result (locals.new ≤ locals.old + length outs.old.items) }
+    ensures order { OnOk result (IsInOrder system.now key.now.tick agenda.new) }
+    ensures mail { OnOk result (All (IsMessage system.now) mail.new.items) }
+    ensures later { OnOk result (All (λ m. key.now.tick < m.arrives) mail.old.items → All (λ m. key.now.tick < m.arrives) mail.new.items) }
+    ensures due { OnOk result (agenda.new.due ≡ agenda.old.due) }
+    ensures counted { OnOk result (length sent.new.items ≡ length sent.old.items) }
+    ensures none { OnOk result (outs.new.items ≡ []) }
+{
+    for out in outs.drain(..) {
+        match out {
+            Out::Local(target) => post_local(agenda, locals, key, target)?,
+            Out::Send(sending) => post_message(mail, sent, system, key, sending)?,
+        }
+    }
+    Ok(())
+}

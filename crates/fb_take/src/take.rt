@@ -1,0 +1,186 @@
+//! The taking of one event in its resource.
+
+ghost use Rattle.std.specs.Prelude.{◌≡◌, ◌+◌, ◌^◌, ◌≤◌, ◌<◌, ℕ, [], map, suc, max, length, unwrap_or, All, IfOk, OnOk, Some, None};
+ghost use Rattle.fb_types.specs.Headline.{system_of};
+ghost use Rattle.fb_types.specs.Numbers.{path_at};
+ghost use Rattle.fb_types.specs.Reactions.{World};
+ghost use Rattle.fb_types.specs.States.{State, path_of};
+ghost use Rattle.fb_types.specs.Takes.{begun};
+ghost use Rattle.fb_types.specs.Takes as takes;
+ghost use Rattle.fb_types.specs.declared.run.TimerAsk.TheVariants.{Keep};
+ghost use Rattle.fb_agenda.specs.Agendas.{LiesIn};
+ghost use Rattle.fb_emit.specs.Outs.{AreOuts, out_of};
+ghost use Rattle.fb_net.specs.Events.{Came, IsEventIn, IsNumbered, event_of};
+ghost use Rattle.fb_tree.specs.Worlds.{IsForest};
+ghost use Rattle.fb_typing.specs.Typed.{AreTyped, IsTypedEvent};
+ghost use Rattle.fb_take.specs.Counts.{IsMetered, meter_of};
+ghost use Rattle.fb_take.specs.Posts.{CountsAre, IsMessage, IsPostable};
+ghost use Rattle.fb_take.specs.Takings.{AreReady, IsHere, IsLater, IsSettled, IsTakenHere};
+ghost use Rattle.fb_take.specs.Waiting.{IsInOrder};
+
+use crate::meter::Meter;
+use crate::post::post_all;
+use crate::queues::Queues;
+use fb_agenda::agenda::Event;
+use fb_emit::outbox::Outbox;
+use fb_net::tree::Tree;
+use fb_st::meter::Meter as Steps;
+use fb_system::system::System;
+use fb_types::key::Key;
+use fb_types::run::{Halt, TimerAsk};
+use fb_types::value::Reason;
+use std::alloc::AllocError;
+
+/// The instance at which an event comes.
+fn instance_of(system: &System, event: &Event) -> u32
+    requires { IsNumbered system.now event.now }
+    ensures instance { result < length (system_of system.now).paths }
+    ensures path { path_at (system_of system.now) result ≡ path_of (event_of system.now event.now) }
+{
+    match event {
+        Event::Stimulus(row) => system.stimulus(*row).target.instance,
+        Event::Timer(instance) => *instance,
+        Event::Arrival(message) => message.target.instance,
+        Event::Local(target) => target.instance,
+    }
+}
+
+/// Takes an event in the tree of its resource, which has so many steps left behind that of the event. `Some` is
+/// the reason for which the resource stops.
+fn take_in(
+    tree: &mut Tree,
+    left: &mut u64,
+    outbox: &mut Outbox,
+    system: &System,
+    key: &Key,
+    event: &Event,
+) -> Result<Option<Reason>, AllocError>
+    requires event { IsEventIn system.now tree.old.resource event.now }
+    requires key { key.now.resource ≡ tree.old.resource }
+    requires named { key.now.resource < length (system_of system.now).resource_names }
+    requires early { key.now.tick ≤ 10 ^ 12 }
+    requires belongs { (w : World) × IsForest system.now tree.old w × AreTyped (system_of system.now) w }
+    requires typed { IsTypedEvent (system_of system.now) (event_of system.now event.now) }
+    requires outs { AreOuts (system_of system.now) tree.old.resource outbox.old }
+    requires none { outbox.old.outs.items ≡ [] }
+    requires keeps { outbox.old.timer ≡ Keep }
+    ensures came { IfOk result (λ stop. Came system.now key.now event.now tree.old outbox.old left.old stop tree.new left.new outbox.new) }
+    ensures outs { OnOk result (AreOuts (system_of system.now) tree.new.resource outbox.new) }
+    ensures fewer { left.new ≤ left.old }
+    ensures resource { tree.new.resource ≡ tree.old.resource }
+{
+    let mut steps = Steps { left: *left };
+    let taken = tree.take(system, event, key, &mut steps, outbox);
+    *left = steps.left;
+    match taken {
+        Ok(()) => Ok(None),
+        Err(Halt::Stop(reason)) => Ok(Some(reason)),
+        Err(Halt::Memory) => Err(AllocError),
+    }
+}
+
+/// Sets the timer of an instance and posts what was put out, as its reaction asks. Of the outbox the lines stay, and the
+/// room for what is put out.
+fn settle(
+    queues: &mut Queues,
+    locals: &mut u128,
+    system: &System,
+    key: &Key,
+    instance: u32,
+) -> Result<(), AllocError>
+    requires instance { instance < length (system_of system.now).paths }
+    requires due { length queues.old.agenda.due ≡ length (system_of system.now).paths }
+    requires lies { LiesIn key.now.resource instance queues.old.agenda }
+    requires here { (system_of system.now).resource (path_at (system_of system.now) instance) ≡ key.now.resource }
+    requires later { IsLater key.now.tick queues.old.outbox.timer }
+    requires outs { All (IsPostable (system_of system.now) key.now.resource) queues.old.outbox.outs.items }
+    requires room { locals.old < 2 ^ 100 }
+    requires counted { length queues.old.sent.items ≡ (system_of system.now).links }
+    requires early { key.now.tick ≤ 10 ^ 12 }
+    requires named { key.now.resource < length (system_of system.now).resource_names }
+    requires order { IsInOrder system.now key.now.tick queues.old.agenda }
+    requires mail { All (IsMessage system.now) queues.old.mail.items }
+    ensures settled { OnOk result ((counts : ℕ → ℕ) → CountsAre queues.old.sent.items counts →
+        IsSettled system.now key.now instance queues.old.outbox.timer
+        (takes.post_all (system_of system.now) key.now (map (out_of (system_of system.now)) queues.old.outbox.outs.items) (record { locals = locals.old; sent = counts; raised = []; messages = [] }))
+        queues.old queues.new locals.new) }
+    ensures few { OnOk result (locals.new ≤ locals.old + 2 ^ 64) }
+    ensures order { OnOk result (IsInOrder system.now key.now.tick queues.new.agenda) }
+    ensures mail { OnOk result (All (IsMessage system.now) queues.new.mail.items) }
+    ensures later { OnOk result (All (λ m. key.now.tick < m.arrives) queues.old.mail.items → All (λ m. key.now.tick < m.arrives) queues.new.mail.items) }
+    ensures due { OnOk result (length queues.new.agenda.due ≡ length queues.old.agenda.due) }
+    ensures counted { OnOk result (length queues.new.sent.items ≡ length queues.old.sent.items) }
+    ensures lines { OnOk result (queues.new.outbox.lines.items ≡ queues.old.outbox.lines.items) }
+    ensures none { OnOk result (queues.new.outbox.outs.items ≡ []) }
+    ensures keeps { OnOk result (queues.new.outbox.timer ≡ Keep) }
+{
+    queues
+        .agenda
+        .set_timer(key.resource, instance, queues.outbox.timer)?;
+    queues.outbox.timer = TimerAsk::Keep;
+    let _count = queues.outbox.outs.len();
+    post_all(
+        &mut queues.agenda,
+        &mut queues.mail,
+        &mut queues.sent,
+        &mut queues.outbox.outs,
+        locals,
+        system,
+        key,
+    )
+}
+
+/// Takes an event that has left the agenda, at most `limit` steps in each tick of its resource. `Some` is the reason
+/// for which the resource stops; what was put out before the stop is posted and stands. Messages are put behind the
+/// mail, and lines behind those in the outbox.
+///
+/// # Errors
+/// When memory runs out, or a link has carried 2^128 messages. Nothing is said of the resource then.
+pub fn take(
+    tree: &mut Tree,
+    meter: &mut Meter,
+    queues: &mut Queues,
+    system: &System,
+    limit: u64,
+    key: &Key,
+    event: &Event,
+) -> Result<Option<Reason>, AllocError>
+    requires tree { tree.old.resource ≡ key.now.resource }
+    requires meter { IsMetered limit meter.old }
+    requires queues { AreReady system.now key.now.tick queues.old }
+    requires stands { (s : State) × IsHere system.now s key.now.resource tree.old meter.old }
+    requires event { IsEventIn system.now key.now.resource event.now }
+    requires typed { IsTypedEvent (system_of system.now) (event_of system.now event.now) }
+    requires named { key.now.resource < length (system_of system.now).resource_names }
+    requires early { key.now.tick ≤ 10 ^ 12 }
+    requires few { limit ≤ 10 ^ 7 }
+    ensures taken { IfOk result (λ stop. (s : State) → IsHere system.now s key.now.resource tree.old meter.old → CountsAre queues.old.sent.items s.sent
+        → IsTakenHere system.now limit s key.now (event_of system.now event.now) stop tree.new meter.new queues.old queues.new) }
+    ensures queues { OnOk result (AreReady system.now key.now.tick queues.new) }
+    ensures later { OnOk result (All (λ m. key.now.tick < m.arrives) queues.old.mail.items → All (λ m. key.now.tick < m.arrives) queues.new.mail.items) }
+    ensures meter { OnOk result (IsMetered limit meter.new) }
+    ensures tick { OnOk result (unwrap_or meter.new.tick 0 ≤ max (unwrap_or meter.old.tick 0) key.now.tick) }
+    ensures spent { IfOk result (λ stop. stop ≡ None → (meter.new.tick ≡ Some key.now.tick) × (suc meter.new.left ≤ (begun limit key.now.tick (meter_of meter.old)).left)) }
+    ensures tree { tree.new.resource ≡ tree.old.resource }
+{
+    let mut begun = *meter;
+    begun.begin(limit, key.tick);
+    if begun.left == 0 {
+        return Ok(Some(Reason::Steps));
+    }
+    begun.left -= 1;
+    let stop = take_in(
+        tree,
+        &mut begun.left,
+        &mut queues.outbox,
+        system,
+        key,
+        event,
+    )?;
+    system.facts();
+    let instance = instance_of(system, event);
+    // A reaction that stops posts what it had put out before.
+    settle(queues, &mut begun.locals, system, key, instance)?;
+    *meter = begun;
+    Ok(stop)
+}
