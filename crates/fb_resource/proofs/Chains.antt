@@ -1,10 +1,11 @@
 -- The takes of one resource by itself: they are determined, and what arrives later changes nothing before.
-use Rattle.std.proofs.Common.{◌≡◌, ℕ, ◌<◌, ◌≤◌, Some, None, List, [], ◌∷◌, refl, sym, ap, ◌∙◌, subst, ⊎_elim, arith}
+use Rattle.std.proofs.Common.{◌≡◌, ℕ, ◌<◌, ◌≤◌, Some, None, List, [], ◌∷◌, ◌++◌, refl, sym, ap, ◌∙◌, subst, ⊎_elim, append_assoc, arith}
 use Rattle.std.specs.Prelude.{if◌then◌else◌}
 use Rattle.std.proofs.lemmas.Bool.{lt-ltb, le-ltb, cases_lt, cond-true, cond-false}
 use Rattle.fb_types.specs.declared.key.Key.{Key}
 use Rattle.fb_types.specs.Keys.{same_key, changed_to}
-use Rattle.fb_types.specs.Machines.{Outcome, Machine, Item, Local, Each, waiting, TakesAlone, after, Chain, end, Run, cut}
+use Rattle.fb_types.specs.Cores.{stop_or, clock_after}
+use Rattle.fb_types.specs.Machines.{Outcome, Machine, Item, Local, Each, waiting, TakesAlone, after, Chain, end, Run, sent_by, lines_of, cut}
 use Rattle.fb_resource.specs.Facts.{IsLawful}
 use Rattle.fb_types.proofs.Lookups.{key_cases, before_tick, tick_before, none_some}
 
@@ -118,3 +119,25 @@ module _ (M : Machine) where
   pub cut_zero : (is : List (Item M)) → cut M 0 is ≡ []
   cut_zero [] = refl
   cut_zero (i ∷ is) = cut_out 0 i is (omega arith)
+
+  -- ---- A chain, and then another
+
+  pub chain_append : (r : ℕ) (xs ys : List (Item M)) (l : Local M) → Chain M r l xs → Chain M r (end M l xs) ys → Chain M r l (xs ++ ys)
+  chain_append r [] ys l c d = d
+  chain_append r (x ∷ xs) ys l c d = (c.0, chain_append r xs ys (after M l x) c.1 d)
+
+  pub end_append : (xs ys : List (Item M)) (l : Local M) → end M l (xs ++ ys) ≡ end M (end M l xs) ys
+  end_append [] ys l = refl
+  end_append (x ∷ xs) ys l = end_append xs ys (after M l x)
+
+  pub sent_append : (xs ys : List (Item M)) → sent_by M (xs ++ ys) ≡ sent_by M xs ++ sent_by M ys
+  sent_append [] ys = refl
+  sent_append (x ∷ xs) ys = ap (λ z. x.out.sent ++ z) (sent_append xs ys) ∙ sym (append_assoc x.out.sent (sent_by M xs) (sent_by M ys))
+
+  pub lines_append : (xs ys : List (Item M)) → lines_of M (xs ++ ys) ≡ lines_of M xs ++ lines_of M ys
+  lines_append [] ys = refl
+  lines_append (x ∷ xs) ys = ap (λ z. x.out.lines ++ z) (lines_append xs ys) ∙ sym (append_assoc x.out.lines (lines_of M xs) (lines_of M ys))
+
+  pub clock_append : (bound : ℕ) (xs ys : List (Item M)) → clock_after M bound (xs ++ ys) ≡ clock_after M (clock_after M bound ys) xs
+  clock_append bound [] ys = refl
+  clock_append bound (x ∷ xs) ys = ap (stop_or x.out.stop x.key.tick) (clock_append bound xs ys)

@@ -6,8 +6,8 @@ use Rattle.fb_types.specs.declared.key.Key.{Key}
 use Rattle.fb_types.specs.Keys.{found}
 use Rattle.fb_types.specs.Machines.{Machine, Item, Local, Each, waiting, TakesAlone, after, Chain, end, sent_by, cut}
 use Rattle.fb_resource.specs.Facts.{IsTaking, IsLawful}
-use Rattle.fb_types.proofs.EachLaws.{each_both}
 use Rattle.fb_types.proofs.Lookups.{tick_before, or_else_parts, or_else_nones, none_some, found-append, without_none, edit_none}
+use Rattle.fb_types.proofs.EachLaws.{each_both}
 use Rattle.fb_resource.proofs.Chains.{cut_in, cut_out}
 
 module _ (M : Machine) where

@@ -24,3 +24,9 @@ pub mod BodyTotal
 pub mod ChartTotal
 pub mod TakeTotal
 pub mod Existence
+pub mod Takings
+pub mod Comes
+pub mod Fresh
+pub mod Received
+pub mod Standing
+pub mod Running

@@ -1,0 +1,188 @@
+-- A resource to which messages have come.
+use Rattle.std.proofs.Common.{◌≡◌, ℕ, ◌<◌, ◌≤◌, Bool, true, false, cond, eqb, List, [], ◌∷◌, map, refl, sym, ap, subst, ◌∙◌, Option, Some, None, All, ◌⊎◌, ⊎_elim, arith}
+use Rattle.std.specs.Prelude.{option_map, is_some, slice_index, length}
+use Rattle.std.proofs.lemmas.List.Elements.{All-head, All-tail, All-weaker}
+use Rattle.std.proofs.lemmas.Bool.{cases_Bool, eqb-true, eq-eqb}
+use Rattle.fb_types.specs.Headline.{Inputs, system_of}
+use Rattle.fb_types.specs.Keys.{found, or_else, same_key, timer_key}
+use Rattle.fb_types.specs.Machines.{Local}
+use Rattle.fb_types.specs.Machines as machines
+use Rattle.fb_types.specs.Parts.{count_of, machine}
+use Rattle.fb_types.specs.States.{Event as AnEvent}
+use Rattle.fb_types.specs.Takes.{is_timer_of}
+use Rattle.fb_types.specs.declared.key.Key.{Key}
+use Rattle.fb_types.specs.declared.run.Message.{Message}
+use Rattle.fb_types.proofs.KeyLaws.{same_key_is}
+use Rattle.fb_types.proofs.Lookups.{none_since, or_else_assoc, or_else_none, or_else_some}
+use Rattle.fb_agenda.specs.Agendas.{Contents, IsTimed, waiting}
+use Rattle.fb_agenda.specs.Arrivals.{arrival_at, arrivals_at}
+use Rattle.fb_agenda.specs.declared.agenda.Event.{Event}
+use Rattle.fb_agenda.specs.declared.agenda.Event.TheVariants.{Arrival, Timer}
+use Rattle.fb_agenda.proofs.Placing.{arrival_class}
+use Rattle.fb_agenda.proofs.Timers.{timer_class}
+use Rattle.fb_net.specs.Events.{event_of, IsEventIn}
+use Rattle.fb_take.specs.Posts.{IsMessage, arriving, key_of, receiver_of}
+use Rattle.fb_take.specs.Takings.{AreReady}
+use Rattle.fb_take.specs.Waiting.{IsInOrder, MayWait, TimersAtHome, meaning}
+use Rattle.fb_resource.specs.Resources.{HasReceived, IsFor, IsOf, StandsFor, with_messages}
+use Rattle.fb_resource.specs.declared.resource.Inner.{Inner}
+
+-- ---- What is found among the messages
+
+map_or_else : {A B : Type 0} (f : A → B) (o p : Option A) → option_map f (or_else o p) ≡ or_else (option_map f o) (option_map f p)
+map_or_else f None p = refl
+map_or_else f (Some x) p = refl
+
+map_cond : {A B : Type 0} (f : A → B) (b : Bool) (x : A) → option_map f (cond b (Some x) None) ≡ cond b (Some (f x)) None
+map_cond f true x = refl
+map_cond f false x = refl
+
+-- what messages to a resource are in the model
+pub found_arriving : (i : Inputs) (n : ℕ) (ms : List Message) → All (λ m. receiver_of (system_of i) m ≡ n) ms → (j : Key)
+    → found j (map (arriving i) ms) ≡ option_map (event_of i) (found j (arrivals_at n ms))
+found_arriving i n [] here j = refl
+found_arriving i n (m ∷ ms) here j =
+    ap (λ o. or_else o (cond (same_key (key_of (system_of i) m) j) (Some (event_of i (Arrival m))) None))
+    (found_arriving i n ms (All-tail (λ x. receiver_of (system_of i) x ≡ n) m ms here) j)
+    ∙ ap (λ (r : ℕ). or_else (option_map (event_of i) (found j (arrivals_at n ms))) (cond (same_key (arrival_at r m).0 j) (Some (event_of i (Arrival m))) None))
+    (All-head (λ x. receiver_of (system_of i) x ≡ n) m ms here)
+    ∙ ap (or_else (option_map (event_of i) (found j (arrivals_at n ms)))) (sym (map_cond (event_of i) (same_key (arrival_at n m).0 j) (Arrival m)))
+    ∙ sym (map_or_else (event_of i) (found j (arrivals_at n ms)) (cond (same_key (arrival_at n m).0 j) (Some (Arrival m)) None))
+
+-- what is found is one of the messages
+found_of : (P : Key → Event → Type 0) (n : ℕ) (ms : List Message) → All (λ m. P (arrival_at n m).0 (Arrival m)) ms → (j : Key) (e : Event)
+    → found j (arrivals_at n ms) ≡ Some e → P j e
+found_of P n [] each j e is = absurd cc
+found_of P n (m ∷ ms) each j e is =
+    ⊎_elim (found_of P n ms (All-tail (λ x. P (arrival_at n x).0 (Arrival x)) m ms each) j e) this
+    (or_else_some (found j (arrivals_at n ms)) (cond (same_key (arrival_at n m).0 j) (Some (Arrival m)) None) e is)
+  where
+    this : cond (same_key (arrival_at n m).0 j) (Some (Arrival m)) None ≡ Some e → P j e
+    this h = go (same_key (arrival_at n m).0 j) refl h
+      where
+        go : (b : Bool) → same_key (arrival_at n m).0 j ≡ b → cond b (Some (Arrival m)) None ≡ Some e → P j e
+        go true same g =
+            let it : Arrival m ≡ e = cc in
+            subst (P j) it (subst (λ (z : Key). P z (Arrival m)) (same_key_is (arrival_at n m).0 j same) (All-head (λ x. P (arrival_at n x).0 (Arrival x)) m ms each))
+        go false other g = absurd cc
+
+-- under a key of another class nothing is found
+found_none : (n : ℕ) (ms : List Message) (j : Key) → (j.class ≡ 2 → ⊥) → found j (arrivals_at n ms) ≡ None
+found_none n ms j other = none_since _ (λ e is. other (arrival_class n ms j (ap is_some is)))
+
+-- ---- What waits
+
+module _ (i : Inputs) (limit : ℕ) (ms : List Message) (old : Inner) (agenda : Contents)
+    (put : (j : Key) → waiting agenda j ≡ or_else (found j (arrivals_at old.number ms)) (waiting old.queues.agenda j))
+    (due : agenda.due ≡ old.queues.agenda.due) (of : IsOf i limit old) (for_it : All (IsFor i old) ms) where
+  -- the resource with that agenda
+  abbrev new : Inner
+  new = record old { queues = record old.queues { agenda = agenda } }
+
+  -- a key of another class has what it had
+  same_waits : (j : Key) → (j.class ≡ 2 → ⊥) → waiting agenda j ≡ waiting old.queues.agenda j
+  same_waits j other = put j ∙ ap (λ o. or_else o (waiting old.queues.agenda j)) (found_none old.number ms j other)
+
+  may_wait : All (λ m. MayWait i old.clock (arrival_at old.number m).0 (Arrival m)) ms
+  may_wait = All-weaker (IsFor i old) (λ m. MayWait i old.clock (arrival_at old.number m).0 (Arrival m)) one ms for_it
+    where
+      one : (m : Message) → IsFor i old m → MayWait i old.clock (arrival_at old.number m).0 (Arrival m)
+      one m it = record {
+        event = subst (λ r. IsEventIn i r (Arrival m)) (it.here ∙ sym of.numbered) it.message.event;
+        resource = subst (λ r. r < count_of (system_of i)) (sym of.numbered) of.named;
+        later = it.later;
+        typed = it.message.typed;
+      }
+
+  order : IsInOrder i old.clock agenda
+  order = record {
+    waits = λ j e is. ⊎_elim
+        (λ h. found_of (λ k f. MayWait i old.clock k f) old.number ms may_wait j e h)
+        (λ h. of.ready.order.waits j e h)
+        (or_else_some (found j (arrivals_at old.number ms)) (waiting old.queues.agenda j) e (sym (put j) ∙ is));
+    timed = λ j r k e is timer.
+        subst (λ (xs : List ℕ). same_key (timer_key (slice_index xs k) r k) j ≡ true) (sym due)
+        (of.ready.order.timed j r k e (sym (same_waits j (λ two. let one = timer_class r k j timer in omega (arith, one, two))) ∙ is) timer);
+    home = λ j e is one. of.ready.order.home j e (sym (same_waits j (λ two. omega (arith, one, two))) ∙ is) one;
+  }
+
+  at_home : (j : Key) (e : Event) → waiting agenda j ≡ Some e → j.resource ≡ old.tree.resource
+  at_home j e is = ⊎_elim
+      (λ h. found_of (λ k f. k.resource ≡ old.tree.resource) old.number ms (All-weaker (IsFor i old) (λ m. (arrival_at old.number m).0.resource ≡ old.tree.resource) (λ m it. of.numbered) ms for_it) j e h)
+      (λ h. of.home j e h)
+      (or_else_some (found j (arrivals_at old.number ms)) (waiting old.queues.agenda j) e (sym (put j) ∙ is))
+
+  receivers : All (λ m. receiver_of (system_of i) m ≡ old.number) ms
+  receivers = All-weaker (IsFor i old) (λ m. receiver_of (system_of i) m ≡ old.number) (λ m it. it.here ∙ sym of.numbered) ms for_it
+
+  meaning_is : (j : Key) → meaning i agenda j ≡ or_else (found j (map (arriving i) ms)) (meaning i old.queues.agenda j)
+  meaning_is j =
+      ap (option_map (event_of i)) (put j)
+      ∙ map_or_else (event_of i) (found j (arrivals_at old.number ms)) (waiting old.queues.agenda j)
+      ∙ ap (λ o. or_else o (meaning i old.queues.agenda j)) (sym (found_arriving i old.number ms receivers j))
+
+  arriving_none : (j : Key) → (j.class ≡ 2 → ⊥) → found j (map (arriving i) ms) ≡ None
+  arriving_none j other = found_arriving i old.number ms receivers j ∙ ap (option_map (event_of i)) (found_none old.number ms j other)
+
+  stands : (l : Local (machine (system_of i) limit)) → StandsFor i limit l old → StandsFor i limit (with_messages i limit ms l) new
+  stands l before = record {
+    state = before.state;
+    part = before.part;
+    here = before.here;
+    counts = before.counts;
+    own = before.own;
+    inbox = λ j other.
+        ap (λ o. or_else o (l.inbox j)) (arriving_none j (λ two. let yes = eq-eqb j.class 2 two in absurd cc)) ∙ before.inbox j other;
+    waits = λ j here. both j here (cases_Bool (eqb j.class 2));
+    stop = before.stop;
+  }
+    where
+      both : (j : Key) → j.resource ≡ old.tree.resource → (eqb j.class 2 ≡ true) ⊎ (eqb j.class 2 ≡ false)
+          → or_else (l.own j) (or_else (found j (map (arriving i) ms)) (l.inbox j)) ≡ meaning i agenda j
+      both j here c = ⊎_elim arrival other c
+        where
+          tail : or_else (found j (map (arriving i) ms)) (or_else (l.own j) (l.inbox j)) ≡ meaning i agenda j
+          tail = ap (or_else (found j (map (arriving i) ms))) (before.waits j here) ∙ sym (meaning_is j)
+
+          arrival : eqb j.class 2 ≡ true → or_else (l.own j) (or_else (found j (map (arriving i) ms)) (l.inbox j)) ≡ meaning i agenda j
+          arrival is =
+              let none : l.own j ≡ None = before.own j is in
+              ap (λ o. or_else o (or_else (found j (map (arriving i) ms)) (l.inbox j))) none
+              ∙ ap (λ o. or_else (found j (map (arriving i) ms)) (or_else o (l.inbox j))) (sym none)
+              ∙ tail
+
+          other : eqb j.class 2 ≡ false → or_else (l.own j) (or_else (found j (map (arriving i) ms)) (l.inbox j)) ≡ meaning i agenda j
+          other is =
+              let none : found j (map (arriving i) ms) ≡ None = arriving_none j (λ two. let yes = eq-eqb j.class 2 two in absurd cc) in
+              ap (λ o. or_else (l.own j) (or_else o (l.inbox j))) none
+              ∙ ap (λ o. or_else o (or_else (l.own j) (l.inbox j))) (sym none)
+              ∙ tail
+
+  still_of : IsOf i limit new
+  still_of = record {
+    numbered = of.numbered;
+    named = of.named;
+    metered = of.metered;
+    past = of.past;
+    ready = record {
+      order = order;
+      due = ap length due ∙ of.ready.due;
+      counted = of.ready.counted;
+      mail = of.ready.mail;
+      lines = of.ready.lines;
+      none = of.ready.none;
+      keeps = of.ready.keeps;
+    };
+    home = at_home;
+    told = of.told;
+    stands = (with_messages i limit ms of.stands.0, stands of.stands.0 of.stands.1);
+  }
+
+pub received : (ms : List Message) (old : Inner) (agenda : Contents)
+    → ((j : Key) → waiting agenda j ≡ or_else (found j (arrivals_at old.number ms)) (waiting old.queues.agenda j)) → agenda.due ≡ old.queues.agenda.due
+    → HasReceived ms old (record old { queues = record old.queues { agenda = agenda } })
+received ms old agenda put due = record {
+  besides = refl;
+  of = λ i limit of for_it. still_of i limit ms old agenda put due of for_it;
+  stands = λ i limit of for_it l before. stands i limit ms old agenda put due of for_it l before;
+}

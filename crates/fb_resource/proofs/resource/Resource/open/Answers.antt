@@ -1,0 +1,25 @@
+use Rattle.std.proofs.Common.{◌≡◌, ℕ, None}
+use Rattle.std.proofs.lemmas.Result.{IfOk-weaker}
+use Rattle.fb_types.specs.Headline.{stimuli_of, system_of}
+use Rattle.fb_types.specs.Parts.{local_of}
+use Rattle.fb_types.specs.Simulation.{opening}
+use Rattle.fb_resource.specs.Resources.{IsFresh, IsOf, StandsFor}
+use Rattle.fb_resource.proofs.resource.Resource.open.Goals as goal
+
+pub returns-clause-of : goal.returns-clause-of
+returns-clause-of c =
+    let i = c.args.system.now in
+    IfOk-weaker c.of_agenda.result (λ x. (limit : ℕ) → IsFresh i limit c.args.number x) (λ x. (limit : ℕ) → IsOf i limit x) (λ x fresh limit. (fresh limit).of) c.of_agenda.ensures
+
+pub returns-clause-opened : goal.returns-clause-opened
+returns-clause-opened c =
+    let i = c.args.system.now in
+    IfOk-weaker c.of_agenda.result (λ x. (limit : ℕ) → IsFresh i limit c.args.number x)
+    (λ x. (limit : ℕ) → StandsFor i limit (local_of (system_of i) limit c.args.number (opening (system_of i) (stimuli_of i)) None) x)
+    (λ x fresh limit. (fresh limit).state) c.of_agenda.ensures
+
+pub returns-clause-fresh : goal.returns-clause-fresh
+returns-clause-fresh c =
+    let i = c.args.system.now in
+    IfOk-weaker c.of_agenda.result (λ x. (limit : ℕ) → IsFresh i limit c.args.number x) (λ x. (x.tree.resource ≡ c.args.number) × (x.clock ≡ 0) × (x.stopped ≡ None))
+    (λ x fresh. ((fresh 0).numbered, (fresh 0).clock, (fresh 0).live)) c.of_agenda.ensures

@@ -1,0 +1,76 @@
+//! How a resource begins.
+
+ghost use Rattle.std.specs.Prelude.{◌≡◌, ◌<◌, ℕ, None, Some, length, IfOk};
+ghost use Rattle.fb_types.specs.Headline.{stimuli_of, system_of};
+ghost use Rattle.fb_types.specs.Parts.{local_of};
+ghost use Rattle.fb_types.specs.Simulation.{opening};
+ghost use Rattle.fb_take.specs.Openings.{IsOpened};
+ghost use Rattle.fb_resource.specs.Resources.{AreOpened, IsFresh, IsOf, StandsFor};
+
+use crate::resource::{Inner, Resource};
+use fb_agenda::agenda::Agenda;
+use fb_net::tree::Tree;
+use fb_system::system::System;
+use fb_take::meter::Meter;
+use fb_take::open::{open_agenda, open_agendas};
+use fb_take::queues::Queues;
+use std::alloc::{AllocError, Global};
+
+impl Resource {
+    /// A resource as it is before the first event, with the agenda of its events of the opening.
+    fn of_agenda(
+        alloc: Global,
+        system: &System,
+        number: u32,
+        agenda: Agenda,
+    ) -> Result<Resource, AllocError>
+        requires named { number < length (system_of system.now).resource_names }
+        requires agenda { IsOpened system.now (Some number) agenda }
+        ensures { IfOk result (λ x. (limit : ℕ) → IsFresh system.now limit number x) }
+    {
+        system.facts();
+        let tree = Tree::build(alloc, system, number)?;
+        let queues = Queues::open(alloc, system, agenda)?;
+        let inner = Inner {
+            number,
+            tree,
+            clock: 0,
+            meter: Meter::new(),
+            queues,
+            stopped: None,
+        };
+        Resource::of(alloc, inner)
+    }
+
+    /// A resource as it is before the first event. This looks at each stimulus and each instance of the system.
+    ///
+    /// # Errors
+    /// When memory runs out.
+    pub fn open(alloc: Global, system: &System, number: u32) -> Result<Resource, AllocError>
+        requires { number < length (system_of system.now).resource_names }
+        ensures of { IfOk result (λ x. (limit : ℕ) → IsOf system.now limit x) }
+        ensures opened { IfOk result (λ x. (limit : ℕ) → StandsFor system.now limit (local_of (system_of system.now) limit number (opening (system_of system.now) (stimuli_of system.now)) None) x) }
+        ensures fresh { IfOk result (λ x. (x.tree.resource ≡ number) × (x.clock ≡ 0) × (x.stopped ≡ None)) }
+    {
+        let agenda = open_agenda(alloc, system, Some(number))?;
+        Resource::of_agenda(alloc, system, number, agenda)
+    }
+
+    /// All resources of a system, in order, as they are before the first event. This looks at each stimulus and each
+    /// instance once.
+    ///
+    /// # Errors
+    /// When memory runs out.
+    pub fn open_all(alloc: Global, system: &System) -> Result<Vec<Resource>, AllocError>
+        ensures { IfOk result (λ v. (limit : ℕ) → AreOpened system.now limit v.items) }
+    {
+        system.facts();
+        let mut resources = Vec::new(alloc);
+        let mut number = 0;
+        for agenda in open_agendas(alloc, system)? {
+            resources.push(Resource::of_agenda(alloc, system, number, agenda)?)?;
+            number += 1;
+        }
+        Ok(resources)
+    }
+}

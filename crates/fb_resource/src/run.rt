@@ -1,0 +1,84 @@
+//! How a resource runs below a tick.
+
+ghost use Rattle.std.specs.Prelude.{◌≡◌, ◌^◌, ◌≤◌, None, IfOk, OnOk};
+ghost use Rattle.fb_resource.specs.Resources.{HasRun, IsOf, mark_of};
+ghost use Rattle.fb_resource.specs.Runs.{HasTakenAll, IsRunning};
+
+use crate::resource::{Inner, Resource, WindowDone};
+use fb_system::system::System;
+use fb_take::take::take;
+use fb_types::run::StopMark;
+use std::alloc::{AllocError, Global};
+use std::mem;
+
+impl Inner {
+    /// Takes all events below a tick, least key first, or up to the stop, which is told with its tick. The lines and
+    /// the messages gather in the queues.
+    ///
+    /// # Errors
+    /// When memory runs out, or a link has carried 2^128 messages.
+    fn take_all(
+        &mut self,
+        system: &System,
+        to: u64,
+        steps: u64,
+    ) -> Result<Option<StopMark>, AllocError>
+        requires of { IsOf system.now steps self.old }
+        requires live { self.old.stopped ≡ None }
+        requires ahead { self.old.clock ≤ to }
+        requires early { to ≤ 10 ^ 12 }
+        requires few { steps ≤ 10 ^ 7 }
+        ensures running { OnOk result (IsRunning system.now steps self.new) }
+        ensures tree { OnOk result (self.new.tree.resource ≡ self.old.tree.resource) }
+        ensures taken { OnOk result (HasTakenAll system.now steps self.old to self.new) }
+        ensures stop { IfOk result (λ stop. stop ≡ mark_of self.new.tree.resource self.new.clock self.new.stopped) }
+    {
+        system.facts();
+        while let Some((key, event)) = self.queues.agenda.take_least(to) {
+            self.clock = key.tick;
+            self.stopped = take(
+                &mut self.tree,
+                &mut self.meter,
+                &mut self.queues,
+                system,
+                steps,
+                &key,
+                &event,
+            )?;
+            if let Some(reason) = self.stopped {
+                return Ok(Some(StopMark {
+                    tick: key.tick,
+                    resource: key.resource,
+                    reason,
+                }));
+            }
+        }
+        self.clock = to;
+        Ok(None)
+    }
+}
+
+impl Resource {
+    /// Takes all events below a tick, or up to its stop. In each tick it has so many steps.
+    pub fn run_to(mut self, alloc: Global, system: &System, to: u64, steps: u64) -> WindowDone
+        requires of { IsOf system.now steps self }
+        requires live { self.stopped ≡ None }
+        requires ahead { self.clock ≤ to }
+        requires early { to ≤ 10 ^ 12 }
+        requires few { steps ≤ 10 ^ 7 }
+        ensures { HasRun system.now steps self to result }
+    {
+        let inner = &mut *self.inner;
+        let Ok(stop) = inner.take_all(system, to, steps) else {
+            return WindowDone::NoMemory;
+        };
+        let lines = mem::replace(&mut inner.queues.outbox.lines, Vec::new(alloc));
+        let sent = mem::replace(&mut inner.queues.mail, Vec::new(alloc));
+        WindowDone::Ran {
+            resource: self,
+            lines,
+            sent,
+            stop,
+        }
+    }
+}
