@@ -1,6 +1,5 @@
-pub mod Lists
+pub mod DeliverIs
 pub mod OpenIs
-pub mod PostLaws
 pub mod ReadyIs
 pub mod RunIs
 pub mod TakenIs

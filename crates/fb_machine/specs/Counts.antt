@@ -1,21 +1,9 @@
--- The counts of one tick of a resource, and of the messages of a link (this project's profile).
-use Rattle.std.specs.Prelude.{◌+◌, ◌-◌, ◌*◌, ◌^◌, ◌≤◌, ℕ, List, [], ◌∷◌, Some, None}
-use Rattle.fb_types.specs.States.{Meter}
-use Rattle.fb_machine.specs.declared.meter.Meter as counted
+-- The steps that are left to all resources (this project's profile).
+use Rattle.std.specs.Prelude.{◌+◌, ℕ, List, [], ◌∷◌}
+use Rattle.fb_take.specs.Counts.{fuel}
+use Rattle.fb_take.specs.declared.meter.Meter.{Meter}
 
-abbrev pub meter_of : counted.Meter → Meter
-meter_of m = record { tick = m.tick; left = m.left; locals = m.locals }
-
--- In one tick there are at most so many local events for each step that was used.
-pub record IsMetered (limit : ℕ) (m : counted.Meter) : Type 0 where
-  pub left : m.left ≤ limit
-  pub locals : m.locals ≤ (limit - m.left) * 2 ^ 64
-
--- what is left of the steps of all ticks below the horizon in one resource
-abbrev pub fuel : (horizon limit : ℕ) → counted.Meter → ℕ
-fuel horizon limit m = elim m.tick [ None ↦ (horizon + 1) * (limit + 1) | Some t ↦ (horizon - t) * (limit + 1) + m.left ]
-
--- .. and in all
-abbrev pub fuel_of_all : (horizon limit : ℕ) → List counted.Meter → ℕ
+-- what is left of the steps of all ticks below the horizon in all resources
+abbrev pub fuel_of_all : (horizon limit : ℕ) → List Meter → ℕ
 fuel_of_all horizon limit [] = 0
 fuel_of_all horizon limit (m ∷ ms) = fuel horizon limit m + fuel_of_all horizon limit ms

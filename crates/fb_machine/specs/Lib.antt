@@ -2,5 +2,4 @@ pub mod Completions
 pub mod Counts
 pub mod Machines
 pub mod Openings
-pub mod Posts
 pub mod Runs

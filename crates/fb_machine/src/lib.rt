@@ -1,8 +1,13 @@
 //! The run of all resources on one thread: one agenda, of which the least key is always taken.
+//!
+//! What one taking does is `fb_take`'s; this crate is the loop over it, and puts each message on the one agenda. What is
+//! promised above is the contract of `run::run`: the lines are those of takings that complete the run from its opening,
+//! up to the horizon or to the first stop (`Completes`).
+//!
+//! To be read in this order: `machine`, the state and the loop; `deliver`, messages; `open`, the beginning; `run`.
 #![tactic(auto)]
 
+mod deliver;
 pub mod machine;
-pub mod meter;
 pub mod open;
-mod post;
 pub mod run;

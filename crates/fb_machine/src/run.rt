@@ -7,9 +7,8 @@ ghost use Rattle.fb_system.specs.Lines.{BelongsTo};
 ghost use Rattle.fb_machine.specs.Completions.{Completes};
 
 use crate::machine::Machine;
-use fb_emit::outbox::Outbox;
 use fb_system::system::System;
-use fb_types::run::{Line, StopMark, TimerAsk};
+use fb_types::run::{Line, StopMark};
 use std::alloc::{AllocError, Global};
 use std::mem;
 
@@ -33,12 +32,8 @@ pub fn run(
     ensures lines { OnOk result (All (BelongsTo (system_of system.now)) lines.new.items) }
 {
     let mut machine = Machine::open(alloc, system)?;
-    let mut outbox = Outbox {
-        lines: mem::replace(lines, Vec::new(alloc)),
-        outs: Vec::new(alloc),
-        timer: TimerAsk::Keep,
-    };
-    let stop = machine.take_all(&mut outbox, system, horizon, limit)?;
-    *lines = mem::replace(&mut outbox.lines, Vec::new(alloc));
+    machine.queues.outbox.lines = mem::replace(lines, Vec::new(alloc));
+    let stop = machine.take_all(system, horizon, limit)?;
+    *lines = mem::replace(&mut machine.queues.outbox.lines, Vec::new(alloc));
     Ok(stop)
 }

@@ -3,7 +3,28 @@ use Rattle.fb_types.specs.Simulation.{opening}
 use Rattle.fb_machine.proofs.run.run.Goals as goal
 
 pub take_all-requires-clause-ready : goal.take_all-requires-clause-ready
-take_all-requires-clause-ready c = c.in_ok-machine.ensures.ready c.args.limit
+take_all-requires-clause-ready c =
+    let ready = c.in_ok-machine.ensures.ready c.args.limit in
+    let queues = ready.queues in
+    record {
+      trees_counted = ready.trees_counted;
+      trees = ready.trees;
+      meters_counted = ready.meters_counted;
+      meters = ready.meters;
+      past = ready.past;
+      queues = record {
+        order = queues.order;
+        due = queues.due;
+        counted = queues.counted;
+        mail = queues.mail;
+        lines = rw c.replace.ensures.value c.requires.lines;
+        none = queues.none;
+        keeps = queues.keeps;
+      };
+      delivered = ready.delivered;
+    }
 
 pub take_all-requires-clause-stands : goal.take_all-requires-clause-stands
-take_all-requires-clause-stands c = (opening (system_of c.args.system.now) (stimuli_of c.args.system.now), c.in_ok-machine.ensures.at)
+take_all-requires-clause-stands c =
+    let at = c.in_ok-machine.ensures.at in
+    (opening (system_of c.args.system.now) (stimuli_of c.args.system.now), record { here = at.here; sent = at.sent; agenda = at.agenda })

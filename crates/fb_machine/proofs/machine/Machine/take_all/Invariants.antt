@@ -1,8 +1,5 @@
-use Rattle.std.proofs.Common.{◌≡◌, [], ℕ, All}
-use Rattle.fb_types.specs.Headline.{system_of}
+use Rattle.std.proofs.Common.{ℕ}
 use Rattle.fb_types.specs.States.{Config}
-use Rattle.fb_types.specs.declared.run.TimerAsk.TheVariants.{Keep}
-use Rattle.fb_system.specs.Lines.{BelongsTo}
 use Rattle.fb_machine.specs.Counts.{fuel_of_all}
 use Rattle.fb_machine.specs.Machines.{IsAt, IsReady}
 use Rattle.fb_machine.specs.Runs.{ComesTo}
@@ -13,10 +10,7 @@ invariant-loop-key l = record {
   ready : (tick : ℕ) × IsReady l.system l.limit tick l.self;
   stands : (c : Config) × IsAt l.system c.state c.agenda l.self;
   comes : (c : Config) → IsAt l.system c.state c.agenda l.initial.self
-      → ComesTo l.system l.horizon l.limit c l.initial.outbox.lines.items l.outbox.lines.items l.self;
-  lines : All (BelongsTo (system_of l.system)) l.outbox.lines.items;
-  none : l.outbox.outs.items ≡ [];
-  keeps : l.outbox.timer ≡ Keep;
+      → ComesTo l.system l.horizon l.limit c l.initial.self.queues.outbox.lines.items l.self.queues.outbox.lines.items l.self;
 }
 
 abbrev pub decreases-loop-key : goal.decreases-loop-key
