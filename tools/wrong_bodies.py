@@ -132,8 +132,6 @@ def refusal(crate, lines, function, texts):
 def try_together(crate, homes, kept):
     """Tries edits, given with their homes, in one check, and returns what to say of each that is refused. Where an edit keeps the
     check from reaching the prover, each half is tried."""
-    if len(homes) < 2:
-        return {}
     texts = all_changed(crate, homes)
     edited = {edit: functions(path, texts[path])[number] for edit, (path, number) in homes.items()}
     only = [word for it in edited.values() for word in ("--only", it.below_the_crate())]
@@ -145,7 +143,7 @@ def try_together(crate, homes, kept):
     is_judged = ran.returncode == 1 and re.match("only=|holes=", lines[-1]) and not rtlib.STALE.search(ran.stdout)
     if not is_judged or any(rt.unread(it, texts) for it in lines):
         order = [*homes]
-        halves = order[: len(order) // 2], order[len(order) // 2 :]
+        halves = [order[: len(order) // 2], order[len(order) // 2 :]] if len(order) > 1 else []
         return {edit: said for half in halves for edit, said in try_together(crate, {it: homes[it] for it in half}, kept).items()}
     found = {}
     for edit, function in edited.items():
