@@ -113,3 +113,6 @@ fn first(inputs: &[Value]) -> Value
         [value, ..] => *value,
     }
 }
+
+#[cfg(test)]
+mod tests;

@@ -1,11 +1,9 @@
-//! Tests of event blocks, trees, the agenda, traces and whole runs: a module for each crate, and `runs` for the last.
+//! Tests of trees, the agenda, links, traces and whole runs: a module for each crate, and `runs` for the last.
 //! They stand apart, so that a check of the tests proves no crate once more.
 #![tactic(auto)]
 
 #[cfg(test)]
 mod agenda;
-#[cfg(test)]
-mod event;
 #[cfg(test)]
 mod link;
 #[cfg(test)]

@@ -5,14 +5,14 @@ ghost use Rattle.fb_types.specs.Values as model;
 ghost use Rattle.fb_types.specs.Blocks.{ports_of_event_block};
 ghost use Rattle.fb_event.specs.Reactions.{FitTheirTypes};
 
-use fb_event::reaction::{expire, react};
-use fb_event::state::EventState;
+use super::*;
+use crate::state::Block;
 use fb_types::event_kind::EventKind;
 use fb_types::event_ports::ports_of;
 use fb_types::items::Items;
 use fb_types::library::{EventPort, Ports};
-use fb_types::run::{Emission, Emits, TimerAsk};
-use fb_types::value::{Ty, Value};
+use fb_types::run::Emission;
+use fb_types::value::Ty;
 use std::process::Abort;
 use std::test::Fail;
 
@@ -96,26 +96,6 @@ fn run_from(
 fn check(rt: &(impl Abort + AllocGlobal), state: &mut EventState, case: &Case) -> Result<(), Fail> {
     let mut emits = Items::new(rt.alloc());
     let mut ask = TimerAsk::At(77);
-    take(rt, state, case, &mut emits, &mut ask)?;
-    let ports = ports_of(rt.alloc(), state.kind())?;
-    assert_eq!(rt; ask, case.ask);
-    assert_eq!(rt; emits.len(), case.emitted.len());
-    for (emission, (name, values)) in emits.as_slice().iter().zip(case.emitted) {
-        let event = place_of(ports.event_outputs.as_slice(), name);
-        assert_eq!(rt; event, Some(emission.event));
-        assert_eq!(rt; emission.values.as_slice(), *values);
-    }
-    Ok(())
-}
-
-/// The block takes the event of the case, or its timer goes off.
-fn take(
-    rt: &(impl Abort + AllocGlobal),
-    state: &mut EventState,
-    case: &Case,
-    emits: &mut Emits,
-    ask: &mut TimerAsk,
-) -> Result<(), Fail> {
     let ports = ports_of(rt.alloc(), state.kind())?;
     let fit = fit(&ports, case.inputs);
     assert!(rt; fit);
@@ -123,9 +103,16 @@ fn take(
     match case.event {
         Some(name) => {
             let event = place_of(ports.event_inputs.as_slice(), name).ok_or("no such event")?;
-            react(state, event, case.tick, case.inputs, emits, ask)?;
+            react(state, event, case.tick, case.inputs, &mut emits, &mut ask)?;
         }
-        None => expire(state, case.tick, emits, ask)?,
+        None => expire(state, case.tick, &mut emits, &mut ask)?,
+    }
+    assert_eq!(rt; ask, case.ask);
+    assert_eq!(rt; emits.len(), case.emitted.len());
+    for (emission, (name, values)) in emits.as_slice().iter().zip(case.emitted) {
+        let event = place_of(ports.event_outputs.as_slice(), name);
+        assert_eq!(rt; event, Some(emission.event));
+        assert_eq!(rt; emission.values.as_slice(), *values);
     }
     Ok(())
 }
@@ -455,12 +442,12 @@ fn count_reaches_its_limit(rt: HostRuntime) -> Result<(), Fail> {
 
 #[test]
 fn count_ends_at_its_greatest_value(rt: HostRuntime) -> Result<(), Fail> {
-    let mut state = EventState::new(EventKind::CountUp);
-    for _ in 0..65_533 {
-        let mut emits = Items::new(rt.alloc());
-        let mut ask = TimerAsk::Keep;
-        take(&rt, &mut state, &takes("CU", &[MOST]), &mut emits, &mut ask)?;
-    }
+    let state = EventState {
+        block: Block::CountUp {
+            count: 65_533,
+            reached: false,
+        },
+    };
     run_from(
         &rt,
         state,
