@@ -4,3 +4,5 @@
 pub mod agenda;
 mod arrivals;
 mod rising;
+#[cfg(test)]
+mod tests;

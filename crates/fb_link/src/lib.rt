@@ -3,3 +3,5 @@
 
 pub mod arrivals;
 pub mod exchange;
+#[cfg(test)]
+mod tests;

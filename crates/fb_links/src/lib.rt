@@ -2,3 +2,5 @@
 #![tactic(auto)]
 
 pub mod links;
+#[cfg(test)]
+mod tests;

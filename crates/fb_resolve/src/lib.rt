@@ -8,4 +8,6 @@ mod networks;
 pub mod numbers;
 mod ports;
 pub mod resolve;
+#[cfg(test)]
+mod tests;
 mod types;

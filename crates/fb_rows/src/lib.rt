@@ -4,3 +4,5 @@
 mod interfaces;
 mod ports;
 pub mod rows;
+#[cfg(test)]
+mod tests;

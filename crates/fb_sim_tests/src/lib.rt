@@ -1,14 +1,5 @@
-//! Tests of trees, the agenda, links, traces and whole runs: a module for each crate, and `runs` for the last.
-//! They stand apart, so that a check of the tests proves no crate once more.
+//! Tests of runs on one thread. They stand apart from `fb_sim`, so that a check of the tests does not prove it once more.
 #![tactic(auto)]
 
 #[cfg(test)]
-mod agenda;
-#[cfg(test)]
-mod link;
-#[cfg(test)]
-mod runs;
-#[cfg(test)]
-mod trace;
-#[cfg(test)]
-mod tree;
+mod tests;

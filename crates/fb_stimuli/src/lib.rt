@@ -5,4 +5,6 @@ mod directory;
 mod fill;
 mod interfaces;
 pub mod stimuli;
+#[cfg(test)]
+mod tests;
 mod values;

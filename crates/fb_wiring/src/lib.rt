@@ -2,4 +2,6 @@
 #![tactic(auto)]
 
 mod table;
+#[cfg(test)]
+mod tests;
 pub mod wiring;
