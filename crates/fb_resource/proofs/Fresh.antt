@@ -1,12 +1,11 @@
 -- A resource as it is before the first event.
-use Rattle.std.proofs.Common.{◌≡◌, ℕ, ◌+◌, ◌<◌, Bool, true, false, cond, eqb, List, [], ◌∷◌, ◌++◌, length, length-append, refl, sym, ap, subst, ◌∙◌, Option, Some, None, arith}
-use Rattle.std.specs.Prelude.{option_map, slice_get, unwrap_or}
+use Rattle.std.proofs.Common.{◌≡◌, ℕ, ◌<◌, Bool, true, false, cond, eqb, List, [], ◌∷◌, ◌++◌, length, refl, sym, ap, subst, ◌∙◌, Option, Some, None, arith}
+use Rattle.std.specs.Prelude.{option_map, slice_get}
 use Rattle.std.proofs.lemmas.Bool.{cond-true, cond-false, eqb-true, eq-eqb}
 use Rattle.fb_types.specs.Headline.{Inputs, AreAccepted, system_of, stimuli_of}
 use Rattle.fb_types.specs.Keys.{or_else}
 use Rattle.fb_types.specs.Parts.{count_of, local_of, part_of}
 use Rattle.fb_types.specs.Simulation.{opening, opening_agenda, opening_state}
-use Rattle.fb_types.specs.States.{Event as AnEvent}
 use Rattle.fb_types.specs.Takes.{world_of}
 use Rattle.fb_types.specs.declared.key.Key.{Key}
 use Rattle.fb_types.proofs.Lookups.{or_else_none}
@@ -23,7 +22,7 @@ use Rattle.fb_take.proofs.Begins.{here_opened, metered_opened}
 use Rattle.fb_take.proofs.Lists.{got_snoc}
 use Rattle.fb_tree.specs.Worlds.{IsForest}
 use Rattle.fb_tree.specs.declared.resource.Forest.{Forest}
-use Rattle.fb_resource.specs.Resources.{AreOpened, IsFresh, IsOf, StandsFor}
+use Rattle.fb_resource.specs.Resources.{AreOpened, IsFresh, StandsFor}
 use Rattle.fb_resource.specs.declared.resource.Inner.{Inner}
 
 -- what waits in both places, where one key is in one of them alone

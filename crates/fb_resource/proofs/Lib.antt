@@ -30,3 +30,4 @@ pub mod Fresh
 pub mod Received
 pub mod Standing
 pub mod Running
+pub mod Sends

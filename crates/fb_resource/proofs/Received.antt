@@ -1,29 +1,25 @@
 -- A resource to which messages have come.
-use Rattle.std.proofs.Common.{◌≡◌, ℕ, ◌<◌, ◌≤◌, Bool, true, false, cond, eqb, List, [], ◌∷◌, map, refl, sym, ap, subst, ◌∙◌, Option, Some, None, All, ◌⊎◌, ⊎_elim, arith}
+use Rattle.std.proofs.Common.{◌≡◌, ℕ, ◌<◌, Bool, true, false, cond, eqb, List, [], ◌∷◌, map, refl, sym, ap, subst, ◌∙◌, Option, Some, None, All, ◌⊎◌, ⊎_elim, arith}
 use Rattle.std.specs.Prelude.{option_map, is_some, slice_index, length}
 use Rattle.std.proofs.lemmas.List.Elements.{All-head, All-tail, All-weaker}
-use Rattle.std.proofs.lemmas.Bool.{cases_Bool, eqb-true, eq-eqb}
+use Rattle.std.proofs.lemmas.Bool.{cases_Bool, eq-eqb}
 use Rattle.fb_types.specs.Headline.{Inputs, system_of}
 use Rattle.fb_types.specs.Keys.{found, or_else, same_key, timer_key}
 use Rattle.fb_types.specs.Machines.{Local}
-use Rattle.fb_types.specs.Machines as machines
 use Rattle.fb_types.specs.Parts.{count_of, machine}
-use Rattle.fb_types.specs.States.{Event as AnEvent}
-use Rattle.fb_types.specs.Takes.{is_timer_of}
 use Rattle.fb_types.specs.declared.key.Key.{Key}
 use Rattle.fb_types.specs.declared.run.Message.{Message}
 use Rattle.fb_types.proofs.KeyLaws.{same_key_is}
-use Rattle.fb_types.proofs.Lookups.{none_since, or_else_assoc, or_else_none, or_else_some}
-use Rattle.fb_agenda.specs.Agendas.{Contents, IsTimed, waiting}
+use Rattle.fb_types.proofs.Lookups.{none_since, or_else_some}
+use Rattle.fb_agenda.specs.Agendas.{Contents, waiting}
 use Rattle.fb_agenda.specs.Arrivals.{arrival_at, arrivals_at}
 use Rattle.fb_agenda.specs.declared.agenda.Event.{Event}
-use Rattle.fb_agenda.specs.declared.agenda.Event.TheVariants.{Arrival, Timer}
+use Rattle.fb_agenda.specs.declared.agenda.Event.TheVariants.{Arrival}
 use Rattle.fb_agenda.proofs.Placing.{arrival_class}
 use Rattle.fb_agenda.proofs.Timers.{timer_class}
 use Rattle.fb_net.specs.Events.{event_of, IsEventIn}
-use Rattle.fb_take.specs.Posts.{IsMessage, arriving, key_of, receiver_of}
-use Rattle.fb_take.specs.Takings.{AreReady}
-use Rattle.fb_take.specs.Waiting.{IsInOrder, MayWait, TimersAtHome, meaning}
+use Rattle.fb_take.specs.Posts.{arriving, key_of, receiver_of}
+use Rattle.fb_take.specs.Waiting.{IsInOrder, MayWait, meaning}
 use Rattle.fb_resource.specs.Resources.{HasReceived, IsFor, IsOf, StandsFor, with_messages}
 use Rattle.fb_resource.specs.declared.resource.Inner.{Inner}
 
