@@ -26,12 +26,16 @@ floor_done (Some reason) clock m n b = omega arith
 
 module _ (M : Machine) where
   -- the floor of an invariant may be raised to any that nothing comes before
-  raised : (horizon : ℕ) (w : World M) (c : Core M) (runs : ℕ → List (Item M)) (v : Inv M horizon w c runs) (m : ℕ) → IsFloor M c m → Inv M horizon w c runs
+  pub raised : (horizon : ℕ) (w : World M) (c : Core M) (runs : ℕ → List (Item M)) (v : Inv M horizon w c runs) (m : ℕ) → IsFloor M c m → Inv M horizon w c runs
   raised horizon w c runs v m f = record v {
     m = max v.m m;
     is_floor = λ s k b. ⊎_elim (λ h. v.is_floor s k h) (λ h. f s k (omega arith)) (cases_lt k.tick v.m);
     links = λ k u a b. let p = floor_max M (c (M.sender k)).state.stop (c (M.sender k)).clock v.m m in v.links k u a (omega arith);
   }
+
+  pub raised_more : (horizon : ℕ) (w : World M) (c : Core M) (runs : ℕ → List (Item M)) (v : Inv M horizon w c runs) (m : ℕ) (f : IsFloor M c m) → m ≤ (raised horizon w c runs v m f).m
+  unfolding raised
+  raised_more horizon w c runs v m f = omega arith
 
   module _ (law : IsLawful M) (count : ℕ) (w : World M) (horizon : ℕ) (is : List (Item M)) (es : List (CoreStep M)) (o : IsOpening M w) (n : IsCounted M count w) (x : Simulation M w horizon is) (sc : IsSchedule M horizon (opening M w) es) (m : ℕ) (fl : IsFloor M (reached_by M w es) m) where
     abbrev c : Core M

@@ -12,12 +12,12 @@ use Rattle.fb_types.specs.Cores.{bound_of, floor_of, clock_after, Member, CoreSt
 use Rattle.fb_types.specs.Schedules.{IsSchedule, core_after, taken_by, taken_after}
 use Rattle.fb_window.proofs.Start.{opening}
 use Rattle.fb_types.proofs.Lookups.{none_some, none_since, option_cases, or_else_nones, or_else_parts, same_apart, found-append}
-use Rattle.fb_resource.proofs.Chains.{Agree, agree_chain, agree_end, agree_waiting}
+use Rattle.fb_resource.proofs.Chains.{Agree, agree_chain, agree_end, agree_waiting, chain_append, end_append, sent_append, lines_append}
 use Rattle.fb_types.proofs.EachLaws.{each_map, each_both, each_append}
 use Rattle.fb_resource.proofs.Late.{Fair, chain_fair, found_none, chain_late, end_late}
 use Rattle.fb_resource.proofs.Families.{Family, start}
 use Rattle.fb_resource.proofs.Stops.{HasStop, has_append}
-use Rattle.fb_window.proofs.Steps.{put_ind, put_ind2, chain_append, end_append, sent_append, lines_append, Stopped, run_ends, end_more}
+use Rattle.fb_window.proofs.Steps.{put_ind, put_ind2, Stopped, run_ends, end_more}
 use Rattle.fb_resource.proofs.Alone.{end_own}
 
 -- one more than the tick of a stop, else the clock: all that was taken lies below
@@ -368,6 +368,15 @@ module _ (M : Machine) where
         said = a.said;
         stopped = a.stopped;
       }
+
+  -- a give and an exchange keep the floor
+  pub give_m : (law : IsLawful M) (horizon : ℕ) (w : World M) (c : Core M) (runs : ℕ → List (Item M)) (worker r : ℕ) (is : List (Item M)) (v : Inv horizon w c runs) (x : MayGive M c worker r is) → (inv_give law horizon w c runs worker r is v x).m ≡ v.m
+  unfolding inv_give
+  give_m law horizon w c runs worker r is v x = refl
+
+  pub exchange_m : (horizon : ℕ) (w : World M) (c : Core M) (runs : ℕ → List (Item M)) (v : Inv horizon w c runs) (home : (r : ℕ) → (c r).out ≡ None) → (inv_exchange horizon w c runs v home).m ≡ v.m
+  unfolding inv_exchange
+  exchange_m horizon w c runs v home = refl
 
   pub inv_step : IsLawful M → (w : World M) (horizon : ℕ) (c : Core M) (runs : ℕ → List (Item M)) (e : CoreStep M) → Inv horizon w c runs → MayDo M horizon c e → Inv horizon w (done M c e) (taken_by M runs e)
   inv_step law w horizon c runs (Lend worker r bound) v x = inv_lend w horizon c runs worker r bound v x

@@ -1,9 +1,9 @@
 -- What a run of one resource adds, and functions changed at one place.
-use Rattle.std.proofs.Common.{◌≡◌, ℕ, ◌<◌, ◌≤◌, ◌⊎◌, false, Option, Some, None, List, [], ◌∷◌, ◌++◌, refl, sym, ap, ◌∙◌, subst, inl, inr, ⊎_elim, arith, append_assoc}
+use Rattle.std.proofs.Common.{◌≡◌, ℕ, ◌<◌, ◌≤◌, ◌⊎◌, false, Option, Some, None, List, [], ◌∷◌, refl, sym, ap, ◌∙◌, subst, inl, inr, ⊎_elim, arith}
 use Rattle.std.proofs.lemmas.Bool.{cases_eq}
 use Rattle.fb_types.specs.declared.key.Key.{Key}
 use Rattle.fb_types.specs.Keys.{same_key, or_else}
-use Rattle.fb_types.specs.Machines.{Machine, Item, Local, Each, after, Chain, end, sent_by, lines_of}
+use Rattle.fb_types.specs.Machines.{Machine, Item, Local, Each, after, Chain, end}
 use Rattle.fb_resource.specs.Facts.{IsLawful}
 use Rattle.fb_types.specs.Takes.{with_at}
 use Rattle.fb_types.specs.Cores.{stop_or, clock_after}
@@ -27,22 +27,6 @@ put_ind2 {A} {B} P r x f y g h k q =
     (cases_eq q r)
 
 module _ (M : Machine) where
-  pub chain_append : (r : ℕ) (xs ys : List (Item M)) (l : Local M) → Chain M r l xs → Chain M r (end M l xs) ys → Chain M r l (xs ++ ys)
-  chain_append r [] ys l c d = d
-  chain_append r (x ∷ xs) ys l c d = (c.0, chain_append r xs ys (after M l x) c.1 d)
-
-  pub end_append : (xs ys : List (Item M)) (l : Local M) → end M l (xs ++ ys) ≡ end M (end M l xs) ys
-  end_append [] ys l = refl
-  end_append (x ∷ xs) ys l = end_append xs ys (after M l x)
-
-  pub sent_append : (xs ys : List (Item M)) → sent_by M (xs ++ ys) ≡ sent_by M xs ++ sent_by M ys
-  sent_append [] ys = refl
-  sent_append (x ∷ xs) ys = ap (λ z. x.out.sent ++ z) (sent_append xs ys) ∙ sym (append_assoc x.out.sent (sent_by M xs) (sent_by M ys))
-
-  pub lines_append : (xs ys : List (Item M)) → lines_of M (xs ++ ys) ≡ lines_of M xs ++ lines_of M ys
-  lines_append [] ys = refl
-  lines_append (x ∷ xs) ys = ap (λ z. x.out.lines ++ z) (lines_append xs ys) ∙ sym (append_assoc x.out.lines (lines_of M xs) (lines_of M ys))
-
   -- a run that stopped
   pub record Stopped (l : Local M) (is : List (Item M)) : Type 0 where
     pub tick : ℕ

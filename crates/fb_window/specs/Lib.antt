@@ -1,2 +1,12 @@
 pub mod Law
 pub mod Phases
+pub mod Finality
+pub mod Bounding
+pub mod Cuts
+pub mod Reaching
+pub mod Standing
+pub mod Jobs
+pub mod Homes
+pub mod Mails
+pub mod Frontiers
+pub mod Settling

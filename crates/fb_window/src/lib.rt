@@ -1,4 +1,20 @@
 //! Cores of resources, and schedules of their steps.
+//!
+//! A run goes on in rounds. In each the core says how far each resource may run (`bounds`), and is taken apart into
+//! jobs (`leave`), which workers may do in any order (`job`). When all are done it is put together again, messages are
+//! exchanged, and the lines that have become final are handed out (`settle`). What the rounds come to is told by the
+//! law of schedules (`laws`), which knows nothing of this code.
 #![tactic(auto)]
 
+pub mod bounds;
+pub mod cores;
+mod cut;
+mod ends;
+mod frontier;
+mod home;
+pub mod job;
 pub mod laws;
+mod leave;
+mod open;
+mod post;
+pub mod settle;

@@ -1,0 +1,138 @@
+-- The bounds of a core at the resources that stand for it.
+use Rattle.std.proofs.Common.{◌≡◌, ℕ, ◌^◌, ◌<◌, ◌≤◌, min, Option, None, List, length, sym, ap, ◌∙◌, ⊎_elim, arith}
+use Rattle.std.specs.Prelude.{slice_index_or, option_map}
+use Rattle.std.proofs.lemmas.Bool.{cases_lt}
+use Rattle.std.proofs.lemmas.Option.{slice_get_within}
+use Rattle.fb_types.specs.Headline.{Inputs, system_of, stimuli_of}
+use Rattle.fb_types.specs.Machines.{Machine}
+use Rattle.fb_types.specs.Parts.{machine, count_of}
+use Rattle.fb_types.specs.Simulation.{opening}
+use Rattle.fb_types.specs.Cores.{Core, CoreStep, opening_core}
+use Rattle.fb_types.specs.Schedules.{IsSchedule, IsLeastStop}
+use Rattle.fb_types.specs.declared.value.Reason.{Reason}
+use Rattle.fb_types.proofs.Lookups.{none_some, none_since}
+use Rattle.fb_sound.specs.Sound.{AreGood, IsSound}
+use Rattle.fb_sound.proofs.Accepting.{sound_of}
+use Rattle.fb_net.specs.Events.{event_of}
+use Rattle.fb_resource.specs.declared.resource.Inner.{Inner}
+use Rattle.fb_resource.proofs.OwnPart.{lawful}
+use Rattle.fb_resource.proofs.Bridge.{world_of}
+use Rattle.fb_resource.proofs.Opening.{is_opening}
+use Rattle.fb_resource.specs.Worlds.{World}
+use Rattle.fb_window.specs.Bounding.{AreGreatest}
+use Rattle.fb_window.specs.Finality.{core_of, IsLeastTick}
+use Rattle.fb_window.specs.Standing.{IsAt}
+use Rattle.fb_window.specs.Jobs.{MayLeave}
+use Rattle.fb_window.specs.Phases.{Turn, IsPhase}
+use Rattle.fb_window.specs.Settling.{AreLegal, AreTurns, HasRisen, after_phase}
+use Rattle.fb_window.proofs.AtHome.{clock_legal, clock_in_range}
+use Rattle.fb_window.proofs.Bounding.{IsCoreOf, AreComputed, greatest, least_floor, least_most, seat}
+use Rattle.fb_window.proofs.Passes.{clock_of, stop_of, Rests, IsLeastOf, least_cut}
+use Rattle.fb_window.proofs.Keeps.{Inv}
+use Rattle.fb_window.proofs.Phasing.{IsRound, is_round}
+use Rattle.fb_window.proofs.Rising.{rises}
+use Rattle.fb_window.proofs.Reached.{inv_after, runs_after}
+
+module _ (i : Inputs) (limit : ℕ) (c : Core (machine (system_of i) limit)) (xs : List Inner) (at : IsAt i limit c xs) where
+  pub core_is : IsCoreOf clock_of stop_of Rests (system_of i) limit c xs
+  core_is = record {
+    counted = at.counted;
+    clocks = λ r x e. (at.each r x e).clock;
+    stops = λ r x e. (at.each r x e).state.stop;
+    rests = λ r x e t h k f b. let s = at.each r x e in s.state.waits k (f ∙ sym s.number) ∙ ap (λ o. option_map (event_of i) o) (h k b);
+    idle = λ r x e t h j b.
+        let s = at.each r x e in
+        none_since _ (λ v w.
+        let home : j.resource ≡ x.tree.resource = s.of.home j v w in
+        none_some _ _ (sym (s.state.waits j home) ∙ h j (home ∙ s.number) b) (ap (λ o. option_map (event_of i) o) w));
+    posted = λ r. ⊎_elim (λ b. let e = at.counted in let s = seat xs r (omega arith) in (at.each r s.0 s.1).posted) (λ b. (at.others r b).posted) (cases_lt r (count_of (system_of i)));
+    live = λ r b. (at.others r b).live;
+    quiet = λ r b k e. (at.others r b).waits k e;
+  }
+
+  pub home : (r : ℕ) → (c r).out ≡ None
+  home r = ⊎_elim (λ b. let e = at.counted in let s = seat xs r (omega arith) in (at.each r s.0 s.1).home) (λ b. (at.others r b).home) (cases_lt r (count_of (system_of i)))
+
+  -- the least tick of all agendas is the greatest that no event precedes
+  pub is_least : (horizon m : ℕ) → IsLeastOf xs (length xs) horizon m → IsLeastTick (machine (system_of i) limit) horizon c m
+  is_least horizon m h =
+      let cut = least_cut xs horizon m h in
+      record {
+        is_floor = least_floor clock_of stop_of Rests (system_of i) limit c xs core_is horizon m cut;
+        most = λ n fl. least_most clock_of stop_of Rests (system_of i) limit c xs core_is horizon m cut n (min n horizon) fl (omega arith) (omega arith);
+      }
+
+module _ (i : Inputs) (good : AreGood i) (limit horizon : ℕ) (es : List (CoreStep (machine (system_of i) limit)))
+    (sc : IsSchedule (machine (system_of i) limit) horizon (opening_core (system_of i) (stimuli_of i) limit) es) where
+  abbrev M : Machine
+  M = machine (system_of i) limit
+
+  abbrev sound : IsSound (system_of i)
+  sound = sound_of i good
+
+  abbrev w : World (machine (system_of i) limit)
+  w = world_of (system_of i) (sound_of i good) limit (opening (system_of i) (stimuli_of i)) (λ r. None)
+
+  pub kept_by : Inv M horizon w (core_of i limit es) (runs_after M es)
+  kept_by = inv_after M (lawful (system_of i) sound limit) w horizon es (is_opening (system_of i) sound limit (stimuli_of i)) sc
+
+  module _ (xs : List Inner) (at : IsAt i limit (core_of i limit es) xs) where
+    at_home : (r : ℕ) → (core_of i limit es r).out ≡ None
+    at_home = home i limit (core_of i limit es) xs at
+
+    -- no clock is past the horizon
+    pub clock_within : (r : ℕ) → (core_of i limit es r).clock ≤ horizon
+    clock_within r = clock_in_range M (lawful (system_of i) sound limit) horizon w (core_of i limit es) (runs_after M es) kept_by r (at_home r)
+
+    -- The computed bounds are the greatest, whatever the schedule that the core has come by.
+    pub are_greatest : (cap : ℕ) → 1 ≤ cap → (all : List ℕ) → AreComputed clock_of stop_of Rests (system_of i) horizon cap xs all
+        → AreGreatest (system_of i) limit horizon cap (core_of i limit es) all
+    are_greatest cap few all computed =
+        greatest clock_of stop_of Rests (system_of i) sound limit horizon cap few (core_of i limit es) xs all (core_is i limit (core_of i limit es) xs at) computed
+        (λ r b live. clock_legal M (lawful (system_of i) sound limit) horizon w (core_of i limit es) (runs_after M es) kept_by r (at_home r))
+
+    -- So each resource may leave with its bound.
+    pub are_legal : (cap : ℕ) (all : List ℕ) → AreGreatest (system_of i) limit horizon cap (core_of i limit es) all → AreLegal i limit horizon (core_of i limit es) all
+    are_legal cap all g = record {
+      legal = λ r b live. (g r b live).legal;
+      not_back = λ r b live. (g r b live).not_back;
+      in_range = λ r b live. ⊎_elim (λ e. let c = clock_within r in omega arith) (λ h. h.0.in_range) (g r b live).in_range;
+    }
+
+    pub may_leave : (all : List ℕ) → horizon ≤ 10 ^ 12 → AreLegal i limit horizon (core_of i limit es) all → MayLeave all xs
+    may_leave all early legal r x s live =
+        let m = at.each r x s in
+        let n : (core_of i limit es r).state.stop ≡ None = m.state.stop ∙ live in
+        let c : (core_of i limit es r).clock ≡ x.clock = m.clock in
+        let e = at.counted in
+        let b : r < count_of (system_of i) = let h = slice_get_within xs r x s in omega arith in
+        let low = legal.not_back r b n in
+        let high = legal.in_range r b n in
+        (omega arith, omega arith)
+
+    -- ---- The phase
+
+    -- The turns in any order, and the exchange after them, are steps of the core.
+    pub is_round_of : (bounds : List ℕ) (workers : ℕ → ℕ) (turns : ℕ → Option (Turn (machine (system_of i) limit))) → AreTurns i limit horizon (core_of i limit es) bounds workers turns
+        → (fs : List (CoreStep (machine (system_of i) limit))) → IsPhase (machine (system_of i) limit) turns fs
+        → IsRound (machine (system_of i) limit) horizon (opening_core (system_of i) (stimuli_of i) limit) es fs turns
+    is_round_of bounds workers turns t fs phase =
+        is_round M (lawful (system_of i) sound limit) horizon w (opening_core (system_of i) (stimuli_of i) limit) es fs (runs_after M es) turns sc kept_by at_home t.may phase
+
+    -- Where each bound is past the least event of all, that has risen while the run goes on.
+    pub has_risen : (bounds : List ℕ) (workers : ℕ → ℕ) (turns : ℕ → Option (Turn (machine (system_of i) limit))) → AreTurns i limit horizon (core_of i limit es) bounds workers turns
+        → (fs : List (CoreStep (machine (system_of i) limit))) → IsPhase (machine (system_of i) limit) turns fs
+        → ((s : ℕ) (reason : Reason) → IsLeastStop (machine (system_of i) limit) (count_of (system_of i)) (core_of i limit (after_phase i limit es fs)) s reason → ⊥)
+        → HasRisen i limit (core_of i limit es) (core_of i limit (after_phase i limit es fs)) bounds
+    has_risen bounds workers turns t fs phase goes m floor past =
+        rises M (lawful (system_of i) sound limit) horizon (count_of (system_of i)) w es fs turns (is_opening (system_of i) sound limit (stimuli_of i))
+        (λ k sent a. let b : (system_of i).receiver k.a < count_of (system_of i) = sound.receivers k.a a.link in let e = a.resource in omega arith)
+        kept_by (is_round_of bounds workers turns t fs phase) t.may m floor
+        (record {
+          over = λ r b live. let x = t.live r b live in (record { worker = workers r; bound = slice_index_or bounds r 0; run = x.0 }, x.1, past r b live);
+          stopped = t.stopped;
+          others = t.others;
+          live = λ r b. (at.others r b).live;
+          quiet = λ r b. (at.others r b).waits;
+        })
+        goes

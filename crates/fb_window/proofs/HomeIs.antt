@@ -1,0 +1,150 @@
+-- Resources come home one after another.
+use Rattle.std.proofs.Common.{◌≡◌, ℕ, ◌+◌, Option, Some, None, List, [], ◌∷◌, ◌++◌, length, drop, refl, ap, ◌∙◌, subst, ⊎_elim, arith}
+use Rattle.std.specs.Global.{Vec}
+use Rattle.std.specs.List.{AllZip}
+use Rattle.std.specs.Prelude.{slice_get, slice_index_or}
+use Rattle.std.proofs.lemmas.Bool.{cases_lt}
+use Rattle.fb_types.specs.Headline.{Inputs}
+use Rattle.fb_types.specs.declared.run.Line.{Line}
+use Rattle.fb_types.specs.declared.run.Message.{Message}
+use Rattle.fb_types.specs.declared.run.StopMark.{StopMark}
+use Rattle.fb_types.specs.declared.value.Reason.{Reason}
+use Rattle.fb_types.proofs.Lookups.{none_some}
+use Rattle.fb_resource.specs.declared.resource.Inner.{Inner}
+use Rattle.fb_resource.specs.declared.resource.WindowDone.{WindowDone}
+use Rattle.fb_resource.specs.declared.resource.WindowDone.TheVariants.{Ran}
+use Rattle.fb_window.specs.Jobs.{Does, JobModel, job_of, jobs_of, resting_of}
+use Rattle.fb_window.specs.Homes.{HasCome, IsHomeAt, IsHomeTo, AreHome}
+use Rattle.fb_window.specs.declared.home.Home.{Home}
+use Rattle.fb_window.proofs.Places.{push_here, push_before, push_counted, drop_at, drop_none}
+
+-- what rested had stopped, and what had not stopped left
+pub resting_some : (x y : Inner) → resting_of x ≡ Some y → (reason : Reason) × (x.stopped ≡ Some reason) × (y ≡ x)
+resting_some x y e = go x.stopped refl e
+  where
+    go : (o : Option Reason) → x.stopped ≡ o → elim o as (λ _. Option Inner) [ None ↦ None | Some reason ↦ Some x ] ≡ Some y → (reason : Reason) × (x.stopped ≡ Some reason) × (y ≡ x)
+    go None q f = absurd (let g : None ≡ Some y = f in cc)
+    go (Some reason) q f = let g : Some x ≡ Some y = f in let h : y ≡ x = cc in (reason, q, h)
+
+pub resting_none : (x : Inner) → resting_of x ≡ None → x.stopped ≡ None
+resting_none x e = go x.stopped refl e
+  where
+    go : (o : Option Reason) → x.stopped ≡ o → elim o as (λ _. Option Inner) [ None ↦ None | Some reason ↦ Some x ] ≡ None → x.stopped ≡ None
+    go None q f = q
+    go (Some reason) q f = absurd (let g : Some x ≡ None = f in cc)
+
+-- one more was put behind what was there
+pub record IsPushed (y : Inner) (lines : Vec Line) (sent : Vec Message) (old new : Home) : Type 0 where
+  pub resources : new.resources.items ≡ old.resources.items ++ y ∷ []
+  pub pending : new.pending.items ≡ old.pending.items ++ lines ∷ []
+  pub outboxes : new.outboxes.items ≡ old.outboxes.items ++ sent ∷ []
+
+module _ (i : Inputs) (limit : ℕ) (bounds : List ℕ) (xs : List Inner) (lists : List (Vec Line)) where
+  kept_at : (r : ℕ) (y : Inner) (lines : Vec Line) (sent : Vec Message) (old new : Home) → IsPushed y lines sent old new → IsHomeAt i limit bounds xs lists r old → IsHomeAt i limit bounds xs lists r new
+  kept_at r y lines sent old new p h = record {
+    old = h.old;
+    kept = h.kept;
+    new = h.new;
+    lines = h.lines;
+    sent = h.sent;
+    old_at = h.old_at;
+    kept_at = h.kept_at;
+    new_at = ap (λ z. slice_get z r) p.resources ∙ push_before old.resources.items y r h.new h.new_at;
+    lines_at = ap (λ z. slice_get z r) p.pending ∙ push_before old.pending.items lines r h.lines h.lines_at;
+    sent_at = ap (λ z. slice_get z r) p.outboxes ∙ push_before old.outboxes.items sent r h.sent h.sent_at;
+    come = h.come;
+  }
+
+  -- what is left of the lists, where the first of them is this one
+  first_left : (place : ℕ) (k : Vec Line) (ks : List (Vec Line)) → k ∷ ks ≡ drop place lists → (slice_get lists place ≡ Some k) × (ks ≡ drop (place + 1) lists)
+  first_left place k ks e = go (slice_get lists place) refl
+    where
+      go : (o : Option (Vec Line)) → slice_get lists place ≡ o → (slice_get lists place ≡ Some k) × (ks ≡ drop (place + 1) lists)
+      go (Some z) q = let f : k ∷ ks ≡ z ∷ drop (place + 1) lists = e ∙ drop_at lists place z q in let g : z ≡ k = cc in let t : ks ≡ drop (place + 1) lists = cc in (q ∙ ap Some g, t)
+      go None q = absurd (let f : k ∷ ks ≡ [] = e ∙ drop_none lists place q in cc)
+
+  home_push : (place : ℕ) (x y : Inner) (k lines : Vec Line) (sent : Vec Message) (ks : List (Vec Line)) (ds es : List WindowDone) (old new : Home)
+      → slice_get xs place ≡ Some x → IsHomeTo i limit bounds xs lists place (k ∷ ks) ds old → IsPushed y lines sent old new
+      → HasCome i limit (slice_index_or bounds place 0) x k.items y lines.items sent
+      → AllZip Does (jobs_of i limit bounds (place + 1) (drop (place + 1) xs)) es
+      → IsHomeTo i limit bounds xs lists (place + 1) ks es new
+  home_push place x y k lines sent ks ds es old new at h p come done = record {
+    resources = ap length p.resources ∙ push_counted old.resources.items y place h.resources;
+    pending = ap length p.pending ∙ push_counted old.pending.items lines place h.pending;
+    outboxes = ap length p.outboxes ∙ push_counted old.outboxes.items sent place h.outboxes;
+    left = (first_left place k ks h.left).1;
+    done = done;
+    each = λ r b. ⊎_elim (λ l. kept_at r y lines sent old new p (h.each r l)) (λ l. let e : place ≡ r = omega arith in subst (λ (z : ℕ). IsHomeAt i limit bounds xs lists z new) e here) (cases_lt r place);
+  }
+    where
+      here : IsHomeAt i limit bounds xs lists place new
+      here = record {
+        old = x;
+        kept = k;
+        new = y;
+        lines = lines;
+        sent = sent;
+        old_at = at;
+        kept_at = (first_left place k ks h.left).0;
+        new_at = ap (λ z. slice_get z place) p.resources ∙ push_here old.resources.items y place h.resources;
+        lines_at = ap (λ z. slice_get z place) p.pending ∙ push_here old.pending.items lines place h.pending;
+        sent_at = ap (λ z. slice_get z place) p.outboxes ∙ push_here old.outboxes.items sent place h.outboxes;
+        come = come;
+      }
+
+  -- the jobs that are left, from a resource on
+  jobs_left : (place : ℕ) (x : Inner) (ds : List WindowDone) → slice_get xs place ≡ Some x → AllZip Does (jobs_of i limit bounds place (drop place xs)) ds
+      → AllZip Does (job_of i limit (slice_index_or bounds place 0) x ++ jobs_of i limit bounds (place + 1) (drop (place + 1) xs)) ds
+  jobs_left place x ds at h = subst (λ (z : List Inner). AllZip Does (jobs_of i limit bounds place z) ds) (drop_at xs place x at) h
+
+  -- a resource that has stopped
+  pub home_rested : (place : ℕ) (x : Inner) (k : Vec Line) (sent : Vec Message) (ks : List (Vec Line)) (ds : List WindowDone) (old new : Home) (reason : Reason)
+      → slice_get xs place ≡ Some x → x.stopped ≡ Some reason → IsHomeTo i limit bounds xs lists place (k ∷ ks) ds old → IsPushed x k sent old new → sent.items ≡ []
+      → IsHomeTo i limit bounds xs lists (place + 1) ks ds new
+  home_rested place x k sent ks ds old new reason at stop h p none =
+      home_push place x x k k sent ks ds ds old new at h p
+      (record { ran = λ e. absurd (none_some _ _ e stop); rested = λ q e. (refl, refl, none) })
+      (subst (λ (o : List JobModel). AllZip Does (o ++ jobs_of i limit bounds (place + 1) (drop (place + 1) xs)) ds) (no_job x.stopped stop) (jobs_left place x ds at h.done))
+    where
+      no_job : (o : Option Reason) → o ≡ Some reason
+          → elim o as (λ _. List JobModel) [ None ↦ record { inputs = i; steps = limit; resource = x; to = slice_index_or bounds place 0 } ∷ [] | Some q ↦ [] ] ≡ []
+      no_job None e = absurd (let f : None ≡ Some reason = e in cc)
+      no_job (Some q) e = refl
+
+  -- and one that ran
+  pub home_ran : (place : ℕ) (x y : Inner) (k new_lines lines : Vec Line) (sent : Vec Message) (stop : Option StopMark) (ks : List (Vec Line)) (ds : List WindowDone) (old new : Home)
+      → slice_get xs place ≡ Some x → x.stopped ≡ None → IsHomeTo i limit bounds xs lists place (k ∷ ks) (Ran y new_lines sent stop ∷ ds) old → IsPushed y lines sent old new
+      → lines.items ≡ k.items ++ new_lines.items
+      → IsHomeTo i limit bounds xs lists (place + 1) ks ds new
+  home_ran place x y k new_lines lines sent stop ks ds old new at live h p joined =
+      let jobs = subst (λ (o : List JobModel). AllZip Does (o ++ jobs_of i limit bounds (place + 1) (drop (place + 1) xs)) (Ran y new_lines sent stop ∷ ds)) (one_job x.stopped live) (jobs_left place x (Ran y new_lines sent stop ∷ ds) at h.done) in
+      home_push place x y k lines sent ks (Ran y new_lines sent stop ∷ ds) ds old new at h p
+      (record { ran = λ e. (new_lines, stop, jobs.0, joined); rested = λ q e. absurd (none_some _ _ live e) })
+      jobs.1
+    where
+      one_job : (o : Option Reason) → o ≡ None
+          → elim o as (λ _. List JobModel) [ None ↦ record { inputs = i; steps = limit; resource = x; to = slice_index_or bounds place 0 } ∷ [] | Some q ↦ [] ] ≡ record { inputs = i; steps = limit; resource = x; to = slice_index_or bounds place 0 } ∷ []
+      one_job None e = refl
+      one_job (Some q) e = absurd (let f : Some q ≡ None = e in cc)
+
+-- none has come home yet
+pub home_none : (i : Inputs) (limit : ℕ) (bounds : List ℕ) (xs : List Inner) (lists : List (Vec Line)) (ds : List WindowDone) (h : Home)
+    → AllZip Does (jobs_of i limit bounds 0 xs) ds → h.resources.items ≡ [] → h.pending.items ≡ [] → h.outboxes.items ≡ [] → IsHomeTo i limit bounds xs lists 0 lists ds h
+home_none i limit bounds xs lists ds h done a b c = record {
+  resources = ap length a;
+  pending = ap length b;
+  outboxes = ap length c;
+  left = refl;
+  done = done;
+  each = λ r l. absurd (omega arith);
+}
+
+-- all have
+pub home_all : (i : Inputs) (limit : ℕ) (bounds : List ℕ) (xs : List Inner) (lists : List (Vec Line)) (place : ℕ) (ks : List (Vec Line)) (ds : List WindowDone) (h : Home)
+    → IsHomeTo i limit bounds xs lists place ks ds h → place ≡ length xs → AreHome i limit bounds xs lists h
+home_all i limit bounds xs lists place ks ds h a e = record {
+  resources = a.resources ∙ e;
+  pending = a.pending ∙ e;
+  outboxes = a.outboxes ∙ e;
+  each = λ r b. a.each r (omega arith);
+}

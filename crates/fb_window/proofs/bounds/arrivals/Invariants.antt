@@ -1,0 +1,11 @@
+use Rattle.std.proofs.Common.{◌≡◌, length}
+use Rattle.fb_types.specs.Headline.{system_of}
+use Rattle.fb_window.proofs.Bounding.{AreCut}
+use Rattle.fb_window.proofs.Passes.{clock_of, stop_of, Rests}
+use Rattle.fb_window.proofs.bounds.arrivals.Given as goal
+
+abbrev pub invariant-loop-link : goal.invariant-loop-link
+invariant-loop-link l = record {
+  long : length l.all ≡ 256;
+  cut : AreCut clock_of stop_of Rests (system_of l.system) l.resources l.least l.top l.link l.all;
+}

@@ -1,0 +1,99 @@
+use Rattle.std.proofs.Common.{◌≡◌, ◌<◌, ℕ, List, length, refl, sym, ap, subst, arith, All}
+use Rattle.std.specs.Global.{Vec}
+use Rattle.std.specs.List.{AllZip}
+use Rattle.std.specs.Prelude.{Some, None, slice_get}
+use Rattle.fb_types.specs.Headline.{AreAccepted, Inputs, system_of}
+use Rattle.fb_types.specs.Limits.{IsWithinLimits}
+use Rattle.fb_types.specs.declared.key.Key.{Key}
+use Rattle.fb_types.specs.declared.run.Line.{Line}
+use Rattle.fb_agenda.specs.Agendas.{IsNext, waiting}
+use Rattle.fb_system.specs.Lines.{BelongsTo}
+use Rattle.fb_link.specs.Exchanges.{all_of}
+use Rattle.fb_sound.specs.Sound.{AreGood}
+use Rattle.fb_resource.specs.declared.resource.Inner.{Inner}
+use Rattle.fb_window.specs.Homes.{AreHome}
+use Rattle.fb_window.specs.Jobs.{Does}
+use Rattle.fb_window.specs.Frontiers.{IsEnd, IsFrontier, edge_of}
+use Rattle.fb_window.specs.Mails.{ArePosted}
+use Rattle.fb_window.proofs.Passes.{few_resources}
+use Rattle.fb_window.proofs.Rounds.{HasGathered, settle_going, settle_ended, settle_stopped}
+use Rattle.fb_window.proofs.Targets.{lines_belong, merged_in, rests_in, targets_in}
+use Rattle.fb_window.proofs.cores.Away.settle.Goals as goal
+use Rattle.fb_window.proofs.cores.Away.settle.Goals.{After-end_of-end}
+
+pub post-requires : goal.post-requires
+post-requires c =
+    let a = c.args.self in
+    let left = c.requires.left in
+    let done = subst (λ z. AllZip Does z c.args.dones.items) left.2.jobs c.requires.done in
+    let home = c.in_ok-home.ensures a.system a.steps left.1 left.0 left.2.resting done in
+    subst (λ (i : Inputs). All (λ box. All (λ m. m.target.instance < length (system_of i).paths) box.items) c.in_ok-home.home.outboxes.items) (sym c.requires.system)
+    (targets_in a.system a.steps left.1 left.0 a.pending.items c.in_ok-home.home home)
+
+pub end_of-end-requires : goal.end_of-end-requires
+end_of-end-requires c =
+    let a = c.args.self in
+    let left = c.requires.left in
+    let done = subst (λ z. AllZip Does z c.args.dones.items) left.2.jobs c.requires.done in
+    let home : AreHome a.system a.steps left.1 left.0 a.pending.items c.in_ok-home.home = c.in_ok-home.ensures a.system a.steps left.1 left.0 left.2.resting done in
+    let good : AreGood a.system = record {
+      accepted = subst AreAccepted c.requires.system c.facts.ensures.accepted;
+      limits = subst (λ (i : Inputs). IsWithinLimits i.plan) c.requires.system c.facts.ensures.limits;
+    } in
+    let few = few_resources a.system good in
+    let same = ap (λ (ys : List Inner). length ys) c.deref-3.ensures.value in
+    omega (arith, few, same, c.in_ok-resources.ensures.counted, home.resources, left.2.counted)
+
+-- what all three returns rest on
+gathered : (c : After-end_of-end) → HasGathered c.args.self.system c.args.self.steps c.args.self.horizon c.args.self.resting.items c.args.self.pending.items c.args.dones.items c.in_ok-home.home
+    c.in_ok-resources.resources.items c.in_ok-finals.finals.items c.in_ok-finals.pending.items c.in_ok-lines.lines.items c.end_of-end.result
+gathered c =
+    let a = c.args.self in
+    let left = c.requires.left in
+    let done = subst (λ z. AllZip Does z c.args.dones.items) left.2.jobs c.requires.done in
+    let h = c.in_ok-home.home in
+    let home : AreHome a.system a.steps left.1 left.0 a.pending.items h = c.in_ok-home.ensures a.system a.steps left.1 left.0 left.2.resting done in
+    let zs = c.in_ok-resources.resources.items in
+    let least = c.least_next-least.result in
+    let edge = edge_of c.frontier_of-frontier.result in
+    let fronts = c.in_ok-finals.finals.items in
+    let rests = c.in_ok-finals.pending.items in
+    let out = c.in_ok-lines.lines.items in
+    let cut = c.in_ok-finals.ensures in
+    let belong : All (λ (p : Vec Line). All (BelongsTo (system_of a.system)) p.items) h.pending.items = lines_belong a.system a.steps left.1 left.0 a.pending.items h home c.requires.pending in
+    record {
+      good = record {
+        accepted = subst AreAccepted c.requires.system c.facts.ensures.accepted;
+        limits = subst (λ (i : Inputs). IsWithinLimits i.plan) c.requires.system c.facts.ensures.limits;
+      };
+      home = λ bounds xs same jobs. c.in_ok-home.ensures a.system a.steps bounds xs same jobs;
+      found = record {
+        least = least;
+        edge = edge;
+        posted = subst (λ (i : Inputs). ArePosted (system_of i) (all_of h.outboxes.items) h.resources.items zs) c.requires.system c.in_ok-resources.ensures;
+        cap = c.least_next-least.ensures.cap;
+        low = subst (λ (ys : List Inner). (r : ℕ) (x : Inner) (j : Key) → slice_get ys r ≡ Some x → j.tick < least → waiting x.queues.agenda j ≡ None) c.deref.ensures.value c.least_next-least.ensures.low;
+        there = subst (λ (ys : List Inner). least < a.horizon → (r : ℕ) × (x : Inner) × (slice_get ys r ≡ Some x) × IsNext x.queues.agenda least) c.deref.ensures.value c.least_next-least.ensures.there;
+        frontier = subst (λ (ys : List Inner). IsFrontier least ys edge) c.deref-2.ensures.value c.frontier_of-frontier.ensures;
+        cut = cut;
+        merged = c.in_ok-lines.ensures.merged;
+        ends = subst (λ (ys : List Inner). IsEnd a.horizon ys c.end_of-end.result) c.deref-3.ensures.value c.end_of-end.ensures;
+      };
+      belong = merged_in (BelongsTo (system_of a.system)) edge h.pending.items fronts rests cut belong out c.in_ok-lines.ensures.kept;
+      belongs = rests_in (BelongsTo (system_of a.system)) edge h.pending.items fronts rests cut belong;
+    }
+
+pub returns-in-Open : goal.returns-in-Open
+returns-in-Open c = λ xs bounds es workers left sc at legal.
+    settle_going c.args.self c.args.dones.items c.requires.done c.in_ok-home.home c.in_ok-resources.resources.items c.in_ok-finals.finals.items c.in_ok-finals.pending.items c.in_ok-lines.lines.items
+    c.end_of-end.result (gathered (goal.at.returns-in-Open c).After-end_of-end) xs bounds es workers left sc at legal _ _ c.in-Open.is refl refl refl refl refl
+
+pub returns-in-Horizon : goal.returns-in-Horizon
+returns-in-Horizon c = λ xs bounds es workers left sc at legal.
+    settle_ended c.args.self c.args.dones.items c.requires.done c.in_ok-home.home c.in_ok-resources.resources.items c.in_ok-finals.finals.items c.in_ok-finals.pending.items c.in_ok-lines.lines.items
+    c.end_of-end.result (gathered (goal.at.returns-in-Horizon c).After-end_of-end) xs bounds es workers left sc at legal _ _ c.in-Horizon.is refl refl refl refl refl
+
+pub returns : goal.returns
+returns c = λ xs bounds es workers left sc at legal.
+    settle_stopped c.args.self c.args.dones.items c.requires.done c.in_ok-home.home c.in_ok-resources.resources.items c.in_ok-finals.finals.items c.in_ok-finals.pending.items c.in_ok-lines.lines.items
+    c.end_of-end.result (gathered (goal.at.returns c).After-end_of-end) xs bounds es workers left sc at legal _ c.in-Stop.mark c.in-Stop.is refl

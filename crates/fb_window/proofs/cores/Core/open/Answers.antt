@@ -1,0 +1,17 @@
+use Rattle.std.proofs.Common.{◌≡◌, length, ◌∙◌}
+use Rattle.fb_types.specs.Headline.{system_of}
+use Rattle.fb_types.specs.Parts.{count_of}
+use Rattle.fb_sound.specs.Sound.{AreGood}
+use Rattle.fb_window.proofs.Opens.{opened_at, opened_left}
+use Rattle.fb_window.proofs.cores.Core.open.Goals as goal
+
+pub returns-clause-at : goal.returns-clause-at
+returns-clause-at c =
+    let good : AreGood c.args.system.now = record { accepted = c.facts.ensures.accepted; limits = c.facts.ensures.limits } in
+    opened_at c.args.system.now c.args.steps c.args.resources.items good c.requires.opened
+
+pub returns-clause-left : goal.returns-clause-left
+returns-clause-left c = λ horizon.
+    let counted : length c.in_ok-pending.pending.items ≡ count_of (system_of c.args.system.now) =
+    c.in_ok-pending.ensures.counted ∙ c.len.ensures ∙ c.args.resources.ok.0 ∙ c.requires.opened.counted in
+    opened_left c.args.system.now c.args.steps horizon c.in_ok-pending.pending.items counted c.in_ok-pending.ensures.none

@@ -1,0 +1,12 @@
+use Rattle.std.proofs.Common.{◌≡◌, ◌++◌, length}
+use Rattle.std.specs.Vec.Iter.{into_iter_items, into_iter_len}
+use Rattle.fb_window.specs.Frontiers.{edge_of}
+use Rattle.fb_window.proofs.Walks.{AreCutTo}
+use Rattle.fb_window.proofs.cut.cut_all.Given as goal
+
+abbrev pub invariant-loop-lines : goal.invariant-loop-lines
+invariant-loop-lines l = record {
+  cut : AreCutTo (edge_of l.frontier) l.fn.lists.items (length l.yielded) l.fronts.items l.rests.items;
+  rest : l.yielded ++ into_iter_items l.lines-iterator ≡ l.fn.lists.items;
+  len : into_iter_len l.lines-iterator ≡ length (into_iter_items l.lines-iterator);
+}

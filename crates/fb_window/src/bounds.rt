@@ -1,0 +1,103 @@
+//! How far each resource may run.
+
+ghost use Rattle.std.specs.Prelude.{◌≡◌, ◌^◌, ◌<◌, ◌≤◌, ℕ, Some, None, length, slice_get, slice_index};
+ghost use Rattle.fb_agenda.specs.Agendas.{IsNext, waiting};
+ghost use Rattle.fb_resource.specs.declared.resource.Inner.{Inner};
+ghost use Rattle.fb_types.specs.Cores.{floor_of};
+ghost use Rattle.fb_types.specs.Headline.{system_of};
+ghost use Rattle.fb_types.specs.Parts.{count_of};
+ghost use Rattle.fb_types.specs.declared.key.Key.{Key};
+ghost use Rattle.fb_window.specs.Bounding.{AreGreatest};
+ghost use Rattle.fb_window.specs.Cuts.{IsCut, LinkAllows, StopAllows};
+ghost use Rattle.fb_window.specs.Jobs.{AreOf, MayLeave};
+ghost use Rattle.fb_window.specs.Reaching.{OfEachCore};
+ghost use Rattle.fb_window.specs.Settling.{AreLegal};
+
+use crate::cores::{Bounds, Core, MAX_RESOURCES};
+use fb_link::arrivals::earliest;
+use fb_resource::resource::Resource;
+use fb_system::system::System;
+
+impl Core {
+    /// How far each resource may run: to the greatest bound at which no message can reach it later from below, as far
+    /// as that is over neither the horizon, nor the tick after the least stop, nor `cap` ticks past the least event;
+    /// or to its clock, where that is greater. Ticks are milliseconds.
+    pub fn bounds(&self, horizon: u64, cap: u64) -> Bounds
+        requires resources { AreOf self.now.system self.now.steps self.now.resources.items }
+        requires early { horizon ≤ 10 ^ 12 }
+        requires cap { 1 ≤ cap }
+        ensures horizon { result.horizon ≡ horizon }
+        ensures bounds { OfEachCore self.now.system self.now.steps horizon self.now.resources.items (λ c. AreGreatest (system_of self.now.system) self.now.steps horizon cap c result.all) }
+        ensures legal { OfEachCore self.now.system self.now.steps horizon self.now.resources.items (λ c. AreLegal self.now.system self.now.steps horizon c result.all) }
+        ensures leave { OfEachCore self.now.system self.now.steps horizon self.now.resources.items (λ c. MayLeave result.all self.now.resources.items) }
+    {
+        self.system.facts();
+        let least = least_next(&self.resources, horizon);
+        let last = last_tick(&self.resources, horizon);
+        // The least event is cut to the horizon, since timers may wait at ticks to which nothing can be added.
+        let top = last.min(least.saturating_add(cap));
+        let mut all = arrivals(&self.system, &self.resources, least, top);
+        for (number, resource) in self.resources.iter().enumerate() {
+            all[number] = all[number].max(resource.clock());
+        }
+        Bounds { horizon, all }
+    }
+}
+
+/// The least tick of all events that wait, or the horizon where that is less.
+pub(crate) fn least_next(resources: &[Resource], horizon: u64) -> u64
+    ensures cap { result ≤ horizon }
+    ensures low { (r : ℕ) (x : Inner) (j : Key) → slice_get resources.now r ≡ Some x → j.tick < result → waiting x.queues.agenda j ≡ None }
+    ensures there { result < horizon → (r : ℕ) × (x : Inner) × (slice_get resources.now r ≡ Some x) × IsNext x.queues.agenda result }
+{
+    let mut least = horizon;
+    for resource in resources {
+        if let Some(tick) = resource.next() {
+            least = least.min(tick);
+        }
+    }
+    least
+}
+
+/// The tick after the least stop, or the horizon where that is less.
+fn last_tick(resources: &[Resource], horizon: u64) -> u64
+    ensures { IsCut (StopAllows (λ (x : Inner). x.clock) (λ (x : Inner). x.stopped) resources.now) horizon (length resources.now) result }
+{
+    let mut last = horizon;
+    for resource in resources {
+        if resource.stopped().is_some() {
+            last = last.min(resource.clock().saturating_add(1));
+        }
+    }
+    last
+}
+
+/// The tick from which on a resource may send, where no event comes before the least tick.
+pub(crate) fn floor(resource: &Resource, least: u64) -> u64
+    ensures { result ≡ floor_of resource.now.stopped resource.now.clock least }
+{
+    match resource.stopped() {
+        Some(_) => resource.clock(),
+        None => resource.clock().max(least),
+    }
+}
+
+/// For each resource the least tick at which a message may arrive that is not sent yet, or the top where that is less.
+fn arrivals(system: &System, resources: &[Resource], least: u64, top: u64) -> [u64; MAX_RESOURCES]
+    requires counted { length resources.now ≡ count_of (system_of system.now) }
+    requires early { top ≤ 10 ^ 12 }
+    ensures long { length result ≡ 256 }
+    ensures cut { (r : ℕ) → r < 256 → IsCut (LinkAllows (λ (x : Inner). x.clock) (λ (x : Inner). x.stopped) (system_of system.now) resources.now least r) top (system_of system.now).links (slice_index result r) }
+{
+    system.facts();
+    let mut all = [top; MAX_RESOURCES];
+    for link in 0..system.links() {
+        let floor = floor(&resources[system.sender(link)], least);
+        // A link on which nothing is sent before the top lowers no bound.
+        if floor < top {
+            let receiver = system.receiver(link);
+            all[receiver] = all[receiver].min(earliest(system.latency(link), floor));
+        }
+    }
+    all
+}

@@ -1,0 +1,72 @@
+//! The core of the parallel run: all resources at home, and what of it stays behind while they are away.
+
+use crate::job::Job;
+use fb_resource::resource::Resource;
+use fb_system::system::System;
+use fb_types::run::{Line, StopMark};
+use std::alloc::AllocError;
+use std::snapshot::Snapshot;
+
+/// How many bounds there are room for: as many resources as a deployment may have.
+pub const MAX_RESOURCES: usize = 256;
+
+/// All resources of a system at home, with no message on its way.
+#[derive(Drop)]
+pub struct Core {
+    /// The system that is run.
+    pub system: System,
+    /// The limit on the steps of one tick of a resource.
+    pub steps: u64,
+    /// The resources, in order.
+    pub resources: Vec<Resource>,
+    /// For each resource its lines that are not final yet.
+    pub pending: Vec<Vec<Line>>,
+}
+
+/// How far each resource may run, in ticks: to below the bound at its place. The places past the last resource
+/// have no meaning.
+#[derive(Drop)]
+pub struct Bounds {
+    /// The tick past which no bound lies.
+    pub horizon: u64,
+    /// The bounds.
+    pub all: [u64; MAX_RESOURCES],
+}
+
+/// What stays behind while resources are away.
+#[derive(Drop)]
+pub struct Away {
+    /// The system that is run.
+    pub system: System,
+    /// The limit on the steps of one tick of a resource.
+    pub steps: u64,
+    /// The tick past which no bound lies.
+    pub horizon: u64,
+    /// At the place of each resource that has stopped, this resource.
+    pub resting: Vec<Option<Resource>>,
+    /// For each resource its lines that are not final yet.
+    pub pending: Vec<Vec<Line>>,
+    /// The jobs with which the others have left, for contracts alone.
+    pub jobs: Snapshot<Vec<Job>>,
+}
+
+/// How far the run is when all resources are home again.
+#[derive(Drop)]
+pub enum Settled {
+    /// Some resource has ticks to run yet. The lines are those that have become final.
+    Going(Core, Vec<Line>),
+    /// Every clock is at the horizon. The lines are the last ones.
+    Ended(Core, Vec<Line>),
+    /// A resource has stopped, and nothing is left to do before its stop. The lines are the last ones.
+    Stopped(Vec<Line>, StopMark),
+}
+
+/// No memory was left.
+#[derive(Clone, Copy, Debug, PartialEq, Eq)]
+pub struct Failed;
+
+impl From<AllocError> for Failed {
+    fn from(_error: AllocError) -> Failed {
+        Failed
+    }
+}

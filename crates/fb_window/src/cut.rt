@@ -1,0 +1,47 @@
+//! Lines, cut where they are final.
+
+ghost use Rattle.std.specs.Prelude.{◌≡◌, IfOk};
+ghost use Rattle.fb_window.specs.Finality.{until};
+ghost use Rattle.fb_window.specs.Frontiers.{AreCut, IsSplit, edge_of};
+
+use crate::frontier::Frontier;
+use fb_types::run::Line;
+use std::alloc::{AllocError, Global};
+
+/// The lines of a resource that are final, and the others. Where there are only the one or the other, none is moved.
+fn cut(
+    alloc: Global,
+    mut lines: Vec<Line>,
+    resource: usize,
+    frontier: &Frontier,
+) -> Result<(Vec<Line>, Vec<Line>), AllocError>
+    ensures { IfOk result (λ p. IsSplit (until (edge_of frontier.now) resource) lines.items p.0.items p.1.items) }
+{
+    let count = lines.partition_point(|line| frontier.is_past(resource, line.key.tick));
+    if count == 0 {
+        return Ok((Vec::new(alloc), lines));
+    }
+    if count == lines.len() {
+        return Ok((lines, Vec::new(alloc)));
+    }
+    let rest = lines.split_off(count)?;
+    Ok((lines, rest))
+}
+
+/// For each resource its lines that are final, and for each its others.
+pub(crate) fn cut_all(
+    alloc: Global,
+    lists: Vec<Vec<Line>>,
+    frontier: &Frontier,
+) -> Result<(Vec<Vec<Line>>, Vec<Vec<Line>>), AllocError>
+    ensures { IfOk result (λ p. AreCut (edge_of frontier.now) lists.items p.0.items p.1.items) }
+{
+    let mut fronts = Vec::new(alloc);
+    let mut rests = Vec::new(alloc);
+    for lines in lists {
+        let (front, rest) = cut(alloc, lines, fronts.len(), frontier)?;
+        fronts.push(front)?;
+        rests.push(rest)?;
+    }
+    Ok((fronts, rests))
+}

@@ -1,0 +1,94 @@
+//! Whether anything is left to do.
+
+ghost use Rattle.std.specs.Prelude.{◌≡◌, ◌≤◌, ℕ, false, true, IfNone, IfSome, None, Some, length, slice_get};
+ghost use Rattle.fb_resource.specs.declared.resource.Inner.{Inner};
+ghost use Rattle.fb_window.specs.Frontiers.{AreAllPast, AreLive, IsEnd, IsFirstStop};
+
+use fb_resource::resource::Resource;
+use fb_types::run::StopMark;
+
+/// How far resources are.
+#[derive(Clone, Copy, Debug, PartialEq, Eq)]
+pub(crate) enum End {
+    /// Some resource has ticks to run yet.
+    Open,
+    /// Every clock is at the horizon, and none has stopped.
+    Horizon,
+    /// The least stop, by tick, then resource, which all that have not stopped are past.
+    Stop(StopMark),
+}
+
+/// The least stop, by tick, then resource.
+fn first_stop(resources: &[Resource]) -> Option<StopMark>
+    requires { length resources.now ≤ 256 }
+    ensures some { IfSome result (IsFirstStop resources.now (length resources.now)) }
+    ensures none { IfNone result (AreLive resources.now) }
+{
+    let mut first: Option<StopMark> = None;
+    for (place, resource) in resources.iter().enumerate() {
+        if let Some(reason) = resource.stopped() {
+            let tick = resource.clock();
+            let is_less = match &first {
+                Some(mark) => tick < mark.tick,
+                None => true,
+            };
+            if is_less {
+                first = Some(StopMark {
+                    tick,
+                    resource: place as u32,
+                    reason,
+                });
+            }
+        }
+    }
+    first
+}
+
+/// Whether all clocks are at a tick.
+fn are_at(resources: &[Resource], tick: u64) -> bool
+    ensures yes { result ≡ true → (r : ℕ) (x : Inner) → slice_get resources.now r ≡ Some x → x.clock ≡ tick }
+    ensures no { result ≡ false → (r : ℕ) × (x : Inner) × (slice_get resources.now r ≡ Some x) × (x.clock ≡ tick → ⊥) }
+{
+    for resource in resources {
+        if resource.clock() != tick {
+            return false;
+        }
+    }
+    true
+}
+
+/// Whether the clock of each that has not stopped is past a tick.
+fn are_past(resources: &[Resource], tick: u64) -> bool
+    ensures yes { result ≡ true → AreAllPast tick resources.now }
+    ensures no { result ≡ false → (r : ℕ) × (x : Inner) × (slice_get resources.now r ≡ Some x) × (x.stopped ≡ None) × (x.clock ≤ tick) }
+{
+    for resource in resources {
+        if resource.stopped().is_none() && resource.clock() <= tick {
+            return false;
+        }
+    }
+    true
+}
+
+/// How far resources are, of a run to a horizon.
+pub(crate) fn end_of(resources: &[Resource], horizon: u64) -> End
+    requires { length resources.now ≤ 256 }
+    ensures { IsEnd horizon resources.now result }
+{
+    match first_stop(resources) {
+        Some(mark) => {
+            if are_past(resources, mark.tick) {
+                End::Stop(mark)
+            } else {
+                End::Open
+            }
+        }
+        None => {
+            if are_at(resources, horizon) {
+                End::Horizon
+            } else {
+                End::Open
+            }
+        }
+    }
+}

@@ -1,0 +1,121 @@
+//! Resources that have come home, with their lines and their messages.
+
+ghost use Rattle.std.specs.Prelude.{◌≡◌, ◌+◌, ◌++◌, ℕ, List, [], ◌∷◌, IfOk, OnOk, Some, map, slice_get};
+ghost use Rattle.std.specs.List.{AllZip};
+ghost use Rattle.std.specs.Global.{Vec};
+ghost use Rattle.std.specs.Vec.Iter.{into_iter_items};
+ghost use Rattle.fb_types.specs.Headline.{Inputs};
+ghost use Rattle.fb_types.specs.declared.run.Line.{Line};
+ghost use Rattle.fb_resource.specs.declared.resource.Inner.{Inner};
+ghost use Rattle.fb_window.specs.Homes.{AreHome, IsHomeTo};
+ghost use Rattle.fb_window.specs.Jobs.{Does, jobs_of, resting_of};
+
+use crate::cores::Failed;
+use fb_resource::resource::{Resource, WindowDone};
+use fb_types::run::{Line, Message};
+use std::alloc::{AllocError, Global};
+use std::vec::IntoIter;
+
+/// All resources at home, before their messages are exchanged.
+#[derive(Drop)]
+pub(crate) struct Home {
+    /// The resources, in order.
+    pub(crate) resources: Vec<Resource>,
+    /// For each resource its lines that were not handed out.
+    pub(crate) pending: Vec<Vec<Line>>,
+    /// For each resource what it has sent.
+    pub(crate) outboxes: Vec<Vec<Message>>,
+}
+
+/// Puts lines behind those that are kept.
+fn keep(mut kept: Vec<Line>, mut lines: Vec<Line>) -> Result<Vec<Line>, AllocError>
+    ensures { IfOk result (λ v. v.items ≡ kept.items ++ lines.items) }
+{
+    if kept.is_empty() {
+        return Ok(lines);
+    }
+    kept.append(&mut lines)?;
+    Ok(kept)
+}
+
+impl Home {
+    /// Takes in the next resource.
+    fn push(
+        &mut self,
+        resource: Resource,
+        lines: Vec<Line>,
+        sent: Vec<Message>,
+    ) -> Result<(), AllocError>
+        ensures resources { OnOk result (self.new.resources.items ≡ self.old.resources.items ++ resource ∷ []) }
+        ensures pending { OnOk result (self.new.pending.items ≡ self.old.pending.items ++ lines ∷ []) }
+        ensures outboxes { OnOk result (self.new.outboxes.items ≡ self.old.outboxes.items ++ sent ∷ []) }
+    {
+        self.resources.push(resource)?;
+        self.pending.push(lines)?;
+        self.outboxes.push(sent)?;
+        Ok(())
+    }
+
+    /// Takes in the next resource, which has rested at its place, or else comes back from the next job.
+    fn seat(
+        &mut self,
+        alloc: Global,
+        rested: Option<Resource>,
+        pending: &mut IntoIter<Vec<Line>>,
+        dones: &mut IntoIter<WindowDone>,
+    ) -> Result<(), Failed>
+        ensures { OnOk result ((i : Inputs) (limit : ℕ) (bounds : List ℕ) (xs : List Inner) (lists : List (Vec Line)) (place : ℕ) (x : Inner)
+            → slice_get xs place ≡ Some x → rested ≡ resting_of x
+            → IsHomeTo i limit bounds xs lists place (into_iter_items pending.old) (into_iter_items dones.old) self.old
+            → IsHomeTo i limit bounds xs lists (place + 1) (into_iter_items pending.new) (into_iter_items dones.new) self.new) }
+    {
+        let Some(kept) = pending.next() else {
+            return Err(Failed);
+        };
+        if let Some(resource) = rested {
+            self.push(resource, kept, Vec::new(alloc))?;
+            return Ok(());
+        }
+        match dones.next() {
+            Some(
+                WindowDone::Ran {
+                    resource,
+                    lines,
+                    sent,
+                    ..
+                },
+            ) => {
+                self.push(resource, keep(kept, lines)?, sent)?;
+                Ok(())
+            }
+            Some(WindowDone::NoMemory) | None => Err(Failed),
+        }
+    }
+}
+
+/// Puts all resources in order again: those that have rested, and those that come back, in the order of their jobs.
+///
+/// # Errors
+/// When memory ran out, in a job or here.
+pub(crate) fn come_home(
+    alloc: Global,
+    resting: Vec<Option<Resource>>,
+    pending: Vec<Vec<Line>>,
+    dones: Vec<WindowDone>,
+) -> Result<Home, Failed>
+    ensures { IfOk result (λ h. (i : Inputs) (limit : ℕ) (bounds : List ℕ) (xs : List Inner)
+        → resting.items ≡ map resting_of xs → AllZip Does (jobs_of i limit bounds 0 xs) dones.items
+        → AreHome i limit bounds xs pending.items h) }
+{
+    let mut home = Home {
+        resources: Vec::new(alloc),
+        pending: Vec::new(alloc),
+        outboxes: Vec::new(alloc),
+    };
+    let mut lists = pending.into_iter();
+    let mut ran = dones.into_iter();
+    for rested in resting {
+        home.seat(alloc, rested, &mut lists, &mut ran)?;
+    }
+    Ok(home)
+}

@@ -1,0 +1,69 @@
+//! A resource that leaves, to run below a tick.
+
+ghost use Rattle.std.specs.Prelude.{◌≡◌, ◌^◌, ◌≤◌, None};
+ghost use Rattle.fb_resource.specs.Resources.{IsOf};
+ghost use Rattle.fb_window.specs.Jobs.{Does, MayRun};
+
+use fb_resource::resource::{Resource, WindowDone};
+use fb_system::system::System;
+use std::alloc::Global;
+use std::marker::Model;
+
+/// A resource that is to run below a tick, with its system and the limit on the steps of a tick. It has not stopped,
+/// and the tick is not before its clock.
+#[derive(Drop)]
+pub struct Job {
+    system: System,
+    steps: u64,
+    resource: Resource,
+    to: u64,
+}
+
+impl Model for Job {
+    ghost use Rattle.fb_window.specs.Jobs.{JobModel, job_code, MayRun};
+
+    ghost Value = { JobModel };
+
+    ghost coded = { job_code };
+
+    ghost view = { λ j. record { inputs = j.system; steps = j.steps; resource = j.resource; to = j.to } };
+
+    ghost invariant = { λ j. MayRun (record { inputs = j.system; steps = j.steps; resource = j.resource; to = j.to }) };
+}
+
+impl Job {
+    /// The job to run a resource below a tick.
+    pub fn new(system: System, steps: u64, resource: Resource, to: u64) -> Job
+        requires of { IsOf system steps resource }
+        requires live { resource.stopped ≡ None }
+        requires ahead { resource.clock ≤ to }
+        requires early { to ≤ 10 ^ 12 }
+        requires steps { (1 ≤ steps) × (steps ≤ 10 ^ 7) }
+        ensures { result ≡ record { inputs = system; steps = steps; resource = resource; to = to } }
+    {
+        Job {
+            system,
+            steps,
+            resource,
+            to,
+        }
+    }
+
+    /// Whether there is nothing for it to take.
+    pub fn is_idle(&self) -> bool {
+        self.resource.is_idle(self.to)
+    }
+
+    /// Runs the resource below the tick, or up to its stop.
+    pub fn run(self, alloc: Global) -> WindowDone
+        ensures { Does self result }
+    {
+        let Job {
+            system,
+            steps,
+            resource,
+            to,
+        } = self;
+        resource.run_to(alloc, &system, to, steps)
+    }
+}

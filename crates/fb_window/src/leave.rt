@@ -1,0 +1,79 @@
+//! How resources leave.
+
+ghost use Rattle.std.specs.Prelude.{◌≡◌, ◌^◌, ◌≤◌, ◌++◌, [], ◌∷◌, IfOk, None, OnOk, vec_len};
+ghost use Rattle.fb_resource.specs.Resources.{IsOf};
+ghost use Rattle.fb_window.specs.Jobs.{AreOf, MayLeave, job_of, jobs_of, resting_of};
+ghost use Rattle.fb_window.specs.Settling.{HasLeft};
+
+use crate::cores::{Away, Bounds, Core, Failed};
+use crate::job::Job;
+use fb_resource::resource::Resource;
+use fb_system::system::System;
+use std::alloc::{AllocError, Global};
+use std::snapshot::Snapshot;
+
+/// Sends a resource out with a job, or lets it rest where it has stopped.
+fn leave(
+    jobs: &mut Vec<Job>,
+    resting: &mut Vec<Option<Resource>>,
+    system: &System,
+    steps: u64,
+    resource: Resource,
+    to: u64,
+) -> Result<(), AllocError>
+    requires of { IsOf system.now steps resource }
+    requires may { resource.stopped ≡ None → (resource.clock ≤ to) × (to ≤ 10 ^ 12) }
+    requires steps { (1 ≤ steps) × (steps ≤ 10 ^ 7) }
+    ensures jobs { OnOk result (jobs.new.items ≡ jobs.old.items ++ job_of system.now steps to resource) }
+    ensures resting { OnOk result (resting.new.items ≡ resting.old.items ++ resting_of resource ∷ []) }
+{
+    if resource.stopped().is_some() {
+        resting.push(Some(resource))?;
+        return Ok(());
+    }
+    let job = Job::new(system.share()?, steps, resource, to);
+    jobs.push(job)?;
+    resting.push(None)?;
+    Ok(())
+}
+
+impl Core {
+    /// Takes the core apart: one job for each resource that has not stopped, with the bound at its place, and what
+    /// stays behind.
+    ///
+    /// # Errors
+    /// When memory runs out.
+    pub fn jobs(
+        self,
+        alloc: Global,
+        system: &System,
+        bounds: Bounds,
+    ) -> Result<(Away, Vec<Job>), Failed>
+        requires system { system.now ≡ self.system }
+        requires resources { AreOf self.system self.steps self.resources.items }
+        requires bounds { MayLeave bounds.all self.resources.items }
+        requires some_steps { 1 ≤ self.steps }
+        requires few_steps { self.steps ≤ 10 ^ 7 }
+        ensures jobs { IfOk result (λ r. r.1.items ≡ jobs_of self.system self.steps bounds.all 0 self.resources.items) }
+        ensures away { IfOk result (λ r. HasLeft self.resources.items bounds.all r.0) }
+        ensures kept { IfOk result (λ r. (r.0.system ≡ self.system) × (r.0.steps ≡ self.steps) × (r.0.horizon ≡ bounds.horizon) × (r.0.pending ≡ self.pending)) }
+        ensures few { IfOk result (λ r. vec_len r.1 ≤ 256) }
+    {
+        system.facts();
+        let mut jobs = Vec::new(alloc);
+        let mut resting = Vec::new(alloc);
+        for resource in self.resources {
+            let to = bounds.all[resting.len()];
+            leave(&mut jobs, &mut resting, system, self.steps, resource, to)?;
+        }
+        let away = Away {
+            system: self.system,
+            steps: self.steps,
+            horizon: bounds.horizon,
+            resting,
+            pending: self.pending,
+            jobs: Snapshot::of(&jobs),
+        };
+        Ok((away, jobs))
+    }
+}

@@ -1,0 +1,55 @@
+//! How the core begins.
+
+ghost use Rattle.std.specs.Prelude.{◌≡◌, ◌^◌, ◌≤◌, ℕ, [], length, All, IfOk};
+ghost use Rattle.fb_resource.specs.Resources.{AreOpened};
+ghost use Rattle.fb_window.specs.Finality.{HasHanded, core_of};
+ghost use Rattle.fb_window.specs.Settling.{lists_of};
+ghost use Rattle.fb_window.specs.Standing.{IsAt};
+
+use crate::cores::Core;
+use fb_resource::resource::Resource;
+use fb_system::system::System;
+use fb_types::run::Line;
+use std::alloc::{AllocError, Global};
+
+/// So many lists without a line.
+fn no_lines(alloc: Global, count: usize) -> Result<Vec<Vec<Line>>, AllocError>
+    ensures counted { IfOk result (λ v. length v.items ≡ count) }
+    ensures none { IfOk result (λ v. All (λ p. p.items ≡ []) v.items) }
+{
+    let mut lists = Vec::new(alloc);
+    for _ in 0..count {
+        lists.push(Vec::new(alloc))?;
+    }
+    Ok(lists)
+}
+
+impl Core {
+    /// The core before the first event: the resources of a system, in order, each as it is opened.
+    ///
+    /// # Errors
+    /// When memory runs out.
+    pub fn open(
+        alloc: Global,
+        system: &System,
+        resources: Vec<Resource>,
+        steps: u64,
+    ) -> Result<Core, AllocError>
+        requires opened { AreOpened system.now steps resources.items }
+        requires some_steps { 1 ≤ steps }
+        requires few_steps { steps ≤ 10 ^ 7 }
+        ensures system { IfOk result (λ c. c.system ≡ system.now) }
+        ensures steps { IfOk result (λ c. c.steps ≡ steps) }
+        ensures at { IfOk result (λ c. IsAt system.now steps (core_of system.now steps []) c.resources.items) }
+        ensures left { IfOk result (λ c. (horizon : ℕ) → HasHanded system.now steps horizon (core_of system.now steps []) (lists_of c.pending.items) []) }
+    {
+        system.facts();
+        let pending = no_lines(alloc, resources.len())?;
+        Ok(Core {
+            system: system.share()?,
+            steps,
+            resources,
+            pending,
+        })
+    }
+}

@@ -1,0 +1,71 @@
+//! How resources come home.
+
+ghost use Rattle.std.specs.Prelude.{◌≡◌, ◌^◌, ◌≤◌, ℕ, List, All, IfOk};
+ghost use Rattle.std.specs.List.{AllZip};
+ghost use Rattle.fb_types.specs.Cores.{CoreStep, opening_core};
+ghost use Rattle.fb_types.specs.Headline.{stimuli_of, system_of};
+ghost use Rattle.fb_types.specs.Parts.{machine};
+ghost use Rattle.fb_types.specs.Schedules.{IsSchedule};
+ghost use Rattle.fb_system.specs.Lines.{BelongsTo};
+ghost use Rattle.fb_resource.specs.declared.resource.Inner.{Inner};
+ghost use Rattle.fb_window.specs.Finality.{core_of};
+ghost use Rattle.fb_window.specs.Jobs.{Does};
+ghost use Rattle.fb_window.specs.Settling.{AreLegal, HasLeft, Settles, lists_of};
+ghost use Rattle.fb_window.specs.Standing.{IsAt};
+
+use crate::bounds::least_next;
+use crate::cores::{Away, Core, Failed, Settled};
+use crate::cut::cut_all;
+use crate::ends::{End, end_of};
+use crate::frontier::frontier_of;
+use crate::home::come_home;
+use crate::post::post;
+use fb_resource::resource::WindowDone;
+use fb_system::system::System;
+use fb_trace::merge::merge;
+use std::alloc::Global;
+
+impl Away {
+    /// Puts all resources back, with what became of each job in the jobs' order, exchanges their messages, and hands
+    /// out the lines that have become final.
+    ///
+    /// # Errors
+    /// When memory ran out, in a job or here.
+    pub fn settle(
+        self,
+        alloc: Global,
+        system: &System,
+        dones: Vec<WindowDone>,
+    ) -> Result<Settled, Failed>
+        requires system { system.now ≡ self.system }
+        requires left { (xs : List Inner) × (bounds : List ℕ) × HasLeft xs bounds self }
+        requires pending { All (λ p. All (BelongsTo (system_of self.system)) p.items) self.pending.items }
+        requires done { AllZip Does self.jobs.value.items dones.items }
+        ensures { IfOk result (λ s. (xs : List Inner) (bounds : List ℕ) (es : List (CoreStep (machine (system_of self.system) self.steps))) (workers : ℕ → ℕ)
+            → HasLeft xs bounds self
+            → IsSchedule (machine (system_of self.system) self.steps) self.horizon (opening_core (system_of self.system) (stimuli_of self.system) self.steps) es
+            → IsAt self.system self.steps (core_of self.system self.steps es) xs
+            → AreLegal self.system self.steps self.horizon (core_of self.system self.steps es) bounds
+            → Settles self.system self.steps self.horizon es bounds (lists_of self.pending.items) workers s) }
+    {
+        system.facts();
+        let home = come_home(alloc, self.resting, self.pending, dones)?;
+        let resources = post(alloc, system, home.resources, home.outboxes)?;
+        let least = least_next(&resources, self.horizon);
+        let frontier = frontier_of(&resources, least);
+        let (finals, pending) = cut_all(alloc, home.pending, &frontier)?;
+        let lines = merge(alloc, finals)?;
+        let end = end_of(&resources, self.horizon);
+        let core = Core {
+            system: self.system,
+            steps: self.steps,
+            resources,
+            pending,
+        };
+        match end {
+            End::Open => Ok(Settled::Going(core, lines)),
+            End::Horizon => Ok(Settled::Ended(core, lines)),
+            End::Stop(mark) => Ok(Settled::Stopped(lines, mark)),
+        }
+    }
+}
