@@ -2,8 +2,9 @@
 """./gate [--jobs N] [CRATE..]: the test command and merge gate of this repository.
 
 Without a crate it is the whole gate: the examples are those of the tests; then, from nothing, every crate and its
-tests are proved, every wrong body in crates/*/must-fail is shown to be refused, and tests and programs are run. Then it
-tells the processor seconds of each crate. The last line is 'N passed, M failed', and the status 0 where none failed.
+tests are proved, every wrong body in crates/*/must-fail is shown to be refused, tests and programs are run, and the
+program is called at least once for each status: see tools/calls.py. Then it tells the processor seconds of each crate.
+The last line is 'N passed, M failed', and the status 0 where none failed.
 
 With crates it does the same for these alone, over the libraries below them as they are built in out/.
 --jobs N uses N processors, and not all.
@@ -19,6 +20,7 @@ import sys
 import tempfile
 import time
 
+import calls
 from kit import TOP, rt, rtlib
 from wrong_bodies import try_all
 
@@ -38,6 +40,24 @@ if os.WIFSIGNALED(status):
 sys.exit(os.WEXITSTATUS(status))
 """
 TASKS = ("proof", "tests", "edits", "runs")
+# What src/lib.rt of a crate says that is nothing but tests.
+TESTS_ALONE = re.compile(r"(//.*\n)*#!\[tactic\(auto\)\]\n(\s*#\[cfg\(test\)\]\nmod \w+;\n)+")
+
+
+class Crate(rt.Crate):
+    """A crate as `rt ci` sees it. One that is nothing but tests is proved with them, and not once more without: then nothing is left of it."""
+
+    def ci(self, flags, tests):
+        if not tests and self.has_tests_alone():
+            rt.say("all of it is tests: see what is said of these", self.out)
+            return 0
+        return super().ci(flags, tests)
+
+    def has_tests_alone(self):
+        return bool(TESTS_ALONE.fullmatch(rtlib.text_of(f"{self.folder}/src/lib.rt") or ""))
+
+
+rt.Crate = Crate
 
 
 class Times:
@@ -95,7 +115,7 @@ def keep_to(names):
     """Has the gate look at these crates alone. What is below them is built over the work that out/ keeps."""
     edits_of, stop_on_unread = rt.edits_of, rtlib.stop_on_unread
 
-    class Crate(rt.Crate):
+    class Kept(Crate):
         def ci(self, flags, tests):
             if self.name in names:
                 return super().ci(flags, tests)
@@ -116,8 +136,21 @@ def keep_to(names):
 
     # (the libraries below say that they are of kept work, and so do those above them)
     rtlib.VERDICT = re.compile(rtlib.VERDICT.pattern.replace(r"\n\Z", r"( incremental=trusted)?\n\Z"), re.M)
-    rtlib.Crate, rt.crates_of = Crate, crates_to_try
+    rtlib.Crate, rt.crates_of = Kept, crates_to_try
     rt.edits_of = lambda crate: edits_of(crate) if crate.name in names else ([], [])
+
+
+def call_after_each_run():
+    """Has the gate make the calls of calls.py each time it has run the program, as each compiler builds it."""
+    run = rt.run
+
+    def run_and_call(crate, tests, ending=""):
+        is_well = run(crate, tests, ending)
+        if is_well and not tests and crate.name == calls.PROGRAM:
+            return calls.make_all(f"{crate.folder}/out/{crate.name}{ending}")
+        return is_well
+
+    rt.run = run_and_call
 
 
 def tell_before_the_last_line(times):
@@ -146,6 +179,7 @@ def main(words):
         print("0 passed, 1 failed")
         return 1
     with tempfile.TemporaryDirectory(prefix="gate-") as room:
+        call_after_each_run()
         tell_before_the_last_line(Times(room))
         rt.must_fail_all = try_all
         if words:

@@ -5,12 +5,15 @@ check of these alone, in which antt goes on past what it refuses, and each must 
 check does not settle, as an edit that another one hides, goes on to the next check, and at last alone, and is then judged
 as the kit's own `rt must-fail` does. An edit that is not refused there is tried once more, from nothing.
 
-The first check of a crate proves what the edited functions rest on, into a folder of this call, and the others take it from
-there. So no check is over what an older run kept, and what was proved for one edit is not proved again for the next."""
+In such a check the proof of every other function is a hole, which antt takes by its statement: that they are proved is shown
+apart, and a body is refused by what it calls states, not by how that is proved. What the lemmas of the crate need is kept in
+a folder of this call for the next check. So no check is over what an older run kept."""
 
+import copy
 import itertools
 import os
 import re
+import shutil
 import tempfile
 
 from kit import rt, rtlib
@@ -18,15 +21,23 @@ from kit import rt, rtlib
 FUNCTION = re.compile(r"^(\s*)(?:pub(?:\([a-z]+\))? )?(?:const )?fn (\w+)")
 # A path's last word, and the first type that its brackets hold.
 PATH = re.compile(r"(?:\w+::)*(\w+)(?:<(?:\w+::)*(\w+))?")
+# A proof that antt takes by its statement.
+HOLE = """use Rattle.{path}.Statement as stated
+
+pub {name}_spec : {{M : Type 1}} → stated.statement M
+{name}_spec = ?
+"""
 # What antt says of text that names something which is no longer there: that tells nothing of a contract.
 NAMES_WHAT_IS_GONE = re.compile(r"has no field|is not in scope|has no `|was not admitted")
 
 
 class Function:
-    """A function of a source file: its name, the impl that it stands in, as rattle names that, and its first and last line, from 1."""
+    """A function of a source file: its name, the impl that it stands in, as rattle names that, and three lines, from 1: its first,
+    that of its name, and its last."""
 
-    def __init__(self, path, impl, name, first, last):
-        self.path, self.impl, self.name, self.first, self.last = path, impl, name, first, last
+    def __init__(self, path, impl, name, lines, of_trait):
+        self.path, self.impl, self.name, self.of_trait = path, impl, name, of_trait
+        self.first, self.named, self.last = lines
         self.module = path[len("src/") : -len(".rt")].removesuffix("/mod")
 
     def has(self, path, line):
@@ -36,10 +47,14 @@ class Function:
         """Says whether the proof file has the goals of this function's contract: proofs/MODULE/../FUNCTION/Answers.antt."""
         return proof.startswith(f"proofs/{self.module}/") and re.search(rf"/{self.name}/(\+\w+/)?Answers\.antt$", proof)
 
+    def path_in_crate(self):
+        """Returns the names of the modules and of the type that the function stands in, and its own."""
+        modules = [] if self.module in ("lib", "main") else self.module.split("/")
+        return [*modules, *([self.impl] if self.impl else []), self.name]
+
     def below_the_crate(self):
         """Returns the function's path below its crate, as rattle prints it."""
-        modules = [] if self.module in ("lib", "main") else self.module.split("/")
-        return "::".join([*modules, *([self.impl] if self.impl else []), self.name])
+        return "::".join(self.path_in_crate())
 
     def verdict(self, crate, lines):
         """Returns the line by which the prover says that the function is not proved, or None."""
@@ -60,18 +75,18 @@ def impl_of(line):
 
 def functions(path, text):
     """Returns the functions of a formatted source text: from the attributes and comments above to a brace below their first word."""
-    lines, found, impl = text.split("\n"), [], ""
+    lines, found, impl, of_trait = text.split("\n"), [], "", False
     for at, line in enumerate(lines):
         start = FUNCTION.match(line)
-        if re.match(r"impl\b.*{", line):
-            impl = impl_of(line)
+        if re.match(r"(impl|(pub )?trait)\b.*{", line):
+            impl, of_trait = impl_of(line), not re.match(r"impl\b(?!.* for )", line)
         if start:
             ends = (i for i in range(at, len(lines)) if lines[i] == start[1] + "}" or i == at and line.endswith("}"))
             last, first = next(ends, None), at
             while first and lines[first - 1].strip() and not lines[first - 1].endswith(("{", "}", ";")):
                 first -= 1
             if last is not None:
-                found.append(Function(path, impl if start[1] else "", start[2], first + 1, last + 1))
+                found.append(Function(path, impl if start[1] else "", start[2], (first + 1, at + 1, last + 1), of_trait and bool(start[1])))
     return found
 
 
@@ -129,19 +144,81 @@ def refusal(crate, lines, function, texts):
     return verdict if "`search` did not prove" in verdict else None
 
 
+def may_be_a_hole(crate, function):
+    """Says whether a function's whole proof can be a file of its own: it is of no trait, and none beside it calls itself, as a
+    folder proofs/../+NAME would say."""
+    if function.of_trait:
+        return False
+    proofs = f"{crate.folder}/proofs/{function.module}"
+    return not any(name.startswith("+") for _, folders, _ in os.walk(proofs) for name in folders)
+
+
+def without_body(lines, function):
+    """Returns the lines, as many as before, with no body in this function, or None where it has no contract."""
+    indent = FUNCTION.match(lines[function.named - 1])[1]
+    begin = next((n for n in range(function.named, function.last - 1) if lines[n - 1] == indent + "{"), None)
+    gone = ["unreachable!()", *[""] * (function.last - begin - 2)] if begin else []
+    return [*lines[:begin], *gone, *lines[function.last - 1 :]] if begin else None
+
+
+def with_holes(crate, edited, texts, room):
+    """Returns the crate as a copy in the room, in which every other function with a contract has a hole for its proof and no body,
+    and the source texts that say so."""
+    copied, own = copy.copy(crate), {it.below_the_crate() for it in edited}
+    copied.folder = room
+    for part in rtlib.PARTS:
+        if os.path.isdir(f"{crate.folder}/{part}"):
+            shutil.copytree(f"{crate.folder}/{part}", f"{room}/{part}")
+    changed = {}
+    for file in rtlib.files_of(room):
+        path = os.path.relpath(file, room)
+        text = texts.get(path, rtlib.text_of(file))
+        lines = text.split("\n")
+        if not path.startswith("src/") or "#[test]" in text:
+            continue
+        for it in functions(path, text):
+            short = without_body(lines, it)
+            if not short or it.below_the_crate() in own or not may_be_a_hole(crate, it):
+                continue
+            lines, folder = short, "/".join([room, "proofs", *it.path_in_crate()])
+            shutil.rmtree(folder, ignore_errors=True)
+            os.makedirs(folder)
+            with open(f"{folder}/Proof.antt", "w", encoding="utf-8") as proof:
+                proof.write(HOLE.format(path=".".join([crate.name, "proofs", *it.path_in_crate()]), name=it.name))
+        changed[path] = "\n".join(lines)
+    return copied, {**texts, **changed}
+
+
+def is_judged(ran, texts):
+    """Says whether a check reached the prover and read the texts."""
+    lines = ran.stdout.rstrip("\n").split("\n")
+    ended = ran.returncode == 1 and re.match("only=|holes=", lines[-1]) and not rtlib.STALE.search(ran.stdout)
+    return ended and not any(rt.unread(it, texts) for it in lines)
+
+
+def check_of(crate, edited, texts, kept):
+    """Checks the edited functions with these texts: over holes, or else over whole proofs, or else with the whole crate."""
+    only = [word for it in edited for word in ("--only", it.below_the_crate())]
+    flags = ["--jobs", "1", "--allow-holes"]
+    with tempfile.TemporaryDirectory(prefix="gate-holes-") as room:
+        copied, with_fewer = with_holes(crate, edited, texts, room)
+        ran = rt.checked(copied, with_fewer, [*flags, *only], kept)
+    if not is_judged(ran, texts):
+        ran = rt.checked(crate, texts, [*flags, *only], kept)
+    if ran.returncode == 2:
+        # (a name that rattle writes in another way than here)
+        ran = rt.checked(crate, texts, flags, kept)
+    return ran
+
+
 def try_together(crate, homes, kept):
     """Tries edits, given with their homes, in one check, and returns what to say of each that is refused. Where an edit keeps the
     check from reaching the prover, each half is tried."""
     texts = all_changed(crate, homes)
     edited = {edit: functions(path, texts[path])[number] for edit, (path, number) in homes.items()}
-    only = [word for it in edited.values() for word in ("--only", it.below_the_crate())]
-    ran = rt.checked(crate, texts, ["--jobs", "1", "--allow-holes", *only], kept)
-    if ran.returncode == 2:
-        # (a name that rattle writes in another way than here)
-        ran = rt.checked(crate, texts, ["--jobs", "1", "--allow-holes"], kept)
+    ran = check_of(crate, edited.values(), texts, kept)
     lines = ran.stdout.rstrip("\n").split("\n")
-    is_judged = ran.returncode == 1 and re.match("only=|holes=", lines[-1]) and not rtlib.STALE.search(ran.stdout)
-    if not is_judged or any(rt.unread(it, texts) for it in lines):
+    if not is_judged(ran, texts):
         order = [*homes]
         halves = [order[: len(order) // 2], order[len(order) // 2 :]] if len(order) > 1 else []
         return {edit: said for half in halves for edit, said in try_together(crate, {it: homes[it] for it in half}, kept).items()}
