@@ -10,6 +10,7 @@ apart, and a body is refused by what it calls states, not by how that is proved.
 a folder of this call for the next check. So no check is over what an older run kept."""
 
 import copy
+import functools
 import itertools
 import os
 import re
@@ -19,6 +20,7 @@ import tempfile
 from kit import rt, rtlib
 
 FUNCTION = re.compile(r"^(\s*)(?:pub(?:\([a-z]+\))? )?(?:const )?fn (\w+)")
+TYPE = re.compile(r"^(?:pub(?:\([a-z]+\))? )?(?:struct|enum) (\w+)", re.M)
 # A path's last word, and the first type that its brackets hold.
 PATH = re.compile(r"(?:\w+::)*(\w+)(?:<(?:\w+::)*(\w+))?")
 # A proof that antt takes by its statement.
@@ -35,10 +37,11 @@ class Function:
     """A function of a source file: its name, the impl that it stands in, as rattle names that, and three lines, from 1: its first,
     that of its name, and its last."""
 
-    def __init__(self, path, impl, name, lines, of_trait):
+    def __init__(self, path, impl, name, lines, of_trait, home):
         self.path, self.impl, self.name, self.of_trait = path, impl, name, of_trait
         self.first, self.named, self.last = lines
-        self.module = path[len("src/") : -len(".rt")].removesuffix("/mod")
+        # (a method is named by the file of its type, also where its impl stands in another)
+        self.module = home[len("src/") : -len(".rt")].removesuffix("/mod")
 
     def has(self, path, line):
         return path == self.path and self.first <= line <= self.last
@@ -73,7 +76,14 @@ def impl_of(line):
     return PATH.match(name)[1] + (of_trait[1] + (of_trait[2] or "") if of_trait else "")
 
 
-def functions(path, text):
+@functools.cache
+def types_of(folder):
+    """Returns the file of each struct and enum of the crate in this folder."""
+    files = [it for it in rtlib.files_of(folder) if it.startswith(f"{folder}/src/") and it.endswith(".rt")]
+    return {name: os.path.relpath(it, folder) for it in files for name in TYPE.findall(rtlib.text_of(it))}
+
+
+def functions(crate, path, text):
     """Returns the functions of a formatted source text: from the attributes and comments above to a brace below their first word."""
     lines, found, impl, of_trait = text.split("\n"), [], "", False
     for at, line in enumerate(lines):
@@ -86,7 +96,8 @@ def functions(path, text):
             while first and lines[first - 1].strip() and not lines[first - 1].endswith(("{", "}", ";")):
                 first -= 1
             if last is not None:
-                found.append(Function(path, impl if start[1] else "", start[2], (first + 1, at + 1, last + 1), of_trait and bool(start[1])))
+                home = types_of(crate.folder).get(impl, path) if start[1] and impl not in TYPE.findall(text) else path
+                found.append(Function(path, impl if start[1] else "", start[2], (first + 1, at + 1, last + 1), of_trait and bool(start[1]), home))
     return found
 
 
@@ -113,7 +124,7 @@ def home_of(crate, edit):
     for path, old, _ in changes_of(edit):
         text = rtlib.text_of(f"{crate.folder}/{path}")
         line = text.count("\n", 0, text.index(old)) + 1
-        around = [n for n, it in enumerate(functions(path, text)) if it.has(path, line)]
+        around = [n for n, it in enumerate(functions(crate, path, text)) if it.has(path, line)]
         homes.add((path, around[-1]) if around and path.startswith("src/") else None)
     return homes.pop() if len(homes) == 1 else None
 
@@ -176,7 +187,7 @@ def with_holes(crate, edited, texts, room):
         lines = text.split("\n")
         if not path.startswith("src/") or "#[test]" in text:
             continue
-        for it in functions(path, text):
+        for it in functions(crate, path, text):
             short = without_body(lines, it)
             if not short or it.below_the_crate() in own or not may_be_a_hole(crate, it):
                 continue
@@ -215,7 +226,7 @@ def try_together(crate, homes, kept):
     """Tries edits, given with their homes, in one check, and returns what to say of each that is refused. Where an edit keeps the
     check from reaching the prover, each half is tried."""
     texts = all_changed(crate, homes)
-    edited = {edit: functions(path, texts[path])[number] for edit, (path, number) in homes.items()}
+    edited = {edit: functions(crate, path, texts[path])[number] for edit, (path, number) in homes.items()}
     ran = check_of(crate, edited.values(), texts, kept)
     lines = ran.stdout.rstrip("\n").split("\n")
     if not is_judged(ran, texts):

@@ -1,3 +1,12 @@
+pub mod AdvanceIs
+pub mod Edges
+pub mod Fronts
 pub mod Outcomes
 pub mod Refused
+pub mod RoundIs
+pub mod RunIs
+pub mod Seen
 pub mod SerialIs
+pub mod SessionIs
+pub mod Texts
+pub mod WindowIs

@@ -1,2 +1,5 @@
 pub mod Given
 pub mod Serial
+pub mod Rounds
+pub mod Sessions
+pub mod Advances

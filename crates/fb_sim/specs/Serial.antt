@@ -1,5 +1,5 @@
 -- What a run on one thread answers and writes (this project's profile).
-use Rattle.std.specs.Prelude.{◌≡◌, ◌≤◌, ◌^◌, ℕ, List, [], Option, Some, None, Result, Ok, Err}
+use Rattle.std.specs.Prelude.{◌≡◌, ◌≤◌, ◌<◌, ◌^◌, ◌↔◌, ℕ, List, [], length, Option, Some, None, Result, Ok, Err}
 use Rattle.std.specs.Io.KnownBytes.{Appends}
 use Rattle.fb_types.specs.Accepted.{IsLeastFault}
 use Rattle.fb_types.specs.Headline.{Inputs, AreAccepted, IsTrace}
@@ -8,7 +8,10 @@ use Rattle.fb_types.specs.Simulation.{Ending, AtHorizon, AtStop}
 use Rattle.fb_types.specs.declared.deploy.Plan.{Plan}
 use Rattle.fb_types.specs.declared.deploy.Stimulus.{Stimulus}
 use Rattle.fb_types.specs.declared.library.Library.{Library}
-use Rattle.fb_read.specs.Whole.{IsLibraryText}
+use Rattle.fb_read.specs.Front.{bad_byte, bad_token}
+use Rattle.fb_read.specs.Whole.{IsDerived, IsLibraryText, IsMemory, IsNesting, IsGrammarFault, HasTokenFault, HasTokens, most_bytes}
+use Rattle.fb_read.specs.declared.error.ReadError.{ReadError}
+use Rattle.fb_read.specs.declared.error.ReadError.TheVariants as read
 use Rattle.fb_inputs.specs.Deployments.{deploy_of}
 use Rattle.fb_inputs.specs.Stimuli.{stimuli_of}
 use Rattle.fb_inputs.specs.Refusals as input
@@ -21,7 +24,7 @@ use Rattle.fb_sim.specs.declared.outcome.Outcome.TheVariants.{End, Stop}
 use Rattle.fb_sim.specs.declared.outcome.Refusal.{Refusal}
 use Rattle.fb_sim.specs.declared.outcome.Refusal.TheVariants.{Declaration, Deployment, Stimuli, Check}
 use Rattle.fb_sim.specs.declared.outcome.RunError.{RunError}
-use Rattle.fb_sim.specs.declared.outcome.RunError.TheVariants.{Refused, Memory, Write, BadOption}
+use Rattle.fb_sim.specs.declared.outcome.RunError.TheVariants.{Refused, Memory, Write, BadOption, Failed}
 
 -- each option is in its range
 pub record AreWithin (o : Options) : Type 0 where
@@ -71,6 +74,16 @@ IsDeclared given = (i : Inputs) × Declares given i
 abbrev pub IsNoText : List ℕ → Type 0
 IsNoText text = (library : Library) → IsLibraryText text library → ⊥
 
+-- The text is refused for the fault that it has. One that is too long is refused for that alone; a byte or a token at fault comes before any fault of the grammar; and what would be a library without the limit of nesting is refused for its nesting.
+pub record IsReadFault (text : List ℕ) (e : ReadError) : Type 0 where
+  pub refusal : ¬ (IsMemory e)
+  pub none : IsNoText text
+  pub too_long : (e ≡ read.TooLong) ↔ (most_bytes < length text)
+  pub byte : (e ≡ read.Byte) ↔ HasTokenFault bad_byte text
+  pub token : (e ≡ read.Token) ↔ HasTokenFault bad_token text
+  pub grammar : IsGrammarFault e → HasTokens text
+  pub nesting : (library : Library) → IsDerived text library → IsNesting e
+
 -- The text declares a library, and the deployment is refused under this number.
 pub record IsNoPlan (given : Given) (n : ℕ) : Type 0 where
   pub library : Library
@@ -97,7 +110,7 @@ HasNumber (Some n) holds = holds n
 
 -- The first of the declaration, the deployment, the stimuli and the check that refuses, does so rightly.
 abbrev pub IsRightly : Given → Refusal → Type 0
-IsRightly given (Declaration e) = IsNoText given.declaration
+IsRightly given (Declaration e) = IsReadFault given.declaration e
 IsRightly given (Deployment e) = HasNumber (input.number_of e) (IsNoPlan given)
 IsRightly given (Stimuli e) = HasNumber (input.number_of e) (AreNoStimuli given)
 IsRightly given (Check f) = AreNotAccepted given (judge.number_of f)
@@ -108,6 +121,7 @@ IsRefusal given (Refused r) = IsRightly given r
 IsRefusal given Memory = Unit {0}
 IsRefusal given (Write n) = ⊥
 IsRefusal given BadOption = ⊥
+IsRefusal given Failed = ⊥
 
 -- ---- What is written
 
@@ -115,8 +129,9 @@ abbrev pub ending_of : Outcome → Ending
 ending_of (End h) = AtHorizon h
 ending_of (Stop m) = AtStop m.tick m.resource m.reason
 
--- The bytes are the trace of what the text declares.
+-- The bytes are the trace of what the text declares, under options that are in their ranges.
 pub record AreTrace (given : Given) (o : Options) (bytes : List ℕ) (end : Ending) : Type 0 where
+  pub within : AreWithin o
   pub inputs : Inputs
   pub declared : Declares given inputs
   pub trace : IsTrace inputs o.form o.horizon o.steps bytes end
@@ -134,9 +149,10 @@ pub record WritesPart (given : Given) (o : Options) (old new : Option (List ℕ)
   pub got : IsPartWritten old new bytes written
   pub trace : AreTrace given o bytes end
 
--- What a writer has where a run failed.
+-- What a writer has where a run failed. Options out of their range come before all else.
 abbrev pub Fails : Given → Options → (old new : Option (List ℕ)) → RunError → Type 0
 Fails given o old new BadOption = (AreWithin o → ⊥) × (new ≡ old)
 Fails given o old new (Write n) = WritesPart given o old new n
-Fails given o old new (Refused r) = IsRightly given r × (new ≡ old)
-Fails given o old new Memory = new ≡ old
+Fails given o old new (Refused r) = AreWithin o × IsRightly given r × (new ≡ old)
+Fails given o old new Memory = AreWithin o × (new ≡ old)
+Fails given o old new Failed = ⊥

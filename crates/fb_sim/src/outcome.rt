@@ -5,8 +5,10 @@ ghost use Rattle.fb_sim.specs.declared.outcome.RunError.TheVariants.{Memory};
 
 use fb_inputs::error::InputError;
 use fb_judge::fault::Fault;
+use fb_phase::PhaseError;
 use fb_read::error::ReadError;
 use fb_types::run::StopMark;
+use fb_window::cores::Failed;
 use std::alloc::AllocError;
 use thiserror::Error;
 
@@ -47,15 +49,34 @@ pub enum RunError {
     /// The writer failed when it had taken so many bytes of the trace.
     #[error("write fault after {0} bytes")]
     Write(u128),
-    /// The horizon, the steps or the workers are out of their range.
+    /// The horizon, the steps or the workers are out of their range, or the tick to advance to is.
     #[error("an option is out of range")]
     BadOption,
+    /// An earlier call on the same simulation wanted memory or could not write, so nothing is run any more.
+    #[error("the run failed before")]
+    Failed,
 }
 
 impl From<AllocError> for RunError {
     ghost from_gives = { λ _ e. e ≡ Memory };
 
     fn from(_error: AllocError) -> RunError {
+        RunError::Memory
+    }
+}
+
+impl From<PhaseError> for RunError {
+    ghost from_gives = { λ _ e. e ≡ Memory };
+
+    fn from(_error: PhaseError) -> RunError {
+        RunError::Memory
+    }
+}
+
+impl From<Failed> for RunError {
+    ghost from_gives = { λ _ e. e ≡ Memory };
+
+    fn from(_error: Failed) -> RunError {
         RunError::Memory
     }
 }

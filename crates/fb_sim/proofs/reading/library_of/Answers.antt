@@ -1,12 +1,14 @@
-use Rattle.std.proofs.Common.{List, ℕ, ap, subst, sym}
-use Rattle.fb_read.specs.Whole.{IsLibraryText}
-use Rattle.fb_sim.proofs.Refused.{not_memory}
+use Rattle.std.proofs.Common.{List, ℕ, ap, subst}
+use Rattle.fb_sim.specs.Serial.{IsReadFault}
+use Rattle.fb_sim.proofs.Refused.{read_fault}
 use Rattle.fb_sim.proofs.reading.library_of.Goals as goal
 
 pub returns-in_default : goal.returns-in_default
 returns-in_default c = record {
   read = tt;
-  refused = λ library is.
-      c.in-Err.ensures.none (not_memory c.in-Err.error c.in_default.not-Memory) library
-      (subst (λ (x : List ℕ). IsLibraryText x library) (sym (ap (λ g. g.declaration) c.inputs.view_is)) is);
+  refused =
+      let e = c.in-Err.error in
+      let said = c.in-Err.ensures in
+      subst (λ (x : List ℕ). IsReadFault x e) (ap (λ g. g.declaration) c.inputs.view_is)
+      (read_fault _ e c.in_default.not-Memory said.none said.nesting said.too_long said.byte said.token said.grammar);
 }

@@ -1,4 +1,4 @@
-use Rattle.std.proofs.Common.{sym, subst, map}
+use Rattle.std.proofs.Common.{rules, sym, subst, map}
 use Rattle.fb_types.specs.Headline.{system_of}
 use Rattle.fb_types.specs.Numbers.{line_of}
 use Rattle.fb_types.specs.Text.{trace_text}
@@ -15,7 +15,7 @@ returns-in-Ok-clause-trace g c =
     subst (λ e. Writes c.args.inputs.now c.args.options (g.W.Write.contents c.args.out.now) (g.W.Write.contents c.write_trace.new.out) e) (sym c.outcome_of.ensures) (record {
       bytes = trace_text c.args.options.form sys (map (line_of sys) lines) (trace.ending_of end);
       got = rw c.as_slice.ensures.value at c.in-Ok.ensures.whole;
-      trace = trace_is c.args.inputs.now c.args.options c.in_ok-system.system c.new-lines.result.items lines c.in_ok-stop.stop end c.in_ok-system.ensures.system c.new-lines.ensures.items c.in_ok-stop.ensures.completes c.end_of-end.ensures;
+      trace = trace_is c.args.inputs.now c.args.options c.in_ok-system.system c.new-lines.result.items lines c.in_ok-stop.stop end (c.are_within.ensures.0 (search rules)) c.in_ok-system.ensures.system c.new-lines.ensures.items c.in_ok-stop.ensures.completes c.end_of-end.ensures;
     })
 
 pub returns-clause-failed : goal.returns-clause-failed
@@ -27,5 +27,5 @@ returns-clause-failed g c =
       bytes = trace_text c.args.options.form sys (map (line_of sys) lines) (trace.ending_of end);
       end = trace.ending_of end;
       got = rw c.as_slice.ensures.value at c.in-Err.ensures.part;
-      trace = trace_is c.args.inputs.now c.args.options c.in_ok-system.system c.new-lines.result.items lines c.in_ok-stop.stop end c.in_ok-system.ensures.system c.new-lines.ensures.items c.in_ok-stop.ensures.completes c.end_of-end.ensures;
+      trace = trace_is c.args.inputs.now c.args.options c.in_ok-system.system c.new-lines.result.items lines c.in_ok-stop.stop end (c.are_within.ensures.0 (search rules)) c.in_ok-system.ensures.system c.new-lines.ensures.items c.in_ok-stop.ensures.completes c.end_of-end.ensures;
     }

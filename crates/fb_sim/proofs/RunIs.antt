@@ -1,0 +1,233 @@
+-- Round after round, and what a whole run has written.
+use Rattle.std.proofs.Common.{◌≡◌, ℕ, ◌+◌, ◌<◌, List, [], ◌++◌, length, Option, Result, Ok, Err, IfErr, inl, inr, refl, sym, ap, ◌∙◌, subst, arith, append_assoc, append-nil}
+use Rattle.std.specs.Io.KnownBytes.{Appends}
+use Rattle.std.specs.Result.{IsErrAnd}
+use Rattle.std.proofs.KnownBytes.{Appends-nil, Appends-trans}
+use Rattle.fb_types.specs.Headline.{Inputs, system_of}
+use Rattle.fb_types.specs.Simulation.{Ending, AtHorizon, AtStop, ending_of}
+use Rattle.fb_types.specs.Parts.{count_of}
+use Rattle.fb_types.specs.States.{Line}
+use Rattle.fb_types.specs.Text.{last_line, trace_text}
+use Rattle.fb_types.specs.declared.run.StopMark.{StopMark}
+use Rattle.fb_sound.specs.Sound.{AreGood}
+use Rattle.fb_trace.specs.Progress.{IsPartWritten, bounded}
+use Rattle.fb_window.specs.declared.cores.Core.{Core}
+use Rattle.fb_sim.specs.Given.{Given}
+use Rattle.fb_sim.specs.Serial.{AreTrace, AreWithin, Declares, IsRefusal, Writes, WritesPart}
+use Rattle.fb_sim.specs.Rounds.{AreAll, Begin, CountedRounds, FailsRun, HasCome, IsFinished, IsShort, RunsOn, WritesFront, behind, text_of}
+use Rattle.fb_sim.specs.declared.drive.Finish.{Finish}
+use Rattle.fb_sim.specs.declared.drive.Finish.TheVariants.{AtEnd, AtMark}
+use Rattle.fb_sim.specs.declared.options.Options.{Options}
+use Rattle.fb_sim.specs.declared.outcome.RunError.{RunError}
+use Rattle.fb_sim.specs.declared.outcome.RunError.TheVariants.{Refused, Memory, Write, BadOption, Failed}
+use Rattle.fb_sim.specs.declared.progress.Round.TheVariants.{Going, Ended, Stopped}
+use Rattle.fb_sim.proofs.RoundIs.{come_begins}
+use Rattle.fb_sim.proofs.Texts.{bounded-length, lines_text-append, part-after, part-before}
+
+-- ---- Rounds
+
+-- From where these lines were handed out, the core has come on, and the writer has got the text of the next ones, of so many bytes.
+pub record Came (i : Inputs) (o : Options) (ls : List Line) (core : Core) (old now : Option (List ℕ)) (n : ℕ) : Type 0 where
+  pub out : List Line
+  pub come : HasCome i o.steps o.horizon core (ls ++ out)
+  pub got : Appends old now (text_of i o.form out)
+  pub counted : n ≡ bounded (length (text_of i o.form out))
+
+module _ (i : Inputs) (o : Options) (ls : List Line) where
+  pub came_first : (core : Core) (old : Option (List ℕ)) → HasCome i o.steps o.horizon core ls → Came i o ls core old old 0
+  came_first core old h = record {
+    out = [];
+    come = subst (λ (ks : List Line). HasCome i o.steps o.horizon core ks) (sym (append-nil ls)) h;
+    got = Appends-nil old;
+    counted = omega arith;
+  }
+
+  -- the text of what came before and of what a round gave
+  joined : (ks ms : List Line) → text_of i o.form ks ++ text_of i o.form ms ≡ text_of i o.form (ks ++ ms)
+  joined ks ms = sym (lines_text-append o.form (system_of i) ks ms)
+
+  both_got : (old mid new : Option (List ℕ)) (ks ms : List Line) → Appends old mid (text_of i o.form ks) → Appends mid new (text_of i o.form ms) → Appends old new (text_of i o.form (ks ++ ms))
+  both_got old mid new ks ms a b = subst (λ (t : List ℕ). Appends old new t) (joined ks ms) (Appends-trans old mid new (text_of i o.form ks) (text_of i o.form ms) a b)
+
+  both_counted : (ks ms : List Line) (n m : ℕ) → n ≡ bounded (length (text_of i o.form ks)) → m ≡ bounded (length (text_of i o.form ms)) → bounded (n + m) ≡ bounded (length (text_of i o.form (ks ++ ms)))
+  both_counted ks ms n m a b =
+      ap (λ z. bounded (z + m)) a ∙ ap (λ z. bounded (bounded (length (text_of i o.form ks)) + z)) b
+      ∙ bounded-length (text_of i o.form ks) (text_of i o.form ms) ∙ ap (λ (t : List ℕ). bounded (length t)) (joined ks ms)
+
+  module _ (core : Core) (old mid new : Option (List ℕ)) (n : ℕ) (c : Came i o ls core old mid n) where
+    pub came_more : (next : Core) (m : ℕ) → CountedRounds i o (ls ++ c.out) mid new (Ok (Going next, m)) → Came i o ls next old new (bounded (n + m))
+    came_more next m r = record {
+      out = c.out ++ r.0;
+      come = subst (λ (ks : List Line). HasCome i o.steps o.horizon next ks) (append_assoc ls c.out r.0) r.1.0;
+      got = both_got old mid new c.out r.0 c.got r.2;
+      counted = both_counted c.out r.0 n m c.counted r.3;
+    }
+
+    pub came_end : (last : Core) (m : ℕ) → CountedRounds i o (ls ++ c.out) mid new (Ok (Ended last, m)) → RunsOn i o ls old new (Ok (AtEnd last, bounded (n + m)))
+    came_end last m r = (
+      c.out ++ r.0,
+      subst (λ (ks : List Line). IsFinished i o.steps o.horizon (AtEnd last) ks) (append_assoc ls c.out r.0) r.1,
+      both_got old mid new c.out r.0 c.got r.2,
+      both_counted c.out r.0 n m c.counted r.3,
+    )
+
+    pub came_stop : (mark : StopMark) (m : ℕ) → CountedRounds i o (ls ++ c.out) mid new (Ok (Stopped mark, m)) → RunsOn i o ls old new (Ok (AtMark mark, bounded (n + m)))
+    came_stop mark m r = (
+      c.out ++ r.0,
+      subst (λ (ks : List Line). IsFinished i o.steps o.horizon (AtMark mark) ks) (append_assoc ls c.out r.0) r.1,
+      both_got old mid new c.out r.0 c.got r.2,
+      both_counted c.out r.0 n m c.counted r.3,
+    )
+
+    pub came_short : (m : ℕ) → CountedRounds i o (ls ++ c.out) mid new (Err (Write m)) → RunsOn i o ls old new (Err (Write (bounded (n + m))))
+    came_short m r = (
+      c.out ++ r.0,
+      subst (λ (ks : List Line). Begin i o.steps o.horizon ks) (append_assoc ls c.out r.0) r.1,
+      subst (λ (t : List ℕ). IsPartWritten old new t (bounded (n + m))) (joined c.out r.0) (part-after (text_of i o.form c.out) c.got c.counted r.2),
+    )
+
+    pub came_wanting : AreGood i → CountedRounds i o (ls ++ c.out) mid new (Err Memory) → RunsOn i o ls old new (Err Memory)
+    came_wanting good same = (
+      c.out,
+      come_begins i good o.steps o.horizon core (ls ++ c.out) c.come,
+      subst (λ (z : Option (List ℕ)). Appends old z (text_of i o.form c.out)) (sym same) c.got,
+    )
+
+    -- the options of a round may name other workers
+    pub came_failed : AreGood i → (w : ℕ) (e : RunError) → CountedRounds i (record { horizon = o.horizon; steps = o.steps; workers = w; form = o.form }) (ls ++ c.out) mid new (Err e) → RunsOn i o ls old new (Err (behind n e))
+    came_failed good w (Write m) r = came_short m r
+    came_failed good w Memory same = came_wanting good same
+    came_failed good w (Refused r) bad = absurd bad
+    came_failed good w BadOption bad = absurd bad
+    came_failed good w Failed bad = absurd bad
+
+-- ---- A whole run
+
+-- the error that `?` passes on
+pub err_is : {A : Type 0} (P : RunError → Type 0) (r : Result A RunError) (e : RunError) → IsErrAnd r (λ f. f ≡ e) → P e → IfErr r P
+err_is P (Ok x) e bad h = tt
+err_is P (Err f) e is h = subst P (sym is) h
+
+module _ (given : Given) (o : Options) (within : AreWithin o) (old : Option (List ℕ)) where
+  -- nothing was run
+  pub fails_open : (e : RunError) → IsRefusal given e → FailsRun given o old old e
+  fails_open (Refused r) h = (within, h, refl)
+  fails_open Memory h = inl (within, refl)
+  fails_open (Write n) h = absurd h
+  fails_open BadOption h = absurd h
+  fails_open Failed h = absurd h
+
+  pub fails_wanting : FailsRun given o old old Memory
+  fails_wanting = inl (within, refl)
+
+module _ (given : Given) (o : Options) (i : Inputs) (within : AreWithin o) (declares : Declares given i) where
+  -- all lines, and then the last line
+  pub trace_of : (out : List Line) (end : Ending) → AreAll i o.steps o.horizon out end → AreTrace given o (text_of i o.form out ++ last_line (system_of i) end) end
+  trace_of out end all = record {
+    within = within;
+    inputs = i;
+    declared = declares;
+    trace = record {
+      takings = all.takings;
+      simulation = all.simulation;
+      ending = all.ending;
+      text = ap (λ (ls : List Line). trace_text o.form (system_of i) ls end) all.lines;
+    };
+  }
+
+  pub record Fronts (out : List Line) : Type 0 where
+    pub rest : List ℕ
+    pub end : Ending
+    pub trace : AreTrace given o (text_of i o.form out ++ rest) end
+
+  -- what begins the lines begins the trace
+  pub front_of : (out : List Line) → Begin i o.steps o.horizon out → Fronts out
+  front_of out b =
+      let sys = system_of i in
+      let end = ending_of o.horizon b.takings in
+      record {
+        rest = text_of i o.form b.rest ++ last_line sys end;
+        end = end;
+        trace = record {
+          within = within;
+          inputs = i;
+          declared = declares;
+          trace = record {
+            takings = b.takings;
+            simulation = b.simulation;
+            ending = refl;
+            text =
+                sym (append_assoc (text_of i o.form out) (text_of i o.form b.rest) (last_line sys end))
+                ∙ ap (λ (t : List ℕ). t ++ last_line sys end) (sym (lines_text-append o.form sys out b.rest))
+                ∙ ap (λ (ls : List Line). trace_text o.form sys ls end) (sym b.split);
+          };
+        };
+      }
+
+  pub fails_short : (old new : Option (List ℕ)) (n : ℕ) (out : List Line) → Begin i o.steps o.horizon out → IsPartWritten old new (text_of i o.form out) n → WritesPart given o old new n
+  fails_short old new n out b p =
+      let f = front_of out b in
+      record { bytes = text_of i o.form out ++ f.rest; end = f.end; got = part-before f.rest p; trace = f.trace }
+
+  pub fails_front : (old new : Option (List ℕ)) (out : List Line) → Begin i o.steps o.horizon out → Appends old new (text_of i o.form out) → WritesFront given o old new
+  fails_front old new out b got =
+      let f = front_of out b in
+      record { bytes = text_of i o.form out; rest = f.rest; end = f.end; got = got; trace = f.trace }
+
+  -- what is written of a last line, behind all lines
+  pub writes_all : (old mid new : Option (List ℕ)) (out : List Line) (end : Ending) → AreAll i o.steps o.horizon out end → Appends old mid (text_of i o.form out)
+      → Appends mid new (last_line (system_of i) end) → Writes given o old new end
+  writes_all old mid new out end all a b = record {
+    bytes = text_of i o.form out ++ last_line (system_of i) end;
+    got = Appends-trans old mid new (text_of i o.form out) (last_line (system_of i) end) a b;
+    trace = trace_of out end all;
+  }
+
+  pub fails_last : (old mid new : Option (List ℕ)) (out : List Line) (end : Ending) (n m : ℕ) → AreAll i o.steps o.horizon out end → Appends old mid (text_of i o.form out) → n ≡ bounded (length (text_of i o.form out))
+      → IsPartWritten mid new (last_line (system_of i) end) m → WritesPart given o old new (bounded (n + m))
+  fails_last old mid new out end n m all a counted p = record {
+    bytes = text_of i o.form out ++ last_line (system_of i) end;
+    end = end;
+    got = part-after (text_of i o.form out) a counted p;
+    trace = trace_of out end all;
+  }
+
+  -- a run whose rounds failed
+  pub fails_on : (old new : Option (List ℕ)) (e : RunError) → RunsOn i o [] old new (Err e) → FailsRun given o old new e
+  fails_on old new (Write n) r = fails_short old new n r.0 r.1 r.2
+  fails_on old new Memory r = inr (fails_front old new r.0 r.1 r.2)
+  fails_on old new (Refused r) bad = absurd bad
+  fails_on old new BadOption bad = absurd bad
+  fails_on old new Failed bad = absurd bad
+
+  module _ (finish : Finish) (n : ℕ) (old mid new : Option (List ℕ)) (ran : RunsOn i o [] old mid (Ok (finish, n))) where
+    at_end : (core : Core) → finish ≡ AtEnd core → RunsOn i o [] old mid (Ok (AtEnd core, n))
+    at_end core is = subst (λ (f : Finish). RunsOn i o [] old mid (Ok (f, n))) is ran
+
+    at_mark : (mark : StopMark) → finish ≡ AtMark mark → RunsOn i o [] old mid (Ok (AtMark mark, n))
+    at_mark mark is = subst (λ (f : Finish). RunsOn i o [] old mid (Ok (f, n))) is ran
+
+    pub stop_counted : (mark : StopMark) → finish ≡ AtMark mark → mark.resource < count_of (system_of i)
+    stop_counted mark is = let r = at_mark mark is in r.1.0
+
+    -- with the last line behind it
+    pub ended : (core : Core) → finish ≡ AtEnd core → Appends mid new (last_line (system_of i) (AtHorizon o.horizon)) → Writes given o old new (AtHorizon o.horizon)
+    ended core is last = let r = at_end core is in writes_all old mid new r.0 (AtHorizon o.horizon) r.1.2 r.2 last
+
+    pub stopped : (mark : StopMark) → finish ≡ AtMark mark → Appends mid new (last_line (system_of i) (AtStop mark.tick mark.resource mark.reason)) → Writes given o old new (AtStop mark.tick mark.resource mark.reason)
+    stopped mark is last = let r = at_mark mark is in writes_all old mid new r.0 (AtStop mark.tick mark.resource mark.reason) r.1.1 r.2 last
+
+    -- a writer that failed at the last line
+    fails_at : (end : Ending) (out : List Line) → AreAll i o.steps o.horizon out end → Appends old mid (text_of i o.form out) → n ≡ bounded (length (text_of i o.form out))
+        → (e : RunError) → IsShort mid new (last_line (system_of i) end) n e → FailsRun given o old new e
+    fails_at end out all got counted (Write w) s = subst (λ (z : ℕ). WritesPart given o old new z) (sym s.2) (fails_last old mid new out end n s.0 all got counted s.1)
+    fails_at end out all got counted (Refused r) s = absurd s
+    fails_at end out all got counted Memory s = absurd s
+    fails_at end out all got counted BadOption s = absurd s
+    fails_at end out all got counted Failed s = absurd s
+
+    pub ended_short : (core : Core) → finish ≡ AtEnd core → (e : RunError) → IsShort mid new (last_line (system_of i) (AtHorizon o.horizon)) n e → FailsRun given o old new e
+    ended_short core is e s = let r = at_end core is in fails_at (AtHorizon o.horizon) r.0 r.1.2 r.2 r.3 e s
+
+    pub stopped_short : (mark : StopMark) → finish ≡ AtMark mark → (e : RunError) → IsShort mid new (last_line (system_of i) (AtStop mark.tick mark.resource mark.reason)) n e → FailsRun given o old new e
+    stopped_short mark is e s = let r = at_mark mark is in fails_at (AtStop mark.tick mark.resource mark.reason) r.0 r.1.1 r.2 r.3 e s

@@ -1,0 +1,133 @@
+-- From what the calls of a round say of each other's values to what the round hands out.
+use Rattle.std.proofs.Common.{◌≡◌, ℕ, List, ◌++◌, map, length, Option, Result, Ok, Err, sym, ap, ap₂, ◌∙◌, subst}
+use Rattle.std.specs.Prelude.{All}
+use Rattle.std.specs.List.{AllZip}
+use Rattle.std.specs.Result.{IsErrAnd}
+use Rattle.std.specs.Io.KnownBytes.{Appends}
+use Rattle.fb_types.specs.Headline.{Inputs, system_of, stimuli_of}
+use Rattle.fb_types.specs.Numbers.{line_of}
+use Rattle.fb_types.specs.States.{Line}
+use Rattle.fb_types.specs.Cores.{CoreStep, opening_core}
+use Rattle.fb_types.specs.Parts.{machine}
+use Rattle.fb_types.specs.Schedules.{IsSchedule}
+use Rattle.fb_types.specs.declared.run.Line as run
+use Rattle.fb_sound.specs.Sound.{AreGood}
+use Rattle.fb_system.specs.Lines.{BelongsTo}
+use Rattle.fb_resource.specs.declared.resource.Inner.{Inner}
+use Rattle.fb_resource.specs.declared.resource.WindowDone.{WindowDone}
+use Rattle.fb_trace.specs.Progress.{IsPartWritten, bounded}
+use Rattle.fb_window.specs.Finality.{core_of}
+use Rattle.fb_window.specs.Jobs.{AreOf, Does, JobModel, MayLeave, jobs_of}
+use Rattle.fb_window.specs.Reaching.{OfEachCore}
+use Rattle.fb_window.specs.Settling.{AreLegal, HasLeft, Settles, lists_of}
+use Rattle.fb_window.specs.Standing.{IsAt}
+use Rattle.fb_window.specs.declared.cores.Away.{Away}
+use Rattle.fb_window.specs.declared.cores.Core.{Core}
+use Rattle.fb_window.specs.declared.cores.Settled.{Settled}
+use Rattle.fb_window.specs.declared.cores.Settled.TheVariants as settled
+use Rattle.fb_sim.specs.Rounds.{Begin, CountedRounds, HasCome, IsHomeAgain, Rounds, WritesPartOf, lines_out, round_of, text_of}
+use Rattle.fb_sim.specs.declared.options.Options.{Options}
+use Rattle.fb_sim.specs.declared.outcome.RunError.{RunError}
+use Rattle.fb_sim.specs.declared.outcome.RunError.TheVariants.{Refused, Memory, Write, BadOption, Failed}
+use Rattle.fb_sim.specs.declared.progress.Round.{Round}
+use Rattle.fb_sim.proofs.RoundIs.{all_begin, come_begins, home_again}
+
+-- what holds of the inputs and the limit holds of the core's own
+at_core : (P : Inputs → ℕ → Type 0) (j i : Inputs) (l limit : ℕ) → j ≡ i → l ≡ limit → P i limit → P j l
+at_core P j i l limit e f h = subst (λ (x : Inputs). P x l) (sym e) (subst (λ (y : ℕ). P i y) (sym f) h)
+
+module _ (i : Inputs) (limit horizon : ℕ) (core : Core) (ls : List Line) (h : HasCome i limit horizon core ls) where
+  -- the core has the resources of its system
+  pub are_of : AreOf core.system core.steps core.resources.items
+  are_of = at_core (λ j l. AreOf j l core.resources.items) core.system i core.steps limit h.of.inputs h.of.steps (record {
+    counted = h.way.at.counted;
+    numbered = λ r x at. (h.way.at.each r x at).number;
+    of = λ r x at. (h.way.at.each r x at).of;
+  })
+
+  module _ (all : List ℕ) where
+    pub may_leave : OfEachCore core.system core.steps horizon core.resources.items (λ c. MayLeave all core.resources.items) → MayLeave all core.resources.items
+    may_leave f =
+        let g : OfEachCore i limit horizon core.resources.items (λ c. MayLeave all core.resources.items) =
+        at_core (λ j l. OfEachCore j l horizon core.resources.items (λ c. MayLeave all core.resources.items)) i core.system limit core.steps (sym h.of.inputs) (sym h.of.steps) f in
+        g h.steps h.way.schedule h.way.at
+
+    are_legal : OfEachCore core.system core.steps horizon core.resources.items (λ c. AreLegal core.system core.steps horizon c all) → AreLegal i limit horizon (core_of i limit h.steps) all
+    are_legal f =
+        let g : OfEachCore i limit horizon core.resources.items (λ c. AreLegal i limit horizon c all) =
+        at_core (λ j l. OfEachCore j l horizon core.resources.items (λ c. AreLegal j l horizon c all)) i core.system limit core.steps (sym h.of.inputs) (sym h.of.steps) f in
+        g h.steps h.way.schedule h.way.at
+
+    -- ---- What is away
+
+    module _ (away : Away) (system : away.system ≡ core.system) (steps : away.steps ≡ core.steps) (pending : away.pending ≡ core.pending) (left : HasLeft core.resources.items all away) where
+      pub kept_belong : All (λ p. All (BelongsTo (system_of away.system)) p.items) away.pending.items
+      kept_belong =
+          rw pending (subst (λ (j : Inputs). All (λ p. All (BelongsTo (system_of j)) p.items) core.pending.items) (sym (system ∙ h.of.inputs)) h.of.kept)
+
+      pub are_done : (jobs : List JobModel) (dones : List WindowDone) → jobs ≡ jobs_of core.system core.steps all 0 core.resources.items → AllZip Does jobs dones → AllZip Does away.jobs.value.items dones
+      are_done jobs dones is done =
+          subst (λ (js : List JobModel). AllZip Does js dones) (is ∙ sym (left.jobs ∙ ap₂ (λ j l. jobs_of j l all 0 core.resources.items) system steps)) done
+
+      -- What settling says of what was away.
+      abbrev Says : Inputs → ℕ → ℕ → List (List run.Line) → Settled → Type 0
+      Says j l u before s =
+          (xs : List Inner) (bounds : List ℕ) (es : List (CoreStep (machine (system_of j) l))) (workers : ℕ → ℕ)
+          → HasLeft xs bounds away
+          → IsSchedule (machine (system_of j) l) u (opening_core (system_of j) (stimuli_of j) l) es
+          → IsAt j l (core_of j l es) xs
+          → AreLegal j l u (core_of j l es) bounds
+          → Settles j l u es bounds before workers s
+
+      pub is_home : (s : Settled) → AreGood i → away.horizon ≡ horizon
+          → OfEachCore core.system core.steps horizon core.resources.items (λ c. AreLegal core.system core.steps horizon c all)
+          → Says away.system away.steps away.horizon (lists_of away.pending.items) s → IsHomeAgain i limit horizon ls s
+      is_home s good to legal says =
+          let a : Says i away.steps away.horizon (lists_of away.pending.items) s = subst (λ (j : Inputs). Says j away.steps away.horizon (lists_of away.pending.items) s) (system ∙ h.of.inputs) says in
+          let b : Says i limit away.horizon (lists_of away.pending.items) s = subst (λ (l : ℕ). Says i l away.horizon (lists_of away.pending.items) s) (steps ∙ h.of.steps) a in
+          let c : Says i limit horizon (lists_of away.pending.items) s = subst (λ (u : ℕ). Says i limit u (lists_of away.pending.items) s) to b in
+          let d : Says i limit horizon (lists_of core.pending.items) s = subst (λ (ps : List (List run.Line)). Says i limit horizon ps s) (ap (λ ps. lists_of ps.items) pending) c in
+          home_again i good limit horizon h.steps core.resources.items (lists_of core.pending.items) ls h.way all (λ r. 0) s
+          (d core.resources.items all h.steps (λ r. 0) left h.way.schedule h.way.at (are_legal legal))
+
+-- ---- What is written
+
+module _ (i : Inputs) (o : Options) (ls : List Line) (old new : Option (List ℕ)) where
+  pub counted_whole : (s : Settled) (n : ℕ) → IsHomeAgain i o.steps o.horizon ls s → Appends old new (text_of i o.form (map (line_of (system_of i)) (lines_out s)))
+      → n ≡ bounded (length (text_of i o.form (map (line_of (system_of i)) (lines_out s)))) → CountedRounds i o ls old new (Ok (round_of s, n))
+  counted_whole s n h got counted = (map (line_of (system_of i)) (lines_out s), h.after, got, counted)
+
+  home_begins : AreGood i → (s : Settled) → IsHomeAgain i o.steps o.horizon ls s → Begin i o.steps o.horizon (ls ++ map (line_of (system_of i)) (lines_out s))
+  home_begins good (settled.Going core out) h = come_begins i good o.steps o.horizon core (ls ++ map (line_of (system_of i)) out.items) h.after.0
+  home_begins good (settled.Ended core out) h = come_begins i good o.steps o.horizon core (ls ++ map (line_of (system_of i)) out.items) h.after.0
+  home_begins good (settled.Stopped out mark) h = all_begin i good o.steps o.horizon (ls ++ map (line_of (system_of i)) out.items) _ h.after.1
+
+  pub counted_part : AreGood i → (s : Settled) (n : ℕ) → IsHomeAgain i o.steps o.horizon ls s → IsPartWritten old new (text_of i o.form (map (line_of (system_of i)) (lines_out s))) n
+      → CountedRounds i o ls old new (Err (Write n))
+  counted_part good s n h part = (map (line_of (system_of i)) (lines_out s), home_begins good s h, part)
+
+  -- a writer that failed
+  pub counted_failed : AreGood i → (s : Settled) (e : RunError) → IsHomeAgain i o.steps o.horizon ls s → WritesPartOf old new (text_of i o.form (map (line_of (system_of i)) (lines_out s))) e
+      → CountedRounds i o ls old new (Err e)
+  counted_failed good s (Write n) h part = counted_part good s n h part
+  counted_failed good s (Refused r) h part = absurd part
+  counted_failed good s Memory h part = absurd part
+  counted_failed good s BadOption h part = absurd part
+  counted_failed good s Failed h part = absurd part
+
+  -- memory that was wanting before anything was written
+  pub counted_wanting : (e : RunError) → e ≡ Memory → new ≡ old → CountedRounds i o ls old new (Err e)
+  counted_wanting e is same = subst (λ (f : RunError). CountedRounds i o ls old new (Err f)) (sym is) same
+
+  -- without the count
+  pub uncounted : (round : Round) (n : ℕ) → CountedRounds i o ls old new (Ok (round, n)) → Rounds i o ls old new (Ok round)
+  uncounted round n r = (r.0, r.1, r.2)
+
+  -- the error that `?` passes on
+  pub counted_passed : (r : Result (Round × ℕ) RunError) (e : RunError) → IsErrAnd r (λ f. f ≡ e) → CountedRounds i o ls old new (Err e) → CountedRounds i o ls old new r
+  counted_passed (Ok x) e bad h = absurd bad
+  counted_passed (Err f) e is h = subst (λ (x : RunError). CountedRounds i o ls old new (Err x)) (sym is) h
+
+  pub passed : (r : Result Round RunError) (e : RunError) → IsErrAnd r (λ f. f ≡ e) → CountedRounds i o ls old new (Err e) → Rounds i o ls old new r
+  passed (Ok x) e bad h = absurd bad
+  passed (Err f) e is h = subst (λ (x : RunError). Rounds i o ls old new (Err x)) (sym is) h

@@ -1,0 +1,15 @@
+use Rattle.std.proofs.Common.{◌≤◌, List}
+use Rattle.fb_types.specs.States.{Line}
+use Rattle.fb_sim.specs.Rounds.{HasCome}
+use Rattle.fb_sim.proofs.RunIs.{Came}
+use Rattle.fb_sim.proofs.drive.run_on.Given as goal
+
+abbrev pub invariant-loop : goal.invariant-loop
+invariant-loop g l = record {
+  some : 1 ≤ l.workers;
+  few : l.workers ≤ 64;
+  came : (ls : List Line) → HasCome l.system l.options.steps l.options.horizon l.fn.first ls
+      → Came l.system l.options ls l.core (g.W.Write.contents l.initial.out) (g.W.Write.contents l.out) l.written;
+  runs : (goal.iterator-loop g).can_next l.iterator';
+  finite : (goal.iterator-loop g).is_finite l.iterator';
+}

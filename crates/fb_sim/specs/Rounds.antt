@@ -1,0 +1,168 @@
+-- A run with workers, round after round (this project's profile).
+use Rattle.std.specs.Prelude.{◌≡◌, ◌⊎◌, ◌+◌, ◌<◌, ℕ, List, ◌++◌, map, length, All, Option, Result, Ok, Err}
+use Rattle.std.specs.Io.KnownBytes.{Appends}
+use Rattle.fb_types.specs.Headline.{Inputs, system_of, stimuli_of}
+use Rattle.fb_types.specs.Simulation.{Taken, IsSimulation, Ending, AtHorizon, AtStop, ending_of, lines_of}
+use Rattle.fb_types.specs.Numbers.{line_of}
+use Rattle.fb_types.specs.States.{Line}
+use Rattle.fb_types.specs.Text.{lines_text}
+use Rattle.fb_types.specs.Cores.{CoreStep}
+use Rattle.fb_types.specs.Parts.{machine, count_of}
+use Rattle.fb_types.specs.Schedules.{IsAtHorizon, IsLeastStop}
+use Rattle.fb_types.specs.declared.run.Form.{Form}
+use Rattle.fb_types.specs.declared.run.Line as run
+use Rattle.fb_types.specs.declared.value.Reason.{Reason}
+use Rattle.fb_system.specs.Lines.{BelongsTo}
+use Rattle.fb_trace.specs.Progress.{IsPartWritten, bounded}
+use Rattle.fb_window.specs.Finality.{core_of}
+use Rattle.fb_window.specs.Settling.{IsUnderWay, lists_of}
+use Rattle.fb_window.specs.declared.cores.Core.{Core}
+use Rattle.fb_window.specs.declared.cores.Settled.{Settled}
+use Rattle.fb_window.specs.declared.cores.Settled.TheVariants as settled
+use Rattle.fb_sim.specs.Given.{Given}
+use Rattle.fb_sim.specs.Serial.{AreWithin, AreTrace, IsRightly, WritesPart}
+use Rattle.fb_sim.specs.declared.options.Options.{Options}
+use Rattle.fb_sim.specs.declared.outcome.RunError.{RunError}
+use Rattle.fb_sim.specs.declared.outcome.RunError.TheVariants.{Refused, Memory, Write, BadOption, Failed}
+use Rattle.fb_sim.specs.declared.drive.Finish.{Finish}
+use Rattle.fb_sim.specs.declared.drive.Finish.TheVariants.{AtEnd, AtMark}
+use Rattle.fb_sim.specs.declared.progress.Round.{Round}
+use Rattle.fb_sim.specs.declared.progress.Round.TheVariants.{Going, Ended, Stopped}
+
+-- ---- What was handed out
+
+-- The lines are the first ones of the simulation.
+pub record Begin (i : Inputs) (limit horizon : ℕ) (ls : List Line) : Type 0 where
+  pub takings : List Taken
+  pub simulation : IsSimulation (system_of i) (stimuli_of i) horizon limit takings
+  pub rest : List Line
+  pub split : lines_of takings ≡ ls ++ rest
+
+-- The lines are all of the simulation, and it ends so.
+pub record AreAll (i : Inputs) (limit horizon : ℕ) (ls : List Line) (end : Ending) : Type 0 where
+  pub takings : List Taken
+  pub simulation : IsSimulation (system_of i) (stimuli_of i) horizon limit takings
+  pub lines : ls ≡ lines_of takings
+  pub ending : end ≡ ending_of horizon takings
+
+-- ---- A round
+
+-- A core of these inputs and this limit, all of whose lines belong to the system.
+pub record IsCoreOf (i : Inputs) (limit : ℕ) (core : Core) : Type 0 where
+  pub inputs : core.system ≡ i
+  pub steps : core.steps ≡ limit
+  pub kept : All (λ p. All (BelongsTo (system_of i)) p.items) core.pending.items
+
+-- The core has come to where it stands by some steps, each in its turn, and these lines were handed out of it.
+pub record HasCome (i : Inputs) (limit horizon : ℕ) (core : Core) (ls : List Line) : Type 0 where
+  pub of : IsCoreOf i limit core
+  pub steps : List (CoreStep (machine (system_of i) limit))
+  pub way : IsUnderWay i limit horizon steps core.resources.items (lists_of core.pending.items) ls
+
+-- These lines were handed out after a round, and it says how far the run is.
+abbrev pub IsAfter : (i : Inputs) (limit horizon : ℕ) (ls : List Line) → Round → Type 0
+IsAfter i limit horizon ls (Going core) =
+    (come : HasCome i limit horizon core ls)
+    × (IsAtHorizon (machine (system_of i) limit) (count_of (system_of i)) horizon (core_of i limit come.steps) → ⊥)
+    × ((s : ℕ) (reason : Reason) → IsLeastStop (machine (system_of i) limit) (count_of (system_of i)) (core_of i limit come.steps) s reason → ⊥)
+IsAfter i limit horizon ls (Ended core) =
+    (come : HasCome i limit horizon core ls)
+    × IsAtHorizon (machine (system_of i) limit) (count_of (system_of i)) horizon (core_of i limit come.steps)
+    × AreAll i limit horizon ls (AtHorizon horizon)
+IsAfter i limit horizon ls (Stopped mark) = (mark.resource < count_of (system_of i)) × AreAll i limit horizon ls (AtStop mark.tick mark.resource mark.reason)
+
+abbrev pub text_of : Inputs → Form → List Line → List ℕ
+text_of i form ls = lines_text form (system_of i) ls
+
+-- a writer failed, and got the first bytes of a text
+abbrev pub WritesPartOf : (old new : Option (List ℕ)) → (text : List ℕ) → RunError → Type 0
+WritesPartOf old new text (Write n) = IsPartWritten old new text n
+WritesPartOf old new text (Refused r) = ⊥
+WritesPartOf old new text Memory = ⊥
+WritesPartOf old new text BadOption = ⊥
+WritesPartOf old new text Failed = ⊥
+
+-- the error of a later call, behind so many bytes
+abbrev pub behind : (before : ℕ) → RunError → RunError
+behind n (Write m) = Write (bounded (n + m))
+behind n (Refused r) = Refused r
+behind n Memory = Memory
+behind n BadOption = BadOption
+behind n Failed = Failed
+
+-- a writer failed and got the first bytes of a text, behind so many bytes that were written before
+abbrev pub IsShort : (old new : Option (List ℕ)) → (text : List ℕ) → (before : ℕ) → RunError → Type 0
+IsShort old new text before (Write n) = (m : ℕ) × IsPartWritten old new text m × (n ≡ bounded (before + m))
+IsShort old new text before (Refused r) = ⊥
+IsShort old new text before Memory = ⊥
+IsShort old new text before BadOption = ⊥
+IsShort old new text before Failed = ⊥
+
+-- Where these lines were handed out, a round hands out the next ones, and the writer gets their text, or a part of it.
+abbrev pub Rounds : Inputs → Options → (ls : List Line) → (old new : Option (List ℕ)) → Result Round RunError → Type 0
+Rounds i o ls old new (Ok round) = (out : List Line) × IsAfter i o.steps o.horizon (ls ++ out) round × Appends old new (text_of i o.form out)
+Rounds i o ls old new (Err (Write n)) = (out : List Line) × Begin i o.steps o.horizon (ls ++ out) × IsPartWritten old new (text_of i o.form out) n
+Rounds i o ls old new (Err Memory) = new ≡ old
+Rounds i o ls old new (Err (Refused r)) = ⊥
+Rounds i o ls old new (Err BadOption) = ⊥
+Rounds i o ls old new (Err Failed) = ⊥
+
+-- The same, with the count of the bytes that were written.
+abbrev pub CountedRounds : Inputs → Options → (ls : List Line) → (old new : Option (List ℕ)) → Result (Round × ℕ) RunError → Type 0
+CountedRounds i o ls old new (Ok (round, n)) =
+    (out : List Line) × IsAfter i o.steps o.horizon (ls ++ out) round × Appends old new (text_of i o.form out) × (n ≡ bounded (length (text_of i o.form out)))
+CountedRounds i o ls old new (Err e) = Rounds i o ls old new (Err e)
+
+-- ---- A run
+
+-- how a run comes to its end, all lines of which are written, but no last line
+abbrev pub IsFinished : (i : Inputs) (limit horizon : ℕ) → Finish → (ls : List Line) → Type 0
+IsFinished i limit horizon (AtEnd core) ls =
+    (come : HasCome i limit horizon core ls)
+    × IsAtHorizon (machine (system_of i) limit) (count_of (system_of i)) horizon (core_of i limit come.steps)
+    × AreAll i limit horizon ls (AtHorizon horizon)
+IsFinished i limit horizon (AtMark mark) ls = (mark.resource < count_of (system_of i)) × AreAll i limit horizon ls (AtStop mark.tick mark.resource mark.reason)
+
+-- From a core out of which these lines were handed, the rest is run and written.
+abbrev pub RunsOn : Inputs → Options → (ls : List Line) → (old new : Option (List ℕ)) → Result (Finish × ℕ) RunError → Type 0
+RunsOn i o ls old new (Ok (finish, n)) =
+    (out : List Line) × IsFinished i o.steps o.horizon finish (ls ++ out) × Appends old new (text_of i o.form out) × (n ≡ bounded (length (text_of i o.form out)))
+RunsOn i o ls old new (Err (Write n)) = (out : List Line) × Begin i o.steps o.horizon (ls ++ out) × IsPartWritten old new (text_of i o.form out) n
+RunsOn i o ls old new (Err Memory) = (out : List Line) × Begin i o.steps o.horizon (ls ++ out) × Appends old new (text_of i o.form out)
+RunsOn i o ls old new (Err (Refused r)) = ⊥
+RunsOn i o ls old new (Err BadOption) = ⊥
+RunsOn i o ls old new (Err Failed) = ⊥
+
+-- The writer got the first bytes of the trace.
+pub record WritesFront (given : Given) (o : Options) (old new : Option (List ℕ)) : Type 0 where
+  pub bytes : List ℕ
+  pub rest : List ℕ
+  pub end : Ending
+  pub got : Appends old new bytes
+  pub trace : AreTrace given o (bytes ++ rest) end
+
+-- What a writer has where a run with workers failed. Options out of their range come before all else. Memory may be wanting before a round, when the lines of those before it are written.
+abbrev pub FailsRun : Given → Options → (old new : Option (List ℕ)) → RunError → Type 0
+FailsRun given o old new BadOption = (AreWithin o → ⊥) × (new ≡ old)
+FailsRun given o old new (Write n) = WritesPart given o old new n
+FailsRun given o old new (Refused r) = AreWithin o × IsRightly given r × (new ≡ old)
+FailsRun given o old new Memory = (AreWithin o × (new ≡ old)) ⊎ WritesFront given o old new
+FailsRun given o old new Failed = ⊥
+
+-- ---- Inside a round
+
+-- the round as it ends, and the lines to be written in it
+abbrev pub round_of : Settled → Round
+round_of (settled.Going core out) = Going core
+round_of (settled.Ended core out) = Ended core
+round_of (settled.Stopped out mark) = Stopped mark
+
+abbrev pub lines_out : Settled → List run.Line
+lines_out (settled.Going core out) = out.items
+lines_out (settled.Ended core out) = out.items
+lines_out (settled.Stopped out mark) = out.items
+
+-- All are home again, and these lines are the next ones.
+pub record IsHomeAgain (i : Inputs) (limit horizon : ℕ) (ls : List Line) (s : Settled) : Type 0 where
+  pub belong : All (BelongsTo (system_of i)) (lines_out s)
+  pub after : IsAfter i limit horizon (ls ++ map (line_of (system_of i)) (lines_out s)) (round_of s)

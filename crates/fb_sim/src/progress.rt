@@ -1,0 +1,15 @@
+//! How far a run is.
+
+use fb_types::run::StopMark;
+use fb_window::cores::Core;
+
+/// How far a run is after a round.
+#[derive(Drop)]
+pub enum Round {
+    /// Some resource has ticks to run yet.
+    Going(Core),
+    /// Every clock is at the horizon, and all lines are written.
+    Ended(Core),
+    /// A resource has stopped, and all lines up to its stop are written.
+    Stopped(StopMark),
+}

@@ -1,0 +1,152 @@
+//! One round: each resource runs to its bound, the messages are exchanged, and the lines that have become final are
+//! written.
+
+ghost use Rattle.std.specs.Prelude.{◌≡◌, ◌≤◌, List, map, length, All, IfOk, IfErr};
+ghost use Rattle.std.specs.Io.KnownBytes.{Appends};
+ghost use Rattle.fb_types.specs.Headline.{system_of};
+ghost use Rattle.fb_types.specs.Numbers.{line_of};
+ghost use Rattle.fb_types.specs.States as model;
+ghost use Rattle.fb_types.specs.Text.{lines_text};
+ghost use Rattle.fb_system.specs.Lines.{BelongsTo};
+ghost use Rattle.fb_trace.specs.Progress.{bounded};
+ghost use Rattle.fb_sim.specs.Serial.{AreWithin};
+ghost use Rattle.fb_sim.specs.Rounds as spec;
+ghost use Rattle.fb_sim.specs.Rounds.{CountedRounds, HasCome, IsHomeAgain, Rounds, WritesPartOf, lines_out};
+ghost use Rattle.fb_sim.specs.declared.outcome.RunError.TheVariants.{Memory};
+
+use crate::options::Options;
+use crate::outcome::RunError;
+use crate::progress::Round;
+use crate::work::Windows;
+use fb_phase::{Gate, run_all};
+use fb_system::system::System;
+use fb_trace::lines::write_counted;
+use fb_types::run::{Form, Line};
+use fb_window::cores::{Core, Settled};
+use fb_window::job::Job;
+use std::alloc::Global;
+use std::io::Write;
+use std::sync::Wait;
+use std::thread::Threads;
+
+/// How many ticks past the least event a bound may lie, so that a round does not gather lines without end.
+const CAP: u64 = 1024;
+
+/// How many workers the jobs want: no more than there are jobs with something to do, since the others cost next to
+/// nothing, and a thread costs more than one job.
+fn workers_for(jobs: &[Job], most: u64) -> usize
+    requires some { 1 ≤ most }
+    requires few { most ≤ 64 }
+    ensures some { 1 ≤ result }
+    ensures few { result ≤ 64 }
+{
+    let busy = jobs.iter().filter(|job| !job.is_idle()).count();
+    busy.min(most as usize).max(1)
+}
+
+/// Runs each resource to its bound, by the workers, and puts all back together.
+fn window<R: Threads + Wait + Sync, P: Gate>(
+    rt: &R,
+    alloc: Global,
+    system: &System,
+    core: Core,
+    options: Options,
+    gate: &P,
+) -> Result<Settled, RunError>
+    requires options { AreWithin options }
+    requires come { (ls : List model.Line) × HasCome system.now options.steps options.horizon core ls }
+    ensures home { (ls : List model.Line) → HasCome system.now options.steps options.horizon core ls → IfOk result (IsHomeAgain system.now options.steps options.horizon ls) }
+    ensures memory { IfErr result (λ e. e ≡ Memory) }
+{
+    system.facts();
+    let bounds = core.bounds(options.horizon, CAP);
+    let (away, jobs) = core.jobs(alloc, system, bounds)?;
+    let workers = workers_for(jobs.as_slice(), options.workers);
+    let dones = run_all(rt, alloc, &Windows, jobs, workers, gate)?;
+    Ok(away.settle(alloc, system, dones)?)
+}
+
+/// The lines that are to be written.
+fn lines_of(settled: &Settled) -> &[Line]
+    ensures { result.now ≡ lines_out settled.now }
+{
+    match settled {
+        Settled::Going(_, lines) => lines.as_slice(),
+        Settled::Ended(_, lines) => lines.as_slice(),
+        Settled::Stopped(lines, _) => lines.as_slice(),
+    }
+}
+
+/// How far the run is, once the lines are written.
+fn round_of(settled: Settled) -> Round
+    ensures { result ≡ spec.round_of settled }
+{
+    match settled {
+        Settled::Going(core, _) => Round::Going(core),
+        Settled::Ended(core, _) => Round::Ended(core),
+        Settled::Stopped(_, mark) => Round::Stopped(mark),
+    }
+}
+
+/// Writes lines, and tells how many bytes they have.
+fn hand_out<W: Write>(
+    out: &mut W,
+    system: &System,
+    form: Form,
+    lines: &[Line],
+) -> Result<u128, RunError>
+    requires { All (BelongsTo (system_of system.now)) lines.now }
+    ensures whole { IfOk result (λ n. let sys = system_of system.now in let text = lines_text form sys (map (line_of sys) lines.now) in
+        Appends (W.contents out.old) (W.contents out.new) text × (n ≡ bounded (length text))) }
+    ensures part { IfErr result (λ e. let sys = system_of system.now in
+        WritesPartOf (W.contents out.old) (W.contents out.new) (lines_text form sys (map (line_of sys) lines.now)) e) }
+{
+    match write_counted(out, system, form, lines) {
+        Ok(count) => Ok(count),
+        Err(fault) => Err(RunError::Write(fault.written)),
+    }
+}
+
+/// A round, with the count of the bytes that were written.
+pub(crate) fn counted_round<R: Threads + Wait + Sync, W: Write, P: Gate>(
+    rt: &R,
+    alloc: Global,
+    system: &System,
+    core: Core,
+    options: Options,
+    out: &mut W,
+    gate: &P,
+) -> Result<(Round, u128), RunError>
+    requires options { AreWithin options }
+    requires come { (ls : List model.Line) × HasCome system.now options.steps options.horizon core ls }
+    ensures { (ls : List model.Line) → HasCome system.now options.steps options.horizon core ls → CountedRounds system.now options ls (W.contents out.old) (W.contents out.new) result }
+{
+    system.facts();
+    let settled = window(rt, alloc, system, core, options, gate)?;
+    let count = hand_out(out, system, options.form, lines_of(&settled))?;
+    Ok((round_of(settled), count))
+}
+
+/// Runs each resource to its bound, exchanges their messages, and writes the lines that have become final, but no last
+/// line. What a chain of rounds from the opening has written is the text of the final lines.
+///
+/// It waits for its workers, and for the gate where that waits.
+///
+/// # Errors
+/// `Memory`, after which nothing was written; and `Write` with the count of the bytes that were. The core is given up.
+pub fn round<R: Threads + Wait + Sync, W: Write, P: Gate>(
+    rt: &R,
+    alloc: Global,
+    system: &System,
+    core: Core,
+    options: Options,
+    out: &mut W,
+    gate: &P,
+) -> Result<Round, RunError>
+    requires options { AreWithin options }
+    requires come { (ls : List model.Line) × HasCome system.now options.steps options.horizon core ls }
+    ensures { (ls : List model.Line) → HasCome system.now options.steps options.horizon core ls → Rounds system.now options ls (W.contents out.old) (W.contents out.new) result }
+{
+    let (round, _) = counted_round(rt, alloc, system, core, options, out, gate)?;
+    Ok(round)
+}

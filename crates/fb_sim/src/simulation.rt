@@ -1,0 +1,174 @@
+//! A run that is advanced piece by piece.
+
+ghost use Rattle.std.specs.Prelude.{◌≡◌, ◌^◌, ◌<◌, ◌≤◌, IfOk, IfErr};
+ghost use Rattle.fb_sim.specs.Advances.{Advances, AdvancesOn, Finishes, IsOpened, FailsToOpen};
+ghost use Rattle.fb_sim.specs.Sessions.{IsAhead};
+ghost use Rattle.fb_sim.specs.declared.state.Phase.TheVariants as going;
+
+use crate::drive::{Finish, run_on};
+use crate::options::{Inputs, Options};
+use crate::outcome::{Outcome, RunError};
+use crate::reading::open;
+use crate::run::{close, open_core};
+use crate::state::{Phase, State};
+use fb_phase::Gate;
+use fb_system::system::System;
+use fb_trace::last::End;
+use fb_types::run::Form;
+use fb_window::cores::Core;
+use std::alloc::Global;
+use std::io::Write;
+use std::marker::Model;
+use std::sync::Wait;
+use std::thread::Threads;
+
+/// The greatest tick to advance to.
+const MOST_TICKS: u64 = 1_000_000_000_000;
+
+/// A run by workers that is advanced to one tick after another. Contracts see its inputs and options, the greatest
+/// tick that it was advanced to, and whether it has stopped or failed.
+#[derive(Drop)]
+pub struct Simulation {
+    alloc: Global,
+    system: System,
+    steps: u64,
+    workers: u64,
+    form: Form,
+    to: u64,
+    state: State,
+}
+
+impl Model for Simulation {
+    ghost use Rattle.fb_sim.specs.Sessions.{Session, session_code, phase_of, IsSession};
+
+    ghost Value = { Session };
+
+    ghost coded = { session_code };
+
+    ghost view = { λ s. record { inputs = s.system; steps = s.steps; workers = s.workers; form = s.form; to = s.to; phase = phase_of s.state } };
+
+    ghost invariant = { λ s. IsSession s.system s.steps s.workers s.to s.state };
+}
+
+impl Simulation {
+    /// The simulation before the first event, at tick 0. A resource makes at most so many steps in a tick, 1 to
+    /// 10,000,000, and there are 1 to 64 workers.
+    ///
+    /// # Errors
+    /// `BadOption` before all else; then `Refused` and `Memory`.
+    pub fn open(
+        alloc: Global,
+        inputs: &Inputs<'_>,
+        steps: u64,
+        workers: u64,
+        form: Form,
+    ) -> Result<Simulation, RunError>
+        ensures opened { IfOk result (IsOpened inputs.now steps workers form) }
+        ensures failed { IfErr result (FailsToOpen inputs.now steps workers) }
+    {
+        let options = Options {
+            horizon: 1,
+            steps,
+            workers,
+            form,
+        };
+        if !options.are_within() {
+            return Err(RunError::BadOption);
+        }
+        let system = open(alloc, inputs)?;
+        let core = open_core(alloc, &system, steps)?;
+        Ok(Simulation {
+            alloc,
+            system,
+            steps,
+            workers,
+            form,
+            to: 0,
+            state: State::Open(core),
+        })
+    }
+
+    /// Runs the ticks below this one, in milliseconds, and writes their lines, with the line of the stop where it
+    /// stops. A tick that it was advanced to before writes nothing, nor does any after a stop.
+    ///
+    /// # Errors
+    /// `BadOption` where the tick is over 10^12, which changes nothing; `Memory` and `Write`, after which a beginning
+    /// of the lines was written; and after one of these two `Failed`.
+    pub fn advance<R: Threads + Wait + Sync, W: Write, P: Gate>(
+        &mut self,
+        rt: &R,
+        to: u64,
+        out: &mut W,
+        gate: &P,
+    ) -> Result<Outcome, RunError>
+        ensures { Advances self.old self.new to (W.contents out.old) (W.contents out.new) result }
+    {
+        if to > MOST_TICKS {
+            return Err(RunError::BadOption);
+        }
+        match self.state.phase() {
+            Phase::Failed => Err(RunError::Failed),
+            Phase::Stopped(mark) => Ok(Outcome::Stop(mark)),
+            Phase::Running if to <= self.to => Ok(Outcome::End(self.to)),
+            Phase::Running => match self.state.take() {
+                Some(core) => self.run_to(rt, core, to, out, gate),
+                None => Err(RunError::Failed),
+            },
+        }
+    }
+
+    /// Runs the core, which was taken out, to a later tick.
+    fn run_to<R: Threads + Wait + Sync, W: Write, P: Gate>(
+        &mut self,
+        rt: &R,
+        core: Core,
+        to: u64,
+        out: &mut W,
+        gate: &P,
+    ) -> Result<Outcome, RunError>
+        requires ahead { IsAhead self.old.inputs self.old.steps self.old.to core }
+        requires later { self.old.to < to }
+        requires early { to ≤ 10 ^ 12 }
+        requires out { self.old.phase ≡ going.Failed }
+        ensures { AdvancesOn (record self.old { phase = going.Running }) self.new to (W.contents out.old) (W.contents out.new) result }
+    {
+        self.system.facts();
+        let options = Options {
+            horizon: to,
+            steps: self.steps,
+            workers: self.workers,
+            form: self.form,
+        };
+        let (finish, written) = run_on(rt, self.alloc, &self.system, core, options, out, gate)?;
+        match finish {
+            Finish::AtEnd(core) => {
+                self.to = to;
+                self.state.put(State::Open(core));
+                Ok(Outcome::End(to))
+            }
+            Finish::AtMark(mark) => {
+                close(out, &self.system, End::Stop(mark), written)?;
+                self.to = to;
+                self.state.put(State::Stopped(mark));
+                Ok(Outcome::Stop(mark))
+            }
+        }
+    }
+
+    /// Ends the simulation, and writes the last line where it has not stopped.
+    ///
+    /// # Errors
+    /// `Write`, and `Failed` where an earlier call found no memory or could not write. It takes no memory.
+    pub fn finish<W: Write>(self, out: &mut W) -> Result<Outcome, RunError>
+        ensures { Finishes self (W.contents out.old) (W.contents out.new) result }
+    {
+        match self.state.phase() {
+            Phase::Failed => Err(RunError::Failed),
+            Phase::Stopped(mark) => Ok(Outcome::Stop(mark)),
+            Phase::Running => {
+                close(out, &self.system, End::Horizon(self.to), 0)?;
+                Ok(Outcome::End(self.to))
+            }
+        }
+    }
+}

@@ -1,0 +1,62 @@
+//! How far a simulation is.
+
+ghost use Rattle.std.specs.Prelude.{◌≡◌};
+ghost use Rattle.fb_sim.specs.Sessions.{core_in, phase_of};
+ghost use Rattle.fb_sim.specs.declared.state.State.TheVariants.{Failed};
+
+use fb_types::run::StopMark;
+use fb_window::cores::Core;
+use std::mem;
+
+/// How far a simulation is, with its core.
+#[derive(Drop)]
+pub(crate) enum State {
+    /// Every clock is at the tick that was advanced to.
+    Open(Core),
+    /// A resource has stopped.
+    Stopped(StopMark),
+    /// A call found no memory or could not write, and the core was given up.
+    Failed,
+}
+
+/// How far a simulation is, as contracts see it.
+#[derive(Clone, Copy, Debug, PartialEq, Eq)]
+pub enum Phase {
+    /// It goes on.
+    Running,
+    /// A resource has stopped.
+    Stopped(StopMark),
+    /// A call found no memory or could not write.
+    Failed,
+}
+
+impl State {
+    /// How far it is, without the core.
+    pub(crate) fn phase(&self) -> Phase
+        ensures { result ≡ phase_of self.now }
+    {
+        match self {
+            State::Open(_) => Phase::Running,
+            State::Stopped(mark) => Phase::Stopped(*mark),
+            State::Failed => Phase::Failed,
+        }
+    }
+
+    /// Takes the core out, if there is one, and leaves nothing to go on with.
+    pub(crate) fn take(&mut self) -> Option<Core>
+        ensures core { result ≡ core_in self.old }
+        ensures left { self.new ≡ Failed }
+    {
+        match mem::replace(self, State::Failed) {
+            State::Open(core) => Some(core),
+            State::Stopped(_) | State::Failed => None,
+        }
+    }
+
+    /// Puts another state in its place.
+    pub(crate) fn put(&mut self, next: State)
+        ensures { self.new ≡ next }
+    {
+        *self = next;
+    }
+}
