@@ -1,5 +1,5 @@
 -- What a call of the program does (this project's own).
-use Rattle.std.specs.Prelude.{◌≡◌, ◌+◌, ◌⊎◌, ℕ, List, Option, Some, None, option_map, Result, Ok, Err, codes}
+use Rattle.std.specs.Prelude.{◌≡◌, ◌+◌, ◌⊎◌, ℕ, Bool, true, false, List, Option, Some, None, option_map, Result, Ok, Err, codes}
 use Rattle.std.specs.Io.KnownBytes.{Appends}
 use Rattle.clap.specs.Words.{Text}
 use Rattle.fb_types.specs.Simulation.{AtHorizon, AtStop}
@@ -7,12 +7,15 @@ use Rattle.fb_types.specs.declared.value.Reason.{Reason}
 use Rattle.fb_read.specs.Whole.{most_bytes}
 use Rattle.fb_inputs.specs.Stimuli as stimuli
 use Rattle.fb_sim.specs.Given.{Given}
+use Rattle.fb_sim.specs.Rounds.{WritesFront}
 use Rattle.fb_sim.specs.Serial as sim
 use Rattle.fb_sim.specs.Serial.{AreWithin, IsDeclared, IsRefusal, Writes}
 use Rattle.fb_sim.specs.declared.options.Options.{Options}
+use Rattle.fb_sim.specs.declared.outcome.Outcome.{Outcome}
+use Rattle.fb_sim.specs.declared.outcome.Outcome.TheVariants as sim_end
 use Rattle.fb_sim.specs.declared.outcome.RunError.{RunError}
 use Rattle.fbsim.specs.Failures.{IsPartWritten, failure_of, failure_of_source}
-use Rattle.fbsim.specs.Line.{AreCall, AreNoCall, AskHelp}
+use Rattle.fbsim.specs.Line.{AreCall, AreNoCall, AskHelp, IsTaken}
 use Rattle.fbsim.specs.declared.failure.Failure.{Failure}
 use Rattle.fbsim.specs.declared.failure.Failure.TheVariants.{Refused, File, Write, Memory, Line, BadOption}
 use Rattle.fbsim.specs.declared.failure.Refusal.{Refusal}
@@ -50,24 +53,33 @@ Checks given old new (Err File) = ⊥
 Checks given old new (Err (Line message)) = ⊥
 Checks given old new (Err BadOption) = ⊥
 
+abbrev pub IsDoneOf : Outcome → Done → Type 0
+IsDoneOf (sim_end.End h) done = done ≡ Ended
+IsDoneOf (sim_end.Stop mark) done = done ≡ Stopped
+
+-- what a writer has where memory was wanting: of a run by one queue nothing, and of one by workers a beginning of the trace
+abbrev pub Wants : (serial : Bool) → Given → Options → (old new : Held) → Type 0
+Wants true given o old new = AreWithin o × (new ≡ old)
+Wants false given o old new = (AreWithin o × (new ≡ old)) ⊎ WritesFront given o old new
+
 -- the inputs are run
-abbrev pub Runs : Given → Options → (old new : Held) → End → Type 0
-Runs given o old new (Ok Ended) = (horizon : ℕ) × Writes given o old new (AtHorizon horizon)
-Runs given o old new (Ok Stopped) = (tick : ℕ) × (resource : ℕ) × (reason : Reason) × Writes given o old new (AtStop tick resource reason)
-Runs given o old new (Ok Helped) = ⊥
-Runs given o old new (Ok Accepted) = ⊥
-Runs given o old new (Err (Refused refusal)) = IsRefused given refusal × (new ≡ old)
-Runs given o old new (Err (Write n)) = sim.WritesPart given o old new n
-Runs given o old new (Err Memory) = new ≡ old
-Runs given o old new (Err BadOption) = (AreWithin o → ⊥) × (new ≡ old)
-Runs given o old new (Err File) = ⊥
-Runs given o old new (Err (Line message)) = ⊥
+abbrev pub Runs : (serial : Bool) → Given → Options → (old new : Held) → End → Type 0
+Runs serial given o old new (Ok Ended) = (horizon : ℕ) × Writes given o old new (AtHorizon horizon)
+Runs serial given o old new (Ok Stopped) = (tick : ℕ) × (resource : ℕ) × (reason : Reason) × Writes given o old new (AtStop tick resource reason)
+Runs serial given o old new (Ok Helped) = ⊥
+Runs serial given o old new (Ok Accepted) = ⊥
+Runs serial given o old new (Err (Refused refusal)) = AreWithin o × IsRefused given refusal × (new ≡ old)
+Runs serial given o old new (Err (Write n)) = sim.WritesPart given o old new n
+Runs serial given o old new (Err Memory) = Wants serial given o old new
+Runs serial given o old new (Err BadOption) = (AreWithin o → ⊥) × (new ≡ old)
+Runs serial given o old new (Err File) = ⊥
+Runs serial given o old new (Err (Line message)) = ⊥
 
 -- what a call asks for is done with the inputs
 abbrev pub Meets : Given → Order → (old new : Held) → End → Type 0
 Meets given Check old new end = Checks given old new end
-Meets given (Run horizon steps form) old new end =
-    Runs given (record { horizon = horizon; steps = steps; workers = 1; form = form }) old new end
+Meets given (Run horizon steps workers serial form) old new end =
+    Runs serial given (record { horizon = horizon; steps = steps; workers = workers; form = form }) old new end
 
 -- ---- The files
 
@@ -158,6 +170,8 @@ Explains words old new (Err (Refused refusal)) = ⊥
 Explains words old new (Err File) = ⊥
 Explains words old new (Err BadOption) = ⊥
 
--- the words are done as the call that they name, or explained
+-- the words are done as the call that they name, or explained, and then nothing is read
 abbrev pub Does : {S : Type 0} → Reading S → (from to : S) → List Text → (old new : Held) → End → Type 0
-Does reads from to words old new end = ((c : Call) × AreCall words c × Performs reads from to c old new end) ⊎ Explains words old new end
+Does reads from to words old new end =
+    ((c : Call) × AreCall words c × IsTaken words × Performs reads from to c old new end)
+    ⊎ (Explains words old new end × (to ≡ from))

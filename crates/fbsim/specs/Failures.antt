@@ -48,6 +48,7 @@ failure_of (run.Refused r) = failure_of_refusal r
 failure_of run.Memory = Memory
 failure_of (run.Write n) = Write n
 failure_of run.BadOption = BadOption
+failure_of run.Failed = Memory
 
 abbrev pub failure_of_source : SourceFault → Failure
 failure_of_source source.File = File
@@ -66,6 +67,11 @@ failure_text (Write n) = codes "write fault after " ++ decimal n ++ codes " byte
 failure_text Memory = codes "out of memory"
 failure_text (Line text) = string_bytes text
 failure_text BadOption = codes "an option is out of range"
+
+-- what standard error is told: the text, and a line end where the text has none of its own
+abbrev pub told : Failure → List ℕ
+told (Line text) = string_bytes text
+told failure = failure_text failure ++ codes "\n"
 
 -- ---- The statuses
 

@@ -1,8 +1,10 @@
 -- The command line (this project's own): the program's commands, and the call that a parse of the words stands for.
-use Rattle.std.specs.Prelude.{◌≡◌, ◌<◌, ◌^◌, ℕ, true, List, [], ◌∷◌, Option, Some, map, option_map, codes}
+use Rattle.std.specs.Prelude.{◌≡◌, ◌≢◌, ◌⊎◌, ◌<◌, ◌^◌, ◌↔◌, ℕ, Bool, true, IsTrue, List, [], ◌∷◌, Option, Some, map, option_map, codes}
 use Rattle.std.specs.Borrow.{Bor}
 use Rattle.std.specs.Str.Parse.{IsNumeral, digits_value, without_leading_plus}
 use Rattle.clap.specs.Words.{App, Rule, Row, Text, new_app, new_rule, with_rule, with_subcommand, subcommand_of, first_of, one_of, takes, fault_of, IsAmong}
+use Rattle.clap.specs.declared.builder.action.ArgAction.TheVariants.{SetTrue}
+use Rattle.clap.specs.declared.error.kind.ErrorKind.{ErrorKind}
 use Rattle.clap.specs.declared.error.kind.ErrorKind.TheVariants.{DisplayHelp}
 use Rattle.clap.specs.declared.builder.value_parser.ValueParser.{ValueParser}
 use Rattle.clap.specs.declared.builder.value_parser.ValueParser.TheVariants as parser
@@ -48,6 +50,10 @@ limited id values = record (new_rule id) { long = Some id; parser = Some values 
 abbrev pub file : Text → Rule
 file id = record (new_rule id) { long = Some id }
 
+-- an option without a value
+abbrev pub flag : Text → Rule
+flag id = record (new_rule id) { long = Some id; action = Some SetTrue }
+
 -- a command with the names of its files
 abbrev pub files : Text → App
 files name =
@@ -56,11 +62,17 @@ files name =
     (file (codes "deploy")))
     (file (codes "stim"))
 
--- how far a run goes, and the form of its trace
-abbrev pub with_run_options : ValueParser → App → App
-with_run_options values a = with_rule (with_rule (with_rule a
+-- how far a run goes, and by how many workers
+abbrev pub with_numbers : App → App
+with_numbers a = with_rule (with_rule (with_rule a
     (record (limited (codes "horizon") (up_to 1000000000000)) { required = true }))
     (record (limited (codes "steps") (up_to 10000000)) { defaults = codes "10000" ∷ [] }))
+    (record (limited (codes "workers") (up_to 64)) { defaults = codes "1" ∷ [] })
+
+-- these, whether it is made by one queue, and the form of its trace
+abbrev pub with_run_options : ValueParser → App → App
+with_run_options values a = with_rule (with_rule (with_numbers a)
+    (flag (codes "serial")))
     (record (limited (codes "trace") values) { defaults = word_of One ∷ [] })
 
 -- the program's command, with this parser for the form of the trace
@@ -77,7 +89,7 @@ simulator = simulator_with forms
 
 abbrev pub command_name : Order → Text
 command_name Check = codes "check"
-command_name (Run horizon steps form) = codes "run"
+command_name (Run horizon steps workers serial form) = codes "run"
 
 -- the option has one text, a decimal numeral that may begin with a plus, and this is its number
 pub record IsNumber (rows : List Row) (id : Text) (n : ℕ) : Type 0 where
@@ -91,14 +103,20 @@ pub record IsNumber (rows : List Row) (id : Text) (n : ℕ) : Type 0 where
 abbrev pub IsForm : List Row → Form → Type 0
 IsForm rows form = first_of (codes "trace") rows ≡ Some (word_of form)
 
-pub record IsRun (rows : List Row) (horizon steps : ℕ) (form : Form) : Type 0 where
+-- the option is there exactly where this is true
+abbrev pub IsFlag : List Row → Text → Bool → Type 0
+IsFlag rows id here = IsTrue here ↔ (first_of id rows ≡ Some (codes "true"))
+
+pub record IsRun (rows : List Row) (horizon steps workers : ℕ) (serial : Bool) (form : Form) : Type 0 where
   pub horizon_is : IsNumber rows (codes "horizon") horizon
   pub steps_is : IsNumber rows (codes "steps") steps
+  pub workers_is : IsNumber rows (codes "workers") workers
+  pub serial_is : IsFlag rows (codes "serial") serial
   pub form_is : IsForm rows form
 
 abbrev pub IsOrder : List Row → Order → Type 0
 IsOrder rows Check = Unit {0}
-IsOrder rows (Run horizon steps form) = IsRun rows horizon steps form
+IsOrder rows (Run horizon steps workers serial form) = IsRun rows horizon steps workers serial form
 
 -- the call has what the rows of its command say
 pub record IsCall (rows : List Row) (c : Call) : Type 0 where
@@ -117,6 +135,10 @@ pub record IsCallOf (found : Option (Text × List Row)) (c : Call) : Type 0 wher
 abbrev pub AreCall : List Text → Call → Type 0
 AreCall words = IsCallOf (subcommand_of simulator words)
 
+-- the parser finds no fault in the words: each value is one that its option takes, and what is required is there
+abbrev pub IsTaken : List Text → Type 0
+IsTaken words = fault_of simulator words ≡ []
+
 -- ---- No call
 
 abbrev pub IsHelp : LineFault → Type 0
@@ -133,6 +155,15 @@ IsFault (Fault text) = Unit {0}
 abbrev pub AskHelp : List Text → Type 0
 AskHelp words = IsAmong DisplayHelp (fault_of simulator words)
 
--- the parser refuses these words, or they name no call
-abbrev pub AreNoCall : List Text → Type 0
-AreNoCall words = takes simulator words ≡ true → (c : Call) → AreCall words c → ⊥
+-- the parser finds this fault in the words, and it is not that help is asked for
+pub record IsRefused (words : List Text) (kind : ErrorKind) : Type 0 where
+  pub among : IsAmong kind (fault_of simulator words)
+  pub no_help : kind ≢ DisplayHelp
+
+abbrev pub NameNoCall : List Text → Type 0
+NameNoCall words = (c : Call) → AreCall words c → ⊥
+
+-- the parser refuses these words, and not with the help, or they name no call
+pub record AreNoCall (words : List Text) : Type 0 where
+  pub cause : ((kind : ErrorKind) × IsRefused words kind) ⊎ (IsTaken words × NameNoCall words)
+  pub none : takes simulator words ≡ true → NameNoCall words

@@ -1,9 +1,10 @@
 //! One call of the program, over any files and any outputs.
 
+ghost use Rattle.std.specs.Io.KnownBytes.{Appends};
 ghost use Rattle.std.specs.Prelude.{◌≡◌, map, option_map, Result, IfOk, IfErr, OnOk};
-ghost use Rattle.fbsim.specs.Command.{AreRead, Checks, Does, IsUnread, MayRead, Meets, Performs, Runs};
+ghost use Rattle.fbsim.specs.Command.{AreRead, Checks, Does, IsDoneOf, IsUnread, MayRead, Meets, Performs, Runs};
 ghost use Rattle.fbsim.specs.Texts.{contents_of, given_of};
-ghost use Rattle.fbsim.specs.Failures.{status_of};
+ghost use Rattle.fbsim.specs.Failures.{status_of, told};
 ghost use Rattle.fbsim.specs.declared.failure.Failure.{Failure};
 ghost use Rattle.fbsim.specs.declared.status.Done.{Done};
 
@@ -12,11 +13,16 @@ use crate::line::{Call, LineFault, Order, parse};
 use crate::output::write_text;
 use crate::source::{Source, SourceFault};
 use crate::status::{Done, status};
+use fb_phase::OpenGate;
 use fb_sim::options::{Inputs, Options};
 use fb_sim::outcome::Outcome;
+use fb_sim::run::run;
 use fb_sim::serial::{check, run_serial};
 use std::alloc::Global;
+use std::io;
 use std::io::Write;
+use std::sync::Wait;
+use std::thread::Threads;
 
 /// One byte more than a declaration or a deployment may have, so that one that is too long shows.
 const TEXT_BYTES: usize = 1_048_577;
@@ -59,19 +65,30 @@ fn check_inputs<W: Write>(alloc: Global, inputs: &Inputs<'_>, out: &mut W) -> Re
     Ok(Done::Accepted)
 }
 
-/// Writes the trace of the inputs.
-fn run_inputs<W: Write>(
+fn done_of(outcome: Outcome) -> Done
+    ensures { IsDoneOf outcome result }
+{
+    match outcome {
+        Outcome::End(_) => Done::Ended,
+        Outcome::Stop(_) => Done::Stopped,
+    }
+}
+
+/// Writes the trace of the inputs, by one queue of events or by workers.
+fn run_inputs<R: Threads + Wait + Sync, W: Write>(
+    rt: &R,
     alloc: Global,
     inputs: &Inputs<'_>,
     options: Options,
+    serial: bool,
     out: &mut W,
 ) -> Result<Done, Failure>
-    ensures { Runs inputs.now options (W.contents out.old) (W.contents out.new) result }
+    ensures { Runs serial inputs.now options (W.contents out.old) (W.contents out.new) result }
 {
-    match run_serial(alloc, inputs, options, out)? {
-        Outcome::End(_) => Ok(Done::Ended),
-        Outcome::Stop(_) => Ok(Done::Stopped),
+    if serial {
+        return Ok(done_of(run_serial(alloc, inputs, options, out)?));
     }
+    Ok(done_of(run(rt, alloc, inputs, options, out, &OpenGate)?))
 }
 
 /// Reads a file that a call may name.
@@ -109,7 +126,13 @@ fn read_files<S: Source>(
 }
 
 /// Does with the files what a call asks for.
-fn meet<W: Write>(alloc: Global, order: Order, texts: &Texts, out: &mut W) -> Result<Done, Failure>
+fn meet<R: Threads + Wait + Sync, W: Write>(
+    rt: &R,
+    alloc: Global,
+    order: Order,
+    texts: &Texts,
+    out: &mut W,
+) -> Result<Done, Failure>
     ensures { Meets (given_of texts.now) order (W.contents out.old) (W.contents out.new) result }
 {
     let inputs = texts.inputs();
@@ -118,21 +141,24 @@ fn meet<W: Write>(alloc: Global, order: Order, texts: &Texts, out: &mut W) -> Re
         Order::Run {
             horizon,
             steps,
+            workers,
+            serial,
             form,
         } => {
             let options = Options {
                 horizon,
                 steps,
-                workers: 1,
+                workers,
                 form,
             };
-            run_inputs(alloc, &inputs, options, out)
+            run_inputs(rt, alloc, &inputs, options, serial, out)
         }
     }
 }
 
 /// Does what a call asks for.
-fn perform<S: Source, W: Write>(
+fn perform<R: Threads + Wait + Sync, S: Source, W: Write>(
+    rt: &R,
     alloc: Global,
     call: &Call<'_>,
     source: &mut S,
@@ -141,11 +167,12 @@ fn perform<S: Source, W: Write>(
     ensures { Performs S.gives source.old source.new call.now (W.contents out.old) (W.contents out.new) result }
 {
     let texts = read_files(alloc, call, source)?;
-    meet(alloc, call.order, &texts, out)
+    meet(rt, alloc, call.order, &texts, out)
 }
 
 /// Does what the words ask for.
-fn obey<'w, S: Source, W: Write>(
+fn obey<'w, R: Threads + Wait + Sync, S: Source, W: Write>(
+    rt: &R,
     alloc: Global,
     words: &'w [&'w str],
     source: &mut S,
@@ -154,7 +181,7 @@ fn obey<'w, S: Source, W: Write>(
     ensures { Does S.gives source.old source.new (map (λ w. w.now) words.entry.now) (W.contents out.old) (W.contents out.new) result }
 {
     match parse(alloc, words) {
-        Ok(call) => perform(alloc, &call, source, out),
+        Ok(call) => perform(rt, alloc, &call, source, out),
         Err(LineFault::Help(text)) => {
             write_text(out, text.as_bytes())?;
             Ok(Done::Helped)
@@ -164,18 +191,23 @@ fn obey<'w, S: Source, W: Write>(
     }
 }
 
-/// Tells a failure. What becomes of it changes nothing.
-fn tell<E: Write>(err: &mut E, failure: &Failure) {
-    let _ = match failure {
+/// Tells a failure. A fault of the words has its line end already.
+///
+/// # Errors
+/// That of the writer, which may have got a part.
+fn tell<E: Write>(err: &mut E, failure: &Failure) -> io::Result<()>
+    ensures { OnOk result (Appends (E.contents err.old) (E.contents err.new) (told failure.now)) }
+{
+    match failure {
         Failure::Line(text) => err.write_all(text.as_bytes()),
         failure => writeln!(err, "{failure}"),
-    };
+    }
 }
 
 /// Does what the words ask for, the program's own name first, and answers the status of the program. What is asked
-/// for goes to `out`, and a failure is told to `err`.
-pub fn command<'w, R, S: Source, W: Write, E: Write>(
-    _rt: &R,
+/// for goes to `out`, and a failure is told to `err`. A run with workers waits for them.
+pub fn command<'w, R: Threads + Wait + Sync, S: Source, W: Write, E: Write>(
+    rt: &R,
     alloc: Global,
     words: &'w [&'w str],
     source: &mut S,
@@ -186,9 +218,10 @@ pub fn command<'w, R, S: Source, W: Write, E: Write>(
         × Does S.gives source.old source.new (map (λ w. w.now) words.entry.now) (W.contents out.old) (W.contents out.new) end
         × OnOk end (E.contents err.new ≡ E.contents err.old) }
 {
-    let end = obey(alloc, words, source, out);
+    let end = obey(rt, alloc, words, source, out);
     if let Err(failure) = &end {
-        tell(err, failure);
+        // Where it can't be told, the status alone tells of it.
+        let _ = tell(err, failure);
     }
     status(&end)
 }

@@ -82,6 +82,8 @@ impl From<RunError> for Failure {
             RunError::Memory => Failure::Memory,
             RunError::Write(written) => Failure::Write(written),
             RunError::BadOption => Failure::BadOption,
+            // Only a simulation that is used after a failed call answers so, and the program has none.
+            RunError::Failed => Failure::Memory,
         }
     }
 }

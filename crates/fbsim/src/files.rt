@@ -1,6 +1,6 @@
 //! The files of the machine.
 
-ghost use Rattle.std.specs.Prelude.{◌≡◌, ◌≤◌, IfOk, IfSome, take, vec_len};
+ghost use Rattle.std.specs.Prelude.{◌≡◌, ◌≤◌, IfOk, IfSome, false, take, vec_len};
 
 #[cfg(test)]
 mod tests;
@@ -22,7 +22,9 @@ pub struct Files<'r, R> {
 
 impl<'r, R: rt::Files + Input> Files<'r, R> {
     /// All files, with standard input not yet read.
-    pub fn new(runtime: &'r R) -> Files<'r, R> {
+    pub fn new(runtime: &'r R) -> Files<'r, R>
+        ensures { result.has_read_input ≡ false }
+    {
         Files {
             runtime,
             has_read_input: false,

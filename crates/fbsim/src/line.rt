@@ -1,8 +1,8 @@
 //! The command line.
 
-ghost use Rattle.std.specs.Prelude.{◌≡◌, ◌≢◌, ℕ, IfOk, IfErr, IfSome, IfNone, map, false};
+ghost use Rattle.std.specs.Prelude.{◌≡◌, ◌≢◌, ℕ, IfOk, IfErr, IfSome, IfNone, OnOk, map, false};
 ghost use Rattle.fbsim.specs.Line as spec;
-ghost use Rattle.fbsim.specs.Line.{AreCall, AreNoCall, AskHelp, AreForms, IsCall, IsCallOf, IsFault, IsForm, IsHelp, IsNumber, IsOrder, command_name};
+ghost use Rattle.fbsim.specs.Line.{AreCall, AreNoCall, AskHelp, AreForms, IsCall, IsCallOf, IsFault, IsFlag, IsForm, IsHelp, IsNumber, IsOrder, IsTaken, command_name};
 ghost use Rattle.fbsim.specs.declared.line.LineFault.TheVariants.{Memory};
 ghost use Rattle.fbsim.specs.declared.line.Call.{Call};
 ghost use Rattle.fbsim.specs.declared.line.Order.{Order};
@@ -12,7 +12,7 @@ ghost use Rattle.clap.specs.declared.builder.command.Command.TheViews.{out-Comma
 
 use clap::builder::ValueParser;
 use clap::error::ErrorKind;
-use clap::{Arg, ArgMatches, Command, Error, value_parser};
+use clap::{Arg, ArgAction, ArgMatches, Command, Error, value_parser};
 use fb_types::run::Form;
 use std::alloc::{AllocError, Global};
 
@@ -39,6 +39,10 @@ pub enum Order {
         horizon: u64,
         /// The most steps that a resource makes in one tick, 1 to 10,000,000.
         steps: u64,
+        /// How many workers there are, 1 to 64.
+        workers: u64,
+        /// Whether all is run by one queue of events on one thread, whatever the number of workers.
+        serial: bool,
         /// The form of the trace.
         form: Form,
     },
@@ -65,15 +69,36 @@ impl From<AllocError> for LineFault {
 /// What is said of words that the parser takes and that name no call all the same.
 const NO_CALL: &str = "error: the words name no call\n";
 
+const DECLARATION_HELP: &str =
+    "The file with the declaration of the types and the application; `-` is standard input.";
+
+const DEPLOY_HELP: &str =
+    "The file with the deployment, in TOML; without it one resource MAIN has every instance.";
+
+const STIMULI_HELP: &str = "The file with the stimuli, in CSV; without it there are none.";
+
+const HORIZON_HELP: &str = "The tick, in milliseconds, at which the run ends, 1 to 1000000000000.";
+
+const STEPS_HELP: &str = "The most steps that a resource makes in one tick, 1 to 10000000.";
+
+const WORKERS_HELP: &str =
+    "How many workers run the resources, 1 to 64; the trace is the same with any number.";
+
+const SERIAL_HELP: &str =
+    "Runs all resources by one queue of events on one thread; the trace is the same.";
+
+const TRACE_HELP: &str =
+    "The form of the trace; with 2 each line but the last begins with its event's class, a and b.";
+
 /// What the forms of the trace are called.
 const FORM_WORDS: &[&str] = &["1", "2"];
 
 /// An option that takes the name of a file.
-fn file<'a>(alloc: Global, id: &'a str) -> Arg<'a>
+fn file<'a>(alloc: Global, id: &'a str, help: &'a str) -> Arg<'a>
     ensures rule { rule_of result ≡ spec.file id.entry.now }
     ensures local { result.global ≡ false }
 {
-    Arg::new(alloc, id).long(id)
+    Arg::new(alloc, id).long(id).help(help)
 }
 
 /// A command with the names of its files.
@@ -81,9 +106,11 @@ fn files<'a>(alloc: Global, name: &'a str) -> Result<Command<'a>, AllocError>
     ensures app { IfOk result (λ c. app_of c ≡ spec.files name.entry.now) }
     ensures globals { IfOk result (λ c. (fields_of c).has_globals ≡ false) }
 {
-    let declaration = Arg::new(alloc, "DECL").required(true);
-    let deploy = file(alloc, "deploy");
-    let stimuli = file(alloc, "stim");
+    let declaration = Arg::new(alloc, "DECL")
+        .required(true)
+        .help(DECLARATION_HELP);
+    let deploy = file(alloc, "deploy", DEPLOY_HELP);
+    let stimuli = file(alloc, "stim", STIMULI_HELP);
     Command::new(alloc, name)
         .arg(declaration)?
         .arg(deploy)?
@@ -91,11 +118,22 @@ fn files<'a>(alloc: Global, name: &'a str) -> Result<Command<'a>, AllocError>
 }
 
 /// An option that takes a value of this kind.
-fn limited<'a>(alloc: Global, id: &'a str, values: ValueParser<'a>) -> Arg<'a>
+fn limited<'a>(alloc: Global, id: &'a str, values: ValueParser<'a>, help: &'a str) -> Arg<'a>
     ensures rule { rule_of result ≡ spec.limited id.entry.now values.entry }
     ensures local { result.global ≡ false }
 {
-    Arg::new(alloc, id).long(id).value_parser(values)
+    Arg::new(alloc, id).long(id).value_parser(values).help(help)
+}
+
+/// An option without a value, which is there or is not.
+fn flag<'a>(alloc: Global, id: &'a str, help: &'a str) -> Arg<'a>
+    ensures rule { rule_of result ≡ spec.flag id.entry.now }
+    ensures local { result.global ≡ false }
+{
+    Arg::new(alloc, id)
+        .long(id)
+        .action(ArgAction::SetTrue)
+        .help(help)
 }
 
 fn up_to_horizon<'a>() -> ValueParser<'a>
@@ -110,6 +148,12 @@ fn up_to_steps<'a>() -> ValueParser<'a>
     value_parser!(u64).range(1..=10_000_000)
 }
 
+fn up_to_workers<'a>() -> ValueParser<'a>
+    ensures { result ≡ spec.up_to 64 }
+{
+    value_parser!(u64).range(1..=64)
+}
+
 /// The words of the forms of the trace, and no others.
 fn forms<'a>() -> ValueParser<'a>
     ensures { AreForms result }
@@ -117,7 +161,19 @@ fn forms<'a>() -> ValueParser<'a>
     ValueParser::Names(FORM_WORDS)
 }
 
-/// The command with the options that say how far a run goes and what its trace is like.
+/// The command with the options that are numbers: how far a run goes, and by how many workers.
+fn with_numbers<'a>(alloc: Global, command: Command<'a>) -> Result<Command<'a>, AllocError>
+    requires { (fields_of command).has_globals ≡ false }
+    ensures app { IfOk result (λ c. app_of c ≡ spec.with_numbers (app_of command.entry)) }
+    ensures globals { IfOk result (λ c. (fields_of c).has_globals ≡ false) }
+{
+    let horizon = limited(alloc, "horizon", up_to_horizon(), HORIZON_HELP).required(true);
+    let steps = limited(alloc, "steps", up_to_steps(), STEPS_HELP).default_value("10000");
+    let workers = limited(alloc, "workers", up_to_workers(), WORKERS_HELP).default_value("1");
+    command.arg(horizon)?.arg(steps)?.arg(workers)
+}
+
+/// The command with the options that say how far a run goes, how it is made, and what its trace is like.
 fn with_run_options<'a>(
     alloc: Global,
     command: Command<'a>,
@@ -127,10 +183,9 @@ fn with_run_options<'a>(
     ensures app { IfOk result (λ c. app_of c ≡ spec.with_run_options forms.entry (app_of command.entry)) }
     ensures globals { IfOk result (λ c. (fields_of c).has_globals ≡ false) }
 {
-    let horizon = limited(alloc, "horizon", up_to_horizon()).required(true);
-    let steps = limited(alloc, "steps", up_to_steps()).default_value("10000");
-    let trace = limited(alloc, "trace", forms).default_value("1");
-    command.arg(horizon)?.arg(steps)?.arg(trace)
+    let serial = flag(alloc, "serial", SERIAL_HELP);
+    let trace = limited(alloc, "trace", forms, TRACE_HELP).default_value("1");
+    with_numbers(alloc, command)?.arg(serial)?.arg(trace)
 }
 
 fn simulator<'a>(alloc: Global, forms: ValueParser<'a>) -> Result<Command<'a>, AllocError>
@@ -149,6 +204,16 @@ fn number(found: &ArgMatches<'_>, id: &str) -> Option<u64>
     ensures none { IfNone result ((n : ℕ) → IsNumber (rows_of (found_of found.now)) id.now n → ⊥) }
 {
     found.get_one::<u64>(id)
+}
+
+/// Whether an option without a value is there.
+fn has_flag(found: &ArgMatches<'_>, id: &str) -> bool
+    ensures { IsFlag (rows_of (found_of found.now)) id.now result }
+{
+    let Some(word) = found.get_str(id) else {
+        return false;
+    };
+    matches!(word, "true")
 }
 
 /// The form of the trace that is asked for.
@@ -175,6 +240,8 @@ fn order_of(name: &str, found: &ArgMatches<'_>) -> Option<Order>
         return Some(Order::Run {
             horizon: number(found, "horizon")?,
             steps: number(found, "steps")?,
+            workers: number(found, "workers")?,
+            serial: has_flag(found, "serial"),
             form: form_of(found)?,
         });
     }
@@ -201,6 +268,7 @@ fn call_of<'a>(name: &str, found: &ArgMatches<'a>) -> Option<Call<'a>>
 fn fault(alloc: Global, error: &Error) -> LineFault
     ensures help { IsHelp result → kind_of error.now ≡ ErrorKind.DisplayHelp }
     ensures fault { IsFault result → kind_of error.now ≢ ErrorKind.OutOfMemory }
+    ensures no_help { IsFault result → kind_of error.now ≢ ErrorKind.DisplayHelp }
 {
     let kind = error.kind();
     if kind == ErrorKind::OutOfMemory {
@@ -233,6 +301,7 @@ fn call_in<'a>(alloc: Global, matches: &ArgMatches<'a>) -> Result<Call<'a>, Line
 /// `Help` where help is asked for, `Fault` where the words are no call, and `Memory`.
 pub fn parse<'a>(alloc: Global, words: &'a [&'a str]) -> Result<Call<'a>, LineFault>
     ensures call { IfOk result (AreCall (map (λ w. w.now) words.entry.now)) }
+    ensures taken { OnOk result (IsTaken (map (λ w. w.now) words.entry.now)) }
     ensures help { IfErr result (λ e. IsHelp e → AskHelp (map (λ w. w.now) words.entry.now)) }
     ensures none { IfErr result (λ e. IsFault e → AreNoCall (map (λ w. w.now) words.entry.now)) }
 {

@@ -15,26 +15,29 @@ use crate::command::command;
 use crate::failure::Failure;
 use crate::files::Files;
 use std::process::ExitCode;
+use std::sync::Wait;
+use std::thread::Threads;
 use std::{env, io};
 
-/// Calls the program by the words that it was started with.
-fn call(rt: &HostRuntime) -> io::Result<u8> {
-    let alloc = rt.alloc();
-    let words: Vec<String> = env::args(rt)?.collect(alloc)?;
+/// Calls the program by the words that it was started with. The host opens its files and its outputs, and the workers
+/// have a handle of their own, since a host that is passed on starts no threads.
+fn call<R: Threads + Wait + Sync>(rt: &R, host: &HostRuntime) -> io::Result<u8> {
+    let alloc = host.alloc();
+    let words: Vec<String> = env::args(host)?.collect(alloc)?;
     let texts: Vec<&str> = words.iter().map(|word| word.as_str()).collect(alloc)?;
-    let mut files = Files::new(rt);
+    let mut files = Files::new(host);
     Ok(command(
         rt,
         alloc,
         texts.as_slice(),
         &mut files,
-        &mut rt.stdout(),
-        &mut rt.stderr(),
+        &mut host.stdout(),
+        &mut host.stderr(),
     ))
 }
 
 fn main(rt: HostRuntime) -> ExitCode {
-    match call(&rt) {
+    match call(&rt, &rt) {
         Ok(status) => ExitCode::from(status),
         Err(error) if error.kind() == io::ErrorKind::OutOfMemory => {
             let _ = rt.eprintln(Failure::Memory);

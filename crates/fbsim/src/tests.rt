@@ -13,6 +13,8 @@ use crate::source::{Source, SourceFault};
 use std::alloc::{AllocError, Global};
 use std::io;
 use std::io::Write;
+use std::sync::Wait;
+use std::thread::Threads;
 
 /// One file in memory, of this name and these bytes. The file `full` finds no memory.
 #[derive(Drop)]
@@ -113,19 +115,29 @@ fn words_of<'a>(alloc: Global, call: &'a str) -> Result<Vec<&'a str>, AllocError
 }
 
 /// What the program does by these words, the file `d` having these bytes.
-fn ask(alloc: Global, words: &[&str], declaration: &[u8]) -> Result<Answer, AllocError> {
+fn ask<R: Threads + Wait + Sync>(
+    rt: &R,
+    alloc: Global,
+    words: &[&str],
+    declaration: &[u8],
+) -> Result<Answer, AllocError> {
     let files = [("d", declaration)];
-    ask_of(alloc, words, files.as_slice())
+    ask_of(rt, alloc, words, files.as_slice())
 }
 
 /// What the program does by these words over these files.
-fn ask_of(alloc: Global, words: &[&str], files: &[File<'_>]) -> Result<Answer, AllocError> {
+fn ask_of<R: Threads + Wait + Sync>(
+    rt: &R,
+    alloc: Global,
+    words: &[&str],
+    files: &[File<'_>],
+) -> Result<Answer, AllocError> {
     let mut all: Vec<&str> = Vec::new(alloc);
     all.push("fbsim")?;
     all.extend_from_slice(words)?;
     let mut source = Folder { files };
     let mut out = Vec::new(alloc);
     let mut err = Vec::new(alloc);
-    let status = command(&(), alloc, all.as_slice(), &mut source, &mut out, &mut err);
+    let status = command(rt, alloc, all.as_slice(), &mut source, &mut out, &mut err);
     Ok(Answer { status, out, err })
 }

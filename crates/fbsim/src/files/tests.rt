@@ -2,9 +2,9 @@
 
 use super::{Files, read_most};
 use crate::source::{Source, SourceFault};
-use std::io;
 use std::io::Read;
 use std::test::Fail;
+use std::{fs, io};
 
 /// Gives so many bytes, one at each call, with a pause before each, and then fails.
 #[derive(Drop)]
@@ -61,6 +61,29 @@ fn a_fault_of_the_reader_is_a_fault_of_the_file(rt: HostRuntime) -> Result<(), F
     };
     let read = read_most(rt.alloc(), &mut reader, 3);
     assert!(rt; read.is_ok_and(|bytes| bytes.as_slice() == b"xxx".as_slice()));
+    Ok(())
+}
+
+/// More bytes than are read at a time, and more than half of a text of the greatest length.
+const LARGE: u32 = 600_000;
+
+#[test]
+fn a_large_file_is_read_up_to_the_most(rt: HostRuntime) -> Result<(), Fail> {
+    let alloc = rt.alloc();
+    let mut bytes = Vec::new(alloc);
+    for place in 0..LARGE {
+        bytes.push((place % 251) as u8)?;
+    }
+    fs::write(&rt, "large", bytes.as_slice())?;
+    for (most, wanted) in [(599_999, 599_999), (600_000, 600_000), (600_001, 600_000)] {
+        let mut files = Files::new(&rt);
+        let read = files.read(alloc, "large", most);
+        assert!(rt;
+            read.is_ok_and(|it| it.len() == wanted && bytes.starts_with(it.as_slice())),
+            "{most}"
+        );
+    }
+    fs::remove_file(&rt, "large")?;
     Ok(())
 }
 

@@ -8,7 +8,9 @@ mod tank;
 
 use super::{File, ask, ask_of};
 use std::alloc::Global;
+use std::sync::Wait;
 use std::test::Fail;
+use std::thread::Threads;
 
 const FLASHER: &str = "APPLICATION FLASHER
 FBS
@@ -145,28 +147,35 @@ end 100
 ";
 
 /// Whether a declaration runs to this trace.
-fn runs(alloc: Global, declaration: &str, horizon: &str, trace: &str) -> Result<bool, Fail> {
+fn runs<R: Threads + Wait + Sync>(
+    rt: &R,
+    alloc: Global,
+    declaration: &str,
+    horizon: &str,
+    trace: &str,
+) -> Result<bool, Fail> {
     let words = ["run", "d", "--horizon", horizon];
-    let answer = ask(alloc, words.as_slice(), declaration.as_bytes())?;
+    let answer = ask(rt, alloc, words.as_slice(), declaration.as_bytes())?;
     Ok(answer.is(0, trace.as_bytes(), b""))
 }
 
 /// Whether a call over these files runs to this trace.
-fn runs_files(
+fn runs_files<R: Threads + Wait + Sync>(
+    rt: &R,
     alloc: Global,
     words: &[&str],
     files: &[File<'_>],
     trace: &str,
 ) -> Result<bool, Fail> {
-    let answer = ask_of(alloc, words, files)?;
+    let answer = ask_of(rt, alloc, words, files)?;
     Ok(answer.is(0, trace.as_bytes(), b""))
 }
 
 #[test]
 fn event_blocks_alone_have_their_traces(rt: HostRuntime) -> Result<(), Fail> {
     let alloc = rt.alloc();
-    assert!(rt; runs(alloc, FLASHER, "2500", FLASHER_TRACE)?);
-    assert!(rt; runs(alloc, STARTUP, "4000", STARTUP_TRACE)?);
-    assert!(rt; runs(alloc, WATCHDOG, "100", WATCHDOG_TRACE)?);
+    assert!(rt; runs(&rt, alloc, FLASHER, "2500", FLASHER_TRACE)?);
+    assert!(rt; runs(&rt, alloc, STARTUP, "4000", STARTUP_TRACE)?);
+    assert!(rt; runs(&rt, alloc, WATCHDOG, "100", WATCHDOG_TRACE)?);
     Ok(())
 }

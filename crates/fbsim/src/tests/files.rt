@@ -2,7 +2,9 @@
 
 use super::{Answer, ask_of, words_of};
 use std::alloc::{AllocError, Global};
+use std::sync::Wait;
 use std::test::Fail;
+use std::thread::Threads;
 
 const CYCLE: &[u8] =
     b"APPLICATION A FBS S : E_RESTART; C : E_CYCLE(DT := T#3ms); END_FBS\nEVENT_CONNECTIONS S.COLD TO C.START; END_CONNECTIONS END_APPLICATION";
@@ -10,7 +12,8 @@ const CYCLE: &[u8] =
 const TWICE: &[u8] = b"APPLICATION A FBS S : E_MERGE; S : E_MERGE; END_FBS END_APPLICATION";
 
 /// What the program does with a declaration `d`, a deployment `p` and stimuli `s`.
-fn ask_all(
+fn ask_all<R: Threads + Wait + Sync>(
+    rt: &R,
     alloc: Global,
     words: &[&str],
     declaration: &[u8],
@@ -18,13 +21,14 @@ fn ask_all(
     stimuli: &[u8],
 ) -> Result<Answer, AllocError> {
     let files = [("d", declaration), ("p", deploy), ("s", stimuli)];
-    ask_of(alloc, words, files.as_slice())
+    ask_of(rt, alloc, words, files.as_slice())
 }
 
 #[test]
 fn stimuli_without_rows_change_nothing(rt: HostRuntime) -> Result<(), Fail> {
     let words = ["run", "d", "--horizon", "4", "--stim", "s"];
     let answer = ask_all(
+        &rt,
         rt.alloc(),
         words.as_slice(),
         CYCLE,
@@ -39,7 +43,14 @@ fn stimuli_without_rows_change_nothing(rt: HostRuntime) -> Result<(), Fail> {
 #[test]
 fn the_deployment_is_refused_before_the_stimuli(rt: HostRuntime) -> Result<(), Fail> {
     let words = ["check", "d", "--stim", "s", "--deploy", "p"];
-    let answer = ask_all(rt.alloc(), words.as_slice(), TWICE, b"[", b"tick,event\n")?;
+    let answer = ask_all(
+        &rt,
+        rt.alloc(),
+        words.as_slice(),
+        TWICE,
+        b"[",
+        b"tick,event\n",
+    )?;
     assert!(rt; answer.is(2, b"", b"refused E10\n"));
     Ok(())
 }
@@ -47,7 +58,14 @@ fn the_deployment_is_refused_before_the_stimuli(rt: HostRuntime) -> Result<(), F
 #[test]
 fn the_stimuli_are_refused_before_the_check(rt: HostRuntime) -> Result<(), Fail> {
     let words = ["check", "d", "--stim", "s"];
-    let answer = ask_all(rt.alloc(), words.as_slice(), TWICE, b"[", b"tick,event\n")?;
+    let answer = ask_all(
+        &rt,
+        rt.alloc(),
+        words.as_slice(),
+        TWICE,
+        b"[",
+        b"tick,event\n",
+    )?;
     assert!(rt; answer.is(2, b"", b"refused E13\n"));
     Ok(())
 }
@@ -72,10 +90,10 @@ fn stimuli_and_deployments_are_checked_and_run(rt: HostRuntime) -> Result<(), Fa
     let fed = b"tick,event,values\n0,C.START,DT=5\n";
     for (option, trace) in OPTIONS {
         let words = ["check", "d", option[0], option[1]];
-        let checked = ask_all(alloc, words.as_slice(), CYCLE, mapped, fed)?;
+        let checked = ask_all(&rt, alloc, words.as_slice(), CYCLE, mapped, fed)?;
         assert!(rt; checked.is(0, b"accepted\n", b""));
         let words = ["run", "d", "--horizon", "6", option[0], option[1]];
-        let run = ask_all(alloc, words.as_slice(), CYCLE, mapped, fed)?;
+        let run = ask_all(&rt, alloc, words.as_slice(), CYCLE, mapped, fed)?;
         assert!(rt; run.is(0, trace, b""));
     }
     Ok(())
@@ -96,10 +114,11 @@ fn files_are_read_before_anything_is_refused(rt: HostRuntime) -> Result<(), Fail
     let alloc = rt.alloc();
     for call in UNREAD {
         let words = words_of(alloc, call)?;
-        let answer = ask_all(alloc, words.as_slice(), b"?", b"[", b"?")?;
+        let answer = ask_all(&rt, alloc, words.as_slice(), b"?", b"[", b"?")?;
         assert!(rt; answer.is(3, b"", b"file fault\n"), "{call}");
     }
     let answer = ask_all(
+        &rt,
         alloc,
         ["check", "d", "--stim", "full"].as_slice(),
         b"?",

@@ -3,7 +3,9 @@
 use super::{OneFile, with_room};
 use crate::command::command;
 use std::alloc::Global;
+use std::sync::Wait;
 use std::test::Fail;
+use std::thread::Threads;
 
 const CYCLE: &[u8] =
     b"APPLICATION A FBS S : E_RESTART; C : E_CYCLE(DT := T#3ms); END_FBS\nEVENT_CONNECTIONS S.COLD TO C.START; END_CONNECTIONS END_APPLICATION";
@@ -26,7 +28,13 @@ const FAULTS: [Fault<'static>; 5] = [
 ];
 
 /// Whether the words fail by this fault, the output having got the first bytes of the text.
-fn fails(alloc: Global, words: &[&str], text: &[u8], fault: Fault<'_>) -> bool {
+fn fails<R: Threads + Wait + Sync>(
+    rt: &R,
+    alloc: Global,
+    words: &[&str],
+    text: &[u8],
+    fault: Fault<'_>,
+) -> bool {
     let (room, step, told) = fault;
     let mut source = OneFile {
         name: "d",
@@ -34,7 +42,7 @@ fn fails(alloc: Global, words: &[&str], text: &[u8], fault: Fault<'_>) -> bool {
     };
     let mut out = with_room(alloc, step, room);
     let mut err = Vec::new(alloc);
-    let status = command(&(), alloc, words, &mut source, &mut out, &mut err);
+    let status = command(rt, alloc, words, &mut source, &mut out, &mut err);
     status == 3
         && err.as_slice() == told
         && out.got.len() == room
@@ -47,8 +55,8 @@ fn a_fault_of_the_output_tells_what_it_took(rt: HostRuntime) -> Result<(), Fail>
     let run = ["fbsim", "run", "d", "--horizon", "8"];
     let check = ["fbsim", "check", "d"];
     for fault in FAULTS {
-        assert!(rt; fails(alloc, run.as_slice(), TO_8, fault));
-        assert!(rt; fails(alloc, check.as_slice(), b"accepted\n", fault));
+        assert!(rt; fails(&rt, alloc, run.as_slice(), TO_8, fault));
+        assert!(rt; fails(&rt, alloc, check.as_slice(), b"accepted\n", fault));
     }
     Ok(())
 }
@@ -69,7 +77,7 @@ fn the_output_may_fail_at_any_byte_of_a_trace(rt: HostRuntime) -> Result<(), Fai
         for room in 0..trace.len() {
             let told = format!(in alloc; "write fault after {room} bytes\n")?;
             let fault = (room, 100, told.as_bytes());
-            assert!(rt; fails(alloc, words, trace, fault), "{room}");
+            assert!(rt; fails(&rt, alloc, words, trace, fault), "{room}");
         }
     }
     Ok(())
@@ -86,7 +94,7 @@ fn a_fault_at_the_help_is_told(rt: HostRuntime) -> Result<(), Fail> {
     let mut help = with_room(alloc, 1000, 100_000);
     let mut err = Vec::new(alloc);
     let status = command(
-        &(),
+        &rt,
         alloc,
         words.as_slice(),
         &mut source,
@@ -95,7 +103,7 @@ fn a_fault_at_the_help_is_told(rt: HostRuntime) -> Result<(), Fail> {
     );
     assert!(rt; status == 0 && err.is_empty());
     for fault in FAULTS {
-        assert!(rt; fails(alloc, words.as_slice(), help.got.as_slice(), fault));
+        assert!(rt; fails(&rt, alloc, words.as_slice(), help.got.as_slice(), fault));
     }
     Ok(())
 }
@@ -111,7 +119,7 @@ fn a_slow_output_gets_all(rt: HostRuntime) -> Result<(), Fail> {
     let mut out = with_room(alloc, 1, 1000);
     let mut err = Vec::new(alloc);
     let status = command(
-        &(),
+        &rt,
         alloc,
         words.as_slice(),
         &mut source,
@@ -141,7 +149,7 @@ fn a_failing_standard_error_changes_no_status(rt: HostRuntime) -> Result<(), Fai
             };
             let mut out: Vec<u8> = Vec::new(alloc);
             let mut err = with_room(alloc, 2, room);
-            let status = command(&(), alloc, words, &mut source, &mut out, &mut err);
+            let status = command(&rt, alloc, words, &mut source, &mut out, &mut err);
             assert!(rt; status == wanted && out.is_empty(), "{words:?}");
             assert_eq!(rt; err.got.len(), room);
         }

@@ -51,10 +51,10 @@ const REFUSED: [(&str, &[u8]); 13] = [
 fn a_refusal_is_told_by_its_number(rt: HostRuntime) -> Result<(), Fail> {
     let alloc = rt.alloc();
     for (text, line) in REFUSED {
-        let checked = ask(alloc, ["check", "d"].as_slice(), text.as_bytes())?;
+        let checked = ask(&rt, alloc, ["check", "d"].as_slice(), text.as_bytes())?;
         assert!(rt; checked.is(2, b"", line), "{text}");
         let words = ["run", "d", "--horizon", "5"];
-        let run = ask(alloc, words.as_slice(), text.as_bytes())?;
+        let run = ask(&rt, alloc, words.as_slice(), text.as_bytes())?;
         assert!(rt; run.is(2, b"", line), "{text}");
     }
     Ok(())
@@ -75,11 +75,11 @@ fn a_text_of_a_mebibyte_is_read_and_a_longer_one_is_not(rt: HostRuntime) -> Resu
     let alloc = rt.alloc();
     let words = ["check", "d"];
     let longest = padded(alloc, 1_048_576)?;
-    let read = ask(alloc, words.as_slice(), longest.as_slice())?;
+    let read = ask(&rt, alloc, words.as_slice(), longest.as_slice())?;
     assert!(rt; read.is(0, b"accepted\n", b""));
     for length in [1_048_577, 1_048_578] {
         let text = padded(alloc, length)?;
-        let refused = ask(alloc, words.as_slice(), text.as_slice())?;
+        let refused = ask(&rt, alloc, words.as_slice(), text.as_slice())?;
         assert!(rt; refused.is(2, b"", b"refused E04\n"));
     }
     Ok(())
@@ -99,9 +99,9 @@ fn crowd(alloc: Global, count: usize) -> Result<String, AllocError> {
 fn there_may_be_4096_instances(rt: HostRuntime) -> Result<(), Fail> {
     let alloc = rt.alloc();
     let words = ["check", "d"];
-    let most = ask(alloc, words.as_slice(), crowd(alloc, 4096)?.as_bytes())?;
+    let most = ask(&rt, alloc, words.as_slice(), crowd(alloc, 4096)?.as_bytes())?;
     assert!(rt; most.is(0, b"accepted\n", b""));
-    let over = ask(alloc, words.as_slice(), crowd(alloc, 4097)?.as_bytes())?;
+    let over = ask(&rt, alloc, words.as_slice(), crowd(alloc, 4097)?.as_bytes())?;
     assert!(rt; over.is(2, b"", b"refused E30\n"));
     Ok(())
 }
@@ -109,12 +109,12 @@ fn there_may_be_4096_instances(rt: HostRuntime) -> Result<(), Fail> {
 #[test]
 fn a_file_that_cannot_be_read_is_a_fault(rt: HostRuntime) -> Result<(), Fail> {
     let alloc = rt.alloc();
-    let missing = ask(alloc, ["check", "e"].as_slice(), b"")?;
+    let missing = ask(&rt, alloc, ["check", "e"].as_slice(), b"")?;
     assert!(rt; missing.is(3, b"", b"file fault\n"));
     let words = ["run", "e", "--horizon", "1"];
-    let missing = ask(alloc, words.as_slice(), b"")?;
+    let missing = ask(&rt, alloc, words.as_slice(), b"")?;
     assert!(rt; missing.is(3, b"", b"file fault\n"));
-    let full = ask(alloc, ["check", "full"].as_slice(), b"")?;
+    let full = ask(&rt, alloc, ["check", "full"].as_slice(), b"")?;
     assert!(rt; full.is(4, b"", b"out of memory\n"));
     Ok(())
 }

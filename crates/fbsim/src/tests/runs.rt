@@ -2,7 +2,9 @@
 
 use super::{Answer, ask};
 use std::alloc::{AllocError, Global};
+use std::sync::Wait;
 use std::test::Fail;
+use std::thread::Threads;
 
 const CYCLE: &[u8] =
     b"APPLICATION A FBS S : E_RESTART; C : E_CYCLE(DT := T#3ms); END_FBS\nEVENT_CONNECTIONS S.COLD TO C.START; END_CONNECTIONS END_APPLICATION";
@@ -32,7 +34,8 @@ const FORMS: [(&[&str], &[u8], &[u8]); 5] = [
 ];
 
 /// What the program does with the declaration, by these words and more of them.
-fn ask_with<'w>(
+fn ask_with<'w, R: Threads + Wait + Sync>(
+    rt: &R,
     alloc: Global,
     words: &[&'w str],
     more: &[&'w str],
@@ -40,14 +43,14 @@ fn ask_with<'w>(
 ) -> Result<Answer, AllocError> {
     let mut all: Vec<&'w str> = Vec::from_slice(alloc, words)?;
     all.extend_from_slice(more)?;
-    ask(alloc, all.as_slice(), declaration)
+    ask(rt, alloc, all.as_slice(), declaration)
 }
 
 #[test]
 fn a_cycle_runs_to_its_horizon(rt: HostRuntime) -> Result<(), Fail> {
     let words = ["run", "d", "--horizon", "8"];
     for (form, trace, _) in FORMS {
-        let answer = ask_with(rt.alloc(), words.as_slice(), form, CYCLE)?;
+        let answer = ask_with(&rt, rt.alloc(), words.as_slice(), form, CYCLE)?;
         assert!(rt; answer.is(0, trace, b""), "{form:?}");
     }
     Ok(())
@@ -57,7 +60,7 @@ fn a_cycle_runs_to_its_horizon(rt: HostRuntime) -> Result<(), Fail> {
 fn a_stop_is_status_1_and_told_by_the_trace(rt: HostRuntime) -> Result<(), Fail> {
     let words = ["run", "d", "--horizon", "1", "--steps", "3"];
     for (form, _, trace) in FORMS {
-        let answer = ask_with(rt.alloc(), words.as_slice(), form, RING)?;
+        let answer = ask_with(&rt, rt.alloc(), words.as_slice(), form, RING)?;
         assert!(rt; answer.is(1, trace, b""), "{form:?}");
     }
     Ok(())
@@ -75,7 +78,13 @@ fn nothing_happens_where_no_event_occurs(rt: HostRuntime) -> Result<(), Fail> {
     let words = ["run", "d", "--horizon", "5"];
     for declaration in QUIET {
         for (form, _, _) in FORMS {
-            let answer = ask_with(rt.alloc(), words.as_slice(), form, declaration.as_bytes())?;
+            let answer = ask_with(
+                &rt,
+                rt.alloc(),
+                words.as_slice(),
+                form,
+                declaration.as_bytes(),
+            )?;
             assert!(rt; answer.is(0, b"end 5\n", b""), "{declaration}");
         }
     }
@@ -88,7 +97,7 @@ fn a_timer_may_lie_far_behind_the_horizon(rt: HostRuntime) -> Result<(), Fail> {
     let cycle =
         b"APPLICATION A FBS S : E_RESTART; C : E_CYCLE(DT := T#9223372036854775807ms); END_FBS\nEVENT_CONNECTIONS S.COLD TO C.START; END_CONNECTIONS END_APPLICATION";
     let words = ["run", "d", "--horizon", "1000000000000"];
-    let answer = ask(rt.alloc(), words.as_slice(), cycle)?;
+    let answer = ask(&rt, rt.alloc(), words.as_slice(), cycle)?;
     let trace = b"0 MAIN < S.COLD\n0 MAIN > C.START DT=9223372036854775807\nend 1000000000000\n";
     assert!(rt; answer.is(0, trace, b""));
     Ok(())
@@ -98,7 +107,7 @@ fn a_timer_may_lie_far_behind_the_horizon(rt: HostRuntime) -> Result<(), Fail> {
 #[test]
 fn there_are_10000_steps_where_none_are_given(rt: HostRuntime) -> Result<(), Fail> {
     let words = ["run", "d", "--horizon", "1"];
-    let answer = ask(rt.alloc(), words.as_slice(), RING)?;
+    let answer = ask(&rt, rt.alloc(), words.as_slice(), RING)?;
     assert_eq!(rt; answer.status, 1);
     let lines = answer.out.iter().filter(|byte| **byte == b'\n').count();
     assert_eq!(rt; lines, 20_000);
@@ -108,7 +117,7 @@ fn there_are_10000_steps_where_none_are_given(rt: HostRuntime) -> Result<(), Fai
 #[test]
 fn an_accepted_declaration_is_told(rt: HostRuntime) -> Result<(), Fail> {
     let words = ["check", "d"];
-    let answer = ask(rt.alloc(), words.as_slice(), CYCLE)?;
+    let answer = ask(&rt, rt.alloc(), words.as_slice(), CYCLE)?;
     assert!(rt; answer.is(0, b"accepted\n", b""));
     Ok(())
 }

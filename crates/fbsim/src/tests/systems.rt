@@ -2,7 +2,9 @@
 
 use super::{ask_of, words_of};
 use std::alloc::{AllocError, Global};
+use std::sync::Wait;
 use std::test::Fail;
+use std::thread::Threads;
 
 /// A call over the files `d`, `p` and `s`, with the status that it answers, what it writes and what it tells.
 #[derive(Drop)]
@@ -18,14 +20,14 @@ struct Case {
 }
 
 impl Case {
-    fn holds(&self, alloc: Global) -> Result<bool, AllocError> {
+    fn holds<R: Threads + Wait + Sync>(&self, rt: &R, alloc: Global) -> Result<bool, AllocError> {
         let files = [
             ("d", self.declaration),
             ("p", self.deploy),
             ("s", self.stimuli),
         ];
         let words = words_of(alloc, self.call)?;
-        let answer = ask_of(alloc, words.as_slice(), files.as_slice())?;
+        let answer = ask_of(rt, alloc, words.as_slice(), files.as_slice())?;
         Ok(answer.is(self.status, self.out, self.err))
     }
 }
@@ -160,7 +162,7 @@ stop 7 R2 steps
 #[test]
 fn systems_have_their_traces(rt: HostRuntime) -> Result<(), Fail> {
     for case in RUNS {
-        assert!(rt; case.holds(rt.alloc())?, "{}", case.call);
+        assert!(rt; case.holds(&rt, rt.alloc())?, "{}", case.call);
     }
     Ok(())
 }
@@ -217,7 +219,7 @@ const REFUSALS: [Case; 5] = [
 #[test]
 fn a_refused_system_writes_nothing(rt: HostRuntime) -> Result<(), Fail> {
     for case in REFUSALS {
-        assert!(rt; case.holds(rt.alloc())?, "{}", case.call);
+        assert!(rt; case.holds(&rt, rt.alloc())?, "{}", case.call);
     }
     Ok(())
 }

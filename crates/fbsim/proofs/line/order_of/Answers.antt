@@ -1,6 +1,6 @@
 use Rattle.std.proofs.Common.{rules, ◌≡◌, codes}
 use Rattle.clap.specs.Words.{rows_of, found_of}
-use Rattle.fbsim.proofs.LineLaws.{if_none, no_form, no_horizon, no_steps}
+use Rattle.fbsim.proofs.LineLaws.{if_none, no_form, no_horizon, no_steps, no_workers}
 use Rattle.fbsim.proofs.line.order_of.Goals as goal
 
 pub returns-in_err-number-clause-none : goal.returns-in_err-number-clause-none
@@ -12,6 +12,11 @@ pub returns-in_err-number-2-clause-none : goal.returns-in_err-number-2-clause-no
 returns-in_err-number-2-clause-none c =
     let named : c.args.name.now ≡ codes "run" = search rules in
     if_none _ _ (no_steps (rows_of (found_of c.args.found.now)) c.args.name.now named c.in_err-number-2.ensures.none)
+
+pub returns-in_err-number-3-clause-none : goal.returns-in_err-number-3-clause-none
+returns-in_err-number-3-clause-none c =
+    let named : c.args.name.now ≡ codes "run" = search rules in
+    if_none _ _ (no_workers (rows_of (found_of c.args.found.now)) c.args.name.now named c.in_err-number-3.ensures.none)
 
 pub returns-in_err-form_of-clause-none : goal.returns-in_err-form_of-clause-none
 returns-in_err-form_of-clause-none c =

@@ -179,6 +179,6 @@ fn the_conveyor_has_its_trace(rt: HostRuntime) -> Result<(), Fail> {
         ("p", DEPLOYMENT.as_bytes()),
         ("s", STIMULI.as_bytes()),
     ];
-    assert!(rt; runs_files(rt.alloc(), words.as_slice(), files.as_slice(), TRACE)?);
+    assert!(rt; runs_files(&rt, rt.alloc(), words.as_slice(), files.as_slice(), TRACE)?);
     Ok(())
 }

@@ -118,6 +118,6 @@ end 6000
 fn the_press_has_its_trace(rt: HostRuntime) -> Result<(), Fail> {
     let words = ["run", "d", "--stim", "s", "--horizon", "6000"];
     let files = [("d", DECLARATION.as_bytes()), ("s", STIMULI.as_bytes())];
-    assert!(rt; runs_files(rt.alloc(), words.as_slice(), files.as_slice(), TRACE)?);
+    assert!(rt; runs_files(&rt, rt.alloc(), words.as_slice(), files.as_slice(), TRACE)?);
     Ok(())
 }
