@@ -10,7 +10,6 @@ apart, and a body is refused by what it calls states, not by how that is proved.
 a folder of this call for the next check. So no check is over what an older run kept."""
 
 import copy
-import functools
 import itertools
 import os
 import re
@@ -37,11 +36,10 @@ class Function:
     """A function of a source file: its name, the impl that it stands in, as rattle names that, and three lines, from 1: its first,
     that of its name, and its last."""
 
-    def __init__(self, path, impl, name, lines, of_trait, home):
+    def __init__(self, path, impl, name, lines, of_trait):
         self.path, self.impl, self.name, self.of_trait = path, impl, name, of_trait
         self.first, self.named, self.last = lines
-        # (a method is named by the file of its type, also where its impl stands in another)
-        self.module = home[len("src/") : -len(".rt")].removesuffix("/mod")
+        self.module = module_of(path)
 
     def has(self, path, line):
         return path == self.path and self.first <= line <= self.last
@@ -65,6 +63,10 @@ class Function:
         return next((it for it in lines if refused.match(it)), None)
 
 
+def module_of(path):
+    return path[len("src/") : -len(".rt")].removesuffix("/mod")
+
+
 def impl_of(line):
     """Returns how rattle names the impl that a line begins: `Type`, or `TypeTrait` with the type in the trait's brackets."""
     head = line.removeprefix("impl").replace("->", "").partition("{")[0]
@@ -76,14 +78,7 @@ def impl_of(line):
     return PATH.match(name)[1] + (of_trait[1] + (of_trait[2] or "") if of_trait else "")
 
 
-@functools.cache
-def types_of(folder):
-    """Returns the file of each struct and enum of the crate in this folder."""
-    files = [it for it in rtlib.files_of(folder) if it.startswith(f"{folder}/src/") and it.endswith(".rt")]
-    return {name: os.path.relpath(it, folder) for it in files for name in TYPE.findall(rtlib.text_of(it))}
-
-
-def functions(crate, path, text):
+def functions(path, text):
     """Returns the functions of a formatted source text: from the attributes and comments above to a brace below their first word."""
     lines, found, impl, of_trait = text.split("\n"), [], "", False
     for at, line in enumerate(lines):
@@ -91,13 +86,27 @@ def functions(crate, path, text):
         if re.match(r"(impl|(pub )?trait)\b.*{", line):
             impl, of_trait = impl_of(line), not re.match(r"impl\b(?!.* for )", line)
         if start:
-            ends = (i for i in range(at, len(lines)) if lines[i] == start[1] + "}" or i == at and line.endswith("}"))
+            ends = (i for i in range(at, len(lines)) if lines[i] in (start[1] + "}", start[1] + "{}") or i == at and line.endswith("}"))
             last, first = next(ends, None), at
             while first and lines[first - 1].strip() and not lines[first - 1].endswith(("{", "}", ";")):
                 first -= 1
             if last is not None:
-                home = types_of(crate.folder).get(impl, path) if start[1] and impl not in TYPE.findall(text) else path
-                found.append(Function(path, impl if start[1] else "", start[2], (first + 1, at + 1, last + 1), of_trait and bool(start[1]), home))
+                found.append(Function(path, impl if start[1] else "", start[2], (first + 1, at + 1, last + 1), of_trait and bool(start[1])))
+    return found
+
+
+def functions_in(crate, path, text):
+    """Returns the functions of a text of the crate. Methods are named by the module of their type, also where the impl stands in another."""
+    modules = {}
+    for file in rtlib.files_of(crate.folder):
+        if file.endswith(".rt"):
+            other = os.path.relpath(file, crate.folder)
+            for name in TYPE.findall(rtlib.text_of(file)):
+                modules.setdefault(name, set()).add(module_of(other))
+    found = functions(path, text)
+    for it in found:
+        of_type = modules.get(it.impl, {it.module})
+        it.module = it.module if it.module in of_type else min(of_type)
     return found
 
 
@@ -124,7 +133,7 @@ def home_of(crate, edit):
     for path, old, _ in changes_of(edit):
         text = rtlib.text_of(f"{crate.folder}/{path}")
         line = text.count("\n", 0, text.index(old)) + 1
-        around = [n for n, it in enumerate(functions(crate, path, text)) if it.has(path, line)]
+        around = [n for n, it in enumerate(functions(path, text)) if it.has(path, line)]
         homes.add((path, around[-1]) if around and path.startswith("src/") else None)
     return homes.pop() if len(homes) == 1 else None
 
@@ -187,7 +196,7 @@ def with_holes(crate, edited, texts, room):
         lines = text.split("\n")
         if not path.startswith("src/") or "#[test]" in text:
             continue
-        for it in functions(crate, path, text):
+        for it in functions_in(crate, path, text):
             short = without_body(lines, it)
             if not short or it.below_the_crate() in own or not may_be_a_hole(crate, it):
                 continue
@@ -226,7 +235,7 @@ def try_together(crate, homes, kept):
     """Tries edits, given with their homes, in one check, and returns what to say of each that is refused. Where an edit keeps the
     check from reaching the prover, each half is tried."""
     texts = all_changed(crate, homes)
-    edited = {edit: functions(crate, path, texts[path])[number] for edit, (path, number) in homes.items()}
+    edited = {edit: functions_in(crate, path, texts[path])[number] for edit, (path, number) in homes.items()}
     ran = check_of(crate, edited.values(), texts, kept)
     lines = ran.stdout.rstrip("\n").split("\n")
     if not is_judged(ran, texts):

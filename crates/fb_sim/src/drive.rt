@@ -19,7 +19,7 @@ use std::sync::Wait;
 use std::thread::Threads;
 
 /// A round that writes fewer bytes than these is little work, so that the next one is made without threads.
-const MUCH: u128 = 40_000;
+const MUCH: u128 = 10_000;
 
 /// How a run comes to its end.
 #[derive(Drop)]

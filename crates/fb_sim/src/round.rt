@@ -1,14 +1,16 @@
 //! One round: each resource runs to its bound, the messages are exchanged, and the lines that have become final are
 //! written.
 
-ghost use Rattle.std.specs.Prelude.{◌≡◌, ◌≤◌, List, map, length, All, IfOk, IfErr};
+ghost use Rattle.std.specs.Prelude.{◌≡◌, ◌≤◌, List, map, length, vec_len, All, IfOk, IfErr};
 ghost use Rattle.std.specs.Io.KnownBytes.{Appends};
+ghost use Rattle.std.specs.List.{AllZip};
 ghost use Rattle.fb_types.specs.Headline.{system_of};
 ghost use Rattle.fb_types.specs.Numbers.{line_of};
 ghost use Rattle.fb_types.specs.States as model;
 ghost use Rattle.fb_types.specs.Text.{lines_text};
 ghost use Rattle.fb_system.specs.Lines.{BelongsTo};
 ghost use Rattle.fb_trace.specs.Progress.{bounded};
+ghost use Rattle.fb_window.specs.Jobs.{Does};
 ghost use Rattle.fb_sim.specs.Serial.{AreWithin};
 ghost use Rattle.fb_sim.specs.Rounds as spec;
 ghost use Rattle.fb_sim.specs.Rounds.{CountedRounds, HasCome, IsHomeAgain, Rounds, WritesPartOf, lines_out};
@@ -19,12 +21,13 @@ use crate::outcome::RunError;
 use crate::progress::Round;
 use crate::work::Windows;
 use fb_phase::{Gate, run_all};
+use fb_resource::resource::WindowDone;
 use fb_system::system::System;
 use fb_trace::lines::write_counted;
 use fb_types::run::{Form, Line};
 use fb_window::cores::{Core, Settled};
 use fb_window::job::Job;
-use std::alloc::Global;
+use std::alloc::{AllocError, Global};
 use std::io::Write;
 use std::sync::Wait;
 use std::thread::Threads;
@@ -42,6 +45,44 @@ fn workers_for(jobs: &[Job], most: u64) -> usize
 {
     let busy = jobs.iter().filter(|job| !job.is_idle()).count();
     busy.min(most as usize).max(1)
+}
+
+/// Runs the jobs one after another on this thread, as one worker would that passes the gate before each: without a
+/// board, which costs more than a thin round.
+fn run_here<R: Wait, P: Gate>(
+    rt: &R,
+    alloc: Global,
+    jobs: Vec<Job>,
+    gate: &P,
+) -> Result<Vec<WindowDone>, AllocError>
+    ensures { IfOk result (λ v. AllZip Does jobs.items v.items) }
+{
+    let mut dones = Vec::new(alloc);
+    for job in jobs {
+        gate.at(rt, dones.len());
+        dones.push(job.run(alloc))?;
+    }
+    Ok(dones)
+}
+
+/// Runs all jobs, and gives what was made of each in their order.
+fn run_jobs<R: Threads + Wait + Sync, P: Gate>(
+    rt: &R,
+    alloc: Global,
+    jobs: Vec<Job>,
+    workers: usize,
+    gate: &P,
+) -> Result<Vec<WindowDone>, RunError>
+    requires few_jobs { vec_len jobs ≤ 256 }
+    requires some { 1 ≤ workers }
+    requires few { workers ≤ 64 }
+    ensures done { IfOk result (λ v. AllZip Does jobs.items v.items) }
+    ensures memory { IfErr result (λ e. e ≡ Memory) }
+{
+    if workers == 1 {
+        return Ok(run_here(rt, alloc, jobs, gate)?);
+    }
+    Ok(run_all(rt, alloc, &Windows, jobs, workers, gate)?)
 }
 
 /// Runs each resource to its bound, by the workers, and puts all back together.
@@ -62,7 +103,7 @@ fn window<R: Threads + Wait + Sync, P: Gate>(
     let bounds = core.bounds(options.horizon, CAP);
     let (away, jobs) = core.jobs(alloc, system, bounds)?;
     let workers = workers_for(jobs.as_slice(), options.workers);
-    let dones = run_all(rt, alloc, &Windows, jobs, workers, gate)?;
+    let dones = run_jobs(rt, alloc, jobs, workers, gate)?;
     Ok(away.settle(alloc, system, dones)?)
 }
 

@@ -1,10 +1,12 @@
 //! Declarations, deployments and stimuli, and the traces that follow from the rules, worked out by hand.
 
+mod advances;
 mod algorithms;
 mod charts;
 mod composites;
 mod event_blocks;
 mod forms;
+mod gates;
 mod latencies;
 mod limits;
 mod links;
@@ -15,8 +17,10 @@ mod stimuli;
 mod stops;
 mod writers;
 
+use fb_phase::OpenGate;
 use fb_sim::options::{Inputs, Options};
 use fb_sim::outcome::Outcome;
+use fb_sim::run::run;
 use fb_sim::serial::run_serial;
 use fb_types::run::{Form, StopMark};
 use fb_types::value::Reason;
@@ -25,7 +29,9 @@ use std::io;
 use std::io::Write;
 use std::process::Abort;
 use std::str::from_utf8;
+use std::sync::Wait;
 use std::test::Fail;
+use std::thread::Threads;
 
 /// More steps than any tick of these runs needs that does not stop.
 const ENOUGH: u64 = 10_000;
@@ -75,9 +81,12 @@ fn stop(tick: u64, resource: u32, reason: Reason) -> Outcome {
     })
 }
 
-/// The inputs run to this trace and this outcome.
-fn expect_run(
-    rt: &impl Abort,
+/// The numbers of workers by which each run is made.
+const WORKERS: [u64; 4] = [1, 2, 7, 64];
+
+/// The inputs run to this trace and this outcome, by one queue of events and by each number of workers.
+fn expect_run<R: Abort + Threads + Wait + Sync>(
+    rt: &R,
     alloc: Global,
     inputs: &Inputs<'_>,
     options: Options,
@@ -88,11 +97,23 @@ fn expect_run(
     let found = run_serial(alloc, inputs, options, &mut out)?;
     assert_eq!(rt; from_utf8(out.as_slice())?, trace);
     assert_eq!(rt; found, outcome);
+    for workers in WORKERS {
+        let mut out = Vec::new(alloc);
+        let options = Options { workers, ..options };
+        let found = run(rt, alloc, inputs, options, &mut out, &OpenGate)?;
+        assert_eq!(rt; from_utf8(out.as_slice())?, trace, "by {workers} workers");
+        assert_eq!(rt; found, outcome, "by {workers} workers");
+    }
     Ok(())
 }
 
 /// Each of the cases runs to its trace, in this form, and to its outcome.
-fn expect(rt: &impl Abort, alloc: Global, form: Form, cases: &[Case]) -> Result<(), Fail> {
+fn expect<R: Abort + Threads + Wait + Sync>(
+    rt: &R,
+    alloc: Global,
+    form: Form,
+    cases: &[Case],
+) -> Result<(), Fail> {
     for case in cases {
         let inputs = inputs_of(case.declaration, case.deploy, case.stimuli);
         let options = to(case.horizon, case.steps, form);

@@ -7,7 +7,9 @@ use fb_types::run::Form;
 use fb_types::value::Reason;
 use std::alloc::{AllocError, Global};
 use std::process::Abort;
+use std::sync::Wait;
 use std::test::Fail;
+use std::thread::Threads;
 
 const GO: &str = "tick,event,values\n0,B.GO,\n";
 
@@ -37,7 +39,12 @@ const VALUES: [(&str, &str); 8] = [
     ),
 ];
 
-fn expect_value(rt: &impl Abort, alloc: Global, body: &str, value: &str) -> Result<(), Fail> {
+fn expect_value<R: Abort + Threads + Wait + Sync>(
+    rt: &R,
+    alloc: Global,
+    body: &str,
+    value: &str,
+) -> Result<(), Fail> {
     let declaration = calculator(alloc, body)?;
     let inputs = inputs_of(declaration.as_str(), "", GO);
     let trace = format!(in alloc; "0 MAIN > B.GO\n0 MAIN < B.DONE X={value}\nend 1\n")?;

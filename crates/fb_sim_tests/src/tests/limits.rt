@@ -6,7 +6,9 @@ use fb_sim::outcome::Outcome;
 use fb_types::run::Form;
 use std::alloc::{AllocError, Global};
 use std::process::Abort;
+use std::sync::Wait;
 use std::test::Fail;
+use std::thread::Threads;
 
 /// Composite types by number from 1 to the last, the first without components, and each of the others with one
 /// component of the type before it; then an application with one instance of the last.
@@ -49,8 +51,8 @@ fn resources(alloc: Global, count: u32) -> Result<String, AllocError> {
 const EMPTY: &str = "APPLICATION A FBS END_FBS END_APPLICATION";
 
 /// Where the declaration and the deployment are within the limits, nothing happens up to the first tick.
-fn expect_nothing(
-    rt: &impl Abort,
+fn expect_nothing<R: Abort + Threads + Wait + Sync>(
+    rt: &R,
     alloc: Global,
     declaration: &str,
     deploy: &str,

@@ -1,12 +1,17 @@
 //! Rings of resources, each of which leads to the next over a link of its own.
 
 use super::{ENOUGH, inputs_of, to, with_room};
-use fb_sim::outcome::Outcome;
+use fb_phase::OpenGate;
+use fb_sim::options::Options;
+use fb_sim::outcome::{Outcome, RunError};
+use fb_sim::run::run;
 use fb_sim::serial::run_serial;
 use fb_types::run::Form;
 use std::alloc::{AllocError, Global};
 use std::process::Abort;
+use std::sync::Wait;
 use std::test::Fail;
+use std::thread::Threads;
 
 /// Merges `M0` to the last, each of which leads to the next, and the last to the first. A restart begins.
 fn declaration_of(alloc: Global, last: u32) -> Result<String, AllocError> {
@@ -116,6 +121,54 @@ fn an_event_goes_round(rt: HostRuntime) -> Result<(), Fail> {
         // The same through a writer that takes one byte at each call.
         let slow = trace_of(&rt, rt.alloc(), ring, 1)?;
         assert!(rt; slow.as_slice() == trace.as_slice());
+        let by = by_workers(&rt, rt.alloc(), ring, 7)?;
+        assert!(rt; by.as_slice() == trace.as_slice());
+    }
+    Ok(())
+}
+
+/// The same by workers, through a writer that takes one byte at each call.
+fn by_workers<R: Abort + Threads + Wait + Sync>(
+    rt: &R,
+    alloc: Global,
+    ring: &Ring,
+    workers: u64,
+) -> Result<Vec<u8>, Fail> {
+    let declaration = declaration_of(alloc, ring.last)?;
+    let deploy = deployment_of(alloc, ring.last)?;
+    let inputs = inputs_of(declaration.as_str(), deploy.as_str(), "");
+    let mut out = with_room(alloc, 1, 1_000_000);
+    let options = Options {
+        workers,
+        ..to(10_000, ENOUGH, ring.form)
+    };
+    let outcome = run(rt, alloc, &inputs, options, &mut out, &OpenGate)?;
+    assert_eq!(rt; outcome, Outcome::End(10_000));
+    Ok(out.got)
+}
+
+/// What is written of a small ring, where a writer fails after so many bytes, is so much of the trace.
+#[test]
+fn a_writer_may_fail_at_each_byte(rt: HostRuntime) -> Result<(), Fail> {
+    let alloc = rt.alloc();
+    let declaration = declaration_of(alloc, 3)?;
+    let deploy = deployment_of(alloc, 3)?;
+    let inputs = inputs_of(declaration.as_str(), deploy.as_str(), "");
+    let options = Options {
+        workers: 2,
+        ..to(20, ENOUGH, Form::One)
+    };
+    let mut whole = Vec::new(alloc);
+    run_serial(alloc, &inputs, options, &mut whole)?;
+    for room in 0..whole.len() {
+        let mut out = with_room(alloc, 1_000, room);
+        let found = run(&rt, alloc, &inputs, options, &mut out, &OpenGate);
+        let is_told = matches!(found, Err(RunError::Write(count)) if count == room as u128);
+        assert!(rt; is_told, "after {room} bytes");
+        assert!(rt;
+            out.got.as_slice() == &whole.as_slice()[..room],
+            "after {room} bytes"
+        );
     }
     Ok(())
 }

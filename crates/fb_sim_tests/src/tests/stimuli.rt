@@ -2,7 +2,9 @@
 
 use super::event_blocks::CYCLE;
 use super::{ENOUGH, expect_run, inputs_of, to};
+use fb_phase::OpenGate;
 use fb_sim::outcome::Outcome;
+use fb_sim::run::run;
 use fb_sim::serial::run_serial;
 use fb_types::run::Form;
 use std::alloc::{AllocError, Global};
@@ -31,6 +33,9 @@ fn rows_that_fall_are_taken_as_their_ticks_rise(rt: HostRuntime) -> Result<(), F
     assert_eq!(rt; lines, 200_001);
     assert!(rt; out.starts_with(b"0 MAIN > M.EI1\n0 MAIN < M.EO\n1 MAIN > M.EI1\n"));
     assert!(rt; out.ends_with(b"\n99999 MAIN > M.EI1\n99999 MAIN < M.EO\nend 100000\n"));
+    let mut by_workers = Vec::new(alloc);
+    run(&rt, alloc, &inputs, options, &mut by_workers, &OpenGate)?;
+    assert!(rt; by_workers.as_slice() == out.as_slice());
     Ok(())
 }
 

@@ -7,10 +7,12 @@ use fb_types::run::{Form, StopMark};
 use fb_types::value::Reason;
 use std::alloc::Global;
 use std::process::Abort;
+use std::sync::Wait;
 use std::test::Fail;
+use std::thread::Threads;
 
 /// A block that runs without end once it has begun. An event, a transition and an action are its first three steps.
-const LOOPER: &str = "FUNCTION_BLOCK LOOPER\n\
+pub const LOOPER: &str = "FUNCTION_BLOCK LOOPER\n\
     EVENT_INPUT GO; END_EVENT\n\
     EVENT_OUTPUT TICKED; END_EVENT\n\
     EC_STATES IDLE; BUSY : -> TICKED; END_STATES\n\
@@ -18,22 +20,22 @@ const LOOPER: &str = "FUNCTION_BLOCK LOOPER\n\
     END_FUNCTION_BLOCK\n";
 
 /// Instances with no connections, the run of which stops by its steps.
-struct Stopped {
-    instances: &'static str,
-    deploy: &'static str,
-    stimuli: &'static str,
-    horizon: u64,
-    steps: u64,
-    trace: &'static str,
-    tick: u64,
-    resource: u32,
+#[derive(Clone, Copy)]
+pub struct Stopped {
+    pub instances: &'static str,
+    pub deploy: &'static str,
+    pub stimuli: &'static str,
+    pub horizon: u64,
+    pub steps: u64,
+    pub trace: &'static str,
+    pub tick: u64,
+    pub resource: u32,
 }
 
-fn expect_stop(
-    rt: &impl Abort,
+fn expect_stop<R: Abort + Threads + Wait + Sync>(
+    rt: &R,
     alloc: Global,
     stopped: &Stopped,
-    workers: u64,
 ) -> Result<(), Fail> {
     let instances = stopped.instances;
     let declaration = format!(in alloc;
@@ -43,7 +45,7 @@ fn expect_stop(
     let options = Options {
         horizon: stopped.horizon,
         steps: stopped.steps,
-        workers,
+        workers: 1,
         form: Form::One,
     };
     let outcome = Outcome::Stop(StopMark {
@@ -55,7 +57,7 @@ fn expect_stop(
 }
 
 /// In the tick of the stop the resource before it has run whole, and the one behind it not at all.
-const BETWEEN: Stopped = Stopped {
+pub const BETWEEN: Stopped = Stopped {
     instances: "A : E_MERGE; L : LOOPER; C : E_MERGE;",
     deploy: "resource = [\n\
         { device = 'D', name = 'R1', instances = ['A'] },\n\
@@ -79,10 +81,7 @@ const BETWEEN: Stopped = Stopped {
 
 #[test]
 fn a_stop_cuts_its_tick(rt: HostRuntime) -> Result<(), Fail> {
-    for workers in [1, 2, 64] {
-        expect_stop(&rt, rt.alloc(), &BETWEEN, workers)?;
-    }
-    Ok(())
+    expect_stop(&rt, rt.alloc(), &BETWEEN)
 }
 
 const STOPS: [Stopped; 3] = [
@@ -146,7 +145,7 @@ const STOPS: [Stopped; 3] = [
 #[test]
 fn the_least_stop_ends_the_run(rt: HostRuntime) -> Result<(), Fail> {
     for stopped in &STOPS {
-        expect_stop(&rt, rt.alloc(), stopped, 1)?;
+        expect_stop(&rt, rt.alloc(), stopped)?;
     }
     Ok(())
 }

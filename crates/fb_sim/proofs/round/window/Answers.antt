@@ -1,7 +1,4 @@
-use denote.Param.Send.{sendable}
 use Rattle.std.proofs.Common.{sym, ◌∙◌}
-use Rattle.fb_resource.proofs.Sends.{done_send}
-use Rattle.fb_window.proofs.Sends.{job_send}
 use Rattle.fb_sim.proofs.WindowIs.{are_of, may_leave, kept_belong, are_done, is_home}
 use Rattle.fb_sim.proofs.round.window.Goals as goal
 
@@ -23,12 +20,6 @@ jobs-requires-clause-some_steps g c = rw c.requires.come.1.of.steps c.requires.o
 pub jobs-requires-clause-few_steps : goal.jobs-requires-clause-few_steps
 jobs-requires-clause-few_steps g c = rw c.requires.come.1.of.steps c.requires.options.steps_most
 
-pub run_all-requires-send-W-Job : goal.run_all-requires-send-W-Job
-run_all-requires-send-W-Job g c κs within = search (sendable, job_send) depth 40
-
-pub run_all-requires-send-W-Done : goal.run_all-requires-send-W-Done
-run_all-requires-send-W-Done g c κs within = search (sendable, done_send) depth 40
-
 pub settle-requires-clause-system : goal.settle-requires-clause-system
 settle-requires-clause-system g c =
     let kept = c.in_ok-away.ensures.kept in
@@ -45,7 +36,7 @@ settle-requires-clause-pending g c =
 pub settle-requires-clause-done : goal.settle-requires-clause-done
 settle-requires-clause-done g c =
     let kept = c.in_ok-away.ensures.kept in
-    are_done c.args.system.now c.args.options.steps c.args.options.horizon c.args.core c.requires.come.0 c.requires.come.1 c.bounds-bounds.result.all _ kept.0 kept.1 kept.3 c.in_ok-away.ensures.away _ _ c.in_ok-away.ensures.jobs c.in_ok-dones.ensures
+    are_done c.args.system.now c.args.options.steps c.args.options.horizon c.args.core c.requires.come.0 c.requires.come.1 c.bounds-bounds.result.all _ kept.0 kept.1 kept.3 c.in_ok-away.ensures.away _ _ c.in_ok-away.ensures.jobs c.in_ok-dones.ensures.done
 
 pub returns-clause-home : goal.returns-clause-home
 returns-clause-home g c ls h =

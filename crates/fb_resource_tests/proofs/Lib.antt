@@ -1,0 +1,3 @@
+mod Again
+mod Handed
+mod Unheard
