@@ -1,10 +1,12 @@
 #!/usr/bin/env python3
-"""tools/calls.py: calls the built program, once at least for each status, and compares how it ends, what it writes and what it tells.
+"""tools/calls.py: calls the built program, once at least for each status and by several numbers of workers for each example, and
+compares how it ends, what it writes and what it tells.
 
 These calls show what no contract can say: which bytes a file and standard input give, up to the greatest length of each
 text and one byte beyond, that the process ends with the status of the call, and what becomes of words that are no text.
 ./gate makes them each time it has run the program. Without ./gate they are made of the program as ./simulate built it."""
 
+import glob
 import os
 import resource
 import shutil
@@ -43,8 +45,13 @@ FILES = {
 }
 
 
+# The ways to run an example.
+WAYS = [["--serial"], *(["--workers", count] for count in ("1", "2", "7", "64"))]
+
+
 class Call(NamedTuple):
-    """Words, and what a call by them comes to. Where `out` or `err` is None, it is some text that ends with its line."""
+    """Words, and what a call by them comes to. Where `out` or `err` is None, it is some text that ends with its line. The call is
+    made in the folder of this example, or in that of FILES."""
 
     words: list
     status: int
@@ -53,6 +60,7 @@ class Call(NamedTuple):
     given: bytes = b""
     memory: Optional[int] = None
     has_full_output: bool = False
+    example: str = ""
 
 
 CALLS = [
@@ -92,6 +100,23 @@ CALLS = [
 ]
 
 
+def content(path):
+    with open(path, "rb") as it:
+        return it.read()
+
+
+def calls_of_examples(folder):
+    """Copies the examples into this folder, and returns for each the calls that are to give its trace."""
+    found = []
+    for args in sorted(glob.glob(f"{TOP}/examples/*/args")):
+        example = os.path.dirname(args)
+        shutil.copytree(example, f"{folder}/{os.path.basename(example)}")
+        words, trace = content(args).decode().splitlines(), content(f"{example}/trace")
+        status = int(trace.splitlines()[-1].startswith(b"stop"))
+        found += [Call([*words, *way], status, out=trace, example=os.path.basename(example)) for way in WAYS]
+    return found
+
+
 def is_as_wanted(wrote, wanted):
     return wrote == wanted if wanted is not None else wrote.endswith(b"\n")
 
@@ -109,7 +134,7 @@ def make(call, words, folder):
             resource.setrlimit(resource.RLIMIT_AS, (call.memory, call.memory))
 
     with open("/dev/full", "wb") as full:
-        how = {"stdout": full if call.has_full_output else subprocess.PIPE, "stderr": subprocess.PIPE, "cwd": folder}
+        how = {"stdout": full if call.has_full_output else subprocess.PIPE, "stderr": subprocess.PIPE, "cwd": f"{folder}/{call.example}"}
         ran = subprocess.run([*words, *call.words], input=call.given, timeout=SECONDS, preexec_fn=limit_memory, **how)
     wrote = ran.stdout or b""
     wrong = []
@@ -137,12 +162,13 @@ def make_all(program):
         for name, text in FILES.items():
             with open(f"{folder}/{name}", "wb") as it:
                 it.write(text)
-        for call in CALLS:
+        made = [*CALLS, *calls_of_examples(folder)]
+        for call in made:
             wrong = make(call, [*drop, copy], folder)
             failed += bool(wrong)
             for it in wrong:
                 print(f"{PROGRAM} {call.words}: {it}")
-    print(f"{PROGRAM}: {len(CALLS) - failed} of {len(CALLS)} calls came to what they should", flush=True)
+    print(f"{PROGRAM}: {len(made) - failed} of {len(made)} calls came to what they should", flush=True)
     return not failed
 
 
