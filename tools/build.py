@@ -1,11 +1,12 @@
 #!/usr/bin/env python3
 """Builds the program and what it stands on, side by side: `./simulate` calls it where the program is missing or old.
 
-A library that has not changed is not built again, and out/ keeps what was proved of the others, so a build that was
-interrupted goes on where it was. Standard error tells how far it is. The crates of tests are left out."""
+A library that has not changed is not built again, so a build that was interrupted goes on where it was. Standard error
+tells how far it is. The crates of tests are left out."""
 
 import copy
 import os
+import shutil
 import signal
 import sys
 import tempfile
@@ -34,6 +35,19 @@ def say(text):
     print(f"simulate: {text}", file=sys.stderr, flush=True)
 
 
+def build_library(crate, flags):
+    """Proves a library and keeps of it what the crates above read: its code and the statements of what is proved. (The kit's own
+    command keeps the proofs too, which each crate above would load again.) Returns the status."""
+    stamp, kept = crate.stamp(), os.path.dirname(crate.rlib)
+    shutil.rmtree(kept, ignore_errors=True)
+    os.makedirs(kept)
+    status = crate.call(rtlib.RATTLE, "build", *crate.words(flags, keeps=False), "--statements", "-o", crate.rlib)
+    if status == 0:
+        with open(f"{kept}/stamp", "w", encoding="utf-8") as file:
+            file.write(stamp)
+    return status
+
+
 def build(crate, jobs, progress):
     """Proves and builds a library or the program, and returns whether that went well. What the prover said is told where it did not."""
     crate = copy.copy(crate)
@@ -44,7 +58,7 @@ def build(crate, jobs, progress):
             made = f"out/{crate.name}"
             status = crate.compile(flags, f"{made}.o") or crate.link(f"{made}.o", made)
         else:
-            status = crate.build_rlib(flags, anew=False)
+            status = build_library(crate, flags)
         crate.out.seek(0)
         said = crate.out.read()
     if status:

@@ -3,8 +3,9 @@
 
 Without a crate it is the whole gate: the examples are those of the tests; then, from nothing, every crate and its
 tests are proved, every wrong body in crates/*/must-fail is shown to be refused, tests and programs are run, and the
-program is called at least once for each status: see tools/calls.py. Then it tells the processor seconds of each crate.
-The last line is 'N passed, M failed', and the status 0 where none failed.
+program is called at least once for each status (tools/calls.py), on texts that are cut or changed in one byte
+(tools/hostile.py), and with each of its requests for memory refused (tools/refuse.py). Then it tells the processor seconds
+of each crate. The last line is 'N passed, M failed', and the status 0 where none failed.
 
 With crates it does the same for these alone, over the libraries below them as they are built in out/.
 --jobs N uses N processors, and not all.
@@ -21,6 +22,8 @@ import tempfile
 import time
 
 import calls
+import hostile
+import refuse
 from kit import TOP, rt, rtlib
 from wrong_bodies import try_all
 
@@ -141,14 +144,19 @@ def keep_to(names):
 
 
 def call_after_each_run():
-    """Has the gate make the calls of calls.py each time it has run the program, as each compiler builds it."""
+    """Has the gate make the calls of calls.py each time it has run the program, as each compiler builds it, and what is made of texts
+    and of memory with the first of the two. What is made of memory is made of tests too."""
     run = rt.run
 
     def run_and_call(crate, tests, ending=""):
-        is_well = run(crate, tests, ending)
-        if is_well and not tests and crate.name == calls.PROGRAM:
-            return calls.make_all(f"{crate.folder}/out/{crate.name}{ending}")
-        return is_well
+        if not run(crate, tests, ending):
+            return False
+        made = f"{crate.folder}/out/{crate.name}{'_tests' if tests else ''}{ending}"
+        if tests:
+            return bool(ending) or refuse.try_tests(made, crate.name)
+        if crate.name != calls.PROGRAM:
+            return True
+        return calls.make_all(made) and (bool(ending) or all([hostile.try_all(made), refuse.try_all(made)]))
 
     rt.run = run_and_call
 

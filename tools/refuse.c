@@ -1,10 +1,17 @@
 // Stands before malloc and realloc: the request whose number, from 1, stands in REFUSE is refused, and then the file that
-// REFUSE_TELL names is made. tools/refuse.py loads it into a built program.
-#define _GNU_SOURCE
-#include <dlfcn.h>
-#include <fcntl.h>
-#include <stdlib.h>
-#include <unistd.h>
+// REFUSE_TELL names is made. tools/refuse.py loads it into a built program. (What it calls it declares itself, so that the
+// kit's compiler needs no headers.)
+typedef unsigned long size;
+
+extern void *dlsym(void *, const char *);
+extern char *getenv(const char *);
+extern long atol(const char *);
+extern int open(const char *, int, ...);
+extern int close(int);
+
+// As <dlfcn.h> and <fcntl.h> have them on Linux for x86-64.
+#define THE_NEXT ((void *)-1)
+#define CREATE_TO_WRITE 0101
 
 static long made, refused_one;
 static const char *tell;
@@ -20,20 +27,20 @@ static int is_refused(void) {
     if (__atomic_add_fetch(&made, 1, __ATOMIC_SEQ_CST) != refused_one)
         return 0;
     if (tell)
-        close(open(tell, O_CREAT | O_WRONLY, 0600));
+        close(open(tell, CREATE_TO_WRITE, 0600));
     return 1;
 }
 
-void *malloc(size_t size) {
-    static void *(*next)(size_t);
+void *malloc(size bytes) {
+    static void *(*next)(size);
     if (!next)
-        next = dlsym(RTLD_NEXT, "malloc");
-    return is_refused() ? NULL : next(size);
+        next = dlsym(THE_NEXT, "malloc");
+    return is_refused() ? (void *)0 : next(bytes);
 }
 
-void *realloc(void *block, size_t size) {
-    static void *(*next)(void *, size_t);
+void *realloc(void *block, size bytes) {
+    static void *(*next)(void *, size);
     if (!next)
-        next = dlsym(RTLD_NEXT, "realloc");
-    return is_refused() ? NULL : next(block, size);
+        next = dlsym(THE_NEXT, "realloc");
+    return is_refused() ? (void *)0 : next(block, bytes);
 }

@@ -1,80 +1,224 @@
 #!/usr/bin/env python3
-"""tools/refuse.py [--memory STATUS] [--seconds N] PROGRAM [WORD..]: a built program with each request for memory refused in turn.
+"""tools/refuse.py [[--memory STATUS] PROGRAM [WORD..]]: a built program with each request for memory refused in turn.
 
 The program runs once with all the memory that it asks for, and then once for each request, that one being refused and
 those behind it not, until a run makes fewer requests. Each run is to end as the first did, with its output, or with the
 status for want of memory, 4 unless it is given, and then its output is a beginning of the first one's that ends at the end
-of a line. Where one does not, this says so, and ends with status 1. --seconds is the longest that one run may take.
+of a line. Where one does not, this says so, and ends with status 1.
 
 So it shows what no proof says: that want of memory is answered, wherever it comes, and that a call which is to leave all as
-it was does so. A test that the kit built is such a program; its name is the word, and its status for want of memory 101:
+it was does so. It also shows that within a round no request comes after the first byte: where the lines of each round are
+known and memory is wanted, the output ends where a round ends.
 
-    cd crates/fb_resource_tests && ../../tools/rt test
-    ../../tools/refuse.py --memory 101 out/fb_resource_tests_tests tests::messages::messages_come_after_a_want_of_memory
-
-It needs a C compiler, `cc`, and is no part of the gate. (The kit's `rt try --fail-alloc N` does the same for one N, to a
-program that is not proved, and builds it anew for each.)"""
+./gate does this each time it has run the program, for the runs in RUNS by --serial, one worker and two, and each time it has
+run the tests in TESTS, for these. Without ./gate and without words it is done to the program and tests as out/ has them; a
+test that the kit built is a program too, its name is the word, and its status for want of memory 101. (The kit's
+`rt try --fail-alloc N` does the same for one N, to a program that is not proved, and builds it anew for each.)"""
 
 import os
 import subprocess
 import sys
-import tempfile
+from typing import NamedTuple
+
+import hostile
+from kit import TOP, rtlib
+from program import Room, side_by_side
 
 HERE = os.path.dirname(os.path.realpath(__file__))
+PROGRAM = "fbsim"
+WANT_OF_MEMORY = 4
+WANT_IN_A_TEST = 101
+# How many requests are refused side by side before it is looked at whether there were so many.
+AT_ONCE = 64
+# Tests of calls by themselves: of some that are to leave all as it was, and are made again with memory.
+TESTS = {
+    "fb_resource_tests": ["tests::messages::messages_come_after_a_want_of_memory"],
+}
+WAYS = [["--serial"], ["--workers", "1"], ["--workers", "2"]]
 
 
-class Runs:
-    """Runs of one program."""
+class Run(NamedTuple):
+    """A run of the program. Where the lines of each round are known, `rounds` has them, and the last line behind them."""
 
-    def __init__(self, room, words, seconds):
-        self.room, self.words, self.seconds = room, words, seconds
-        subprocess.run(["cc", "-shared", "-fPIC", "-O1", "-o", f"{room}/refuse.so", f"{HERE}/refuse.c", "-ldl"], check=True)
+    name: str
+    texts: dict
+    words: list
+    status: int
+    rounds: list
+    is_known_by_rounds: bool = False
+
+
+def resources(*held):
+    return "resource = [\n" + "".join(f"{{ device = 'D', name = '{name}', instances = [{of}] }},\n" for name, of in held) + "]\n"
+
+
+def link(start, end, latency):
+    return f"[[link]]\nfrom = '{start}'\nto = '{end}'\nlatency = {latency}\n"
+
+
+def application(instances, events):
+    return f"APPLICATION A FBS {instances} END_FBS EVENT_CONNECTIONS {events} END_CONNECTIONS END_APPLICATION\n"
+
+
+def ring():
+    """An event goes round four resources, over links of 1, 2, 3 and 4 ticks."""
+    merges = "".join(f"M{at} : E_MERGE; " for at in range(4))
+    events = "S.COLD TO M0.EI2; " + "".join(f"M{at}.EO TO M{(at + 1) % 4}.EI1; " for at in range(4))
+    held = resources(("R0", "'S', 'M0'"), *((f"R{at}", f"'M{at}'") for at in range(1, 4)))
+    links = "".join(link(f"R{at}", f"R{(at + 1) % 4}", at + 1) for at in range(4))
+    lines, tick, at = ["0 R0 < S.COLD\n"], 0, 0
+    while tick < 50:
+        lines.append(f"{tick} R{at} > M{at}.EI{1 if tick else 2}\n{tick} R{at} < M{at}.EO\n")
+        tick, at = tick + at + 1, (at + 1) % 4
+    texts = {"d.iec": application("S : E_RESTART; " + merges, events), "d.toml": held + links}
+    return Run("an event round four resources", texts, ["--deploy", "d.toml", "--horizon", "50"], 0, [*lines, "end 50\n"])
+
+
+def relay():
+    """A merge of the first resource takes some stimuli at tick 0, and hands each on to a merge of the second, over a link of two ticks. So
+    the second resource waits in the first round. By their long names each round has more bytes than the program hands out at a time."""
+    count, first, second = 20, "A" * 250, "M" * 250
+    texts = {
+        "d.iec": application(f"{first} : E_MERGE; {second} : E_MERGE;", f"{first}.EO TO {second}.EI1;"),
+        "d.toml": resources(("R1", f"'{first}'"), ("R2", f"'{second}'")) + link("R1", "R2", 2),
+        "s.csv": "tick,event,values\n" + f"0,{first}.EI1,\n" * count,
+    }
+    rounds = [f"0 R1 > {first}.EI1\n0 R1 < {first}.EO\n" * count, f"2 R2 > {second}.EI1\n2 R2 < {second}.EO\n" * count, "end 5\n"]
+    return Run("two rounds of 10,000 bytes", texts, ["--deploy", "d.toml", "--stim", "s.csv", "--horizon", "5"], 0, rounds, True)
+
+
+def delayed():
+    texts = {
+        "d.iec": application("S : E_RESTART; M : E_MERGE;", "S.COLD TO M.EI1;"),
+        "d.toml": resources(("R1", "'S'"), ("R2", "'M'")) + link("R1", "R2", 2),
+    }
+    return Run("a message", texts, ["--deploy", "d.toml", "--horizon", "5"], 0, ["0 R1 < S.COLD\n2 R2 > M.EI1\n2 R2 < M.EO\nend 5\n"])
+
+
+def stopped():
+    looper = """FUNCTION_BLOCK LOOPER
+EVENT_INPUT GO; END_EVENT EVENT_OUTPUT TICKED; END_EVENT
+EC_STATES IDLE; LOOP : -> TICKED; END_STATES
+EC_TRANSITIONS IDLE TO LOOP := GO; LOOP TO LOOP := 1; END_TRANSITIONS
+END_FUNCTION_BLOCK
+"""
+    texts = {
+        "d.iec": looper + "APPLICATION A FBS A : E_MERGE; L : LOOPER; C : E_MERGE; END_FBS END_APPLICATION",
+        "d.toml": resources(("R1", "'A'"), ("R2", "'L'"), ("R3", "'C'")),
+        "s.csv": "tick,event,values\n7,C.EI1,\n7,L.GO,\n7,A.EI1,\n",
+    }
+    words = ["--deploy", "d.toml", "--stim", "s.csv", "--steps", "10", "--horizon", "9"]
+    lines = "7 R1 > A.EI1\n7 R1 < A.EO\n7 R2 > L.GO\n" + "7 R2 < L.TICKED\n" * 4 + "stop 7 R2 steps\n"
+    return Run("a stop", texts, words, 1, [lines])
+
+
+def composite():
+    it = hostile.DECLARATION
+    texts = {"d.iec": it.text.decode(), "s.csv": hostile.FILES["twice.csv"].decode()}
+    return Run("a composite", texts, ["--stim", "s.csv", "--horizon", "1"], 0, [it.trace.decode()])
+
+
+RUNS = [delayed(), stopped(), composite(), ring(), relay()]
+
+
+def ends_of(rounds):
+    """How many bytes are written before the first round, and after each but the last line, which ends the whole."""
+    ends, written = {0}, 0
+    for lines in rounds[:-1]:
+        written += len(lines)
+        ends.add(written)
+    return ends
+
+
+class Refusals:
+    """Runs of one program by some words, with a request refused."""
+
+    def __init__(self, room, words, memory, ends=None):
+        self.room, self.words, self.memory, self.ends = room, words, memory, ends
+        self.before = f"{room.folder}/refuse.so"
+        if not os.path.exists(self.before):
+            words = [f"{rtlib.KIT}/toolchain/bin/clang", "-shared", "-fPIC", "-O1", "-nostdlib", "-fuse-ld=lld", "-o", self.before]
+            subprocess.run([*words, f"{HERE}/refuse.c"], check=True)
+            os.chmod(self.before, 0o755)
 
     def run(self, number):
         """Runs it with the request of this number refused, if it comes to that. Returns its status, its output, and whether one was refused."""
-        told = f"{self.room}/refused"
-        if os.path.exists(told):
+        told = f"{self.room.folder}/refused-{number}"
+        ran = self.room.call(self.words, settings=[f"LD_PRELOAD={self.before}", f"REFUSE={number}", f"REFUSE_TELL={told}"])
+        refused = os.path.exists(told)
+        if refused:
             os.remove(told)
-        with_it = {**os.environ, "LD_PRELOAD": f"{self.room}/refuse.so", "REFUSE": str(number), "REFUSE_TELL": told}
-        ran = subprocess.run(self.words, env=with_it, stdin=subprocess.DEVNULL, stdout=subprocess.PIPE, stderr=subprocess.DEVNULL, timeout=self.seconds)
-        return ran.returncode, ran.stdout, os.path.exists(told)
+        return ran.returncode, ran.stdout, refused
+
+    def is_beginning(self, part, whole):
+        """Whether it is a beginning that ends with a line, and, where the ends of rounds are known, at one of them."""
+        is_end = len(part) in self.ends if self.ends is not None else not part or part.endswith(b"\n")
+        return is_end and whole.startswith(part)
+
+    def faults(self, status, output):
+        """Refuses each request once. Returns what is not as it should be, a line each, and how many were refused."""
+        faults, first = [], 1
+        while True:
+            numbers = range(first, first + AT_ONCE)
+            for number, (ended, wrote, refused) in zip(numbers, side_by_side(self.run, numbers)):
+                if not refused:
+                    return faults, number - 1
+                is_whole = (ended, wrote) == (status, output)
+                if not is_whole and not (ended == self.memory and self.is_beginning(wrote, output)):
+                    faults.append(f"request {number} refused: status {ended}, {len(wrote)} bytes that are not as they should be")
+            first += AT_ONCE
 
 
-def is_beginning(part, whole):
-    return whole.startswith(part) and (not part or part.endswith(b"\n"))
+def tell(name, faults, made):
+    for it in faults:
+        print(f"{name}: {it}")
+    print(f"{name}: {made} requests for memory refused in turn, {len(faults)} faults", flush=True)
+    return not faults
 
 
-def refuse_in_turn(runs, memory):
-    """Refuses each request once, and prints what came of it. Returns how many runs were not as they should be."""
-    status, output, _ = runs.run(0)
-    print(f"with memory: status {status}, {len(output)} bytes", flush=True)
-    whole, wanting, faults = 0, 0, 0
-    while True:
-        number = whole + wanting + faults + 1
-        ended, wrote, refused = runs.run(number)
-        if not refused:
-            break
-        if ended == status and wrote == output:
-            whole += 1
-        elif ended == memory and is_beginning(wrote, output):
-            wanting += 1
-        else:
-            faults += 1
-            print(f"request {number} refused: status {ended}, {len(wrote)} bytes that are not as they should be", flush=True)
-    print(f"{number - 1} requests refused in turn: the whole output {whole} times, want of memory {wanting} times, {faults} faults")
-    return faults
+def try_run(program, it, way):
+    """Refuses each request of this run, and returns whether all was as it should be."""
+    name, wanted = f"{PROGRAM}, {it.name}, {' '.join(way)}", "".join(it.rounds).encode()
+    # (the one-thread run writes as it goes, and has no rounds)
+    ends = ends_of(it.rounds) if it.is_known_by_rounds and way != ["--serial"] else None
+    with Room(program, {name: text.encode() for name, text in it.texts.items()}) as room:
+        refusals = Refusals(room, ["run", "d.iec", *it.words, *way], WANT_OF_MEMORY, ends)
+        status, output, _ = refusals.run(0)
+        if (status, output) != (it.status, wanted):
+            return tell(name, [f"with memory: status {status}, {output[:300]!r}"], 0)
+        return tell(name, *refusals.faults(status, output))
+
+
+def try_all(program):
+    """Does this to all of RUNS in each way, and returns whether all was as it should be."""
+    return all([try_run(program, it, way) for it in RUNS for way in WAYS])
+
+
+def try_alone(program, words, memory):
+    """Refuses each request of a program by these words."""
+    with Room(program) as room:
+        refusals = Refusals(room, words, memory)
+        status, output, _ = refusals.run(0)
+        return tell(" ".join([os.path.basename(program), *words]), *refusals.faults(status, output))
+
+
+def try_tests(program, crate):
+    """Does this to those tests of a crate that are made for it, and returns whether all was as it should be."""
+    return all([try_alone(program, [name], WANT_IN_A_TEST) for name in TESTS.get(crate, [])])
 
 
 def main(words):
-    flags = {"--memory": 4, "--seconds": 60}
-    while words and words[0] in flags and len(words) > 1 and words[1].isdigit():
-        flags[words[0]], words = int(words[1]), words[2:]
-    if not words or words[0].startswith("-"):
+    memory = WANT_OF_MEMORY
+    if words[:1] == ["--memory"] and len(words) > 2 and words[1].isdigit():
+        memory, words = int(words[1]), words[2:]
+    if words and words[0].startswith("-"):
         print(__doc__)
         return 2
-    with tempfile.TemporaryDirectory(prefix="refuse-") as room:
-        runs = Runs(room, [os.path.abspath(words[0]), *words[1:]], flags["--seconds"])
-        return 1 if refuse_in_turn(runs, flags["--memory"]) else 0
+    if words:
+        return not try_alone(os.path.abspath(words[0]), words[1:], memory)
+    made = [try_all(f"{TOP}/crates/{PROGRAM}/out/{PROGRAM}")]
+    made += [try_tests(f"{TOP}/crates/{name}/out/{name}_tests", name) for name in TESTS]
+    return not all(made)
 
 
 if __name__ == "__main__":
