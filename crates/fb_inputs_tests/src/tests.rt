@@ -1,5 +1,5 @@
 mod deployments;
-mod documents;
 mod limits;
+mod shapes;
 mod stimuli;
-mod values;
+mod tables;

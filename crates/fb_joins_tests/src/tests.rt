@@ -15,17 +15,17 @@ use fb_types::library::{
 };
 use fb_types::name::Name;
 use fb_types::value::{Ty, Value};
-use std::alloc::{AllocError, Global};
-use std::test::Fail;
+use std::alloc::Global;
+use std::process::Abort;
 
 const MERGE: TypeNumber = TypeNumber::Event(EventKind::Merge);
 
 // ---- Parts
 
-fn one<T: Drop>(alloc: Global, item: T) -> Result<Items<T>, AllocError> {
+fn one<T: Drop>(rt: &impl Abort, alloc: Global, item: T) -> Items<T> {
     let mut items = Items::new(alloc);
-    items.push(item)?;
-    Ok(items)
+    items.push(item).expect(rt, "memory");
+    items
 }
 
 fn no_name(alloc: Global) -> Name {
@@ -94,34 +94,35 @@ fn resolved(
     }
 }
 
-fn variables(alloc: Global, ty: Ty) -> Result<Items<Variable>, AllocError> {
+fn variables(rt: &impl Abort, alloc: Global, ty: Ty) -> Items<Variable> {
     let variable = Variable {
         name: no_name(alloc),
         ty,
         initial: None,
     };
-    one(alloc, variable)
+    one(rt, alloc, variable)
 }
 
 /// A declaration with a composite type that has a data input and a data output.
 fn with_composite(
+    rt: &impl Abort,
     alloc: Global,
     from: Ty,
     to: Ty,
     instances: Items<Instance>,
-) -> Result<Library, AllocError> {
-    let inputs = variables(alloc, from)?;
-    let outputs = variables(alloc, to)?;
+) -> Library {
+    let inputs = variables(rt, alloc, from);
+    let outputs = variables(rt, alloc, to);
     let inside = network(alloc, Items::new(alloc), Items::new(alloc));
-    let blocks = one(alloc, composite(alloc, inputs, outputs, inside))?;
+    let blocks = one(rt, alloc, composite(alloc, inputs, outputs, inside));
     let outside = network(alloc, instances, Items::new(alloc));
-    Ok(library(alloc, blocks, outside))
+    library(alloc, blocks, outside)
 }
 
 // ---- E22
 
 /// An instance with a parameter.
-fn given(alloc: Global, value: Value) -> Result<Items<Instance>, AllocError> {
+fn given(rt: &impl Abort, alloc: Global, value: Value) -> Items<Instance> {
     let parameter = Parameter {
         name: no_name(alloc),
         value,
@@ -129,29 +130,29 @@ fn given(alloc: Global, value: Value) -> Result<Items<Instance>, AllocError> {
     let instance = Instance {
         name: no_name(alloc),
         block_type: no_name(alloc),
-        parameters: one(alloc, parameter)?,
+        parameters: one(rt, alloc, parameter),
     };
-    one(alloc, instance)
+    one(rt, alloc, instance)
 }
 
 /// The numbers of such an instance: the parameter sets the first input.
-fn given_numbers(alloc: Global, number: TypeNumber) -> Result<Resolved, AllocError> {
-    let places = one(alloc, 0)?;
+fn given_numbers(rt: &impl Abort, alloc: Global, number: TypeNumber) -> Resolved {
+    let places = one(rt, alloc, 0);
     let application = NetworkNumbers {
-        types: one(alloc, number)?,
-        parameters: one(alloc, places)?,
+        types: one(rt, alloc, number),
+        parameters: one(rt, alloc, places),
         event_wires: Items::new(alloc),
         data_wires: Items::new(alloc),
     };
     let inside = numbers(alloc, Items::new(alloc), Items::new(alloc));
-    let blocks = one(alloc, Some(inside))?;
-    Ok(resolved(alloc, application, blocks))
+    let blocks = one(rt, alloc, Some(inside));
+    resolved(alloc, application, blocks)
 }
 
-fn is_wrong(alloc: Global, number: TypeNumber, ty: Ty, value: Value) -> Result<bool, AllocError> {
-    let numbers = given_numbers(alloc, number)?;
-    let library = with_composite(alloc, ty, Ty::Bool, given(alloc, value)?)?;
-    Ok(has_wrong_parameter(&library, &numbers))
+fn is_wrong(rt: &impl Abort, alloc: Global, number: TypeNumber, ty: Ty, value: Value) -> bool {
+    let numbers = given_numbers(rt, alloc, number);
+    let library = with_composite(rt, alloc, ty, Ty::Bool, given(rt, alloc, value));
+    has_wrong_parameter(&library, &numbers)
 }
 
 const DECLARED: TypeNumber = TypeNumber::Declared(0);
@@ -174,12 +175,11 @@ const PARAMETERS: &[(TypeNumber, Ty, Value, bool)] = &[
 ];
 
 #[test]
-fn values_of_parameters(rt: HostRuntime) -> Result<(), Fail> {
+fn values_of_parameters(rt: HostRuntime) {
     for (i, (number, ty, value, want)) in PARAMETERS.iter().enumerate() {
-        let wrong = is_wrong(rt.alloc(), *number, *ty, *value)?;
+        let wrong = is_wrong(&rt, rt.alloc(), *number, *ty, *value);
         assert_eq!(rt; wrong, *want, "at {i}");
     }
-    Ok(())
 }
 
 // ---- E23
@@ -198,18 +198,18 @@ fn wire(from: Option<usize>, output: usize, to: Option<usize>, input: usize) -> 
 }
 
 /// A connection from the input of a composite type to its output.
-fn through(alloc: Global) -> Result<Resolved, AllocError> {
-    let wires = one(alloc, wire(None, 0, None, 0))?;
+fn through(rt: &impl Abort, alloc: Global) -> Resolved {
+    let wires = one(rt, alloc, wire(None, 0, None, 0));
     let inside = numbers(alloc, Items::new(alloc), wires);
-    let blocks = one(alloc, Some(inside))?;
+    let blocks = one(rt, alloc, Some(inside));
     let outside = numbers(alloc, Items::new(alloc), Items::new(alloc));
-    Ok(resolved(alloc, outside, blocks))
+    resolved(alloc, outside, blocks)
 }
 
-fn leads_out(alloc: Global, from: Ty, to: Ty) -> Result<bool, AllocError> {
-    let numbers = through(alloc)?;
-    let library = with_composite(alloc, from, to, Items::new(alloc))?;
-    Ok(leads_out_of_range(&library, &numbers))
+fn leads_out(rt: &impl Abort, alloc: Global, from: Ty, to: Ty) -> bool {
+    let numbers = through(rt, alloc);
+    let library = with_composite(rt, alloc, from, to, Items::new(alloc));
+    leads_out_of_range(&library, &numbers)
 }
 
 const RANGES: &[(Ty, Ty, bool)] = &[
@@ -228,12 +228,11 @@ const RANGES: &[(Ty, Ty, bool)] = &[
 ];
 
 #[test]
-fn types_at_the_ends(rt: HostRuntime) -> Result<(), Fail> {
+fn types_at_the_ends(rt: HostRuntime) {
     for (i, (from, to, want)) in RANGES.iter().enumerate() {
-        let out = leads_out(rt.alloc(), *from, *to)?;
+        let out = leads_out(&rt, rt.alloc(), *from, *to);
         assert_eq!(rt; out, *want, "at {i}");
     }
-    Ok(())
 }
 
 const BLOCKS: &[TypeNumber] = &[
@@ -244,13 +243,13 @@ const BLOCKS: &[TypeNumber] = &[
 ];
 
 /// A connection between event blocks.
-fn between(alloc: Global, wire: Wire) -> Result<bool, AllocError> {
-    let wires = one(alloc, wire)?;
-    let types = Items::from_slice(alloc, BLOCKS)?;
+fn between(rt: &impl Abort, alloc: Global, wire: Wire) -> bool {
+    let wires = one(rt, alloc, wire);
+    let types = Items::from_slice(alloc, BLOCKS).expect(rt, "memory");
     let numbers = resolved(alloc, numbers(alloc, types, wires), Items::new(alloc));
     let outside = network(alloc, Items::new(alloc), Items::new(alloc));
     let library = library(alloc, Items::new(alloc), outside);
-    Ok(leads_out_of_range(&library, &numbers))
+    leads_out_of_range(&library, &numbers)
 }
 
 /// An event block and its output, another and its input, and whether this leads out of range.
@@ -264,13 +263,12 @@ const WIRES: &[(usize, usize, usize, usize, bool)] = &[
 ];
 
 #[test]
-fn types_of_event_blocks(rt: HostRuntime) -> Result<(), Fail> {
+fn types_of_event_blocks(rt: HostRuntime) {
     for (i, (from, output, to, input, want)) in WIRES.iter().enumerate() {
         let wire = wire(Some(*from), *output, Some(*to), *input);
-        let out = between(rt.alloc(), wire)?;
+        let out = between(&rt, rt.alloc(), wire);
         assert_eq!(rt; out, *want, "at {i}");
     }
-    Ok(())
 }
 
 // ---- E24
@@ -278,44 +276,46 @@ fn types_of_event_blocks(rt: HostRuntime) -> Result<(), Fail> {
 /// A connection: from a port of a component to a port of a component. An empty name stands for the boundary.
 type Link = (&'static str, &'static str, &'static str, &'static str);
 
-fn port(alloc: Global, component: &str, port: &str) -> Result<PortName, AllocError> {
-    Ok(PortName {
+fn port(rt: &impl Abort, alloc: Global, component: &str, port: &str) -> PortName {
+    PortName {
         component: if component.is_empty() {
             None
         } else {
-            Some(Name::from_text(alloc, component)?)
+            Some(Name::from_text(alloc, component).expect(rt, "memory"))
         },
-        port: Name::from_text(alloc, port)?,
-    })
+        port: Name::from_text(alloc, port).expect(rt, "memory"),
+    }
 }
 
-fn connection(alloc: Global, link: &Link) -> Result<Connection, AllocError> {
+fn connection(rt: &impl Abort, alloc: Global, link: &Link) -> Connection {
     let (from, output, to, input) = link;
-    Ok(Connection {
-        from: port(alloc, from, output)?,
-        to: port(alloc, to, input)?,
-    })
+    Connection {
+        from: port(rt, alloc, from, output),
+        to: port(rt, alloc, to, input),
+    }
 }
 
-fn linked(alloc: Global, links: &[Link]) -> Result<Network, AllocError> {
+fn linked(rt: &impl Abort, alloc: Global, links: &[Link]) -> Network {
     let mut connections = Items::new(alloc);
     for link in links {
-        connections.push(connection(alloc, link)?)?;
+        connections
+            .push(connection(rt, alloc, link))
+            .expect(rt, "memory");
     }
-    Ok(network(alloc, Items::new(alloc), connections))
+    network(alloc, Items::new(alloc), connections)
 }
 
-fn has_two_outside(alloc: Global, links: &[Link]) -> Result<bool, AllocError> {
-    let library = library(alloc, Items::new(alloc), linked(alloc, links)?);
-    has_two_sources(alloc, &library)
+fn has_two_outside(rt: &impl Abort, alloc: Global, links: &[Link]) -> bool {
+    let library = library(alloc, Items::new(alloc), linked(rt, alloc, links));
+    has_two_sources(alloc, &library).expect(rt, "memory")
 }
 
-fn has_two_inside(alloc: Global, links: &[Link]) -> Result<bool, AllocError> {
-    let inside = linked(alloc, links)?;
+fn has_two_inside(rt: &impl Abort, alloc: Global, links: &[Link]) -> bool {
+    let inside = linked(rt, alloc, links);
     let block = composite(alloc, Items::new(alloc), Items::new(alloc), inside);
     let outside = network(alloc, Items::new(alloc), Items::new(alloc));
-    let library = library(alloc, one(alloc, block)?, outside);
-    has_two_sources(alloc, &library)
+    let library = library(alloc, one(rt, alloc, block), outside);
+    has_two_sources(alloc, &library).expect(rt, "memory")
 }
 
 const LINKS: &[(&[Link], bool)] = &[
@@ -328,62 +328,60 @@ const LINKS: &[(&[Link], bool)] = &[
 ];
 
 #[test]
-fn sources_of_one_port(rt: HostRuntime) -> Result<(), Fail> {
+fn sources_of_one_port(rt: HostRuntime) {
     for (i, (links, want)) in LINKS.iter().enumerate() {
-        let outside = has_two_outside(rt.alloc(), links)?;
+        let outside = has_two_outside(&rt, rt.alloc(), links);
         assert_eq!(rt; outside, *want, "outside at {i}");
-        let inside = has_two_inside(rt.alloc(), links)?;
+        let inside = has_two_inside(&rt, rt.alloc(), links);
         assert_eq!(rt; inside, *want, "inside at {i}");
     }
-    Ok(())
 }
 
 // ---- E25
 
 /// A composite type with components of these types.
-fn holder(alloc: Global, types: &[TypeNumber]) -> Result<Option<NetworkNumbers>, AllocError> {
-    let types = Items::from_slice(alloc, types)?;
-    Ok(Some(numbers(alloc, types, Items::new(alloc))))
+fn holder(rt: &impl Abort, alloc: Global, types: &[TypeNumber]) -> Option<NetworkNumbers> {
+    let types = Items::from_slice(alloc, types).expect(rt, "memory");
+    Some(numbers(alloc, types, Items::new(alloc)))
 }
 
 /// A composite type with no components, and so many above it, each with two components of the one before it.
-fn tower(alloc: Global, above: usize) -> Result<Items<Option<NetworkNumbers>>, AllocError> {
+fn tower(rt: &impl Abort, alloc: Global, above: usize) -> Items<Option<NetworkNumbers>> {
     let mut blocks = Items::new(alloc);
-    blocks.push(holder(alloc, &[])?)?;
+    blocks.push(holder(rt, alloc, &[])).expect(rt, "memory");
     for below in 0..above {
         let types = [TypeNumber::Declared(below); 2];
-        blocks.push(holder(alloc, &types)?)?;
+        blocks.push(holder(rt, alloc, &types)).expect(rt, "memory");
     }
-    Ok(blocks)
+    blocks
 }
 
-fn is_high(alloc: Global, blocks: Items<Option<NetworkNumbers>>) -> Result<bool, AllocError> {
+fn is_high(rt: &impl Abort, alloc: Global, blocks: Items<Option<NetworkNumbers>>) -> bool {
     let outside = numbers(alloc, Items::new(alloc), Items::new(alloc));
     let numbers = resolved(alloc, outside, blocks);
-    is_too_high(alloc, &numbers)
+    is_too_high(alloc, &numbers).expect(rt, "memory")
 }
 
 /// How many stand above the lowest composite type, and whether the highest is too high.
 const TOWERS: &[(usize, bool)] = &[(0, false), (1, false), (15, false), (16, true), (99, true)];
 
 #[test]
-fn heights_of_towers(rt: HostRuntime) -> Result<(), Fail> {
+fn heights_of_towers(rt: HostRuntime) {
     for (above, want) in TOWERS {
-        let high = is_high(rt.alloc(), tower(rt.alloc(), *above)?)?;
+        let high = is_high(&rt, rt.alloc(), tower(&rt, rt.alloc(), *above));
         assert_eq!(rt; high, *want, "{above}");
     }
-    Ok(())
 }
 
 /// For each composite type the types of its components.
 type Inside = &'static [&'static [TypeNumber]];
 
-fn holders(alloc: Global, inside: Inside) -> Result<Items<Option<NetworkNumbers>>, AllocError> {
-    let mut blocks = one(alloc, None)?;
+fn holders(rt: &impl Abort, alloc: Global, inside: Inside) -> Items<Option<NetworkNumbers>> {
+    let mut blocks = one(rt, alloc, None);
     for types in inside {
-        blocks.push(holder(alloc, types)?)?;
+        blocks.push(holder(rt, alloc, types)).expect(rt, "memory");
     }
-    Ok(blocks)
+    blocks
 }
 
 /// Composite types from number 1 on, since number 0 is a basic type.
@@ -414,36 +412,36 @@ const CYCLES: &[(Inside, bool)] = &[
 ];
 
 #[test]
-fn types_that_hold_themselves(rt: HostRuntime) -> Result<(), Fail> {
+fn types_that_hold_themselves(rt: HostRuntime) {
     for (i, (inside, want)) in CYCLES.iter().enumerate() {
-        let high = is_high(rt.alloc(), holders(rt.alloc(), inside)?)?;
+        let high = is_high(&rt, rt.alloc(), holders(&rt, rt.alloc(), inside));
         assert_eq!(rt; high, *want, "at {i}");
     }
-    Ok(())
 }
 
 // ---- E30
 
-fn repeated(alloc: Global, number: TypeNumber, count: usize) -> Result<NetworkNumbers, AllocError> {
+fn repeated(rt: &impl Abort, alloc: Global, number: TypeNumber, count: usize) -> NetworkNumbers {
     let mut types = Items::new(alloc);
     for _place in 0..count {
-        types.push(number)?;
+        types.push(number).expect(rt, "memory");
     }
-    Ok(numbers(alloc, types, Items::new(alloc)))
+    numbers(alloc, types, Items::new(alloc))
 }
 
 fn has_too_many(
+    rt: &impl Abort,
     alloc: Global,
     outside: NetworkNumbers,
     blocks: Items<Option<NetworkNumbers>>,
-) -> Result<bool, AllocError> {
+) -> bool {
     let numbers = resolved(alloc, outside, blocks);
-    has_too_many_instances(alloc, &numbers)
+    has_too_many_instances(alloc, &numbers).expect(rt, "memory")
 }
 
-fn are_too_many(alloc: Global, inside: usize, outside: usize) -> Result<bool, AllocError> {
-    let blocks = one(alloc, Some(repeated(alloc, MERGE, inside)?))?;
-    has_too_many(alloc, repeated(alloc, DECLARED, outside)?, blocks)
+fn are_too_many(rt: &impl Abort, alloc: Global, inside: usize, outside: usize) -> bool {
+    let blocks = one(rt, alloc, Some(repeated(rt, alloc, MERGE, inside)));
+    has_too_many(rt, alloc, repeated(rt, alloc, DECLARED, outside), blocks)
 }
 
 /// How many components a composite type has, how many instances of it the application has, and whether these
@@ -458,19 +456,19 @@ const COUNTS: &[(usize, usize, bool)] = &[
 ];
 
 #[test]
-fn counts_of_instances(rt: HostRuntime) -> Result<(), Fail> {
+fn counts_of_instances(rt: HostRuntime) {
     for (i, (inside, outside, want)) in COUNTS.iter().enumerate() {
-        let over = are_too_many(rt.alloc(), *inside, *outside)?;
+        let over = are_too_many(&rt, rt.alloc(), *inside, *outside);
         assert_eq!(rt; over, *want, "at {i}");
     }
-    Ok(())
 }
 
-fn is_tower_too_large(alloc: Global, above: usize) -> Result<bool, AllocError> {
-    let blocks = tower(alloc, above)?;
+fn is_tower_too_large(rt: &impl Abort, alloc: Global, above: usize) -> bool {
+    let blocks = tower(rt, alloc, above);
     has_too_many(
+        rt,
         alloc,
-        repeated(alloc, TypeNumber::Declared(above), 1)?,
+        repeated(rt, alloc, TypeNumber::Declared(above), 1),
         blocks,
     )
 }
@@ -479,10 +477,9 @@ fn is_tower_too_large(alloc: Global, above: usize) -> Result<bool, AllocError> {
 const LARGE_TOWERS: &[(usize, bool)] = &[(0, false), (11, false), (12, true), (15, true)];
 
 #[test]
-fn counts_of_towers(rt: HostRuntime) -> Result<(), Fail> {
+fn counts_of_towers(rt: HostRuntime) {
     for (above, want) in LARGE_TOWERS {
-        let over = is_tower_too_large(rt.alloc(), *above)?;
+        let over = is_tower_too_large(&rt, rt.alloc(), *above);
         assert_eq!(rt; over, *want, "{above}");
     }
-    Ok(())
 }

@@ -11,9 +11,8 @@ use fb_resolve::resolve::resolve;
 use fb_types::deploy::{Deploy, Plan};
 use fb_types::event_kind::EventKind;
 use fb_types::library::Library;
-use std::alloc::{AllocError, Global};
+use std::alloc::Global;
 use std::process::Abort;
-use std::test::Fail;
 
 /// A row: the path, the type, the number of the composite, the route and the numbers of the components.
 type Wanted = (
@@ -62,28 +61,30 @@ const NESTED_ROWS: &[Wanted] = &[
 const EMPTY: &str = "APPLICATION APP FBS END_FBS END_APPLICATION\n";
 
 /// The layout of a library, where it is fit to be laid out.
-fn layout(alloc: Global, library: &Library, plan: &Plan) -> Result<Option<Layout>, AllocError> {
-    let Some(catalog) = catalog_of(alloc, library, plan)? else {
-        return Ok(None);
+fn layout(rt: &impl Abort, alloc: Global, library: &Library, plan: &Plan) -> Option<Layout> {
+    let Some(catalog) = catalog_of(alloc, library, plan).expect(rt, "memory") else {
+        return None;
     };
     if !are_parts_known(library, &catalog) {
-        return Ok(None);
+        return None;
     }
-    let Some(numbers) = resolve(alloc, library, plan, &catalog)? else {
-        return Ok(None);
+    let Some(numbers) = resolve(alloc, library, plan, &catalog).expect(rt, "memory") else {
+        return None;
     };
-    if is_too_high(alloc, &numbers)? || has_too_many_instances(alloc, &numbers)? {
-        return Ok(None);
+    if is_too_high(alloc, &numbers).expect(rt, "memory")
+        || has_too_many_instances(alloc, &numbers).expect(rt, "memory")
+    {
+        return None;
     }
-    Ok(Some(layout_of(alloc, library, &numbers)?))
+    Some(layout_of(alloc, library, &numbers).expect(rt, "memory"))
 }
 
-fn layout_of_text(alloc: Global, text: &str) -> Result<Option<Layout>, AllocError> {
+fn layout_of_text(rt: &impl Abort, alloc: Global, text: &str) -> Option<Layout> {
     let Ok(library) = read_library(alloc, text.as_bytes()) else {
-        return Ok(None);
+        return None;
     };
-    let deploy = Deploy::single(alloc)?;
-    layout(alloc, &library, deploy.plan())
+    let deploy = Deploy::single(alloc).expect(rt, "memory");
+    layout(rt, alloc, &library, deploy.plan())
 }
 
 fn is_row(row: &Row, wanted: &Wanted) -> bool {
@@ -96,14 +97,8 @@ fn is_row(row: &Row, wanted: &Wanted) -> bool {
 }
 
 /// The library of the text is laid out so.
-fn expect(
-    rt: &impl Abort,
-    alloc: Global,
-    text: &str,
-    top: &[u32],
-    rows: &[Wanted],
-) -> Result<(), Fail> {
-    let found = layout_of_text(alloc, text)?;
+fn expect(rt: &impl Abort, alloc: Global, text: &str, top: &[u32], rows: &[Wanted]) {
+    let found = layout_of_text(rt, alloc, text);
     assert!(rt; found.is_some(), "{text}");
     if let Some(layout) = &found {
         assert!(rt; layout.top.as_slice() == top, "{text}");
@@ -112,15 +107,14 @@ fn expect(
             assert!(rt; is_row(row, wanted), "{}", wanted.0);
         }
     }
-    Ok(())
 }
 
 #[test]
-fn composites_in_composites(rt: HostRuntime) -> Result<(), Fail> {
+fn composites_in_composites(rt: HostRuntime) {
     expect(&rt, rt.alloc(), NESTED, NESTED_TOP, NESTED_ROWS)
 }
 
 #[test]
-fn no_instances(rt: HostRuntime) -> Result<(), Fail> {
+fn no_instances(rt: HostRuntime) {
     expect(&rt, rt.alloc(), EMPTY, &[], &[])
 }

@@ -1,6 +1,6 @@
 //! One application on two resources: which deployments map its instances, and which connections have no link.
 
-ghost use Rattle.std.specs.Prelude.{◌≡◌, IfOk, false};
+ghost use Rattle.std.specs.Prelude.{◌≡◌, false};
 
 use fb_mapping::links::lacks_link;
 use fb_mapping::mapping::{Mapping, holder, mapping_of};
@@ -9,9 +9,8 @@ use fb_types::items::Items;
 use fb_types::latency::Latency;
 use fb_types::library::{Application, Connection, Instance, Library, Network, PortName};
 use fb_types::name::Name;
-use std::alloc::{AllocError, Global};
+use std::alloc::Global;
 use std::process::Abort;
-use std::test::Fail;
 
 /// A connection: from a port of an instance, to a port of an instance.
 type Wiring = (&'static str, &'static str, &'static str, &'static str);
@@ -27,100 +26,112 @@ type Mapped = (
 /// twice, else whether a connection lacks its link.
 type Case = (Mapped, &'static [Wiring], &'static [Wiring], Option<bool>);
 
-fn name(alloc: Global, text: &str) -> Result<Name, AllocError> {
-    Name::from_text(alloc, text)
+fn name(rt: &impl Abort, alloc: Global, text: &str) -> Name {
+    Name::from_text(alloc, text).expect(rt, "memory")
 }
 
-fn instance(alloc: Global, own: &str, block_type: &str) -> Result<Instance, AllocError> {
-    Ok(Instance {
-        name: name(alloc, own)?,
-        block_type: name(alloc, block_type)?,
+fn instance(rt: &impl Abort, alloc: Global, own: &str, block_type: &str) -> Instance {
+    Instance {
+        name: name(rt, alloc, own),
+        block_type: name(rt, alloc, block_type),
         parameters: Items::new(alloc),
-    })
+    }
 }
 
-fn port(alloc: Global, component: &str, port: &str) -> Result<PortName, AllocError> {
-    Ok(PortName {
-        component: Some(name(alloc, component)?),
-        port: name(alloc, port)?,
-    })
+fn port(rt: &impl Abort, alloc: Global, component: &str, port: &str) -> PortName {
+    PortName {
+        component: Some(name(rt, alloc, component)),
+        port: name(rt, alloc, port),
+    }
 }
 
-fn connections(alloc: Global, wirings: &[Wiring]) -> Result<Items<Connection>, AllocError> {
+fn connections(rt: &impl Abort, alloc: Global, wirings: &[Wiring]) -> Items<Connection> {
     let mut all = Items::new(alloc);
     for (from, output, to, input) in wirings {
         all.push(Connection {
-            from: port(alloc, from, output)?,
-            to: port(alloc, to, input)?,
-        })?;
+            from: port(rt, alloc, from, output),
+            to: port(rt, alloc, to, input),
+        })
+        .expect(rt, "memory");
     }
-    Ok(all)
+    all
 }
 
 /// The application with the instances F and W.
-fn library(alloc: Global, events: &[Wiring], data: &[Wiring]) -> Result<Library, AllocError> {
+fn library(rt: &impl Abort, alloc: Global, events: &[Wiring], data: &[Wiring]) -> Library {
     let mut instances = Items::new(alloc);
-    instances.push(instance(alloc, "F", "E_SR")?)?;
-    instances.push(instance(alloc, "W", "E_SWITCH")?)?;
+    instances
+        .push(instance(rt, alloc, "F", "E_SR"))
+        .expect(rt, "memory");
+    instances
+        .push(instance(rt, alloc, "W", "E_SWITCH"))
+        .expect(rt, "memory");
     let network = Network {
         instances,
-        event_connections: connections(alloc, events)?,
-        data_connections: connections(alloc, data)?,
+        event_connections: connections(rt, alloc, events),
+        data_connections: connections(rt, alloc, data),
     };
-    Ok(Library {
+    Library {
         blocks: Items::new(alloc),
         application: Application {
-            name: name(alloc, "A")?,
+            name: name(rt, alloc, "A"),
             network,
         },
-    })
+    }
 }
 
-fn resource(alloc: Global, own: &str, listed: &[&str]) -> Result<Resource, AllocError> {
+fn resource(rt: &impl Abort, alloc: Global, own: &str, listed: &[&str]) -> Resource {
     let mut instances = Items::new(alloc);
     for text in listed {
-        instances.push(name(alloc, text)?)?;
+        instances.push(name(rt, alloc, text)).expect(rt, "memory");
     }
-    Ok(Resource {
-        device: name(alloc, "D")?,
-        name: name(alloc, own)?,
+    Resource {
+        device: name(rt, alloc, "D"),
+        name: name(rt, alloc, own),
         instances,
-    })
+    }
 }
 
-fn plan(alloc: Global, mapped: &Mapped) -> Result<Plan, AllocError>
-    ensures { IfOk result (λ p. p.holds_all ≡ false) }
+fn plan(rt: &impl Abort, alloc: Global, mapped: &Mapped) -> Plan
+    ensures { result.holds_all ≡ false }
 {
     let (first, second, pairs) = mapped;
     let mut resources = Items::new(alloc);
-    resources.push(resource(alloc, "R1", first)?)?;
-    resources.push(resource(alloc, "R2", second)?)?;
+    resources
+        .push(resource(rt, alloc, "R1", first))
+        .expect(rt, "memory");
+    resources
+        .push(resource(rt, alloc, "R2", second))
+        .expect(rt, "memory");
     let mut links = Items::new(alloc);
     for (from, to) in *pairs {
-        links.push(Link {
-            from: name(alloc, from)?,
-            to: name(alloc, to)?,
-            latency: Latency::constant(alloc, 2)?,
-        })?;
+        links
+            .push(Link {
+                from: name(rt, alloc, from),
+                to: name(rt, alloc, to),
+                latency: Latency::constant(alloc, 2).expect(rt, "memory"),
+            })
+            .expect(rt, "memory");
     }
-    Ok(Plan {
+    Plan {
         resources,
         links,
         holds_all: false,
-    })
+    }
 }
 
 fn answer(
+    rt: &impl Abort,
     alloc: Global,
     mapped: &Mapped,
     events: &[Wiring],
     data: &[Wiring],
-) -> Result<Option<bool>, AllocError> {
-    let library = library(alloc, events, data)?;
-    let plan = plan(alloc, mapped)?;
-    match mapping_of(alloc, &library, &plan)? {
-        Some(mapping) => Ok(Some(lacks_link(alloc, &library, &plan, &mapping)?)),
-        None => Ok(None),
+) -> Option<bool> {
+    let library = library(rt, alloc, events, data);
+    let plan = plan(rt, alloc, mapped);
+    match mapping_of(alloc, &library, &plan).expect(rt, "memory") {
+        Some(mapping) => Some(lacks_link(alloc, &library, &plan, &mapping).expect(rt, "memory")),
+        None => None,
     }
 }
 
@@ -146,17 +157,15 @@ const CASES: &[Case] = &[
 ];
 
 #[test]
-fn deployments(rt: HostRuntime) -> Result<(), Fail> {
+fn deployments(rt: HostRuntime) {
     let alloc = rt.alloc();
     for (i, (mapped, events, data, want)) in CASES.iter().enumerate() {
-        let found = answer(alloc, mapped, events, data)?;
+        let found = answer(&rt, alloc, mapped, events, data);
         assert_eq!(rt; found, *want, "at {i}");
     }
-    Ok(())
 }
 
 #[test]
-fn one_resource_holds_all(rt: HostRuntime) -> Result<(), Fail> {
+fn one_resource_holds_all(rt: HostRuntime) {
     assert_eq!(rt; holder(&Mapping::All, b"W"), 0);
-    Ok(())
 }

@@ -14,7 +14,6 @@ use fb_types::text::Body;
 use fb_types::value::{Ty, Value};
 use std::alloc::{AllocError, Global};
 use std::process::Abort;
-use std::test::Fail;
 
 /// What is declared by one or two names.
 #[derive(Clone, Copy)]
@@ -105,10 +104,10 @@ fn basic(alloc: Global, name: Name) -> BasicType {
     }
 }
 
-fn nothing(alloc: Global) -> Result<Draft, AllocError> {
-    let basic = basic(alloc, Name::from_text(alloc, "B")?);
-    let composite = composite(alloc, Name::from_text(alloc, "C")?);
-    Ok(Draft {
+fn nothing(rt: &impl Abort, alloc: Global) -> Draft {
+    let basic = basic(alloc, Name::from_text(alloc, "B").expect(rt, "memory"));
+    let composite = composite(alloc, Name::from_text(alloc, "C").expect(rt, "memory"));
+    Draft {
         basic,
         composite,
         types: Items::new(alloc),
@@ -118,7 +117,7 @@ fn nothing(alloc: Global) -> Result<Draft, AllocError> {
             links: Items::new(alloc),
             holds_all: false,
         },
-    })
+    }
 }
 
 fn variable(name: Name) -> Variable {
@@ -136,22 +135,22 @@ fn event(alloc: Global, name: Name) -> EventPort {
     }
 }
 
-fn event_with(alloc: Global, first: Name, second: Name) -> Result<EventPort, AllocError> {
+fn event_with(rt: &impl Abort, alloc: Global, first: Name, second: Name) -> EventPort {
     let mut with = Items::new(alloc);
-    with.push(first)?;
-    with.push(second)?;
-    Ok(EventPort {
-        name: Name::from_text(alloc, "W")?,
+    with.push(first).expect(rt, "memory");
+    with.push(second).expect(rt, "memory");
+    EventPort {
+        name: Name::from_text(alloc, "W").expect(rt, "memory"),
         with,
-    })
+    }
 }
 
-fn instance_of(alloc: Global, name: Name) -> Result<Instance, AllocError> {
-    Ok(Instance {
+fn instance_of(rt: &impl Abort, alloc: Global, name: Name) -> Instance {
+    Instance {
         name,
-        block_type: Name::from_text(alloc, "B")?,
+        block_type: Name::from_text(alloc, "B").expect(rt, "memory"),
         parameters: Items::new(alloc),
-    })
+    }
 }
 
 fn parameter(name: Name) -> Parameter {
@@ -161,47 +160,48 @@ fn parameter(name: Name) -> Parameter {
     }
 }
 
-fn with_parameters(alloc: Global, first: Name, second: Name) -> Result<Instance, AllocError> {
+fn with_parameters(rt: &impl Abort, alloc: Global, first: Name, second: Name) -> Instance {
     let mut parameters = Items::new(alloc);
-    parameters.push(parameter(first))?;
-    parameters.push(parameter(second))?;
-    let mut instance = instance_of(alloc, Name::from_text(alloc, "P")?)?;
+    parameters.push(parameter(first)).expect(rt, "memory");
+    parameters.push(parameter(second)).expect(rt, "memory");
+    let mut instance = instance_of(rt, alloc, Name::from_text(alloc, "P").expect(rt, "memory"));
     instance.parameters = parameters;
-    Ok(instance)
+    instance
 }
 
-fn connection(alloc: Global, from: Name, to: Name) -> Result<Connection, AllocError> {
+fn connection(rt: &impl Abort, alloc: Global, from: Name, to: Name) -> Connection {
     let from = PortName {
-        component: Some(Name::from_text(alloc, "I")?),
+        component: Some(Name::from_text(alloc, "I").expect(rt, "memory")),
         port: from,
     };
-    Ok(Connection {
+    Connection {
         from,
         to: PortName {
             component: None,
             port: to,
         },
-    })
+    }
 }
 
-fn resource(alloc: Global, name: Name) -> Result<Resource, AllocError> {
-    Ok(Resource {
-        device: Name::from_text(alloc, "D")?,
+fn resource(rt: &impl Abort, alloc: Global, name: Name) -> Resource {
+    Resource {
+        device: Name::from_text(alloc, "D").expect(rt, "memory"),
         name,
         instances: Items::new(alloc),
-    })
+    }
 }
 
-fn link(alloc: Global, from: Name, to: Name) -> Result<Link, AllocError> {
-    Ok(Link {
+fn link(rt: &impl Abort, alloc: Global, from: Name, to: Name) -> Link {
+    Link {
         from,
         to,
-        latency: Latency::constant(alloc, 1)?,
-    })
+        latency: Latency::constant(alloc, 1).expect(rt, "memory"),
+    }
 }
 
 /// Adds to the basic type.
 fn add_to_basic(
+    rt: &impl Abort,
     alloc: Global,
     basic: &mut BasicType,
     entry: Entry,
@@ -217,7 +217,7 @@ fn add_to_basic(
         Entry::InputWith => basic
             .ports
             .event_inputs
-            .push(event_with(alloc, first, second)?),
+            .push(event_with(rt, alloc, first, second)),
         Entry::State => basic.states.push(State {
             name: first,
             actions: Items::new(alloc),
@@ -234,6 +234,7 @@ fn add_to_basic(
 
 /// Adds to a network, or to the ports around it.
 fn add_to_network(
+    rt: &impl Abort,
     alloc: Global,
     network: &mut Network,
     entry: Entry,
@@ -241,60 +242,62 @@ fn add_to_network(
     second: Name,
 ) -> Result<(), AllocError> {
     match entry {
-        Entry::Component | Entry::Instance => network.instances.push(instance_of(alloc, first)?),
+        Entry::Component | Entry::Instance => network.instances.push(instance_of(rt, alloc, first)),
         Entry::Parameters | Entry::InnerParameters => {
             network
                 .instances
-                .push(with_parameters(alloc, first, second)?)
+                .push(with_parameters(rt, alloc, first, second))
         }
         Entry::Event | Entry::InnerEvent => {
             network
                 .event_connections
-                .push(connection(alloc, first, second)?)
+                .push(connection(rt, alloc, first, second))
         }
         Entry::Data => network
             .data_connections
-            .push(connection(alloc, first, second)?),
+            .push(connection(rt, alloc, first, second)),
         _ => Ok(()),
     }
 }
 
-fn add(
-    alloc: Global,
-    draft: &mut Draft,
-    entry: Entry,
-    first: &str,
-    second: &str,
-) -> Result<(), AllocError> {
-    let first = Name::from_text(alloc, first)?;
-    let second = Name::from_text(alloc, second)?;
-    match entry {
+fn add(rt: &impl Abort, alloc: Global, draft: &mut Draft, entry: Entry, first: &str, second: &str) {
+    let first = Name::from_text(alloc, first).expect(rt, "memory");
+    let second = Name::from_text(alloc, second).expect(rt, "memory");
+    let added = match entry {
         Entry::Type => draft
             .types
             .push(BlockType::Composite(composite(alloc, first))),
         Entry::OutputWith => {
             let outputs = &mut draft.composite.ports.event_outputs;
-            outputs.push(event_with(alloc, first, second)?)
+            outputs.push(event_with(rt, alloc, first, second))
         }
         Entry::Component | Entry::InnerParameters | Entry::InnerEvent => {
-            add_to_network(alloc, &mut draft.composite.network, entry, first, second)
+            add_to_network(
+                rt,
+                alloc,
+                &mut draft.composite.network,
+                entry,
+                first,
+                second,
+            )
         }
         Entry::Instance | Entry::Parameters | Entry::Event | Entry::Data => {
-            add_to_network(alloc, &mut draft.network, entry, first, second)
+            add_to_network(rt, alloc, &mut draft.network, entry, first, second)
         }
-        Entry::Resource => draft.plan.resources.push(resource(alloc, first)?),
-        Entry::Link => draft.plan.links.push(link(alloc, first, second)?),
-        _ => add_to_basic(alloc, &mut draft.basic, entry, first, second),
-    }
+        Entry::Resource => draft.plan.resources.push(resource(rt, alloc, first)),
+        Entry::Link => draft.plan.links.push(link(rt, alloc, first, second)),
+        _ => add_to_basic(rt, alloc, &mut draft.basic, entry, first, second),
+    };
+    added.expect(rt, "memory");
 }
 
 /// Entries, each with its names.
 type Entries = &'static [(Entry, &'static str, &'static str)];
 
-fn declared(alloc: Global, entries: Entries) -> Result<(Library, Plan), AllocError> {
-    let mut draft = nothing(alloc)?;
+fn declared(rt: &impl Abort, alloc: Global, entries: Entries) -> (Library, Plan) {
+    let mut draft = nothing(rt, alloc);
     for (entry, first, second) in entries {
-        add(alloc, &mut draft, *entry, first, second)?;
+        add(rt, alloc, &mut draft, *entry, first, second);
     }
     let Draft {
         basic,
@@ -303,27 +306,28 @@ fn declared(alloc: Global, entries: Entries) -> Result<(Library, Plan), AllocErr
         network,
         plan,
     } = draft;
-    types.push(BlockType::Basic(basic))?;
-    types.push(BlockType::Composite(composite))?;
-    let name = Name::from_text(alloc, "A")?;
+    types.push(BlockType::Basic(basic)).expect(rt, "memory");
+    types
+        .push(BlockType::Composite(composite))
+        .expect(rt, "memory");
+    let name = Name::from_text(alloc, "A").expect(rt, "memory");
     let library = Library {
         blocks: types,
         application: Application { name, network },
     };
-    Ok((library, plan))
+    (library, plan)
 }
 
-fn is_given_twice(alloc: Global, entries: Entries) -> Result<bool, AllocError> {
-    let (library, plan) = declared(alloc, entries)?;
-    let catalog = catalog_of(alloc, &library, &plan)?;
-    Ok(catalog.is_none())
+fn is_given_twice(rt: &impl Abort, alloc: Global, entries: Entries) -> bool {
+    let (library, plan) = declared(rt, alloc, entries);
+    let catalog = catalog_of(alloc, &library, &plan).expect(rt, "memory");
+    catalog.is_none()
 }
 
-fn check_all(rt: &impl Abort, alloc: Global, cases: &[Entries], want: bool) -> Result<(), Fail> {
+fn check_all(rt: &impl Abort, alloc: Global, cases: &[Entries], want: bool) {
     for (i, entries) in cases.iter().enumerate() {
-        assert_eq!(rt; is_given_twice(alloc, entries)?, want, "at {i}");
+        assert_eq!(rt; is_given_twice(rt, alloc, entries), want, "at {i}");
     }
-    Ok(())
 }
 
 const TWICE: &[Entries] = &[
@@ -362,7 +366,7 @@ const TWICE: &[Entries] = &[
 ];
 
 #[test]
-fn what_is_given_twice(rt: HostRuntime) -> Result<(), Fail> {
+fn what_is_given_twice(rt: HostRuntime) {
     check_all(&rt, rt.alloc(), TWICE, true)
 }
 
@@ -405,7 +409,7 @@ const ONCE: &[Entries] = &[
 ];
 
 #[test]
-fn what_is_given_once(rt: HostRuntime) -> Result<(), Fail> {
+fn what_is_given_once(rt: HostRuntime) {
     check_all(&rt, rt.alloc(), ONCE, false)
 }
 
@@ -455,10 +459,9 @@ fn check_catalog(rt: &impl Abort, catalog: &Catalog) {
 }
 
 #[test]
-fn each_name_has_its_place(rt: HostRuntime) -> Result<(), Fail> {
+fn each_name_has_its_place(rt: HostRuntime) {
     let alloc = rt.alloc();
-    let (library, plan) = declared(alloc, NUMBERED)?;
-    let catalog = catalog_of(alloc, &library, &plan)?.ok_or("a name twice")?;
-    check_catalog(&rt, &catalog);
-    Ok(())
+    let (library, plan) = declared(&rt, alloc, NUMBERED);
+    let catalog = catalog_of(alloc, &library, &plan).expect(&rt, "memory");
+    check_catalog(&rt, &catalog.expect(&rt, "no name twice"));
 }

@@ -8,8 +8,8 @@ use fb_tree::tree::{change, find};
 use fb_tree::values::{publish, replace, set_input, set_slot};
 use fb_types::event_kind::EventKind;
 use fb_types::value::Value;
-use std::alloc::{AllocError, Global};
-use std::test::Fail;
+use std::alloc::Global;
+use std::process::Abort;
 
 const NO: Value = Value::Bool(false);
 
@@ -23,39 +23,41 @@ const DEEPEST: (u32, &[u32]) = (1, &[1, 0]);
 /// Routes at which no block stands: one place behind the last, and below leaves.
 const NOWHERE: [(u32, &[u32]); 4] = [(2, &[]), (0, &[0]), (1, &[1, 1]), (1, &[1, 0, 0])];
 
-fn shell(alloc: Global) -> Result<Shell, AllocError> {
-    Ok(Shell {
-        slots: Places::from_vec(Vec::from_slice(alloc, &[NO])?),
-        published: Places::from_vec(Vec::from_slice(alloc, &[NO, NO])?),
+fn shell(rt: &impl Abort, alloc: Global) -> Shell {
+    Shell {
+        slots: Places::from_vec(Vec::from_slice(alloc, &[NO]).expect(rt, "memory")),
+        published: Places::from_vec(Vec::from_slice(alloc, &[NO, NO]).expect(rt, "memory")),
+    }
+}
+
+fn leaf(rt: &impl Abort, alloc: Global) -> Block {
+    Block::Event(EventBlock {
+        state: EventState::new(EventKind::Split),
+        inputs: Places::from_vec(Vec::from_slice(alloc, &[NO]).expect(rt, "memory")),
+        shell: shell(rt, alloc),
     })
 }
 
-fn leaf(alloc: Global) -> Result<Block, AllocError> {
-    Ok(Block::Event(EventBlock {
-        state: EventState::new(EventKind::Split),
-        inputs: Places::from_vec(Vec::from_slice(alloc, &[NO])?),
-        shell: shell(alloc)?,
-    }))
-}
-
-fn composite(alloc: Global, components: Vec<Block>) -> Result<Block, AllocError> {
-    Ok(Block::Composite(CompositeBlock {
-        inputs: Places::from_vec(Vec::from_slice(alloc, &[NO])?),
-        shell: shell(alloc)?,
+fn composite(rt: &impl Abort, alloc: Global, components: Vec<Block>) -> Block {
+    Block::Composite(CompositeBlock {
+        inputs: Places::from_vec(Vec::from_slice(alloc, &[NO]).expect(rt, "memory")),
+        shell: shell(rt, alloc),
         components: Places::from_vec(components),
-    }))
+    })
 }
 
-fn trees(alloc: Global) -> Result<Places<Block>, AllocError> {
+fn trees(rt: &impl Abort, alloc: Global) -> Places<Block> {
     let mut innermost = Vec::new(alloc);
-    innermost.push(leaf(alloc)?)?;
+    innermost.push(leaf(rt, alloc)).expect(rt, "memory");
     let mut inner = Vec::new(alloc);
-    inner.push(leaf(alloc)?)?;
-    inner.push(composite(alloc, innermost)?)?;
+    inner.push(leaf(rt, alloc)).expect(rt, "memory");
+    inner
+        .push(composite(rt, alloc, innermost))
+        .expect(rt, "memory");
     let mut all = Vec::new(alloc);
-    all.push(leaf(alloc)?)?;
-    all.push(composite(alloc, inner)?)?;
-    Ok(Places::from_vec(all))
+    all.push(leaf(rt, alloc)).expect(rt, "memory");
+    all.push(composite(rt, alloc, inner)).expect(rt, "memory");
+    Places::from_vec(all)
 }
 
 /// The slot and the two published outputs of the block at a route.
@@ -69,8 +71,8 @@ fn seen(blocks: &Places<Block>, route: (u32, &[u32])) -> Option<(Value, Value, V
 }
 
 #[test]
-fn a_leaf_deep_inside_changes_alone(rt: HostRuntime) -> Result<(), Fail> {
-    let mut blocks = trees(rt.alloc())?;
+fn a_leaf_deep_inside_changes_alone(rt: HostRuntime) {
+    let mut blocks = trees(&rt, rt.alloc());
     let (first, rest) = DEEPEST;
     set_slot(&mut blocks, first, rest, 0, SEVEN);
     publish(&mut blocks, first, rest, 1, SEVEN);
@@ -79,12 +81,11 @@ fn a_leaf_deep_inside_changes_alone(rt: HostRuntime) -> Result<(), Fail> {
     for route in OTHERS {
         assert_eq!(rt; seen(&blocks, route), Some((NO, NO, NO)));
     }
-    Ok(())
 }
 
 #[test]
-fn event_blocks_and_composite_blocks_keep_what_they_sample(rt: HostRuntime) -> Result<(), Fail> {
-    let mut blocks = trees(rt.alloc())?;
+fn event_blocks_and_composite_blocks_keep_what_they_sample(rt: HostRuntime) {
+    let mut blocks = trees(&rt, rt.alloc());
     set_input(&mut blocks, 1, &[1], 0, SEVEN);
     set_input(&mut blocks, 0, &[], 0, SEVEN);
     for ((first, rest), expected) in [
@@ -92,30 +93,27 @@ fn event_blocks_and_composite_blocks_keep_what_they_sample(rt: HostRuntime) -> R
         ((1, &[]), NO),
         ((1, &[1]), SEVEN),
     ] {
-        let block = find(blocks.as_slice(), first, rest).ok_or("no block")?;
+        let block = find(blocks.as_slice(), first, rest).expect(&rt, "a block");
         assert_eq!(rt; block.inputs(), [expected].as_slice());
     }
-    Ok(())
 }
 
 #[test]
-fn a_block_is_taken_out_and_put_back(rt: HostRuntime) -> Result<(), Fail> {
-    let mut blocks = trees(rt.alloc())?;
-    let inner = replace(&mut blocks, 1, &[1], leaf(rt.alloc())?).ok_or("no block")?;
+fn a_block_is_taken_out_and_put_back(rt: HostRuntime) {
+    let mut blocks = trees(&rt, rt.alloc());
+    let inner = replace(&mut blocks, 1, &[1], leaf(&rt, rt.alloc())).expect(&rt, "a block");
     assert_eq!(rt; seen(&blocks, DEEPEST), None);
     replace(&mut blocks, 1, &[1], inner);
     assert_eq!(rt; seen(&blocks, DEEPEST), Some((NO, NO, NO)));
-    Ok(())
 }
 
 #[test]
-fn nothing_happens_where_no_block_stands(rt: HostRuntime) -> Result<(), Fail> {
-    let mut blocks = trees(rt.alloc())?;
+fn nothing_happens_where_no_block_stands(rt: HostRuntime) {
+    let mut blocks = trees(&rt, rt.alloc());
     for (first, rest) in NOWHERE {
         assert!(rt; find(blocks.as_slice(), first, rest).is_none());
         assert_eq!(rt; change(&mut blocks, first, rest, |_| 5u8), None);
     }
     let (first, rest) = DEEPEST;
     assert_eq!(rt; change(&mut blocks, first, rest, |_| 5u8), Some(5));
-    Ok(())
 }

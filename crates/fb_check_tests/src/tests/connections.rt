@@ -5,7 +5,6 @@ use fb_fabric::fabric::Place;
 use fb_system::system::System;
 use fb_types::run::Target;
 use std::process::Abort;
-use std::test::Fail;
 
 /// An instance, the place of an event or of a variable of its type, and whether that is an output.
 type Port = (u32, u32, bool);
@@ -83,13 +82,12 @@ fn source(rt: &impl Abort, system: &System, to: Port) -> Option<Port> {
 }
 
 #[test]
-fn connections(rt: HostRuntime) -> Result<(), Fail> {
-    let system = system(rt.alloc())?;
+fn connections(rt: HostRuntime) {
+    let system = system(&rt, rt.alloc());
     for (i, (from, place, wanted)) in TARGETS.iter().enumerate() {
         assert_eq!(rt; target(&rt, &system, *from, *place), *wanted, "at {i}");
     }
     for (i, (to, wanted)) in SOURCES.iter().enumerate() {
         assert_eq!(rt; source(&rt, &system, *to), *wanted, "at {i}");
     }
-    Ok(())
 }

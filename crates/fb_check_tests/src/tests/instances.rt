@@ -5,7 +5,6 @@ use fb_resolve::numbers::TypeNumber;
 use fb_system::system::System;
 use fb_types::event_kind::EventKind;
 use std::process::Abort;
-use std::test::Fail;
 
 #[derive(Clone, Copy)]
 struct Row {
@@ -127,13 +126,12 @@ fn expect_variables_with_events(rt: &impl Abort, system: &System) {
 }
 
 #[test]
-fn instances(rt: HostRuntime) -> Result<(), Fail> {
-    let system = system(rt.alloc())?;
+fn instances(rt: HostRuntime) {
+    let system = system(&rt, rt.alloc());
     assert_eq!(rt; system.count(), ROWS.len());
     for row in &ROWS {
         expect_row(&rt, &system, row);
     }
     assert_eq!(rt; system.top(), [0, 1, 4].as_slice());
     expect_variables_with_events(&rt, &system);
-    Ok(())
 }

@@ -7,7 +7,6 @@ use fb_types::latency::Entry;
 use fb_types::run::Target;
 use fb_types::value::Value;
 use std::process::Abort;
-use std::test::Fail;
 
 const CONSTANT: [Entry; 1] = [Entry {
     from: 0,
@@ -59,29 +58,27 @@ fn expect_stimulus(rt: &impl Abort, system: &System) {
 
 /// A share is the same system, also when the first is gone.
 #[test]
-fn plans_and_stimuli(rt: HostRuntime) -> Result<(), Fail> {
-    let first = system(rt.alloc())?;
+fn plans_and_stimuli(rt: HostRuntime) {
+    let first = system(&rt, rt.alloc());
     expect_plan(&rt, &first);
     expect_stimulus(&rt, &first);
-    let share = first.share()?;
+    let share = first.share().expect(&rt, "memory");
     drop(first);
     expect_plan(&rt, &share);
     expect_stimulus(&rt, &share);
-    Ok(())
 }
 
 #[test]
-fn the_least_number_is_answered(rt: HostRuntime) -> Result<(), Fail> {
+fn the_least_number_is_answered(rt: HostRuntime) {
     let alloc = rt.alloc();
     for (has_link, stimuli, wanted) in [
         (true, CONNECTED, 29),
         (false, STIMULUS, 27),
         (false, CONNECTED, 27),
     ] {
-        match answer(alloc, has_link, stimuli)? {
+        match answer(&rt, alloc, has_link, stimuli) {
             Ok(_) => panic!(rt; "accepted"),
             Err(error) => assert_eq!(rt; error.number(), Some(wanted)),
         }
     }
-    Ok(())
 }

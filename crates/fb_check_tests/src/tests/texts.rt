@@ -7,7 +7,7 @@ use fb_inputs::stimuli::read_stimuli;
 use fb_read::read_library;
 use fb_system::system::System;
 use std::alloc::Global;
-use std::test::Fail;
+use std::process::Abort;
 
 /// The instances are F, K, K.M, K.L and B, from 0. F lies in the second resource, and the others in the first.
 const DECLARATION: &[u8] =
@@ -35,21 +35,22 @@ pub const CONNECTED: &str = "tick,event,values\n7,B.GO,G=TRUE\n";
 
 /// What is answered for the declaration with these stimuli, where the cut connections have their link or not.
 pub fn answer(
+    rt: &impl Abort,
     alloc: Global,
     has_link: bool,
     stimuli: &str,
-) -> Result<Result<System, CheckError>, Fail> {
-    let mut deploy = String::from_str(alloc, RESOURCES)?;
+) -> Result<System, CheckError> {
+    let mut deploy = String::from_str(alloc, RESOURCES).expect(rt, "memory");
     if has_link {
-        deploy.push_str(LINK)?;
+        deploy.push_str(LINK).expect(rt, "memory");
     }
-    let library = read_library(alloc, DECLARATION)?;
-    let deploy = read_deploy(alloc, deploy.as_bytes())?;
-    let stimuli = read_stimuli(alloc, stimuli.as_bytes())?;
-    Ok(accept(alloc, library, deploy, stimuli))
+    let library = read_library(alloc, DECLARATION).expect(rt, "a library");
+    let deploy = read_deploy(alloc, deploy.as_bytes()).expect(rt, "a deployment");
+    let stimuli = read_stimuli(alloc, stimuli.as_bytes()).expect(rt, "stimuli");
+    accept(alloc, library, deploy, stimuli)
 }
 
 /// The system of the texts.
-pub fn system(alloc: Global) -> Result<System, Fail> {
-    Ok(answer(alloc, true, STIMULUS)??)
+pub fn system(rt: &impl Abort, alloc: Global) -> System {
+    answer(rt, alloc, true, STIMULUS).expect(rt, "a system")
 }

@@ -9,7 +9,8 @@ use fb_types::name::Name;
 use fb_types::reference::Reference;
 use fb_types::text::{BinaryOperator, Body, Expr, Stmt};
 use fb_types::value::Ty;
-use std::alloc::{AllocError, Global};
+use std::alloc::Global;
+use std::process::Abort;
 
 /// An event with the names of the variables WITH it.
 pub type Port = (&'static str, &'static [&'static str]);
@@ -54,164 +55,169 @@ pub const CALC: Sketch = Sketch {
     transitions: &[("IDLE", "RUN", "GO"), ("RUN", "IDLE", "")],
 };
 
-fn optional(alloc: Global, text: &str) -> Result<Option<Name>, AllocError> {
+fn optional(rt: &impl Abort, alloc: Global, text: &str) -> Option<Name> {
     if text.is_empty() {
-        return Ok(None);
+        return None;
     }
-    Ok(Some(Name::from_text(alloc, text)?))
+    Some(Name::from_text(alloc, text).expect(rt, "memory"))
 }
 
-fn names(alloc: Global, texts: &[&'static str]) -> Result<Items<Name>, AllocError> {
+fn names(rt: &impl Abort, alloc: Global, texts: &[&'static str]) -> Items<Name> {
     let mut names = Items::new(alloc);
     for text in texts {
-        names.push(Name::from_text(alloc, *text)?)?;
+        names
+            .push(Name::from_text(alloc, *text).expect(rt, "memory"))
+            .expect(rt, "memory");
     }
-    Ok(names)
+    names
 }
 
-fn ports(alloc: Global, ports: &[Port]) -> Result<Items<EventPort>, AllocError> {
+fn ports(rt: &impl Abort, alloc: Global, ports: &[Port]) -> Items<EventPort> {
     let mut all = Items::new(alloc);
     for (name, with) in ports {
-        let name = Name::from_text(alloc, *name)?;
-        let with = names(alloc, *with)?;
-        all.push(EventPort { name, with })?;
+        let name = Name::from_text(alloc, *name).expect(rt, "memory");
+        let with = names(rt, alloc, *with);
+        all.push(EventPort { name, with }).expect(rt, "memory");
     }
-    Ok(all)
+    all
 }
 
 /// Variables of type INT.
-pub fn variables(alloc: Global, names: &[&'static str]) -> Result<Items<Variable>, AllocError> {
+pub fn variables(rt: &impl Abort, alloc: Global, names: &[&'static str]) -> Items<Variable> {
     let mut all = Items::new(alloc);
     for name in names {
-        let name = Name::from_text(alloc, *name)?;
+        let name = Name::from_text(alloc, *name).expect(rt, "memory");
         all.push(Variable {
             name,
             ty: Ty::Int,
             initial: None,
-        })?;
+        })
+        .expect(rt, "memory");
     }
-    Ok(all)
+    all
 }
 
 fn actions(
+    rt: &impl Abort,
     alloc: Global,
     actions: &[(&'static str, &'static str)],
-) -> Result<Items<Action>, AllocError> {
+) -> Items<Action> {
     let mut all = Items::new(alloc);
     for (algorithm, output) in actions {
-        let algorithm = optional(alloc, *algorithm)?;
-        let output = optional(alloc, *output)?;
-        all.push(Action { algorithm, output })?;
+        let algorithm = optional(rt, alloc, *algorithm);
+        let output = optional(rt, alloc, *output);
+        all.push(Action { algorithm, output }).expect(rt, "memory");
     }
-    Ok(all)
+    all
 }
 
-fn states(alloc: Global, nodes: &[Node]) -> Result<Items<State>, AllocError> {
+fn states(rt: &impl Abort, alloc: Global, nodes: &[Node]) -> Items<State> {
     let mut all = Items::new(alloc);
     for (name, acts) in nodes {
-        let name = Name::from_text(alloc, *name)?;
-        let actions = actions(alloc, *acts)?;
-        all.push(State { name, actions })?;
+        let name = Name::from_text(alloc, *name).expect(rt, "memory");
+        let actions = actions(rt, alloc, *acts);
+        all.push(State { name, actions }).expect(rt, "memory");
     }
-    Ok(all)
+    all
 }
 
 /// A transition, whose condition may have a guard.
-pub fn transition(alloc: Global, arc: Arc, guard: Option<Expr>) -> Result<Transition, AllocError> {
+pub fn transition(rt: &impl Abort, alloc: Global, arc: Arc, guard: Option<Expr>) -> Transition {
     let (from, to, event) = arc;
-    let from = Name::from_text(alloc, from)?;
-    let to = Name::from_text(alloc, to)?;
-    let event = optional(alloc, event)?;
+    let from = Name::from_text(alloc, from).expect(rt, "memory");
+    let to = Name::from_text(alloc, to).expect(rt, "memory");
+    let event = optional(rt, alloc, event);
     let condition = Condition { event, guard };
-    Ok(Transition {
+    Transition {
         from,
         to,
         condition,
-    })
+    }
 }
 
-fn transitions(alloc: Global, arcs: &[Arc]) -> Result<Items<Transition>, AllocError> {
+fn transitions(rt: &impl Abort, alloc: Global, arcs: &[Arc]) -> Items<Transition> {
     let mut all = Items::new(alloc);
     for arc in arcs {
-        all.push(transition(alloc, *arc, None)?)?;
+        all.push(transition(rt, alloc, *arc, None))
+            .expect(rt, "memory");
     }
-    Ok(all)
+    all
 }
 
-fn interface(alloc: Global, sketch: &Sketch) -> Result<Ports, AllocError> {
-    let event_inputs = ports(alloc, sketch.event_inputs)?;
-    let event_outputs = ports(alloc, sketch.event_outputs)?;
-    let outputs = variables(alloc, sketch.outputs)?;
-    Ok(Ports {
+fn interface(rt: &impl Abort, alloc: Global, sketch: &Sketch) -> Ports {
+    let event_inputs = ports(rt, alloc, sketch.event_inputs);
+    let event_outputs = ports(rt, alloc, sketch.event_outputs);
+    let outputs = variables(rt, alloc, sketch.outputs);
+    Ports {
         event_inputs,
         event_outputs,
         inputs: Items::new(alloc),
         outputs,
-    })
+    }
 }
 
-pub fn block(alloc: Global, sketch: &Sketch) -> Result<BasicType, AllocError> {
-    let name = Name::from_text(alloc, "F")?;
-    let ports = interface(alloc, sketch)?;
-    let states = states(alloc, sketch.states)?;
-    let transitions = transitions(alloc, sketch.transitions)?;
-    Ok(BasicType {
+pub fn block(rt: &impl Abort, alloc: Global, sketch: &Sketch) -> BasicType {
+    let name = Name::from_text(alloc, "F").expect(rt, "memory");
+    let ports = interface(rt, alloc, sketch);
+    let states = states(rt, alloc, sketch.states);
+    let transitions = transitions(rt, alloc, sketch.transitions);
+    BasicType {
         name,
         ports,
         internals: Items::new(alloc),
         states,
         transitions,
         algorithms: Items::new(alloc),
-    })
+    }
 }
 
 /// A block with an algorithm A of one statement.
-pub fn block_with(
-    alloc: Global,
-    sketch: &Sketch,
-    statement: Stmt,
-) -> Result<BasicType, AllocError> {
-    let mut block = block(alloc, sketch)?;
+pub fn block_with(rt: &impl Abort, alloc: Global, sketch: &Sketch, statement: Stmt) -> BasicType {
+    let mut block = block(rt, alloc, sketch);
     let mut statements = Items::new(alloc);
-    statements.push(statement)?;
-    let name = Name::from_text(alloc, "A")?;
-    block.algorithms.push(Algorithm {
-        name,
-        body: Body { statements },
-    })?;
-    Ok(block)
+    statements.push(statement).expect(rt, "memory");
+    let name = Name::from_text(alloc, "A").expect(rt, "memory");
+    block
+        .algorithms
+        .push(Algorithm {
+            name,
+            body: Body { statements },
+        })
+        .expect(rt, "memory");
+    block
 }
 
 /// An operator at two whole numbers.
 pub fn of_whole(
+    rt: &impl Abort,
     alloc: Global,
     operator: BinaryOperator,
     left: i128,
     right: i128,
-) -> Result<Expr, AllocError> {
-    let left = Boxed::new(alloc, Expr::Whole(left))?;
-    let right = Boxed::new(alloc, Expr::Whole(right))?;
-    Ok(Expr::Binary(operator, left, right))
+) -> Expr {
+    let left = Boxed::new(alloc, Expr::Whole(left)).expect(rt, "memory");
+    let right = Boxed::new(alloc, Expr::Whole(right)).expect(rt, "memory");
+    Expr::Binary(operator, left, right)
 }
 
 /// X := ..
-pub fn assign(alloc: Global, value: Expr) -> Result<Stmt, AllocError> {
-    let variable = Reference::new(Name::from_text(alloc, "X")?);
-    Ok(Stmt::Assign(variable, value))
+pub fn assign(rt: &impl Abort, alloc: Global, value: Expr) -> Stmt {
+    let variable = Reference::new(Name::from_text(alloc, "X").expect(rt, "memory"));
+    Stmt::Assign(variable, value)
 }
 
 /// FOR X := .. TO .. DO ; END_FOR
-pub fn count(alloc: Global, start: i128, end: i128) -> Result<Stmt, AllocError> {
-    let variable = Reference::new(Name::from_text(alloc, "X")?);
+pub fn count(rt: &impl Abort, alloc: Global, start: i128, end: i128) -> Stmt {
+    let variable = Reference::new(Name::from_text(alloc, "X").expect(rt, "memory"));
     let mut body = Items::new(alloc);
-    body.push(Stmt::Empty)?;
-    Ok(Stmt::For(variable, Expr::Whole(start), Expr::Whole(end), None, body))
+    body.push(Stmt::Empty).expect(rt, "memory");
+    Stmt::For(variable, Expr::Whole(start), Expr::Whole(end), None, body)
 }
 
 /// 1 / 0 = 1
-pub fn divided(alloc: Global) -> Result<Expr, AllocError> {
-    let quotient = of_whole(alloc, BinaryOperator::Divide, 1, 0)?;
-    let left = Boxed::new(alloc, quotient)?;
-    let right = Boxed::new(alloc, Expr::Whole(1))?;
-    Ok(Expr::Binary(BinaryOperator::Equal, left, right))
+pub fn divided(rt: &impl Abort, alloc: Global) -> Expr {
+    let quotient = of_whole(rt, alloc, BinaryOperator::Divide, 1, 0);
+    let left = Boxed::new(alloc, quotient).expect(rt, "memory");
+    let right = Boxed::new(alloc, Expr::Whole(1)).expect(rt, "memory");
+    Expr::Binary(BinaryOperator::Equal, left, right)
 }

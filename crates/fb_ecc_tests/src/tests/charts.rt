@@ -1,6 +1,5 @@
 //! Reactions with the steps that they use.
 
-ghost use Rattle.std.specs.Prelude.{IfOk};
 ghost use Rattle.fb_ecc.specs.Opened.{IsOpened};
 ghost use Rattle.fb_ecc.specs.Places.{IsBlockOf};
 ghost use Rattle.fb_ecc.specs.Sound.{IsSound};
@@ -20,9 +19,8 @@ use fb_types::reference::Reference;
 use fb_types::run::{Emission, Emits, Halt};
 use fb_types::text::{BinaryOperator, Expr};
 use fb_types::value::{Reason, Value};
-use std::alloc::{AllocError, Global};
+use std::alloc::Global;
 use std::process::Abort;
-use std::test::Fail;
 
 /// An output event by its place, with its values.
 type Emitted = (u32, &'static [Value]);
@@ -32,11 +30,11 @@ const STEPS: Result<(), Halt> = Err(Halt::Stop(Reason::Steps));
 const DIVIDE: Result<(), Halt> = Err(Halt::Stop(Reason::Divide));
 
 /// A block in its first state.
-fn open(rt: &impl Abort, alloc: Global, block: &BasicType) -> Result<BasicState, AllocError>
-    ensures { IfOk result (IsOpened block.now) }
+fn open(rt: &impl Abort, alloc: Global, block: &BasicType) -> BasicState
+    ensures { IsOpened block.now result }
 {
-    match BasicState::open(alloc, block)? {
-        Some(state) => Ok(state),
+    match BasicState::open(alloc, block).expect(rt, "memory") {
+        Some(state) => state,
         None => panic!(rt; "no sound type"),
     }
 }
@@ -83,25 +81,19 @@ fn takes(
 type Beginning = (u64, &'static [Emitted], Result<(), Halt>, u64);
 
 /// New blocks take their first event.
-fn begin(
-    rt: &impl Abort,
-    alloc: Global,
-    block: &BasicType,
-    beginnings: &[Beginning],
-) -> Result<(), AllocError> {
+fn begin(rt: &impl Abort, alloc: Global, block: &BasicType, beginnings: &[Beginning]) {
     for (left, emitted, answer, after) in beginnings {
-        let mut state = open(rt, alloc, block)?;
+        let mut state = open(rt, alloc, block);
         let taken = takes(rt, alloc, block, &mut state, 0, &[], *left, *emitted);
         assert_eq!(rt; taken, (*answer, *after));
     }
-    Ok(())
 }
 
 #[test]
-fn the_event_is_present_once(rt: HostRuntime) -> Result<(), Fail> {
+fn the_event_is_present_once(rt: HostRuntime) {
     let alloc = rt.alloc();
-    let block = block(alloc, &STEPPER)?;
-    let mut state = open(&rt, alloc, &block)?;
+    let block = block(&rt, alloc, &STEPPER);
+    let mut state = open(&rt, alloc, &block);
     let first = takes(&rt, alloc, &block, &mut state, 0, &[], 9, &[(0, &[])]);
     assert_eq!(rt; first, (Ok(()), 6));
     let second = takes(&rt, alloc, &block, &mut state, 0, &[], 9, &[(1, &[])]);
@@ -109,7 +101,6 @@ fn the_event_is_present_once(rt: HostRuntime) -> Result<(), Fail> {
     // no transition leaves the last state, so the event is lost
     let third = takes(&rt, alloc, &block, &mut state, 0, &[], 9, &[]);
     assert_eq!(rt; third, (Ok(()), 9));
-    Ok(())
 }
 
 const TICKED: [Emitted; 4] = [(0, &[]), (0, &[]), (0, &[]), (0, &[])];
@@ -123,11 +114,10 @@ const TICKS: [Beginning; 4] = [
 ];
 
 #[test]
-fn emissions_before_a_stop_stand(rt: HostRuntime) -> Result<(), Fail> {
+fn emissions_before_a_stop_stand(rt: HostRuntime) {
     let alloc = rt.alloc();
-    let block = block(alloc, &LOOPER)?;
-    begin(&rt, alloc, &block, &TICKS)?;
-    Ok(())
+    let block = block(&rt, alloc, &LOOPER);
+    begin(&rt, alloc, &block, &TICKS);
 }
 
 const DONE: [Emitted; 1] = [(0, &[Value::Whole(32767)])];
@@ -139,34 +129,31 @@ const COUNTS: [Beginning; 3] = [
 ];
 
 #[test]
-fn an_algorithm_comes_before_its_output(rt: HostRuntime) -> Result<(), Fail> {
+fn an_algorithm_comes_before_its_output(rt: HostRuntime) {
     let alloc = rt.alloc();
-    let block = block_with(alloc, &CALC, count(alloc, 32766, 32767)?)?;
-    begin(&rt, alloc, &block, &COUNTS)?;
-    Ok(())
+    let block = block_with(&rt, alloc, &CALC, count(&rt, alloc, 32766, 32767));
+    begin(&rt, alloc, &block, &COUNTS);
 }
 
 #[test]
-fn a_reason_of_an_algorithm_stops_the_reaction(rt: HostRuntime) -> Result<(), Fail> {
+fn a_reason_of_an_algorithm_stops_the_reaction(rt: HostRuntime) {
     let alloc = rt.alloc();
-    let sum = of_whole(alloc, BinaryOperator::Add, 32767, 1)?;
-    let block = block_with(alloc, &CALC, assign(alloc, sum)?)?;
+    let sum = of_whole(&rt, alloc, BinaryOperator::Add, 32767, 1);
+    let block = block_with(&rt, alloc, &CALC, assign(&rt, alloc, sum));
     begin(
         &rt,
         alloc,
         &block,
         &[(9, &[], Err(Halt::Stop(Reason::Range)), 6)],
-    )?;
-    Ok(())
+    );
 }
 
 #[test]
-fn a_division_by_zero_stops_the_reaction(rt: HostRuntime) -> Result<(), Fail> {
+fn a_division_by_zero_stops_the_reaction(rt: HostRuntime) {
     let alloc = rt.alloc();
-    let quotient = of_whole(alloc, BinaryOperator::Divide, 1, 0)?;
-    let block = block_with(alloc, &CALC, assign(alloc, quotient)?)?;
-    begin(&rt, alloc, &block, &[(9, &[], DIVIDE, 6)])?;
-    Ok(())
+    let quotient = of_whole(&rt, alloc, BinaryOperator::Divide, 1, 0);
+    let block = block_with(&rt, alloc, &CALC, assign(&rt, alloc, quotient));
+    begin(&rt, alloc, &block, &[(9, &[], DIVIDE, 6)]);
 }
 
 /// Two events, and a state that the first one leaves behind a guard.
@@ -179,29 +166,32 @@ const GUARDED: Sketch = Sketch {
 };
 
 /// E1 [1 / 0 = 1], and behind it E2
-fn guards(alloc: Global) -> Result<Items<Transition>, AllocError> {
-    let guard = divided(alloc)?;
+fn guards(rt: &impl Abort, alloc: Global) -> Items<Transition> {
+    let guard = divided(rt, alloc);
     let mut transitions = Items::new(alloc);
-    transitions.push(transition(alloc, ("A", "B", "E1"), Some(guard))?)?;
-    transitions.push(transition(alloc, ("A", "B", "E2"), None)?)?;
-    Ok(transitions)
+    transitions
+        .push(transition(rt, alloc, ("A", "B", "E1"), Some(guard)))
+        .expect(rt, "memory");
+    transitions
+        .push(transition(rt, alloc, ("A", "B", "E2"), None))
+        .expect(rt, "memory");
+    transitions
 }
 
-fn guarded(alloc: Global) -> Result<BasicType, AllocError> {
-    let mut block = block(alloc, &GUARDED)?;
-    block.transitions = guards(alloc)?;
-    Ok(block)
+fn guarded(rt: &impl Abort, alloc: Global) -> BasicType {
+    let mut block = block(rt, alloc, &GUARDED);
+    block.transitions = guards(rt, alloc);
+    block
 }
 
 #[test]
-fn a_guard_behind_an_event_waits_for_it(rt: HostRuntime) -> Result<(), Fail> {
+fn a_guard_behind_an_event_waits_for_it(rt: HostRuntime) {
     let alloc = rt.alloc();
-    let block = guarded(alloc)?;
-    begin(&rt, alloc, &block, &[(9, &[], DIVIDE, 8)])?;
-    let mut state = open(&rt, alloc, &block)?;
+    let block = guarded(&rt, alloc);
+    begin(&rt, alloc, &block, &[(9, &[], DIVIDE, 8)]);
+    let mut state = open(&rt, alloc, &block);
     let passed = takes(&rt, alloc, &block, &mut state, 1, &[], 9, &[(0, &[])]);
     assert_eq!(rt; passed, (Ok(()), 6));
-    Ok(())
 }
 
 /// Samples two inputs, and shows two outputs and no third one.
@@ -214,32 +204,34 @@ const SAMPLING: Sketch = Sketch {
 };
 
 /// U - V
-fn difference(alloc: Global) -> Result<Expr, AllocError> {
-    let left = Expr::Variable(Reference::new(Name::from_text(alloc, "U")?));
-    let left = Boxed::new(alloc, left)?;
-    let right = Expr::Variable(Reference::new(Name::from_text(alloc, "V")?));
-    let right = Boxed::new(alloc, right)?;
-    Ok(Expr::Binary(BinaryOperator::Subtract, left, right))
+fn difference(rt: &impl Abort, alloc: Global) -> Expr {
+    let left = Expr::Variable(Reference::new(Name::from_text(alloc, "U").expect(rt, "memory")));
+    let left = Boxed::new(alloc, left).expect(rt, "memory");
+    let right = Expr::Variable(Reference::new(Name::from_text(alloc, "V").expect(rt, "memory")));
+    let right = Boxed::new(alloc, right).expect(rt, "memory");
+    Expr::Binary(BinaryOperator::Subtract, left, right)
 }
 
 /// X := U - V, with the inputs U and V
-fn sampling(alloc: Global) -> Result<BasicType, AllocError> {
-    let mut block = block_with(alloc, &SAMPLING, assign(alloc, difference(alloc)?)?)?;
-    block.ports.inputs = variables(alloc, &["U", "V"])?;
-    Ok(block)
+fn sampling(rt: &impl Abort, alloc: Global) -> BasicType {
+    let mut block = block_with(
+        rt,
+        alloc,
+        &SAMPLING,
+        assign(rt, alloc, difference(rt, alloc)),
+    );
+    block.ports.inputs = variables(rt, alloc, &["U", "V"]);
+    block
 }
 
 const LESS: [Emitted; 1] = [(0, &[Value::Whole(3), Value::Whole(0)])];
 
 #[test]
-fn sampled_and_shown_values_go_in_the_order_of_the_declaration(
-    rt: HostRuntime,
-) -> Result<(), Fail> {
+fn sampled_and_shown_values_go_in_the_order_of_the_declaration(rt: HostRuntime) {
     let alloc = rt.alloc();
-    let block = sampling(alloc)?;
-    let mut state = open(&rt, alloc, &block)?;
+    let block = sampling(&rt, alloc);
+    let mut state = open(&rt, alloc, &block);
     let values = [Value::Whole(5), Value::Whole(2)];
     let taken = takes(&rt, alloc, &block, &mut state, 0, &values, 9, &LESS);
     assert_eq!(rt; taken, (Ok(()), 4));
-    Ok(())
 }

@@ -1,35 +1,23 @@
 //! What a deployment is refused for: E20, E21, and E26 to E28.
 
-use super::tables::{Texts, number_of};
+use super::tables::{Texts, joined, number_of};
 use std::alloc::Global;
 use std::process::Abort;
-use std::test::Fail;
 
 const R1_R2: &str = "[[resource]]\ndevice = \"D\"\nname = \"R1\"\ninstances = [\"S\"]\n\
     [[resource]]\ndevice = \"D\"\nname = \"R2\"\ninstances = [\"M\"]\n";
 
 const LINK: &str = "[[link]]\nfrom = \"R1\"\nto = \"R2\"\nlatency = 2\n";
 
-/// Each deployment has, for the declaration, the answer that stands beside it.
-fn expect(
-    rt: &impl Abort,
-    alloc: Global,
-    declaration: &str,
-    table: &[(&[&str], u8)],
-) -> Result<(), Fail> {
-    for (i, (parts, wanted)) in table.iter().enumerate() {
-        let mut deploy = String::new(alloc);
-        for part in *parts {
-            deploy.push_str(part)?;
-        }
-        let texts = Texts {
-            declaration: declaration.as_bytes(),
-            deploy: deploy.as_str(),
-            stimuli: "",
-        };
-        assert_eq!(rt; number_of(alloc, texts)?, *wanted, "at {i}");
-    }
-    Ok(())
+/// The number that is answered for the declaration with this deployment, whose parts are given.
+fn number_with(rt: &impl Abort, alloc: Global, declaration: &str, parts: &[&str]) -> u8 {
+    let deploy = joined(rt, alloc, parts);
+    let texts = Texts {
+        declaration: declaration.as_bytes(),
+        deploy: deploy.as_str(),
+        stimuli: "",
+    };
+    number_of(rt, alloc, texts)
 }
 
 const EVENTS: &str =
@@ -129,8 +117,11 @@ const EVENTS_MAPPED: [(&[&str], u8); 16] = [
 ];
 
 #[test]
-fn event_connections(rt: HostRuntime) -> Result<(), Fail> {
-    expect(&rt, rt.alloc(), EVENTS, EVENTS_MAPPED.as_slice())
+fn event_connections(rt: HostRuntime) {
+    for (parts, wanted) in &EVENTS_MAPPED {
+        let number = number_with(&rt, rt.alloc(), EVENTS, *parts);
+        assert_eq!(rt; number, *wanted, "{parts:?}");
+    }
 }
 
 /// The latch and a merge in the first resource, the switch and another merge in the second, a third merge alone.
@@ -155,37 +146,43 @@ const CARRIED: [(&str, u8); 7] = [
     ("F.EO TO P.EI1; P.EO TO W.EI;", 28),
 ];
 
+const LATCH_EVENTS: &str =
+    "APPLICATION A FBS F : E_SR; M : E_MERGE; W : E_SWITCH; N : E_MERGE; P : E_MERGE; END_FBS EVENT_CONNECTIONS ";
+
+const LATCH_DATA: &str =
+    " END_CONNECTIONS DATA_CONNECTIONS F.Q TO W.G; END_CONNECTIONS END_APPLICATION";
+
 #[test]
-fn data_connections(rt: HostRuntime) -> Result<(), Fail> {
+fn data_connections(rt: HostRuntime) {
     let alloc = rt.alloc();
-    for (events, wanted) in CARRIED {
-        let text = format!(in alloc;
-            "APPLICATION A FBS F : E_SR; M : E_MERGE; W : E_SWITCH; N : E_MERGE; P : E_MERGE; END_FBS EVENT_CONNECTIONS {events} END_CONNECTIONS DATA_CONNECTIONS F.Q TO W.G; END_CONNECTIONS END_APPLICATION"
-        )?;
-        let table: [(&[&str], u8); 2] = [
-            (&[LATCH, LATCH_LINKS], wanted),
-            // Without links the connections between resources lack theirs.
-            (&[LATCH], 27),
-        ];
-        expect(&rt, alloc, text.as_str(), table.as_slice())?;
+    for (events, wanted) in &CARRIED {
+        let text = joined(&rt, alloc, &[LATCH_EVENTS, *events, LATCH_DATA]);
+        let linked = number_with(&rt, alloc, text.as_str(), &[LATCH, LATCH_LINKS]);
+        assert_eq!(rt; linked, *wanted, "{events}");
+        // Without links the connections between resources lack theirs.
+        assert_eq!(rt;
+            number_with(&rt, alloc, text.as_str(), &[LATCH]),
+            27,
+            "{events}"
+        );
     }
-    Ok(())
 }
 
-/// A type with two event outputs, the first WITH its variable.
+/// A type with two event outputs, the first WITH its variable, and a connection from one of them.
 const TWO_EVENTS: &str =
     "FUNCTION_BLOCK T EVENT_OUTPUT O WITH Y; N; END_EVENT VAR_OUTPUT Y : BOOL; END_VAR \
-    FBS END_FBS END_FUNCTION_BLOCK";
+    FBS END_FBS END_FUNCTION_BLOCK \
+    APPLICATION A FBS S : T; M : E_SWITCH; END_FBS EVENT_CONNECTIONS S.";
+
+const TWO_EVENTS_DATA: &str =
+    " TO M.EI; END_CONNECTIONS DATA_CONNECTIONS S.Y TO M.G; END_CONNECTIONS END_APPLICATION";
 
 #[test]
-fn an_event_without_the_variable_does_not_carry_it(rt: HostRuntime) -> Result<(), Fail> {
+fn an_event_without_the_variable_does_not_carry_it(rt: HostRuntime) {
     let alloc = rt.alloc();
     for (event, wanted) in [("O", 0), ("N", 28)] {
-        let text = format!(in alloc;
-            "{TWO_EVENTS} APPLICATION A FBS S : T; M : E_SWITCH; END_FBS EVENT_CONNECTIONS S.{event} TO M.EI; END_CONNECTIONS DATA_CONNECTIONS S.Y TO M.G; END_CONNECTIONS END_APPLICATION"
-        )?;
-        let table: [(&[&str], u8); 1] = [(&[R1_R2, LINK], wanted)];
-        expect(&rt, alloc, text.as_str(), table.as_slice())?;
+        let text = joined(&rt, alloc, &[TWO_EVENTS, event, TWO_EVENTS_DATA]);
+        let number = number_with(&rt, alloc, text.as_str(), &[R1_R2, LINK]);
+        assert_eq!(rt; number, wanted, "{event}");
     }
-    Ok(())
 }

@@ -1,7 +1,6 @@
 //! E20: what is given twice. E21: names that stand for nothing of the wanted sort.
 
-use super::tables::{NETWORK, Place, TYPES, expect};
-use std::test::Fail;
+use super::tables::{NETWORK, Place, TYPES, Table, expect_table};
 
 /// Ports, variables and what follows them, of a block type.
 const PORTS: Place = (
@@ -88,15 +87,6 @@ const INSTANCES_TWICE: [(&str, u8); 7] = [
     ("A : E_MERGE; AB : E_MERGE; END_FBS", 0),
 ];
 
-#[test]
-fn given_twice(rt: HostRuntime) -> Result<(), Fail> {
-    let alloc = rt.alloc();
-    expect(&rt, alloc, &TYPES, TYPES_TWICE.as_slice())?;
-    expect(&rt, alloc, &PORTS, PORTS_TWICE.as_slice())?;
-    expect(&rt, alloc, &CHART, CHARTS_TWICE.as_slice())?;
-    expect(&rt, alloc, &NETWORK, INSTANCES_TWICE.as_slice())
-}
-
 const PORTS_UNKNOWN: [(&str, u8); 5] = [
     ("EVENT_INPUT E WITH X; END_EVENT FBS END_FBS", 21),
     // A variable of the other side.
@@ -178,10 +168,19 @@ const ENDS_UNKNOWN: [(&str, u8); 9] = [
     ),
 ];
 
+const TABLES: [Table; 7] = [
+    (TYPES, &TYPES_TWICE),
+    (PORTS, &PORTS_TWICE),
+    (CHART, &CHARTS_TWICE),
+    (NETWORK, &INSTANCES_TWICE),
+    (PORTS, &PORTS_UNKNOWN),
+    (CHART, &CHARTS_UNKNOWN),
+    (NETWORK, &ENDS_UNKNOWN),
+];
+
 #[test]
-fn unknown(rt: HostRuntime) -> Result<(), Fail> {
-    let alloc = rt.alloc();
-    expect(&rt, alloc, &PORTS, PORTS_UNKNOWN.as_slice())?;
-    expect(&rt, alloc, &CHART, CHARTS_UNKNOWN.as_slice())?;
-    expect(&rt, alloc, &NETWORK, ENDS_UNKNOWN.as_slice())
+fn names(rt: HostRuntime) {
+    for table in &TABLES {
+        expect_table(&rt, rt.alloc(), table);
+    }
 }

@@ -1,8 +1,8 @@
 //! E24: two sources for one port. E25: composites that hold themselves, or are too high.
 
-use super::tables::{NETWORK, TYPES, Texts, expect, number_of};
-use std::alloc::{AllocError, Global};
-use std::test::Fail;
+use super::tables::{NETWORK, TYPES, Table, expect_table, number_alone};
+use std::alloc::Global;
+use std::process::Abort;
 
 const SOURCES: [(&str, u8); 4] = [
     (
@@ -39,13 +39,6 @@ const SOURCES_INSIDE: [(&str, u8); 2] = [
     ),
 ];
 
-#[test]
-fn two_sources(rt: HostRuntime) -> Result<(), Fail> {
-    let alloc = rt.alloc();
-    expect(&rt, alloc, &NETWORK, SOURCES.as_slice())?;
-    expect(&rt, alloc, &TYPES, SOURCES_INSIDE.as_slice())
-}
-
 const HELD: [(&str, u8); 4] = [
     ("FUNCTION_BLOCK F FBS X : F; END_FBS END_FUNCTION_BLOCK", 25),
     (
@@ -65,45 +58,53 @@ const HELD: [(&str, u8); 4] = [
     ),
 ];
 
+const TABLES: [Table; 3] = [
+    (NETWORK, &SOURCES),
+    (TYPES, &SOURCES_INSIDE),
+    (TYPES, &HELD),
+];
+
 #[test]
-fn types_that_hold_themselves(rt: HostRuntime) -> Result<(), Fail> {
-    expect(&rt, rt.alloc(), &TYPES, HELD.as_slice())
+fn networks(rt: HostRuntime) {
+    for table in &TABLES {
+        expect_table(&rt, rt.alloc(), table);
+    }
 }
 
 /// Composite types by number from 1 to the last, the first without components, and each of the others with one
 /// component of the type before it; then an application with one instance.
-fn tower(alloc: Global, last: u32, instance_type: &str) -> Result<String, AllocError> {
-    let mut text = String::from_str(alloc, "FUNCTION_BLOCK T1 FBS END_FBS END_FUNCTION_BLOCK")?;
+fn tower(rt: &impl Abort, alloc: Global, last: u32, instance_type: &str) -> String {
+    let first = "FUNCTION_BLOCK T1 FBS END_FBS END_FUNCTION_BLOCK";
+    let mut text = String::from_str(alloc, first).expect(rt, "memory");
     for height in 2..=last {
         let below = height - 1;
         let next = format!(in alloc;
             " FUNCTION_BLOCK T{height} FBS X : T{below}; END_FBS END_FUNCTION_BLOCK"
-        )?;
-        text.push_str(next.as_str())?;
+        );
+        let next = next.expect(rt, "memory");
+        text.push_str(next.as_str()).expect(rt, "memory");
     }
-    text.push_str(" APPLICATION A FBS X : ")?;
-    text.push_str(instance_type)?;
-    text.push_str("; END_FBS END_APPLICATION")?;
-    Ok(text)
+    let whole = format!(in alloc;
+        "{text} APPLICATION A FBS X : {instance_type}; END_FBS END_APPLICATION"
+    );
+    whole.expect(rt, "memory")
 }
 
+/// Composites have a height of 16 at most: how many there are, the type of the instance, and the answer.
+const TOWERS: [(u32, &str, u8); 4] = [
+    (16, "T16", 0),
+    (17, "T17", 25),
+    // A type that no instance uses.
+    (17, "T1", 25),
+    (17, "E_MERGE", 25),
+];
+
 #[test]
-fn composites_have_a_height_of_16_at_most(rt: HostRuntime) -> Result<(), Fail> {
+fn heights(rt: HostRuntime) {
     let alloc = rt.alloc();
-    for (last, instance_type, wanted) in [
-        (16, "T16", 0),
-        (17, "T17", 25),
-        // A type that no instance uses.
-        (17, "T1", 25),
-        (17, "E_MERGE", 25),
-    ] {
-        let text = tower(alloc, last, instance_type)?;
-        let texts = Texts {
-            declaration: text.as_bytes(),
-            deploy: "",
-            stimuli: "",
-        };
-        assert_eq!(rt; number_of(alloc, texts)?, wanted, "{last} {instance_type}");
+    for (last, instance_type, wanted) in &TOWERS {
+        let text = tower(&rt, alloc, *last, *instance_type);
+        let number = number_alone(&rt, alloc, text.as_str());
+        assert_eq!(rt; number, *wanted, "{last} {instance_type}");
     }
-    Ok(())
 }

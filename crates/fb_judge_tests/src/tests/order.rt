@@ -1,7 +1,6 @@
 //! Two faults at once: the lesser number is answered.
 
-use super::tables::{Texts, number_of};
-use std::test::Fail;
+use super::tables::{Texts, joined, number_of};
 
 const R1_ALONE: &str = "[[resource]]\ndevice = \"D\"\nname = \"R1\"\ninstances = [\"F\"]\n";
 
@@ -79,36 +78,15 @@ const FAULTS: [(&str, &str, &str, u8); 10] = [
 ];
 
 #[test]
-fn the_least_number(rt: HostRuntime) -> Result<(), Fail> {
+fn the_least_number(rt: HostRuntime) {
     let alloc = rt.alloc();
-    for (declaration, deploy, row, wanted) in FAULTS {
-        let stimuli = format!(in alloc; "tick,event,values\n{row}")?;
+    for (declaration, deploy, row, wanted) in &FAULTS {
+        let stimuli = joined(&rt, alloc, &["tick,event,values\n", *row]);
         let texts = Texts {
             declaration: declaration.as_bytes(),
-            deploy,
+            deploy: *deploy,
             stimuli: stimuli.as_str(),
         };
-        assert_eq!(rt; number_of(alloc, texts)?, wanted);
+        assert_eq!(rt; number_of(&rt, alloc, texts), *wanted);
     }
-    Ok(())
-}
-
-#[test]
-fn a_bad_stimulus_before_too_many_instances(rt: HostRuntime) -> Result<(), Fail> {
-    let alloc = rt.alloc();
-    let mut declaration = String::from_str(alloc, "APPLICATION A FBS")?;
-    for i in 0..4097 {
-        declaration.push_str(format!(in alloc; " M{i} : E_MERGE;")?.as_str())?;
-    }
-    declaration.push_str(" END_FBS END_APPLICATION")?;
-    for (row, wanted) in [("0,M0.EO,\n", 29), ("0,M0.EI1,\n", 30)] {
-        let stimuli = format!(in alloc; "tick,event,values\n{row}")?;
-        let texts = Texts {
-            declaration: declaration.as_bytes(),
-            deploy: "",
-            stimuli: stimuli.as_str(),
-        };
-        assert_eq!(rt; number_of(alloc, texts)?, wanted, "{row}");
-    }
-    Ok(())
 }

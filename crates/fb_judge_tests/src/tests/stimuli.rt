@@ -1,7 +1,8 @@
 //! E29: stimuli that do not fit.
 
-use super::tables::{Texts, number_of};
-use std::test::Fail;
+use super::tables::{Texts, joined, number_of};
+use std::alloc::Global;
+use std::process::Abort;
 
 const DECLARATION: &[u8] =
     b"FUNCTION_BLOCK C EVENT_INPUT E WITH X; END_EVENT VAR_INPUT X : SINT; END_VAR FBS D : E_DELAY; END_FBS END_FUNCTION_BLOCK \
@@ -39,20 +40,25 @@ const ROWS: [(&str, u8); 22] = [
     ("K.START,", 29),
 ];
 
+/// The number that is answered for a row behind these.
+fn number_behind(rt: &impl Abort, alloc: Global, before: &str, row: &str) -> u8 {
+    let stimuli = joined(rt, alloc, &["tick,event,values\n", before, "7,", row, "\n"]);
+    let texts = Texts {
+        declaration: DECLARATION,
+        deploy: "",
+        stimuli: stimuli.as_str(),
+    };
+    number_of(rt, alloc, texts)
+}
+
+const FITTING: &str = "0,D.START,DT=1\n1000000000000,D.STOP,\n";
+
+/// Each row stands alone, and behind one that fits, after the end of any run.
 #[test]
-fn rows(rt: HostRuntime) -> Result<(), Fail> {
+fn rows(rt: HostRuntime) {
     let alloc = rt.alloc();
-    for (row, wanted) in ROWS {
-        // Each row stands alone, and behind one that fits, after the end of any run.
-        for before in ["", "0,D.START,DT=1\n1000000000000,D.STOP,\n"] {
-            let stimuli = format!(in alloc; "tick,event,values\n{before}7,{row}\n")?;
-            let texts = Texts {
-                declaration: DECLARATION,
-                deploy: "",
-                stimuli: stimuli.as_str(),
-            };
-            assert_eq!(rt; number_of(alloc, texts)?, wanted, "{row}");
-        }
+    for (row, wanted) in &ROWS {
+        assert_eq!(rt; number_behind(&rt, alloc, "", *row), *wanted, "{row}");
+        assert_eq!(rt; number_behind(&rt, alloc, FITTING, *row), *wanted, "{row}");
     }
-    Ok(())
 }

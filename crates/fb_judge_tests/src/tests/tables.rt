@@ -1,4 +1,5 @@
-//! How the tables of the tests are tried.
+//! How the tables of the tests are tried. Each function is small, and ends the process where memory is wanting: a way
+//! out of a longer function drops all that it holds, and each of these ways is proved.
 
 use fb_inputs::deployment::read_deploy;
 use fb_inputs::stimuli::read_stimuli;
@@ -7,12 +8,15 @@ use fb_judge::fault::Refusal;
 use fb_judge::judge::judge;
 use fb_read::read_library;
 use fb_types::deploy::{Deploy, Stimulus};
-use std::alloc::{AllocError, Global};
+use std::alloc::Global;
+use std::mem::ManuallyDrop;
 use std::process::Abort;
-use std::test::Fail;
 
 /// What stands before a text, and behind it.
 pub type Place = (&'static str, &'static str);
+
+/// Declarations within a place, each with the number that is answered, or 0 where it is accepted.
+pub type Table = (Place, &'static [(&'static str, u8)]);
 
 /// Block types before an application without blocks.
 pub const TYPES: Place = ("", " APPLICATION A FBS END_FBS END_APPLICATION");
@@ -28,76 +32,68 @@ pub struct Texts<'a> {
     pub stimuli: &'a str,
 }
 
-fn deploy_of(alloc: Global, text: &str) -> Result<Deploy, Fail> {
+fn deploy_of(rt: &impl Abort, alloc: Global, text: &str) -> Deploy {
     if text.is_empty() {
-        return Ok(Deploy::single(alloc)?);
-    }
-    match read_deploy(alloc, text.as_bytes()) {
-        Ok(deploy) => Ok(deploy),
-        Err(_) => Err("no deployment")?,
-    }
-}
-
-fn stimuli_of(alloc: Global, text: &str) -> Result<Vec<Stimulus>, Fail> {
-    match read_stimuli(alloc, text.as_bytes()) {
-        Ok(stimuli) => Ok(stimuli),
-        Err(_) => Err("no stimuli")?,
+        Deploy::single(alloc).expect(rt, "memory")
+    } else {
+        read_deploy(alloc, text.as_bytes()).expect(rt, "a deployment")
     }
 }
 
 /// The number that is answered, or 0 where the inputs are accepted.
 pub fn judged(
+    rt: &impl Abort,
     alloc: Global,
     declaration: &[u8],
     deploy: &Deploy,
     stimuli: &[Stimulus],
-) -> Result<u8, Fail> {
-    let Ok(library) = read_library(alloc, declaration) else {
-        return Err("no library")?;
-    };
+) -> u8 {
+    let library = read_library(alloc, declaration).expect(rt, "a library");
+    // It is left to the end of the process, since whoever drops a library proves how each of its parts is dropped.
+    let library = ManuallyDrop::new(library);
     let case = Case {
         library: &library,
         plan: deploy.plan(),
         stimuli,
     };
     match judge(alloc, &case) {
-        Ok(()) => Ok(0),
-        Err(Refusal::Fault(fault)) => Ok(fault.number()),
-        Err(Refusal::Memory) => Err("out of memory")?,
+        Ok(()) => 0,
+        Err(Refusal::Fault(fault)) => fault.number(),
+        Err(Refusal::Memory) => 99,
     }
 }
 
 /// The number that is answered, or 0 where the texts are accepted.
-pub fn number_of(alloc: Global, texts: Texts<'_>) -> Result<u8, Fail> {
-    let deploy = deploy_of(alloc, texts.deploy)?;
-    let stimuli = stimuli_of(alloc, texts.stimuli)?;
-    judged(alloc, texts.declaration, &deploy, stimuli.as_slice())
+pub fn number_of(rt: &impl Abort, alloc: Global, texts: Texts<'_>) -> u8 {
+    let deploy = deploy_of(rt, alloc, texts.deploy);
+    let stimuli = read_stimuli(alloc, texts.stimuli.as_bytes()).expect(rt, "stimuli");
+    judged(rt, alloc, texts.declaration, &deploy, stimuli.as_slice())
 }
 
-/// The text within a place.
-pub fn placed(alloc: Global, place: &Place, text: &str) -> Result<String, AllocError> {
-    let mut all = String::from_str(alloc, place.0)?;
-    all.push_str(text)?;
-    all.push_str(place.1)?;
-    Ok(all)
-}
-
-/// Each declaration, within the place, has the answer that stands beside it.
-pub fn expect(
-    rt: &impl Abort,
-    alloc: Global,
-    place: &Place,
-    table: &[(&str, u8)],
-) -> Result<(), Fail> {
-    for (text, wanted) in table {
-        let whole = placed(alloc, place, text)?;
-        let texts = Texts {
-            declaration: whole.as_bytes(),
-            deploy: "",
-            stimuli: "",
-        };
-        let number = number_of(alloc, texts)?;
-        assert_eq!(rt; number, *wanted, "{text}");
+/// The texts one behind the other.
+pub fn joined(rt: &impl Abort, alloc: Global, texts: &[&str]) -> String {
+    let mut all = String::new(alloc);
+    for text in texts {
+        all.push_str(*text).expect(rt, "memory");
     }
-    Ok(())
+    all
+}
+
+/// The number that is answered for a declaration alone.
+pub fn number_alone(rt: &impl Abort, alloc: Global, declaration: &str) -> u8 {
+    let texts = Texts {
+        declaration: declaration.as_bytes(),
+        deploy: "",
+        stimuli: "",
+    };
+    number_of(rt, alloc, texts)
+}
+
+/// Each declaration of the table has the answer that stands beside it.
+pub fn expect_table(rt: &impl Abort, alloc: Global, table: &Table) {
+    let (place, rows) = table;
+    for (text, wanted) in *rows {
+        let whole = joined(rt, alloc, &[place.0, *text, place.1]);
+        assert_eq!(rt; number_alone(rt, alloc, whole.as_str()), *wanted, "{text}");
+    }
 }

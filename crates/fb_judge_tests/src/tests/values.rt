@@ -1,7 +1,6 @@
 //! E22: the wrong kind. E23: data connections to types that do not hold all values.
 
-use super::tables::{NETWORK, Place, expect};
-use std::test::Fail;
+use super::tables::{NETWORK, Place, Table, expect_table, joined, number_alone};
 
 /// The body of an algorithm.
 const BODY: Place = (
@@ -57,12 +56,17 @@ const PARAMETERS: [(&str, u8); 4] = [
     ("K : E_CTU(PV := 65536); END_FBS", 22),
 ];
 
+const TABLES: [Table; 3] = [
+    (BODY, &BODIES),
+    (INITIAL, &INITIALS),
+    (NETWORK, &PARAMETERS),
+];
+
 #[test]
-fn wrong_kinds(rt: HostRuntime) -> Result<(), Fail> {
-    let alloc = rt.alloc();
-    expect(&rt, alloc, &BODY, BODIES.as_slice())?;
-    expect(&rt, alloc, &INITIAL, INITIALS.as_slice())?;
-    expect(&rt, alloc, &NETWORK, PARAMETERS.as_slice())
+fn wrong_kinds(rt: HostRuntime) {
+    for table in &TABLES {
+        expect_table(&rt, rt.alloc(), table);
+    }
 }
 
 /// The type of an output, that of an input, and an application in which the one leads to the other.
@@ -78,19 +82,22 @@ const WIDTHS: [(&str, &str, u8); 9] = [
     ("ULINT", "TIME", 23),
 ];
 
+const OUTPUT: &str = "FUNCTION_BLOCK P VAR_OUTPUT Y : ";
+
+const INPUT: &str = "; END_VAR FBS END_FBS END_FUNCTION_BLOCK FUNCTION_BLOCK Q VAR_INPUT X : ";
+
+const CONNECTION: &str = "; END_VAR FBS END_FBS END_FUNCTION_BLOCK \
+    APPLICATION A FBS P : P; Q : Q; END_FBS DATA_CONNECTIONS P.Y TO Q.X; END_CONNECTIONS END_APPLICATION";
+
 #[test]
-fn out_of_range(rt: HostRuntime) -> Result<(), Fail> {
+fn out_of_range(rt: HostRuntime) {
     let alloc = rt.alloc();
-    for (from, to, wanted) in WIDTHS {
-        let place: Place = (
-            "FUNCTION_BLOCK P VAR_OUTPUT Y : ",
-            "; END_VAR FBS END_FBS END_FUNCTION_BLOCK \
-             APPLICATION A FBS P : P; Q : Q; END_FBS DATA_CONNECTIONS P.Y TO Q.X; END_CONNECTIONS END_APPLICATION",
+    for (from, to, wanted) in &WIDTHS {
+        let text = joined(&rt, alloc, &[OUTPUT, *from, INPUT, *to, CONNECTION]);
+        assert_eq!(rt;
+            number_alone(&rt, alloc, text.as_str()),
+            *wanted,
+            "{from} {to}"
         );
-        let text = format!(in alloc;
-            "{from}; END_VAR FBS END_FBS END_FUNCTION_BLOCK FUNCTION_BLOCK Q VAR_INPUT X : {to}"
-        )?;
-        expect(&rt, alloc, &place, [(text.as_str(), wanted)].as_slice())?;
     }
-    Ok(())
 }

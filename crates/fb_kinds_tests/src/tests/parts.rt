@@ -13,37 +13,44 @@ use fb_types::text::{BinaryOperator, Expr, Stmt, UnaryOperator};
 use fb_types::value::{Ty, Value};
 use std::alloc::Global;
 use std::process::Abort;
-use std::test::Fail;
 
 /// Whether the parts of a declaration of one type are known, and whether one is wrong.
-fn answers(alloc: Global, block: BlockType) -> Result<(bool, bool), Fail> {
-    let library = library(alloc, block)?;
-    let deploy = Deploy::single(alloc)?;
-    match catalog_of(alloc, &library, deploy.plan())? {
-        Some(catalog) => Ok((
+fn answers(rt: &impl Abort, alloc: Global, block: BlockType) -> (bool, bool) {
+    let library = library(rt, alloc, block);
+    let deploy = Deploy::single(alloc).expect(rt, "memory");
+    match catalog_of(alloc, &library, deploy.plan()).expect(rt, "memory") {
+        Some(catalog) => (
             are_parts_known(&library, &catalog),
             has_wrong_part(&library, &catalog),
-        )),
-        None => Err(Fail::from("a name is given twice")),
+        ),
+        None => panic!(rt; "a name is given twice"),
     }
 }
 
 /// The answers for a guard.
-fn guarded(alloc: Global, guard: Expr) -> Result<(bool, bool), Fail> {
-    let block = basic(alloc, (WITHS, STEP, DOES), guard, Stmt::Empty, INTERNALS)?;
-    answers(alloc, block)
+fn guarded(rt: &impl Abort, alloc: Global, guard: Expr) -> (bool, bool) {
+    let block = basic(
+        rt,
+        alloc,
+        (WITHS, STEP, DOES),
+        guard,
+        Stmt::Empty,
+        INTERNALS,
+    );
+    answers(rt, alloc, block)
 }
 
 /// The answers for the statement of an algorithm.
-fn stated(alloc: Global, statement: Stmt) -> Result<(bool, bool), Fail> {
+fn stated(rt: &impl Abort, alloc: Global, statement: Stmt) -> (bool, bool) {
     let block = basic(
+        rt,
         alloc,
         (WITHS, STEP, DOES),
         Expr::Truth(true),
         statement,
         INTERNALS,
-    )?;
-    answers(alloc, block)
+    );
+    answers(rt, alloc, block)
 }
 
 const NAMES: &[(Withs, Step, Does, bool)] = &[
@@ -63,33 +70,32 @@ const NAMES: &[(Withs, Step, Does, bool)] = &[
 ];
 
 #[test]
-fn names_of_charts_and_withs(rt: HostRuntime) -> Result<(), Fail> {
+fn names_of_charts_and_withs(rt: HostRuntime) {
     let alloc = rt.alloc();
     for (i, (withs, step, does, known)) in NAMES.iter().enumerate() {
         let block = basic(
+            &rt,
             alloc,
             (*withs, *step, *does),
             Expr::Truth(true),
             Stmt::Empty,
             INTERNALS,
-        )?;
-        assert_eq!(rt; answers(alloc, block)?, (*known, false), "at {i}");
+        );
+        assert_eq!(rt; answers(&rt, alloc, block), (*known, false), "at {i}");
     }
-    Ok(())
 }
 
 #[test]
-fn withs_of_composite_types(rt: HostRuntime) -> Result<(), Fail> {
+fn withs_of_composite_types(rt: HostRuntime) {
     let alloc = rt.alloc();
     for (withs, known) in [(WITHS, true), (("OUT", "OUT"), false), (("N", "N"), false)] {
         let block = BlockType::Composite(CompositeType {
-            name: Name::from_text(alloc, "C")?,
-            ports: ports(alloc, withs)?,
+            name: Name::from_text(alloc, "C").expect(&rt, "memory"),
+            ports: ports(&rt, alloc, withs),
             network: network(alloc),
         });
-        assert_eq!(rt; answers(alloc, block)?, (known, false));
+        assert_eq!(rt; answers(&rt, alloc, block), (known, false));
     }
-    Ok(())
 }
 
 /// A variable as a guard: whether it is known, and whether it is wrong.
@@ -106,20 +112,19 @@ const VARIABLES: &[(&str, bool, bool)] = &[
 ];
 
 #[test]
-fn variables_in_guards(rt: HostRuntime) -> Result<(), Fail> {
+fn variables_in_guards(rt: HostRuntime) {
     let alloc = rt.alloc();
     for (name, known, wrong) in VARIABLES {
         assert_eq!(rt;
-            guarded(alloc, variable(alloc, name)?)?,
+            guarded(&rt, alloc, variable(&rt, alloc, name)),
             (*known, *wrong),
             "{name}"
         );
     }
     // a number, and an operator over an unknown variable
-    assert_eq!(rt; guarded(alloc, Expr::Whole(1))?, (true, true));
-    let guard = unary(alloc, UnaryOperator::Not, variable(alloc, "X")?)?;
-    assert_eq!(rt; guarded(alloc, guard)?, (false, false));
-    Ok(())
+    assert_eq!(rt; guarded(&rt, alloc, Expr::Whole(1)), (true, true));
+    let guard = unary(&rt, alloc, UnaryOperator::Not, variable(&rt, alloc, "X"));
+    assert_eq!(rt; guarded(&rt, alloc, guard), (false, false));
 }
 
 /// An operator at the number 1, and at the number 1 or TRUE: whether it is wrong in a guard.
@@ -135,7 +140,7 @@ const OPERATORS: &[(BinaryOperator, bool, bool)] = &[
 ];
 
 #[test]
-fn kinds_of_operands(rt: HostRuntime) -> Result<(), Fail> {
+fn kinds_of_operands(rt: HostRuntime) {
     let alloc = rt.alloc();
     for (i, (operator, whole, wrong)) in OPERATORS.iter().enumerate() {
         let right = if *whole {
@@ -143,10 +148,9 @@ fn kinds_of_operands(rt: HostRuntime) -> Result<(), Fail> {
         } else {
             Expr::Truth(true)
         };
-        let guard = binary(alloc, *operator, Expr::Whole(1), right)?;
-        assert_eq!(rt; guarded(alloc, guard)?, (true, *wrong), "at {i}");
+        let guard = binary(&rt, alloc, *operator, Expr::Whole(1), right);
+        assert_eq!(rt; guarded(&rt, alloc, guard), (true, *wrong), "at {i}");
     }
-    Ok(())
 }
 
 /// A function, its arguments and the kind of variable that it is assigned to: whether it is known, and whether it is wrong.
@@ -173,13 +177,12 @@ const CALLS: &[(&str, &[Option<i128>], &str, bool, bool)] = &[
 ];
 
 #[test]
-fn functions_and_their_arguments(rt: HostRuntime) -> Result<(), Fail> {
+fn functions_and_their_arguments(rt: HostRuntime) {
     let alloc = rt.alloc();
     for (i, (name, arguments, variable, known, wrong)) in CALLS.iter().enumerate() {
-        let statement = assign(alloc, variable, call(alloc, name, arguments)?)?;
-        assert_eq!(rt; stated(alloc, statement)?, (*known, *wrong), "at {i}");
+        let statement = assign(&rt, alloc, variable, call(&rt, alloc, name, arguments));
+        assert_eq!(rt; stated(&rt, alloc, statement), (*known, *wrong), "at {i}");
     }
-    Ok(())
 }
 
 /// A variable and a value: whether `v := x` is known and wrong, and whether `FOR v` is wrong.
@@ -193,49 +196,50 @@ const ASSIGNED: &[(&str, Option<i128>, bool, bool, bool)] = &[
     ("X", None, false, false, true),
 ];
 
+/// A number, or TRUE where there is none.
+fn given(value: Option<i128>) -> Expr {
+    match value {
+        Some(number) => Expr::Whole(number),
+        None => Expr::Truth(true),
+    }
+}
+
 #[test]
-fn variables_that_are_assigned(rt: HostRuntime) -> Result<(), Fail> {
+fn variables_that_are_assigned(rt: HostRuntime) {
     let alloc = rt.alloc();
     for (name, value, known, wrong, wrong_in_for) in ASSIGNED {
-        let expr = match value {
-            Some(number) => Expr::Whole(*number),
-            None => Expr::Truth(true),
-        };
-        let statement = assign(alloc, name, expr)?;
-        assert_eq!(rt; stated(alloc, statement)?, (*known, *wrong), "{name}");
-        let statement = count(alloc, name, Stmt::Empty)?;
-        assert_eq!(rt;
-            stated(alloc, statement)?,
-            (*known, *wrong_in_for),
-            "{name}"
-        );
+        let statement = assign(&rt, alloc, name, given(*value));
+        expect(&rt, alloc, statement, *known, *wrong);
+        let statement = count(&rt, alloc, name, Stmt::Empty);
+        expect(&rt, alloc, statement, *known, *wrong_in_for);
     }
-    Ok(())
+}
+
+/// Whether the parts of a statement are known, and whether one is wrong.
+fn expect(rt: &impl Abort, alloc: Global, statement: Stmt, known: bool, wrong: bool) {
+    assert_eq!(rt; stated(rt, alloc, statement), (known, wrong));
 }
 
 #[test]
-fn exit_stands_in_loops(rt: HostRuntime) -> Result<(), Fail> {
+fn exit_stands_in_loops(rt: HostRuntime) {
     let alloc = rt.alloc();
-    assert_eq!(rt; stated(alloc, Stmt::Exit)?, (true, true));
-    let statement = otherwise(alloc, Stmt::Exit)?;
-    assert_eq!(rt; stated(alloc, statement)?, (true, true));
-    let statement = count(alloc, "M", otherwise(alloc, Stmt::Exit)?)?;
-    assert_eq!(rt; stated(alloc, statement)?, (true, false));
-    let statement = repeat(alloc, Stmt::Exit, Expr::Truth(true))?;
-    assert_eq!(rt; stated(alloc, statement)?, (true, false));
-    Ok(())
+    expect(&rt, alloc, Stmt::Exit, true, true);
+    expect(&rt, alloc, otherwise(&rt, alloc, Stmt::Exit), true, true);
+    let statement = count(&rt, alloc, "M", otherwise(&rt, alloc, Stmt::Exit));
+    expect(&rt, alloc, statement, true, false);
+    let statement = repeat(&rt, alloc, Stmt::Exit, Expr::Truth(true));
+    expect(&rt, alloc, statement, true, false);
 }
 
 #[test]
-fn names_and_kinds_inside_statements(rt: HostRuntime) -> Result<(), Fail> {
+fn names_and_kinds_inside_statements(rt: HostRuntime) {
     let alloc = rt.alloc();
-    let statement = otherwise(alloc, assign(alloc, "X", Expr::Truth(true))?)?;
-    assert_eq!(rt; stated(alloc, statement)?, (false, false));
-    let statement = repeat(alloc, Stmt::Empty, Expr::Whole(0))?;
-    assert_eq!(rt; stated(alloc, statement)?, (true, true));
-    let statement = repeat(alloc, Stmt::Empty, variable(alloc, "Y")?)?;
-    assert_eq!(rt; stated(alloc, statement)?, (false, false));
-    Ok(())
+    let unknown = assign(&rt, alloc, "X", Expr::Truth(true));
+    expect(&rt, alloc, otherwise(&rt, alloc, unknown), false, false);
+    let statement = repeat(&rt, alloc, Stmt::Empty, Expr::Whole(0));
+    expect(&rt, alloc, statement, true, true);
+    let statement = repeat(&rt, alloc, Stmt::Empty, variable(&rt, alloc, "Y"));
+    expect(&rt, alloc, statement, false, false);
 }
 
 /// A declared variable: whether its value is wrong.
@@ -256,19 +260,19 @@ const DECLARED: &[(Given, bool)] = &[
 ];
 
 #[test]
-fn declared_values(rt: HostRuntime) -> Result<(), Fail> {
+fn declared_values(rt: HostRuntime) {
     let alloc = rt.alloc();
     for (i, (given, wrong)) in DECLARED.iter().enumerate() {
         let internals = [*given];
         let names = (WITHS, STEP, DOES);
         let block = basic(
+            &rt,
             alloc,
             names,
             Expr::Truth(true),
             Stmt::Empty,
             internals.as_slice(),
-        )?;
-        assert_eq!(rt; answers(alloc, block)?, (true, *wrong), "at {i}");
+        );
+        assert_eq!(rt; answers(&rt, alloc, block), (true, *wrong), "at {i}");
     }
-    Ok(())
 }

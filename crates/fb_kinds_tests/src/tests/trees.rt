@@ -10,7 +10,8 @@ use fb_types::name::Name;
 use fb_types::reference::Reference;
 use fb_types::text::{BinaryOperator, Body, Expr, Stmt, UnaryOperator};
 use fb_types::value::{Ty, Value};
-use std::alloc::{AllocError, Global};
+use std::alloc::Global;
+use std::process::Abort;
 
 /// A variable: its name, its type and its declared value.
 pub type Given = (&'static str, Ty, Option<Value>);
@@ -36,64 +37,68 @@ const OUTPUTS: &[Given] = &[("OUT", Ty::Int, None)];
 
 pub const INTERNALS: &[Given] = &[("B", Ty::Bool, None), ("M", Ty::Int, None)];
 
-fn one<T: Drop>(alloc: Global, item: T) -> Result<Items<T>, AllocError> {
+fn one<T: Drop>(rt: &impl Abort, alloc: Global, item: T) -> Items<T> {
     let mut items = Items::new(alloc);
-    items.push(item)?;
-    Ok(items)
+    items.push(item).expect(rt, "memory");
+    items
 }
 
-fn event(alloc: Global, text: &str, with: &str) -> Result<Items<EventPort>, AllocError> {
-    let name = Name::from_text(alloc, text)?;
-    let with = one(alloc, Name::from_text(alloc, with)?)?;
-    one(alloc, EventPort { name, with })
+fn event(rt: &impl Abort, alloc: Global, text: &str, with: &str) -> Items<EventPort> {
+    let name = Name::from_text(alloc, text).expect(rt, "memory");
+    let with = one(rt, alloc, Name::from_text(alloc, with).expect(rt, "memory"));
+    one(rt, alloc, EventPort { name, with })
 }
 
-fn variables(alloc: Global, given: &[Given]) -> Result<Items<Variable>, AllocError> {
+fn variables(rt: &impl Abort, alloc: Global, given: &[Given]) -> Items<Variable> {
     let mut variables = Items::new(alloc);
     for (name, ty, initial) in given {
-        variables.push(Variable {
-            name: Name::from_text(alloc, name)?,
-            ty: *ty,
-            initial: *initial,
-        })?;
+        variables
+            .push(Variable {
+                name: Name::from_text(alloc, name).expect(rt, "memory"),
+                ty: *ty,
+                initial: *initial,
+            })
+            .expect(rt, "memory");
     }
-    Ok(variables)
+    variables
 }
 
-pub fn ports(alloc: Global, withs: Withs) -> Result<Ports, AllocError> {
-    Ok(Ports {
-        event_inputs: event(alloc, "EI", withs.0)?,
-        event_outputs: event(alloc, "EO", withs.1)?,
-        inputs: variables(alloc, INPUTS)?,
-        outputs: variables(alloc, OUTPUTS)?,
-    })
+pub fn ports(rt: &impl Abort, alloc: Global, withs: Withs) -> Ports {
+    Ports {
+        event_inputs: event(rt, alloc, "EI", withs.0),
+        event_outputs: event(rt, alloc, "EO", withs.1),
+        inputs: variables(rt, alloc, INPUTS),
+        outputs: variables(rt, alloc, OUTPUTS),
+    }
 }
 
-fn states(alloc: Global, does: Does) -> Result<Items<State>, AllocError> {
+fn states(rt: &impl Abort, alloc: Global, does: Does) -> Items<State> {
     let mut states = one(
+        rt,
         alloc,
         State {
-            name: Name::from_text(alloc, "S0")?,
+            name: Name::from_text(alloc, "S0").expect(rt, "memory"),
             actions: Items::new(alloc),
         },
-    )?;
-    let algorithm = Some(Name::from_text(alloc, does.0)?);
-    let output = Some(Name::from_text(alloc, does.1)?);
-    let actions = one(alloc, Action { algorithm, output })?;
-    let name = Name::from_text(alloc, "S1")?;
-    states.push(State { name, actions })?;
-    Ok(states)
+    );
+    let algorithm = Some(Name::from_text(alloc, does.0).expect(rt, "memory"));
+    let output = Some(Name::from_text(alloc, does.1).expect(rt, "memory"));
+    let actions = one(rt, alloc, Action { algorithm, output });
+    let name = Name::from_text(alloc, "S1").expect(rt, "memory");
+    states.push(State { name, actions }).expect(rt, "memory");
+    states
 }
 
-fn transitions(alloc: Global, step: Step, guard: Expr) -> Result<Items<Transition>, AllocError> {
-    let event = Some(Name::from_text(alloc, step.2)?);
+fn transitions(rt: &impl Abort, alloc: Global, step: Step, guard: Expr) -> Items<Transition> {
+    let event = Some(Name::from_text(alloc, step.2).expect(rt, "memory"));
     let condition = Condition {
         event,
         guard: Some(guard),
     };
-    let from = Name::from_text(alloc, step.0)?;
-    let to = Name::from_text(alloc, step.1)?;
+    let from = Name::from_text(alloc, step.0).expect(rt, "memory");
+    let to = Name::from_text(alloc, step.1).expect(rt, "memory");
     one(
+        rt,
         alloc,
         Transition {
             from,
@@ -103,10 +108,11 @@ fn transitions(alloc: Global, step: Step, guard: Expr) -> Result<Items<Transitio
     )
 }
 
-fn algorithms(alloc: Global, statement: Stmt) -> Result<Items<Algorithm>, AllocError> {
-    let statements = one(alloc, statement)?;
-    let name = Name::from_text(alloc, "ALG")?;
+fn algorithms(rt: &impl Abort, alloc: Global, statement: Stmt) -> Items<Algorithm> {
+    let statements = one(rt, alloc, statement);
+    let name = Name::from_text(alloc, "ALG").expect(rt, "memory");
     one(
+        rt,
         alloc,
         Algorithm {
             name,
@@ -117,20 +123,21 @@ fn algorithms(alloc: Global, statement: Stmt) -> Result<Items<Algorithm>, AllocE
 
 /// A type with the ports EI, EO, QI : BOOL, N : INT and OUT : INT, the states S0 and S1 and the algorithm ALG.
 pub fn basic(
+    rt: &impl Abort,
     alloc: Global,
     (withs, step, does): (Withs, Step, Does),
     guard: Expr,
     statement: Stmt,
     internals: &[Given],
-) -> Result<BlockType, AllocError> {
-    Ok(BlockType::Basic(BasicType {
-        name: Name::from_text(alloc, "T")?,
-        ports: ports(alloc, withs)?,
-        internals: variables(alloc, internals)?,
-        states: states(alloc, does)?,
-        transitions: transitions(alloc, step, guard)?,
-        algorithms: algorithms(alloc, statement)?,
-    }))
+) -> BlockType {
+    BlockType::Basic(BasicType {
+        name: Name::from_text(alloc, "T").expect(rt, "memory"),
+        ports: ports(rt, alloc, withs),
+        internals: variables(rt, alloc, internals),
+        states: states(rt, alloc, does),
+        transitions: transitions(rt, alloc, step, guard),
+        algorithms: algorithms(rt, alloc, statement),
+    })
 }
 
 pub fn network(alloc: Global) -> Network {
@@ -142,36 +149,41 @@ pub fn network(alloc: Global) -> Network {
 }
 
 /// A declaration of one type.
-pub fn library(alloc: Global, block: BlockType) -> Result<Library, AllocError> {
-    let blocks = one(alloc, block)?;
-    let name = Name::from_text(alloc, "A")?;
+pub fn library(rt: &impl Abort, alloc: Global, block: BlockType) -> Library {
+    let blocks = one(rt, alloc, block);
+    let name = Name::from_text(alloc, "A").expect(rt, "memory");
     let network = network(alloc);
-    Ok(Library {
+    Library {
         blocks,
         application: Application { name, network },
-    })
+    }
 }
 
-pub fn reference(alloc: Global, name: &str) -> Result<Reference, AllocError> {
-    Ok(Reference::new(Name::from_text(alloc, name)?))
+pub fn reference(rt: &impl Abort, alloc: Global, name: &str) -> Reference {
+    Reference::new(Name::from_text(alloc, name).expect(rt, "memory"))
 }
 
-pub fn variable(alloc: Global, name: &str) -> Result<Expr, AllocError> {
-    Ok(Expr::Variable(reference(alloc, name)?))
+pub fn variable(rt: &impl Abort, alloc: Global, name: &str) -> Expr {
+    Expr::Variable(reference(rt, alloc, name))
 }
 
-pub fn unary(alloc: Global, operator: UnaryOperator, operand: Expr) -> Result<Expr, AllocError> {
-    Ok(Expr::Unary(operator, Boxed::new(alloc, operand)?))
+pub fn unary(rt: &impl Abort, alloc: Global, operator: UnaryOperator, operand: Expr) -> Expr {
+    Expr::Unary(operator, Boxed::new(alloc, operand).expect(rt, "memory"))
 }
 
 pub fn binary(
+    rt: &impl Abort,
     alloc: Global,
     operator: BinaryOperator,
     left: Expr,
     right: Expr,
-) -> Result<Expr, AllocError> {
-    let left = Boxed::new(alloc, left)?;
-    Ok(Expr::Binary(operator, left, Boxed::new(alloc, right)?))
+) -> Expr {
+    let left = Boxed::new(alloc, left).expect(rt, "memory");
+    Expr::Binary(
+        operator,
+        left,
+        Boxed::new(alloc, right).expect(rt, "memory"),
+    )
 }
 
 /// An argument of a function: a number, or a truth value where there is none.
@@ -183,35 +195,35 @@ fn argument(given: &Option<i128>) -> Expr {
 }
 
 /// A function at numbers, and at TRUE where there is none.
-pub fn call(alloc: Global, name: &str, given: &[Option<i128>]) -> Result<Expr, AllocError> {
+pub fn call(rt: &impl Abort, alloc: Global, name: &str, given: &[Option<i128>]) -> Expr {
     let mut arguments = Items::new(alloc);
     for number in given {
-        arguments.push(argument(number))?;
+        arguments.push(argument(number)).expect(rt, "memory");
     }
-    Ok(Expr::Call(Name::from_text(alloc, name)?, arguments))
+    Expr::Call(Name::from_text(alloc, name).expect(rt, "memory"), arguments)
 }
 
-pub fn assign(alloc: Global, name: &str, expr: Expr) -> Result<Stmt, AllocError> {
-    Ok(Stmt::Assign(reference(alloc, name)?, expr))
+pub fn assign(rt: &impl Abort, alloc: Global, name: &str, expr: Expr) -> Stmt {
+    Stmt::Assign(reference(rt, alloc, name), expr)
 }
 
 /// FOR from 1 to 9.
-pub fn count(alloc: Global, name: &str, body: Stmt) -> Result<Stmt, AllocError> {
-    let body = one(alloc, body)?;
-    Ok(Stmt::For(
-        reference(alloc, name)?,
+pub fn count(rt: &impl Abort, alloc: Global, name: &str, body: Stmt) -> Stmt {
+    let body = one(rt, alloc, body);
+    Stmt::For(
+        reference(rt, alloc, name),
         Expr::Whole(1),
         Expr::Whole(9),
         None,
         body,
-    ))
+    )
 }
 
-pub fn repeat(alloc: Global, body: Stmt, condition: Expr) -> Result<Stmt, AllocError> {
-    Ok(Stmt::Repeat(one(alloc, body)?, condition))
+pub fn repeat(rt: &impl Abort, alloc: Global, body: Stmt, condition: Expr) -> Stmt {
+    Stmt::Repeat(one(rt, alloc, body), condition)
 }
 
 /// IF without THEN, and its ELSE.
-pub fn otherwise(alloc: Global, statement: Stmt) -> Result<Stmt, AllocError> {
-    Ok(Stmt::If(Items::new(alloc), one(alloc, statement)?))
+pub fn otherwise(rt: &impl Abort, alloc: Global, statement: Stmt) -> Stmt {
+    Stmt::If(Items::new(alloc), one(rt, alloc, statement))
 }

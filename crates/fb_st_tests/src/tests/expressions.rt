@@ -1,77 +1,51 @@
 //! Values of expressions.
 
-use super::trees::{
-    LEAST, MOST, binary, call, frame, of_truth, of_whole, reference, unary, variable, whole,
-};
+use super::trees::{LEAST, MOST, Word, declare, frame, named, of_whole, reference, tree};
 use fb_st::eval::{eval, holds};
-use fb_types::boxed::Boxed;
-use fb_types::items::Items;
-use fb_types::name::Name;
+use fb_st::frame::Frame;
 use fb_types::text::{BinaryOperator, Expr, UnaryOperator};
 use fb_types::value::{Reason, Ty, Value};
-use std::alloc::{AllocError, Global};
-use std::test::Fail;
+use std::alloc::Global;
+use std::process::Abort;
 
-/// An operator, two whole numbers, and what comes of them.
-const NUMBERS: [(BinaryOperator, i128, i128, i128); 15] = [
-    (BinaryOperator::Add, 2, 3, 5),
-    (BinaryOperator::Subtract, 10, 4, 6),
-    (BinaryOperator::Multiply, -6, 7, -42),
-    (BinaryOperator::Divide, 7, 2, 3),
-    (BinaryOperator::Divide, -7, 2, -3),
-    (BinaryOperator::Divide, 7, -2, -3),
-    (BinaryOperator::Divide, -7, -2, 3),
-    (BinaryOperator::Modulo, 7, 2, 1),
-    (BinaryOperator::Modulo, -7, 2, -1),
-    (BinaryOperator::Modulo, 7, -2, 1),
-    (BinaryOperator::Modulo, 5, 0, 0),
-    (BinaryOperator::Modulo, LEAST, -1, 0),
-    (BinaryOperator::Add, MOST - 1, 1, MOST),
-    (BinaryOperator::Subtract, -MOST, 1, LEAST),
-    (BinaryOperator::Multiply, LEAST, 1, LEAST),
+/// An operator, two whole numbers, and what comes of them, or why nothing does.
+const NUMBERS: [(BinaryOperator, i128, i128, Result<Value, Reason>); 21] = [
+    (BinaryOperator::Add, 2, 3, Ok(Value::Whole(5))),
+    (BinaryOperator::Subtract, 10, 4, Ok(Value::Whole(6))),
+    (BinaryOperator::Multiply, -6, 7, Ok(Value::Whole(-42))),
+    (BinaryOperator::Divide, 7, 2, Ok(Value::Whole(3))),
+    (BinaryOperator::Divide, -7, 2, Ok(Value::Whole(-3))),
+    (BinaryOperator::Divide, 7, -2, Ok(Value::Whole(-3))),
+    (BinaryOperator::Divide, -7, -2, Ok(Value::Whole(3))),
+    (BinaryOperator::Modulo, 7, 2, Ok(Value::Whole(1))),
+    (BinaryOperator::Modulo, -7, 2, Ok(Value::Whole(-1))),
+    (BinaryOperator::Modulo, 7, -2, Ok(Value::Whole(1))),
+    (BinaryOperator::Modulo, 5, 0, Ok(Value::Whole(0))),
+    (BinaryOperator::Modulo, LEAST, -1, Ok(Value::Whole(0))),
+    (BinaryOperator::Add, MOST - 1, 1, Ok(Value::Whole(MOST))),
+    (BinaryOperator::Subtract, -MOST, 1, Ok(Value::Whole(LEAST))),
+    (BinaryOperator::Multiply, LEAST, 1, Ok(Value::Whole(LEAST))),
+    (BinaryOperator::Add, MOST, 1, Err(Reason::Range)),
+    (BinaryOperator::Add, LEAST, -1, Err(Reason::Range)),
+    (BinaryOperator::Subtract, LEAST, 1, Err(Reason::Range)),
+    (BinaryOperator::Multiply, MOST, 2, Err(Reason::Range)),
+    (BinaryOperator::Divide, LEAST, -1, Err(Reason::Range)),
+    (BinaryOperator::Divide, 1, 0, Err(Reason::Divide)),
 ];
 
-/// An operator, two whole numbers, and why nothing comes of them.
-const FAULTS: [(BinaryOperator, i128, i128, Reason); 6] = [
-    (BinaryOperator::Add, MOST, 1, Reason::Range),
-    (BinaryOperator::Add, LEAST, -1, Reason::Range),
-    (BinaryOperator::Subtract, LEAST, 1, Reason::Range),
-    (BinaryOperator::Multiply, MOST, 2, Reason::Range),
-    (BinaryOperator::Divide, LEAST, -1, Reason::Range),
-    (BinaryOperator::Divide, 1, 0, Reason::Divide),
-];
-
-#[test]
-fn operators_of_whole_numbers(rt: HostRuntime) -> Result<(), Fail> {
-    let alloc = rt.alloc();
-    let frame = frame(alloc)?;
-    for (operator, left, right, expected) in NUMBERS {
-        let expr = of_whole(alloc, operator, left, right)?;
-        assert_eq!(rt; eval(&expr, &frame), Ok(Value::Whole(expected)));
-    }
-    Ok(())
+/// The expression comes to that.
+fn gives(rt: &impl Abort, frame: &Frame, expr: Expr, expected: Result<Value, Reason>) {
+    assert_eq!(rt; eval(&expr, frame), expected);
 }
 
 #[test]
-fn operators_out_of_range(rt: HostRuntime) -> Result<(), Fail> {
+fn operators_of_whole_numbers(rt: HostRuntime) {
     let alloc = rt.alloc();
-    let frame = frame(alloc)?;
-    for (operator, left, right, reason) in FAULTS {
-        let expr = of_whole(alloc, operator, left, right)?;
-        assert_eq!(rt; eval(&expr, &frame), Err(reason));
+    let frame = frame(&rt, alloc);
+    for (operator, left, right, expected) in &NUMBERS {
+        let expr = of_whole(&rt, alloc, *operator, *left, *right);
+        gives(&rt, &frame, expr, *expected);
     }
-    Ok(())
-}
-
-#[test]
-fn negation(rt: HostRuntime) -> Result<(), Fail> {
-    let alloc = rt.alloc();
-    let frame = frame(alloc)?;
-    let negated = unary(alloc, UnaryOperator::Negate, whole(MOST))?;
-    assert_eq!(rt; eval(&negated, &frame), Ok(Value::Whole(-MOST)));
-    let negated = unary(alloc, UnaryOperator::Negate, whole(LEAST))?;
-    assert_eq!(rt; eval(&negated, &frame), Err(Reason::Range));
-    Ok(())
 }
 
 /// An operator, and what comes of 2 with 3, with 2 and with -5.
@@ -84,19 +58,25 @@ const COMPARISONS: [(BinaryOperator, bool, bool, bool); 6] = [
     (BinaryOperator::GreaterOrEqual, false, true, true),
 ];
 
-#[test]
-fn comparisons(rt: HostRuntime) -> Result<(), Fail> {
-    let alloc = rt.alloc();
-    let frame = frame(alloc)?;
-    for (operator, below, same, above) in COMPARISONS {
-        let expr = of_whole(alloc, operator, 2, 3)?;
-        assert_eq!(rt; eval(&expr, &frame), Ok(Value::Bool(below)));
-        let expr = of_whole(alloc, operator, 2, 2)?;
-        assert_eq!(rt; eval(&expr, &frame), Ok(Value::Bool(same)));
-        let expr = of_whole(alloc, operator, 2, -5)?;
-        assert_eq!(rt; eval(&expr, &frame), Ok(Value::Bool(above)));
+/// Each comparison of 2 with a number gives the truth value that stands at that place.
+fn expect_comparisons(rt: &impl Abort, alloc: Global, frame: &Frame, right: i128, place: usize) {
+    for (operator, below, same, above) in &COMPARISONS {
+        let expected = match place {
+            0 => *below,
+            1 => *same,
+            _ => *above,
+        };
+        let expr = of_whole(rt, alloc, *operator, 2, right);
+        gives(rt, frame, expr, Ok(Value::Bool(expected)));
     }
-    Ok(())
+}
+
+#[test]
+fn comparisons(rt: HostRuntime) {
+    let frame = frame(&rt, rt.alloc());
+    for (place, right) in [3, 2, -5].into_iter().enumerate() {
+        expect_comparisons(&rt, rt.alloc(), &frame, right, place);
+    }
 }
 
 /// An operator, two truth values, and what comes of them.
@@ -118,148 +98,225 @@ const TRUTHS: [(BinaryOperator, bool, bool, bool); 14] = [
 ];
 
 #[test]
-fn operators_of_truth_values(rt: HostRuntime) -> Result<(), Fail> {
+fn operators_of_truth_values(rt: HostRuntime) {
     let alloc = rt.alloc();
-    let frame = frame(alloc)?;
-    for (operator, left, right, expected) in TRUTHS {
-        let expr = of_truth(alloc, operator, left, right)?;
-        assert_eq!(rt; eval(&expr, &frame), Ok(Value::Bool(expected)));
+    let frame = frame(&rt, alloc);
+    for (operator, left, right, expected) in &TRUTHS {
+        let words = [
+            Word::Truth(*left),
+            Word::Truth(*right),
+            Word::Binary(*operator),
+        ];
+        let expr = tree(&rt, alloc, words.as_slice());
+        gives(&rt, &frame, expr, Ok(Value::Bool(*expected)));
     }
-    let inverted = unary(alloc, UnaryOperator::Not, Expr::Truth(false))?;
-    assert_eq!(rt; eval(&inverted, &frame), Ok(Value::Bool(true)));
-    Ok(())
 }
 
-fn divided(alloc: Global) -> Result<Expr, AllocError> {
-    of_whole(alloc, BinaryOperator::Divide, 1, 0)
-}
-
-fn exceeded(alloc: Global) -> Result<Expr, AllocError> {
-    of_whole(alloc, BinaryOperator::Add, MOST, 1)
-}
-
-/// A truth value, and 1 / 0 = 1.
-fn beside_division(
-    alloc: Global,
-    operator: BinaryOperator,
-    left: bool,
-) -> Result<Expr, AllocError> {
-    let right = binary(alloc, BinaryOperator::Equal, divided(alloc)?, whole(1))?;
-    binary(alloc, operator, Expr::Truth(left), right)
-}
-
-#[test]
-fn and_does_not_cut_short(rt: HostRuntime) -> Result<(), Fail> {
-    let alloc = rt.alloc();
-    let expr = beside_division(alloc, BinaryOperator::And, false)?;
-    assert_eq!(rt; eval(&expr, &frame(alloc)?), Err(Reason::Divide));
-    Ok(())
-}
-
-#[test]
-fn or_does_not_cut_short(rt: HostRuntime) -> Result<(), Fail> {
-    let alloc = rt.alloc();
-    let expr = beside_division(alloc, BinaryOperator::Or, true)?;
-    assert_eq!(rt; eval(&expr, &frame(alloc)?), Err(Reason::Divide));
-    Ok(())
-}
-
-#[test]
-fn the_left_reason_is_the_answer(rt: HostRuntime) -> Result<(), Fail> {
-    let alloc = rt.alloc();
-    let expr = binary(
-        alloc,
-        BinaryOperator::Multiply,
-        exceeded(alloc)?,
-        divided(alloc)?,
-    )?;
-    assert_eq!(rt; eval(&expr, &frame(alloc)?), Err(Reason::Range));
-    Ok(())
-}
-
-#[test]
-fn the_left_division_is_the_answer(rt: HostRuntime) -> Result<(), Fail> {
-    let alloc = rt.alloc();
-    let expr = binary(
-        alloc,
-        BinaryOperator::Multiply,
-        divided(alloc)?,
-        exceeded(alloc)?,
-    )?;
-    assert_eq!(rt; eval(&expr, &frame(alloc)?), Err(Reason::Divide));
-    Ok(())
-}
-
-/// A function of three numbers, and what comes of them. A function of fewer leaves out the last ones.
-const THREE: [(&str, usize, [i128; 3], i128); 8] = [
-    ("MIN", 2, [3, -4, 0], -4),
-    ("MAX", 2, [3, -4, 0], 3),
-    ("ABS", 1, [-9, 0, 0], 9),
-    ("ABS", 1, [9, 0, 0], 9),
-    ("LIMIT", 3, [0, 99, 10], 10),
-    ("LIMIT", 3, [0, -3, 10], 0),
-    ("LIMIT", 3, [0, 7, 10], 7),
-    ("LIMIT", 3, [10, 7, 0], 0),
+/// An expression, and what comes of it, or why nothing does.
+const TREES: [(&[Word], Result<Value, Reason>); 18] = [
+    (
+        &[Word::Whole(MOST), Word::Unary(UnaryOperator::Negate)],
+        Ok(Value::Whole(-MOST)),
+    ),
+    (
+        &[Word::Whole(LEAST), Word::Unary(UnaryOperator::Negate)],
+        Err(Reason::Range),
+    ),
+    (
+        &[Word::Truth(false), Word::Unary(UnaryOperator::Not)],
+        Ok(Value::Bool(true)),
+    ),
+    // AND and OR do not cut short.
+    (
+        &[
+            Word::Truth(false),
+            Word::Whole(1),
+            Word::Whole(0),
+            Word::Binary(BinaryOperator::Divide),
+            Word::Whole(1),
+            Word::Binary(BinaryOperator::Equal),
+            Word::Binary(BinaryOperator::And),
+        ],
+        Err(Reason::Divide),
+    ),
+    (
+        &[
+            Word::Truth(true),
+            Word::Whole(1),
+            Word::Whole(0),
+            Word::Binary(BinaryOperator::Divide),
+            Word::Whole(1),
+            Word::Binary(BinaryOperator::Equal),
+            Word::Binary(BinaryOperator::Or),
+        ],
+        Err(Reason::Divide),
+    ),
+    // The left reason is the answer.
+    (
+        &[
+            Word::Whole(MOST),
+            Word::Whole(1),
+            Word::Binary(BinaryOperator::Add),
+            Word::Whole(1),
+            Word::Whole(0),
+            Word::Binary(BinaryOperator::Divide),
+            Word::Binary(BinaryOperator::Multiply),
+        ],
+        Err(Reason::Range),
+    ),
+    (
+        &[
+            Word::Whole(1),
+            Word::Whole(0),
+            Word::Binary(BinaryOperator::Divide),
+            Word::Whole(MOST),
+            Word::Whole(1),
+            Word::Binary(BinaryOperator::Add),
+            Word::Binary(BinaryOperator::Multiply),
+        ],
+        Err(Reason::Divide),
+    ),
+    // Functions.
+    (
+        &[Word::Whole(3), Word::Whole(-4), Word::Call("MIN", 2)],
+        Ok(Value::Whole(-4)),
+    ),
+    (
+        &[Word::Whole(3), Word::Whole(-4), Word::Call("MAX", 2)],
+        Ok(Value::Whole(3)),
+    ),
+    (
+        &[Word::Whole(-9), Word::Call("ABS", 1)],
+        Ok(Value::Whole(9)),
+    ),
+    (&[Word::Whole(9), Word::Call("ABS", 1)], Ok(Value::Whole(9))),
+    (
+        &[Word::Whole(LEAST), Word::Call("ABS", 1)],
+        Err(Reason::Range),
+    ),
+    (
+        &[
+            Word::Whole(0),
+            Word::Whole(99),
+            Word::Whole(10),
+            Word::Call("LIMIT", 3),
+        ],
+        Ok(Value::Whole(10)),
+    ),
+    (
+        &[
+            Word::Whole(0),
+            Word::Whole(-3),
+            Word::Whole(10),
+            Word::Call("LIMIT", 3),
+        ],
+        Ok(Value::Whole(0)),
+    ),
+    (
+        &[
+            Word::Whole(0),
+            Word::Whole(7),
+            Word::Whole(10),
+            Word::Call("LIMIT", 3),
+        ],
+        Ok(Value::Whole(7)),
+    ),
+    (
+        &[
+            Word::Whole(10),
+            Word::Whole(7),
+            Word::Whole(0),
+            Word::Call("LIMIT", 3),
+        ],
+        Ok(Value::Whole(0)),
+    ),
+    (
+        &[
+            Word::Truth(false),
+            Word::Whole(5),
+            Word::Whole(6),
+            Word::Call("SEL", 3),
+        ],
+        Ok(Value::Whole(5)),
+    ),
+    (
+        &[
+            Word::Truth(true),
+            Word::Whole(5),
+            Word::Whole(6),
+            Word::Call("SEL", 3),
+        ],
+        Ok(Value::Whole(6)),
+    ),
 ];
 
 #[test]
-fn functions(rt: HostRuntime) -> Result<(), Fail> {
+fn expressions(rt: HostRuntime) {
     let alloc = rt.alloc();
-    let frame = frame(alloc)?;
-    for (name, count, numbers, expected) in THREE {
-        let expr = call(alloc, name, &numbers.as_slice()[..count.min(3)])?;
-        assert_eq!(rt; eval(&expr, &frame), Ok(Value::Whole(expected)));
+    let frame = frame(&rt, alloc);
+    for (words, expected) in &TREES {
+        gives(&rt, &frame, tree(&rt, alloc, *words), *expected);
     }
-    let expr = call(alloc, "ABS", [LEAST].as_slice())?;
-    assert_eq!(rt; eval(&expr, &frame), Err(Reason::Range));
-    Ok(())
 }
 
-/// SEL of a truth value, 5 and 6.
-fn selection(alloc: Global, chosen: bool) -> Result<Expr, AllocError> {
-    let mut arguments = Items::new(alloc);
-    arguments.push(Expr::Truth(chosen))?;
-    arguments.push(whole(5))?;
-    arguments.push(whole(6))?;
-    Ok(Expr::Call(Name::from_text(alloc, "SEL")?, arguments))
+/// A frame with Y : UINT, which is 7, beside the others.
+fn wider(rt: &impl Abort, alloc: Global) -> Frame {
+    let mut frame = frame(rt, alloc);
+    assert!(rt; declare(rt, alloc, &mut frame, "Y", Ty::Uint, Value::Whole(7)));
+    frame
 }
 
 #[test]
-fn selections(rt: HostRuntime) -> Result<(), Fail> {
+fn names_are_declared_once(rt: HostRuntime) {
     let alloc = rt.alloc();
-    let frame = frame(alloc)?;
-    assert_eq!(rt;
-        eval(&selection(alloc, false)?, &frame),
-        Ok(Value::Whole(5))
-    );
-    assert_eq!(rt; eval(&selection(alloc, true)?, &frame), Ok(Value::Whole(6)));
-    Ok(())
+    let mut frame = frame(&rt, alloc);
+    assert!(rt; frame.has(&named(&rt, alloc, "L")));
+    assert!(rt; !frame.has(&named(&rt, alloc, "Y")));
+    assert!(rt; !declare(&rt, alloc, &mut frame, "X", Ty::Lint, Value::Whole(7)));
+    assert_eq!(rt; frame.value(&reference(&rt, alloc, "X")), Value::Whole(0));
 }
 
+/// Wherever a reference expects its variable, the name alone decides.
 #[test]
-fn variables_groups_and_conditions(rt: HostRuntime) -> Result<(), Fail> {
-    let alloc = rt.alloc();
-    let mut frame = frame(alloc)?;
-    assert!(rt; frame.has(&Name::from_text(alloc, "L")?));
-    assert!(rt; !frame.has(&Name::from_text(alloc, "Y")?));
-    assert!(rt; !frame.declare(Name::from_text(alloc, "X")?, Ty::Lint, Value::Whole(7))?);
-    assert_eq!(rt; frame.value(&reference(alloc, "X")?), Value::Whole(0));
-    assert!(rt; frame.declare(Name::from_text(alloc, "Y")?, Ty::Uint, Value::Whole(7))?);
-    // wherever a reference expects its variable, the name alone decides
+fn variables(rt: HostRuntime) {
+    let frame = wider(&rt, rt.alloc());
     for place in [0, 3, 9] {
-        let reference = reference(alloc, "Y")?;
+        let reference = reference(&rt, rt.alloc(), "Y");
         reference.expect_at(place);
-        assert_eq!(rt;
-            eval(&Expr::Variable(reference), &frame),
-            Ok(Value::Whole(7))
-        );
+        gives(&rt, &frame, Expr::Variable(reference), Ok(Value::Whole(7)));
     }
-    let group = Expr::Group(Boxed::new(alloc, variable(alloc, "Y")?)?);
-    let expr = binary(alloc, BinaryOperator::Greater, group, whole(6))?;
-    assert_eq!(rt; holds(&expr, &frame), Ok(true));
-    assert_eq!(rt; holds(&variable(alloc, "B")?, &frame), Ok(false));
-    let divided = of_whole(alloc, BinaryOperator::Divide, 1, 0)?;
-    let expr = binary(alloc, BinaryOperator::Equal, divided, whole(0))?;
-    assert_eq!(rt; holds(&expr, &frame), Err(Reason::Divide));
-    Ok(())
+}
+
+/// A condition, and whether it holds.
+const CONDITIONS: [(&[Word], Result<bool, Reason>); 3] = [
+    (
+        &[
+            Word::Variable("Y"),
+            Word::Group,
+            Word::Whole(6),
+            Word::Binary(BinaryOperator::Greater),
+        ],
+        Ok(true),
+    ),
+    (&[Word::Variable("B")], Ok(false)),
+    (
+        &[
+            Word::Whole(1),
+            Word::Whole(0),
+            Word::Binary(BinaryOperator::Divide),
+            Word::Whole(0),
+            Word::Binary(BinaryOperator::Equal),
+        ],
+        Err(Reason::Divide),
+    ),
+];
+
+#[test]
+fn conditions(rt: HostRuntime) {
+    let alloc = rt.alloc();
+    let frame = wider(&rt, alloc);
+    for (words, expected) in &CONDITIONS {
+        let expr = tree(&rt, alloc, *words);
+        assert_eq!(rt; holds(&expr, &frame), *expected);
+    }
 }

@@ -9,7 +9,6 @@ use fb_types::run::{Form, StopMark};
 use fb_types::value::Reason;
 use std::alloc::Global;
 use std::process::Abort;
-use std::test::Fail;
 
 const STEPS: [usize; 3] = [1, 3, usize::MAX];
 
@@ -31,29 +30,30 @@ fn expect_faults(
     }
 }
 
+const MARK: StopMark = StopMark {
+    tick: 7,
+    resource: 1,
+    reason: Reason::Divide,
+};
+
+const LAST: &[u8] = b"stop 7 CELLAR_2 divide\n";
+
 #[test]
-fn a_fault_says_how_many_bytes_were_taken(rt: HostRuntime) -> Result<(), Fail> {
+fn a_fault_says_how_many_bytes_were_taken(rt: HostRuntime) {
     let alloc = rt.alloc();
-    let system = plant(alloc)?;
+    let system = plant(&rt, alloc);
     let rows = &ROWS[..3];
-    let lines = lines_of(alloc, rows)?;
-    let mark = StopMark {
-        tick: 7,
-        resource: 1,
-        reason: Reason::Divide,
-    };
+    let lines = lines_of(&rt, alloc, rows);
     let trace = Trace {
         system: &system,
         lines: lines.as_slice(),
-        end: End::Stop(mark),
+        end: End::Stop(MARK),
     };
-    let last = b"stop 7 CELLAR_2 divide\n".as_slice();
     for form in FORMS {
-        let mut text = text_of(alloc, form, rows)?;
+        let text = text_of(&rt, alloc, form, rows, b"");
         expect_faults(&rt, alloc, trace, (Part::Lines, form), text.as_slice());
-        text.extend_from_slice(last)?;
-        expect_faults(&rt, alloc, trace, (Part::Whole, form), text.as_slice());
+        let whole = text_of(&rt, alloc, form, rows, LAST);
+        expect_faults(&rt, alloc, trace, (Part::Whole, form), whole.as_slice());
     }
-    expect_faults(&rt, alloc, trace, (Part::Last, Form::One), last);
-    Ok(())
+    expect_faults(&rt, alloc, trace, (Part::Last, Form::One), LAST);
 }

@@ -4,10 +4,12 @@ use super::narrow::{Refusal, with_room};
 use super::systems::plant;
 use super::table::{IN, KeyParts, Port, line};
 use super::writing::{Part, Trace, expect_text};
+use fb_system::system::System;
 use fb_trace::last::End;
-use fb_types::run::Form;
+use fb_types::run::{Form, Line};
 use fb_types::value::Value;
-use std::test::Fail;
+use std::alloc::Global;
+use std::process::Abort;
 
 /// G.GO, which has the data inputs N and G.
 const GO: Port = (7, 0, IN);
@@ -64,22 +66,34 @@ const VALUES: [(i128, bool, &[u8]); 14] = [
     ),
 ];
 
+/// One line has that text.
+fn expect_one(
+    rt: &impl Abort,
+    alloc: Global,
+    system: &System,
+    line: Line,
+    form: Form,
+    text: &[u8],
+) {
+    let lines = [line];
+    let trace = Trace {
+        system,
+        lines: &lines,
+        end: End::Horizon(13),
+    };
+    let out = with_room(alloc, 100, usize::MAX, Refusal::Error);
+    expect_text(rt, out, trace, (Part::Lines, form), text);
+}
+
 #[test]
-fn values(rt: HostRuntime) -> Result<(), Fail> {
+fn values(rt: HostRuntime) {
     let alloc = rt.alloc();
-    let system = plant(alloc)?;
+    let system = plant(&rt, alloc);
     for (number, flag, text) in VALUES {
         let values = [Value::Whole(number), Value::Bool(flag)];
-        let lines = [line(alloc, (12, 1, 0, 0, 0), GO, &values)?];
-        let trace = Trace {
-            system: &system,
-            lines: &lines,
-            end: End::Horizon(13),
-        };
-        let out = with_room(alloc, 100, usize::MAX, Refusal::Error);
-        expect_text(&rt, out, trace, (Part::Lines, Form::One), text);
+        let line = line(&rt, alloc, (12, 1, 0, 0, 0), GO, &values);
+        expect_one(&rt, alloc, &system, line, Form::One, text);
     }
-    Ok(())
 }
 
 /// Keys, and the text of form two.
@@ -121,18 +135,11 @@ const KEYS: [(KeyParts, &[u8]); 7] = [
 ];
 
 #[test]
-fn parts_of_keys(rt: HostRuntime) -> Result<(), Fail> {
+fn parts_of_keys(rt: HostRuntime) {
     let alloc = rt.alloc();
-    let system = plant(alloc)?;
+    let system = plant(&rt, alloc);
     for (key, text) in KEYS {
-        let lines = [line(alloc, key, HALT, &[])?];
-        let trace = Trace {
-            system: &system,
-            lines: &lines,
-            end: End::Horizon(0),
-        };
-        let out = with_room(alloc, 100, usize::MAX, Refusal::Error);
-        expect_text(&rt, out, trace, (Part::Lines, Form::Two), text);
+        let line = line(&rt, alloc, key, HALT, &[]);
+        expect_one(&rt, alloc, &system, line, Form::Two, text);
     }
-    Ok(())
 }

@@ -6,7 +6,8 @@ use fb_read::read_library;
 use fb_system::system::System;
 use fb_types::deploy::Deploy;
 use std::alloc::Global;
-use std::test::Fail;
+use std::mem::ManuallyDrop;
+use std::process::Abort;
 
 /// The instances are S, C, A, A.B, R, R.C, R.C.B, G and K, from 0.
 const PLANT: &[u8] =
@@ -23,19 +24,42 @@ const RESOURCES: &[u8] =
     b"[[resource]]\ndevice = \"D\"\nname = \"R1\"\ninstances = [\"S\", \"C\", \"A\"]\n\
     [[resource]]\ndevice = \"E\"\nname = \"CELLAR_2\"\ninstances = [\"R\", \"G\", \"K\"]\n";
 
-/// Two resources, R1 and CELLAR_2, and instances within instances.
-pub fn plant(alloc: Global) -> Result<System, Fail> {
-    let library = read_library(alloc, PLANT)?;
-    let deploy = read_deploy(alloc, RESOURCES)?;
-    Ok(accept(alloc, library, deploy, Vec::new(alloc))?)
+/// The system of these. It is left to the end of the process, since whoever drops a system proves how each of its parts
+/// is dropped.
+fn system_of(rt: &impl Abort, alloc: Global, text: &[u8], deploy: Deploy) -> ManuallyDrop<System> {
+    let library = read_library(alloc, text).expect(rt, "a library");
+    let system = accept(alloc, library, deploy, Vec::new(alloc)).expect(rt, "a system");
+    ManuallyDrop::new(system)
 }
 
+/// Two resources, R1 and CELLAR_2, and instances within instances.
+pub fn plant(rt: &impl Abort, alloc: Global) -> ManuallyDrop<System> {
+    let deploy = read_deploy(alloc, RESOURCES).expect(rt, "a deployment");
+    system_of(rt, alloc, PLANT, deploy)
+}
+
+/// So many times X, between two texts.
+pub fn around_letters(
+    rt: &impl Abort,
+    alloc: Global,
+    (before, after): (&[u8], &[u8]),
+    letters: usize,
+) -> Vec<u8> {
+    let name = vec![in alloc; b'X'; letters].expect(rt, "memory");
+    let mut text = Vec::from_slice(alloc, before).expect(rt, "memory");
+    text.extend_from_slice(name.as_slice()).expect(rt, "memory");
+    text.extend_from_slice(after).expect(rt, "memory");
+    text
+}
+
+const LONE: (&[u8], &[u8]) = (
+    b"APPLICATION P FBS ",
+    b" : E_RESTART; END_FBS END_APPLICATION",
+);
+
 /// One resource MAIN, and one instance of E_RESTART, whose name is so many times X.
-pub fn lone(alloc: Global, letters: usize) -> Result<System, Fail> {
-    let name = vec![in alloc; b'X'; letters]?;
-    let mut text = Vec::from_slice(alloc, b"APPLICATION P FBS ")?;
-    text.extend_from_slice(name.as_slice())?;
-    text.extend_from_slice(b" : E_RESTART; END_FBS END_APPLICATION")?;
-    let library = read_library(alloc, text.as_slice())?;
-    Ok(accept(alloc, library, Deploy::single(alloc)?, Vec::new(alloc))?)
+pub fn lone(rt: &impl Abort, alloc: Global, letters: usize) -> ManuallyDrop<System> {
+    let text = around_letters(rt, alloc, LONE, letters);
+    let deploy = Deploy::single(alloc).expect(rt, "memory");
+    system_of(rt, alloc, text.as_slice(), deploy)
 }

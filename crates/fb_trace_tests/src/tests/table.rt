@@ -5,8 +5,8 @@ use fb_types::items::Items;
 use fb_types::key::Key;
 use fb_types::run::{Form, Line, StopMark};
 use fb_types::value::{Reason, Value};
-use std::alloc::{AllocError, Global};
-use std::test::Fail;
+use std::alloc::Global;
+use std::process::Abort;
 
 /// The tick, the resource, the class and the two further parts of a key.
 pub type KeyParts = (u64, u32, u8, u128, u128);
@@ -205,11 +205,12 @@ pub const ENDS: [(End, &[u8]); 8] = [
 
 /// A line of the key and the port that a row gives, with these values.
 pub fn line(
+    rt: &impl Abort,
     alloc: Global,
     (tick, resource, class, a, b): KeyParts,
     (instance, event, taken): Port,
     values: &[Value],
-) -> Result<Line, AllocError> {
+) -> Line {
     let key = Key {
         tick,
         resource,
@@ -217,33 +218,35 @@ pub fn line(
         a,
         b,
     };
-    let values = Items::from_slice(alloc, values)?;
-    Ok(Line {
+    let values = Items::from_slice(alloc, values).expect(rt, "memory");
+    Line {
         key,
         taken,
         instance,
         event,
         values,
-    })
+    }
 }
 
 /// The lines of rows.
-pub fn lines_of(alloc: Global, rows: &[Row]) -> Result<Vec<Line>, Fail> {
+pub fn lines_of(rt: &impl Abort, alloc: Global, rows: &[Row]) -> Vec<Line> {
     let mut lines = Vec::new(alloc);
     for row in rows {
-        lines.push(line(alloc, row.key, row.port, row.values)?)?;
+        let line = line(rt, alloc, row.key, row.port, row.values);
+        lines.push(line).expect(rt, "memory");
     }
-    Ok(lines)
+    lines
 }
 
-/// The texts of rows in a form, one after the other.
-pub fn text_of(alloc: Global, form: Form, rows: &[Row]) -> Result<Vec<u8>, AllocError> {
+/// The texts of rows in a form, one after the other, and a text behind them.
+pub fn text_of(rt: &impl Abort, alloc: Global, form: Form, rows: &[Row], last: &[u8]) -> Vec<u8> {
     let mut text = Vec::new(alloc);
     for row in rows {
         if form == Form::Two {
-            text.extend_from_slice(row.head)?;
+            text.extend_from_slice(row.head).expect(rt, "memory");
         }
-        text.extend_from_slice(row.text)?;
+        text.extend_from_slice(row.text).expect(rt, "memory");
     }
-    Ok(text)
+    text.extend_from_slice(last).expect(rt, "memory");
+    text
 }
