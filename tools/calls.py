@@ -2,17 +2,20 @@
 """tools/calls.py: calls the built program, once at least for each status and by several numbers of workers for each example, and
 compares how it ends, what it writes and what it tells.
 
-These calls show what no contract can say: which bytes a file and standard input give, up to the greatest length of each
-text and one byte beyond, that the process ends with the status of the call, and what becomes of words that are no text.
+These calls show what no contract can say: which bytes a file, standard input and a named pipe give, up to the greatest length
+of each text and beyond, what the help tells, that the process ends with the status of the call, what becomes of words that are
+no text, of files that can't be read, and of outputs that are full, closed or gone.
 ./gate makes them each time it has run the program. Without ./gate they are made of the program as ./simulate built it."""
 
 import glob
 import os
 import resource
 import shutil
+import signal
 import subprocess
 import sys
 import tempfile
+import threading
 from typing import NamedTuple, Optional
 
 from kit import TOP, rt
@@ -34,24 +37,59 @@ EVENT_CONNECTIONS S.COLD TO M.EI1; M.EO TO M.EI2; END_CONNECTIONS END_APPLICATIO
 """
 STOPPED = b"0 MAIN < S.COLD\n0 MAIN > M.EI1\n0 MAIN < M.EO\n0 MAIN > M.EI2\n0 MAIN < M.EO\nstop 0 MAIN steps\n"
 HEADING = b"tick,event,values\n"
+# The stimulus comes before the start, and sets the time of the cycle for good.
+FED = b"0,C.START,DT=5\n"
+FED_TO_6 = b"0 MAIN > C.START DT=5\n0 MAIN < S.COLD\n0 MAIN > C.START DT=5\n5 MAIN < C.EO\nend 6\n"
+LINKS = 4000
+
+
+def crowd(count):
+    """Returns a declaration of so many blocks."""
+    blocks = "".join(f" M{i} : E_MERGE;" for i in range(count))
+    return f"APPLICATION A FBS{blocks} END_FBS END_APPLICATION\n".encode()
+
+
+def chain():
+    """Returns a declaration in which one event goes from block to block, and its trace, in which each of them has its lines."""
+    blocks = "".join(f"M{i} : E_MERGE;\n" for i in range(LINKS))
+    ways = "".join(f"M{i}.EO TO M{i + 1}.EI1;\n" for i in range(LINKS - 1))
+    text = f"APPLICATION A FBS S : E_RESTART;\n{blocks}END_FBS\nEVENT_CONNECTIONS S.COLD TO M0.EI1;\n{ways}END_CONNECTIONS END_APPLICATION\n"
+    trace = "0 MAIN < S.COLD\n" + "".join(f"0 MAIN > M{i}.EI1\n0 MAIN < M{i}.EO\n" for i in range(LINKS)) + "end 1\n"
+    return text.encode(), trace.encode()
+
+
+CHAIN, ALONG_THE_CHAIN = chain()
 FILES = {
     "cycle": CYCLE,
     "ring": RING,
     "twice": b"APPLICATION A FBS S : E_MERGE; S : E_MERGE; END_FBS END_APPLICATION\n",
     "longest": CYCLE.ljust(MOST_OF_A_TEXT),
     "too_long": CYCLE.ljust(MOST_OF_A_TEXT + 1),
+    "far_too_long": CYCLE.ljust(2 * MOST_OF_A_TEXT),
+    "last": CYCLE.rjust(MOST_OF_A_TEXT),
+    "chain": CHAIN,
+    "crowd": crowd(4096),
+    "too_many": crowd(4097),
+    "locked": CYCLE,
     "longest_stimuli": HEADING.ljust(MOST_OF_STIMULI, b"\n"),
+    "last_stimuli": HEADING.ljust(MOST_OF_STIMULI - len(FED), b"\n") + FED,
     "too_long_stimuli": HEADING.ljust(MOST_OF_STIMULI + 1, b"\n"),
 }
+# Named pipes, and what is written into each before it ends.
+PIPES = {"pipe": CYCLE, "cut_pipe": CYCLE[:40], "empty_pipe": b"", "long_pipe": FILES["longest"]}
 
+# What the help of a run has of each argument: its name, and words of its sentence.
+HELP = """DECL, declaration of the types, --deploy, in TOML, --stim, in CSV, --horizon, at which the run ends, --steps, most steps,
+--workers, How many workers, --serial, on one thread, --trace, form of the trace""".replace("\n", " ").split(", ")
 
 # The ways to run an example.
 WAYS = [["--serial"], *(["--workers", count] for count in ("1", "2", "7", "64"))]
 
 
 class Call(NamedTuple):
-    """Words, and what a call by them comes to. Where `out` or `err` is None, it is some text that ends with its line. The call is
-    made in the folder of this example, or in that of FILES."""
+    """Words, and what a call by them comes to. Where `out` or `err` is None, it is some text that ends with its line; each of the words
+    of `has` stands in what is written. The call is made in the folder of this example, or in that of FILES. Its standard output and
+    its standard error are pipes that are read to their end, where they are not among OUTPUTS."""
 
     words: list
     status: int
@@ -59,13 +97,23 @@ class Call(NamedTuple):
     err: Optional[bytes] = b""
     given: bytes = b""
     memory: Optional[int] = None
-    has_full_output: bool = False
+    to: str = "pipe"
+    tells: str = "pipe"
+    closes_input: bool = False
+    has: tuple = ()
     example: str = ""
+
+
+# How an output may be: a device that has no room, closed, a pipe that nobody reads, or a file that takes ten bytes and no more.
+OUTPUTS = ("full", "closed", "gone", "short")
+ROOM = 10
 
 
 CALLS = [
     Call(["--help"], 0, out=None),
-    Call(["run", "--help"], 0, out=None),
+    Call(["help"], 0, out=None),
+    Call(["check", "-h"], 0, out=None),
+    Call(["run", "--help"], 0, out=None, has=tuple(HELP)),
     Call(["check", "cycle"], 0, out=b"accepted\n"),
     Call(["check", "-"], 0, out=b"accepted\n", given=CYCLE),
     Call(["run", "cycle", "--horizon", "8"], 0, out=TO_8),
@@ -85,11 +133,52 @@ CALLS = [
     Call(["check", "cycle", "--stim", "too_long_stimuli"], 2, err=b"refused E15\n"),
     Call(["check", "cycle", "--stim", "-"], 0, out=b"accepted\n", given=FILES["longest_stimuli"]),
     Call(["check", "cycle", "--stim", "-"], 2, err=b"refused E15\n", given=FILES["too_long_stimuli"]),
+    Call(["check", "far_too_long"], 2, err=b"refused E04\n"),
+    Call(["check", "-"], 2, err=b"refused E04\n", given=FILES["far_too_long"]),
+    # All that is read stands in its place.
+    Call(["run", "last", "--horizon", "8"], 0, out=TO_8),
+    Call(["run", "-", "--horizon", "8"], 0, out=TO_8, given=FILES["last"]),
+    Call(["run", "chain", "--horizon", "1"], 0, out=ALONG_THE_CHAIN),
+    Call(["run", "-", "--horizon", "1"], 0, out=ALONG_THE_CHAIN, given=CHAIN),
+    Call(["run", "cycle", "--horizon", "6", "--stim", "last_stimuli"], 0, out=FED_TO_6),
+    Call(["check", "crowd"], 0, out=b"accepted\n"),
+    Call(["check", "too_many"], 2, err=b"refused E30\n"),
+    # Pipes give less at a time than is asked for, and may end early.
+    Call(["run", "pipe", "--horizon", "8"], 0, out=TO_8),
+    Call(["run", "long_pipe", "--horizon", "8"], 0, out=TO_8),
+    Call(["check", "cut_pipe"], 2, err=b"refused E03 line 1\n"),
+    Call(["run", "empty_pipe", "--horizon", "8"], 2, err=b"refused E03 line 1\n"),
+    Call(["check", "cycle", "--deploy", "cut_pipe"], 2, err=b"refused E10\n"),
+    Call(["check", "-"], 2, err=b"refused E03 line 1\n", given=CYCLE[:40]),
+    # What is no file, may not be read, or was read before.
     Call(["check", "nowhere"], 3, err=b"file fault\n"),
+    Call(["check", "no/such/file"], 3, err=b"file fault\n"),
+    Call(["check", "cycle/in"], 3, err=b"file fault\n"),
+    Call(["check", ""], 3, err=b"file fault\n"),
     Call(["check", "."], 3, err=b"file fault\n"),
+    Call(["check", "/"], 3, err=b"file fault\n"),
+    Call(["check", "locked"], 3, err=b"file fault\n"),
+    Call(["run", "locked", "--horizon", "8"], 3, err=b"file fault\n"),
+    Call(["run", "cycle", "--horizon", "8", "--deploy", "."], 3, err=b"file fault\n"),
+    Call(["run", "cycle", "--horizon", "8", "--stim", "."], 3, err=b"file fault\n"),
+    Call(["check", "twice", "--stim", "locked"], 3, err=b"file fault\n"),
     Call(["check", "-", "--stim", "-"], 3, err=b"file fault\n", given=CYCLE),
-    Call(["run", "cycle", "--horizon", "8"], 3, err=b"write fault after 0 bytes\n", has_full_output=True),
-    Call(["check", "cycle"], 3, err=b"write fault after 0 bytes\n", has_full_output=True),
+    Call(["run", "-", "--deploy", "-", "--horizon", "8"], 3, err=b"file fault\n", given=CYCLE),
+    Call(["check", "-"], 3, err=b"file fault\n", closes_input=True),
+    Call(["check", "cycle"], 0, out=b"accepted\n", closes_input=True),
+    # Outputs that fail.
+    *(Call(["run", "cycle", "--horizon", "8"], 3, err=b"write fault after 0 bytes\n", to=it) for it in OUTPUTS[:3]),
+    *(Call(["run", "cycle", "--horizon", "8", *way], 3, out=TO_8[:ROOM], err=b"write fault after 10 bytes\n", to="short") for way in WAYS),
+    *(Call(["run", "ring", "--horizon", "1", *way], 3, err=b"write fault after 0 bytes\n", to="full") for way in WAYS),
+    *(Call(["check", "cycle"], 3, err=b"write fault after 0 bytes\n", to=it) for it in OUTPUTS[:3]),
+    *(Call(["--help"], 3, err=b"write fault after 0 bytes\n", to=it) for it in OUTPUTS[:3]),
+    *(Call(["check", "twice"], 2, err=b"refused E20\n", to=it) for it in OUTPUTS),
+    *(Call(["check", "nowhere"], 3, err=b"file fault\n", to=it) for it in OUTPUTS),
+    *(Call(["run", "cycle", "--horizon", "8"], 0, out=TO_8, tells=it) for it in OUTPUTS[:3]),
+    *(Call(["check", "twice"], 2, tells=it) for it in OUTPUTS[:3]),
+    *(Call(["check", "nowhere"], 3, tells=it) for it in OUTPUTS[:3]),
+    *(Call(["walk"], 5, tells=it) for it in OUTPUTS[:3]),
+    Call(["run", "cycle", "--horizon", "8"], 3, to="full", tells="full"),
     Call(["check", "cycle", "--stim", "longest_stimuli"], 4, err=b"out of memory\n", memory=LITTLE_MEMORY),
     Call([], 5, err=None),
     Call(["walk"], 5, err=None),
@@ -126,24 +215,60 @@ def shown(it):
     return repr(it) if len(it) <= 300 else f"{len(it)} bytes that begin {it[:80]!r}"
 
 
-def make(call, words, folder):
-    """Makes a call in this folder, and returns what is wrong with what comes of it, a line each."""
+def output(how, room):
+    """Returns what stands for an output that is so; one that is closed is closed later, by the call itself."""
+    if how == "gone":
+        read, write = os.pipe()
+        os.close(read)
+        return open(write, "wb")
+    if how == "short":
+        return open(f"{room}/short", "w+b")
+    return open("/dev/full", "wb")
 
-    def limit_memory():
-        if call.memory:
-            resource.setrlimit(resource.RLIMIT_AS, (call.memory, call.memory))
 
-    with open("/dev/full", "wb") as full:
-        how = {"stdout": full if call.has_full_output else subprocess.PIPE, "stderr": subprocess.PIPE, "cwd": f"{folder}/{call.example}"}
-        ran = subprocess.run([*words, *call.words], input=call.given, timeout=SECONDS, preexec_fn=limit_memory, **how)
-    wrote = ran.stdout or b""
+def feed(pipe, text):
+    """Writes a text into a named pipe, once somebody reads it."""
+    try:
+        with open(pipe, "wb") as it:
+            it.write(text)
+    except BrokenPipeError:
+        pass
+
+
+def prepare(call):
+    """Sets the call's limits, and closes what it is to find closed. It is run by the new process."""
+    if call.memory:
+        resource.setrlimit(resource.RLIMIT_AS, (call.memory, call.memory))
+    if "short" in (call.to, call.tells):
+        signal.signal(signal.SIGXFSZ, signal.SIG_IGN)
+        resource.setrlimit(resource.RLIMIT_FSIZE, (ROOM, ROOM))
+    for number, is_closed in enumerate((call.closes_input, call.to == "closed", call.tells == "closed")):
+        if is_closed:
+            os.close(number)
+
+
+def make(call, words, room):
+    """Makes a call in the folder of this room, and returns what is wrong with what comes of it, a line each."""
+    folder = f"{room}/files/{call.example}"
+    for name in PIPES.keys() & set(call.words):
+        threading.Thread(target=feed, args=(f"{folder}/{name}", PIPES[name]), daemon=True).start()
+    ends = [None if how == "pipe" else output(how, room) for how in (call.to, call.tells)]
+    out, err = (subprocess.PIPE if it is None else it for it in ends)
+    how = {"stdout": out, "stderr": err, "cwd": folder, "preexec_fn": lambda: prepare(call)}
+    ran = subprocess.run([*words, *call.words], input=call.given, timeout=SECONDS, **how)
+    wrote, told = ran.stdout or b"", ran.stderr or b""
+    if call.to == "short":
+        wrote = content(out.name)
+    for it in ends:
+        if it is not None:
+            it.close()
     wrong = []
     if ran.returncode != call.status:
         wrong.append(f"the status is {ran.returncode}, and not {call.status}")
-    if not is_as_wanted(wrote, call.out):
+    if not is_as_wanted(wrote, call.out) or not all(it.encode() in wrote for it in call.has):
         wrong.append(f"it wrote {shown(wrote)}")
-    if not is_as_wanted(ran.stderr, call.err):
-        wrong.append(f"it told {shown(ran.stderr)}")
+    if call.tells == "pipe" and not is_as_wanted(told, call.err):
+        wrong.append(f"it told {shown(told)}")
     return wrong
 
 
@@ -162,12 +287,16 @@ def make_all(program):
         for name, text in FILES.items():
             with open(f"{folder}/{name}", "wb") as it:
                 it.write(text)
+        os.chmod(f"{folder}/locked", 0)
+        for name in PIPES:
+            os.mkfifo(f"{folder}/{name}")
+            os.chmod(f"{folder}/{name}", 0o644)
         made = [*CALLS, *calls_of_examples(folder)]
         for call in made:
-            wrong = make(call, [*drop, copy], folder)
+            wrong = make(call, [*drop, copy], room)
             failed += bool(wrong)
             for it in wrong:
-                print(f"{PROGRAM} {call.words}: {it}")
+                print(f"{PROGRAM} {call.words}, to {call.to}, {call.tells}: {it}")
     print(f"{PROGRAM}: {len(made) - failed} of {len(made)} calls came to what they should", flush=True)
     return not failed
 

@@ -144,19 +144,16 @@ def keep_to(names):
 
 
 def call_after_each_run():
-    """Has the gate make the calls of calls.py each time it has run the program, as each compiler builds it, and what is made of texts
-    and of memory with the first of the two. What is made of memory is made of tests too."""
+    """Has the gate make the calls of calls.py each time it has run the program, as each compiler builds it, and with the first of the two
+    what is made of texts and of memory."""
     run = rt.run
 
     def run_and_call(crate, tests, ending=""):
-        if not run(crate, tests, ending):
-            return False
-        made = f"{crate.folder}/out/{crate.name}{'_tests' if tests else ''}{ending}"
-        if tests:
-            return bool(ending) or refuse.try_tests(made, crate.name)
-        if crate.name != calls.PROGRAM:
-            return True
-        return calls.make_all(made) and (bool(ending) or all([hostile.try_all(made), refuse.try_all(made)]))
+        is_well = run(crate, tests, ending)
+        if is_well and not tests and crate.name == calls.PROGRAM:
+            made = f"{crate.folder}/out/{crate.name}{ending}"
+            return calls.make_all(made) and (bool(ending) or all([hostile.try_all(made), refuse.try_all(made)]))
+        return is_well
 
     rt.run = run_and_call
 

@@ -10,10 +10,14 @@ So it shows what no proof says: that want of memory is answered, wherever it com
 it was does so. It also shows that within a round no request comes after the first byte: where the lines of each round are
 known and memory is wanted, the output ends where a round ends.
 
-./gate does this each time it has run the program, for the runs in RUNS by --serial, one worker and two, and each time it has
-run the tests in TESTS, for these. Without ./gate and without words it is done to the program and tests as out/ has them; a
-test that the kit built is a program too, its name is the word, and its status for want of memory 101. (The kit's
-`rt try --fail-alloc N` does the same for one N, to a program that is not proved, and builds it anew for each.)"""
+./gate does this when it has run the program, for the runs in RUNS by --serial, one worker and two; without ./gate and without words
+it is done to the program as ./simulate built it. A test that the kit built is a program too: its name is the word, and its status
+for want of memory is 101 where it answers that as a failure:
+
+    (cd crates/fb_resource_tests && ../../tools/rt test)
+    tools/refuse.py --memory 101 crates/fb_resource_tests/out/fb_resource_tests_tests tests::messages::messages_come_after_a_want_of_memory
+
+(The kit's `rt try --fail-alloc N` does the same for one N, to a program that is not proved, and builds it anew for each.)"""
 
 import os
 import subprocess
@@ -27,13 +31,8 @@ from program import Room, side_by_side
 HERE = os.path.dirname(os.path.realpath(__file__))
 PROGRAM = "fbsim"
 WANT_OF_MEMORY = 4
-WANT_IN_A_TEST = 101
 # How many requests are refused side by side before it is looked at whether there were so many.
 AT_ONCE = 64
-# Tests of calls by themselves: of some that are to leave all as it was, and are made again with memory.
-TESTS = {
-    "fb_resource_tests": ["tests::messages::messages_come_after_a_want_of_memory"],
-}
 WAYS = [["--serial"], ["--workers", "1"], ["--workers", "2"]]
 
 
@@ -202,11 +201,6 @@ def try_alone(program, words, memory):
         return tell(" ".join([os.path.basename(program), *words]), *refusals.faults(status, output))
 
 
-def try_tests(program, crate):
-    """Does this to those tests of a crate that are made for it, and returns whether all was as it should be."""
-    return all([try_alone(program, [name], WANT_IN_A_TEST) for name in TESTS.get(crate, [])])
-
-
 def main(words):
     memory = WANT_OF_MEMORY
     if words[:1] == ["--memory"] and len(words) > 2 and words[1].isdigit():
@@ -216,9 +210,7 @@ def main(words):
         return 2
     if words:
         return not try_alone(os.path.abspath(words[0]), words[1:], memory)
-    made = [try_all(f"{TOP}/crates/{PROGRAM}/out/{PROGRAM}")]
-    made += [try_tests(f"{TOP}/crates/{name}/out/{name}_tests", name) for name in TESTS]
-    return not all(made)
+    return not try_all(f"{TOP}/crates/{PROGRAM}/out/{PROGRAM}")
 
 
 if __name__ == "__main__":
