@@ -22,8 +22,7 @@ use fb_sim::options::{Inputs, Options};
 use fb_sim::outcome::Outcome;
 use fb_sim::run::run;
 use fb_sim::serial::run_serial;
-use fb_types::run::{Form, StopMark};
-use fb_types::value::Reason;
+use fb_types::run::Form;
 use std::alloc::Global;
 use std::io;
 use std::io::Write;
@@ -38,13 +37,13 @@ const ENOUGH: u64 = 10_000;
 
 /// A run, and what it comes to. An empty text stands for no deployment, or for no stimuli.
 #[derive(Clone, Copy)]
-struct Case {
-    declaration: &'static str,
-    deploy: &'static str,
-    stimuli: &'static str,
+pub struct Case<'a> {
+    declaration: &'a str,
+    deploy: &'a str,
+    stimuli: &'a str,
     horizon: u64,
     steps: u64,
-    trace: &'static str,
+    trace: &'a str,
     outcome: Outcome,
 }
 
@@ -73,14 +72,6 @@ fn to(horizon: u64, steps: u64, form: Form) -> Options {
     }
 }
 
-fn stop(tick: u64, resource: u32, reason: Reason) -> Outcome {
-    Outcome::Stop(StopMark {
-        tick,
-        resource,
-        reason,
-    })
-}
-
 /// The numbers of workers by which each run is made.
 const WORKERS: [u64; 4] = [1, 2, 7, 64];
 
@@ -107,24 +98,37 @@ fn expect_run<R: Abort + Threads + Wait + Sync>(
     Ok(())
 }
 
-/// Each of the cases runs to its trace, in this form, and to its outcome.
-fn expect<R: Abort + Threads + Wait + Sync>(
-    rt: &R,
-    alloc: Global,
-    form: Form,
-    cases: &[Case],
-) -> Result<(), Fail> {
-    for case in cases {
-        let inputs = inputs_of(case.declaration, case.deploy, case.stimuli);
-        let options = to(case.horizon, case.steps, form);
-        expect_run(rt, alloc, &inputs, options, case.trace, case.outcome)?;
+#[test]
+fn declarations_run_to_their_traces(rt: HostRuntime) -> Result<(), Fail> {
+    for (form, cases) in [
+        (Form::One, event_blocks::STARTED.as_slice()),
+        (Form::One, event_blocks::TIMED.as_slice()),
+        (Form::One, event_blocks::REMEMBERED.as_slice()),
+        (Form::One, charts::CHARTS.as_slice()),
+        (Form::One, algorithms::BODIES.as_slice()),
+        (Form::One, composites::CROSSED.as_slice()),
+        (Form::One, links::SENT.as_slice()),
+        (Form::One, latencies::CHANGING.as_slice()),
+        (Form::One, stops::STOPS.as_slice()),
+        (Form::Two, forms::SECOND.as_slice()),
+    ] {
+        for case in cases {
+            let inputs = inputs_of(case.declaration, case.deploy, case.stimuli);
+            let options = to(case.horizon, case.steps, form);
+            expect_run(&rt, rt.alloc(), &inputs, options, case.trace, case.outcome)?;
+        }
     }
     Ok(())
 }
 
+/// How many lines there are in a trace.
+fn lines_in(trace: &[u8]) -> usize {
+    trace.iter().filter(|byte| **byte == b'\n').count()
+}
+
 /// Takes at most `step` bytes at each call and `room` bytes in all, and then gives an error.
 #[derive(Drop)]
-struct Narrow {
+pub struct Narrow {
     got: Vec<u8>,
     step: usize,
     room: usize,

@@ -1,12 +1,11 @@
 //! Execution control charts.
 
-use super::{Case, ENOUGH, expect};
+use super::{Case, ENOUGH};
 use fb_sim::outcome::Outcome;
-use fb_types::run::{Form, StopMark};
+use fb_types::run::StopMark;
 use fb_types::value::Reason;
-use std::test::Fail;
 
-const CHARTS: [Case; 2] = [
+pub const CHARTS: [Case<'static>; 2] = [
     // Two transitions of one event: it is present in the first trying alone.
     Case {
         declaration: "FUNCTION_BLOCK STEPPER\n\
@@ -54,8 +53,3 @@ const CHARTS: [Case; 2] = [
         }),
     },
 ];
-
-#[test]
-fn charts_of_basic_blocks(rt: HostRuntime) -> Result<(), Fail> {
-    expect(&rt, rt.alloc(), Form::One, CHARTS.as_slice())
-}

@@ -1,10 +1,9 @@
 //! Composite blocks.
 
-use super::{Case, ENOUGH, expect};
+use super::{Case, ENOUGH};
 use fb_sim::outcome::Outcome;
-use fb_types::run::{Form, StopMark};
+use fb_types::run::StopMark;
 use fb_types::value::Reason;
-use std::test::Fail;
 
 /// A composite that hands its number to a basic block, which doubles it, and hands the double back.
 pub const TWICE: &str = "FUNCTION_BLOCK DOUBLER\n\
@@ -33,7 +32,7 @@ const PASS: &str =
     EVENT_CONNECTIONS EI TO EO; END_CONNECTIONS END_FUNCTION_BLOCK\n\
     APPLICATION A FBS P : PASS; END_FBS END_APPLICATION";
 
-const CROSSED: [Case; 3] = [
+pub const CROSSED: [Case<'static>; 3] = [
     Case {
         declaration: TWICE,
         deploy: "",
@@ -74,8 +73,3 @@ const CROSSED: [Case; 3] = [
         }),
     },
 ];
-
-#[test]
-fn boundaries_are_crossed(rt: HostRuntime) -> Result<(), Fail> {
-    expect(&rt, rt.alloc(), Form::One, CROSSED.as_slice())
-}

@@ -1,18 +1,33 @@
 //! Event blocks, alone and joined, in one resource.
 
-use super::{Case, ENOUGH, expect};
+use super::{Case, ENOUGH};
 use fb_sim::outcome::Outcome;
-use fb_types::run::{Form, StopMark};
+use fb_types::run::StopMark;
 use fb_types::value::Reason;
-use std::test::Fail;
 
 /// A cycle of three ticks that begins with the run.
 pub const CYCLE: &str = "APPLICATION A FBS S : E_RESTART; C : E_CYCLE(DT := T#3ms); END_FBS\n\
     EVENT_CONNECTIONS S.COLD TO C.START; END_CONNECTIONS END_APPLICATION";
 
+pub const CYCLE_TO_8: Case<'static> = Case {
+    declaration: CYCLE,
+    deploy: "",
+    stimuli: "",
+    horizon: 8,
+    steps: ENOUGH,
+    trace: TRACE_TO_8,
+    outcome: Outcome::End(8),
+};
+
+const TRACE_TO_8: &str = "0 MAIN < S.COLD\n\
+    0 MAIN > C.START DT=3\n\
+    3 MAIN < C.EO\n\
+    6 MAIN < C.EO\n\
+    end 8\n";
+
 const DELAY: &str = "APPLICATION A FBS D : E_DELAY(DT := T#4ms); END_FBS END_APPLICATION";
 
-const STARTED: [Case; 5] = [
+pub const STARTED: [Case<'static>; 6] = [
     Case {
         declaration: "APPLICATION A FBS END_FBS END_APPLICATION",
         deploy: "",
@@ -22,17 +37,15 @@ const STARTED: [Case; 5] = [
         trace: "end 1\n",
         outcome: Outcome::End(1),
     },
+    CYCLE_TO_8,
+    // A head without rows gives no stimuli.
     Case {
         declaration: CYCLE,
         deploy: "",
-        stimuli: "",
+        stimuli: "tick,event,values\n",
         horizon: 8,
         steps: ENOUGH,
-        trace: "0 MAIN < S.COLD\n\
-            0 MAIN > C.START DT=3\n\
-            3 MAIN < C.EO\n\
-            6 MAIN < C.EO\n\
-            end 8\n",
+        trace: TRACE_TO_8,
         outcome: Outcome::End(8),
     },
     // The horizon itself is not run.
@@ -83,12 +96,7 @@ const STARTED: [Case; 5] = [
     },
 ];
 
-#[test]
-fn blocks_that_begin_with_the_run(rt: HostRuntime) -> Result<(), Fail> {
-    expect(&rt, rt.alloc(), Form::One, STARTED.as_slice())
-}
-
-const TIMED: [Case; 4] = [
+pub const TIMED: [Case<'static>; 4] = [
     // A second START changes nothing.
     Case {
         declaration: DELAY,
@@ -145,12 +153,7 @@ const TIMED: [Case; 4] = [
     },
 ];
 
-#[test]
-fn timers(rt: HostRuntime) -> Result<(), Fail> {
-    expect(&rt, rt.alloc(), Form::One, TIMED.as_slice())
-}
-
-const REMEMBERED: [Case; 3] = [
+pub const REMEMBERED: [Case<'static>; 3] = [
     // A rendezvous, which has had its second event once.
     Case {
         declaration: "APPLICATION A FBS N : E_REND; END_FBS END_APPLICATION",
@@ -201,8 +204,3 @@ const REMEMBERED: [Case; 3] = [
         outcome: Outcome::End(6),
     },
 ];
-
-#[test]
-fn blocks_with_a_memory(rt: HostRuntime) -> Result<(), Fail> {
-    expect(&rt, rt.alloc(), Form::One, REMEMBERED.as_slice())
-}

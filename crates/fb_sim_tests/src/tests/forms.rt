@@ -4,12 +4,10 @@ use super::composites::TWICE;
 use super::event_blocks::CYCLE;
 use super::latencies::{FASTER_FROM_10, TWO_TO_ONE};
 use super::links::{LATCH_AND_SWITCH, LATCH_APART, SPLIT_AND_MERGE, SPLIT_APART};
-use super::{Case, ENOUGH, expect};
+use super::{Case, ENOUGH};
 use fb_sim::outcome::Outcome;
-use fb_types::run::Form;
-use std::test::Fail;
 
-const SECOND: [Case; 5] = [
+pub const SECOND: [Case<'static>; 5] = [
     // Timers have the number of their instance. An event of the same tick has its number within it.
     Case {
         declaration: CYCLE,
@@ -90,8 +88,3 @@ const SECOND: [Case; 5] = [
         outcome: Outcome::End(14),
     },
 ];
-
-#[test]
-fn lines_begin_with_their_keys(rt: HostRuntime) -> Result<(), Fail> {
-    expect(&rt, rt.alloc(), Form::Two, SECOND.as_slice())
-}

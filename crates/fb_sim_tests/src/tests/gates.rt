@@ -1,27 +1,25 @@
 //! Workers work at the same time.
 
-use super::inputs_of;
-use super::stops::{BETWEEN, LOOPER};
+use super::stops::BETWEEN;
+use super::{inputs_of, to};
 use fb_phase::Gate;
 use fb_sim::options::Options;
-use fb_sim::outcome::Outcome;
 use fb_sim::run::run;
-use fb_types::run::{Form, StopMark};
-use fb_types::value::Reason;
-use std::alloc::Global;
-use std::process::Abort;
+use fb_types::run::Form;
 use std::sync::Wait;
-use std::sync::atomic::AtomicBool;
 use std::sync::atomic::Ordering::SeqCst;
+use std::sync::atomic::{AtomicBool, AtomicU64};
 use std::test::Fail;
-use std::thread::Threads;
 
-/// The workers that drew the first numbers wait here for one another, but give up in the end.
+/// In one of the rounds the workers that draw the first numbers wait for one another, but give up in the end. Each round
+/// has a job of each of these numbers.
 #[derive(Drop)]
-struct Meeting {
-    first: AtomicBool,
-    second: AtomicBool,
-    third: AtomicBool,
+pub struct Meeting {
+    workers: u64,
+    /// How often one of these numbers is drawn before that round, and up to its end.
+    first: u64,
+    last: u64,
+    draws: AtomicU64,
     gave_up: AtomicBool,
 }
 
@@ -29,20 +27,26 @@ impl Meeting {
     /// How often a worker looks for the others before it gives up.
     const LOOKS: u32 = 100_000_000;
 
-    /// A meeting of three workers, or of two.
-    fn new(with_third: bool) -> Meeting {
+    /// A meeting of so many workers, in the round behind so many others.
+    pub fn new(workers: u64, before: u64) -> Meeting {
+        let first = workers.saturating_mul(before);
         Meeting {
-            first: AtomicBool::new(false),
-            second: AtomicBool::new(false),
-            third: AtomicBool::new(!with_third),
+            workers,
+            first,
+            last: first.saturating_add(workers),
+            draws: AtomicU64::new(0),
             gave_up: AtomicBool::new(false),
         }
     }
 
-    fn wait(&self, mine: &AtomicBool) {
-        mine.store(true, SeqCst);
+    /// Whether they met.
+    pub fn is_over(&self) -> bool {
+        self.draws.load(SeqCst) >= self.last && !self.gave_up.load(SeqCst)
+    }
+
+    fn wait(&self) {
         for _ in 0..Self::LOOKS {
-            if self.first.load(SeqCst) && self.second.load(SeqCst) && self.third.load(SeqCst) {
+            if self.draws.load(SeqCst) >= self.last {
                 return;
             }
         }
@@ -52,52 +56,32 @@ impl Meeting {
 
 impl Gate for Meeting {
     fn at<R: Wait>(&self, _rt: &R, number: usize) {
-        match number {
-            0 => self.wait(&self.first),
-            1 => self.wait(&self.second),
-            2 => self.wait(&self.third),
-            _ => {}
+        if number as u64 >= self.workers {
+            return;
+        }
+        let draw = self.draws.fetch_add(1, SeqCst);
+        if self.first <= draw && draw < self.last {
+            self.wait();
         }
     }
 }
 
 /// In the first round of the run each of the three resources has an event, so that there is work for so many workers.
-fn expect_meeting<R: Abort + Threads + Wait + Sync>(
-    rt: &R,
-    alloc: Global,
-    workers: u64,
-) -> Result<(), Fail> {
-    let instances = BETWEEN.instances;
-    let declaration = format!(in alloc;
-        "{LOOPER}APPLICATION A FBS {instances} END_FBS END_APPLICATION"
-    )?;
-    let inputs = inputs_of(declaration.as_str(), BETWEEN.deploy, BETWEEN.stimuli);
-    let options = Options {
-        horizon: BETWEEN.horizon,
-        steps: BETWEEN.steps,
-        workers,
-        form: Form::One,
-    };
-    let gate = Meeting::new(workers == 3);
-    let mut out = Vec::new(alloc);
-    let outcome = run(rt, alloc, &inputs, options, &mut out, &gate)?;
-    let mark = StopMark {
-        tick: BETWEEN.tick,
-        resource: BETWEEN.resource,
-        reason: Reason::Steps,
-    };
-    assert_eq!(rt; outcome, Outcome::Stop(mark));
-    assert!(rt; out.as_slice() == BETWEEN.trace.as_bytes());
-    assert!(rt; !gate.gave_up.load(SeqCst), "they did not meet");
+#[test]
+fn workers_meet(rt: HostRuntime) -> Result<(), Fail> {
+    let alloc = rt.alloc();
+    let inputs = inputs_of(BETWEEN.declaration, BETWEEN.deploy, BETWEEN.stimuli);
+    for workers in [2, 3] {
+        let gate = Meeting::new(workers, 0);
+        let options = Options {
+            workers,
+            ..to(BETWEEN.horizon, BETWEEN.steps, Form::One)
+        };
+        let mut out = Vec::new(alloc);
+        let outcome = run(&rt, alloc, &inputs, options, &mut out, &gate)?;
+        assert_eq!(rt; outcome, BETWEEN.outcome);
+        assert!(rt; out.as_slice() == BETWEEN.trace.as_bytes());
+        assert!(rt; gate.is_over(), "{workers} workers did not meet");
+    }
     Ok(())
-}
-
-#[test]
-fn two_workers_meet(rt: HostRuntime) -> Result<(), Fail> {
-    expect_meeting(&rt, rt.alloc(), 2)
-}
-
-#[test]
-fn three_workers_meet(rt: HostRuntime) -> Result<(), Fail> {
-    expect_meeting(&rt, rt.alloc(), 3)
 }

@@ -1,9 +1,7 @@
 //! Links whose latency depends on the tick of the sending.
 
-use super::{Case, ENOUGH, expect};
+use super::{Case, ENOUGH};
 use fb_sim::outcome::Outcome;
-use fb_types::run::Form;
-use std::test::Fail;
 
 /// Two merges that lead over one link to a third.
 pub const TWO_TO_ONE: &str = "APPLICATION A FBS P : E_MERGE; Q : E_MERGE; M : E_MERGE; END_FBS\n\
@@ -16,7 +14,7 @@ pub const FASTER_FROM_10: &str = "resource = [\n\
     ]\n\
     link = [{ from = 'R1', to = 'R2', latencies = [[0, 5], [10, 1]] }]\n";
 
-const CHANGING: [Case; 2] = [
+pub const CHANGING: [Case<'static>; 2] = [
     // The message that is sent later arrives first.
     Case {
         declaration: TWO_TO_ONE,
@@ -54,8 +52,3 @@ const CHANGING: [Case; 2] = [
         outcome: Outcome::End(14),
     },
 ];
-
-#[test]
-fn messages_overtake_one_another(rt: HostRuntime) -> Result<(), Fail> {
-    expect(&rt, rt.alloc(), Form::One, CHANGING.as_slice())
-}

@@ -50,44 +50,38 @@ fn resources(alloc: Global, count: u32) -> Result<String, AllocError> {
 
 const EMPTY: &str = "APPLICATION A FBS END_FBS END_APPLICATION";
 
-/// Where the declaration and the deployment are within the limits, nothing happens up to the first tick.
-fn expect_nothing<R: Abort + Threads + Wait + Sync>(
+/// A declaration with its deployment.
+type Texts<'a> = [&'a str; 2];
+
+/// Within a limit nothing happens up to the first tick. Past it they are refused under this number.
+fn expect_limit<R: Abort + Threads + Wait + Sync>(
     rt: &R,
     alloc: Global,
-    declaration: &str,
-    deploy: &str,
+    within: Texts<'_>,
+    past: Texts<'_>,
+    number: u8,
 ) -> Result<(), Fail> {
-    let inputs = inputs_of(declaration, deploy, "");
+    let inputs = inputs_of(within[0], within[1], "");
     let options = to(1, ENOUGH, Form::One);
-    expect_run(rt, alloc, &inputs, options, "end 1\n", Outcome::End(1))
-}
-
-#[test]
-fn composites_may_have_a_height_of_16(rt: HostRuntime) -> Result<(), Fail> {
-    let alloc = rt.alloc();
-    expect_nothing(&rt, alloc, tower(alloc, 16)?.as_str(), "")?;
-    let higher = tower(alloc, 17)?;
-    let inputs = inputs_of(higher.as_str(), "", "");
-    assert_eq!(rt; refusal_of(&rt, alloc, &inputs), Some(25));
+    expect_run(rt, alloc, &inputs, options, "end 1\n", Outcome::End(1))?;
+    let inputs = inputs_of(past[0], past[1], "");
+    assert_eq!(rt; refusal_of(rt, alloc, &inputs), Some(number));
     Ok(())
 }
 
 #[test]
-fn there_may_be_4096_instances(rt: HostRuntime) -> Result<(), Fail> {
+fn limits_may_be_reached_and_not_passed(rt: HostRuntime) -> Result<(), Fail> {
     let alloc = rt.alloc();
-    expect_nothing(&rt, alloc, crowd(alloc, 4096)?.as_str(), "")?;
-    let more = crowd(alloc, 4097)?;
-    let inputs = inputs_of(more.as_str(), "", "");
-    assert_eq!(rt; refusal_of(&rt, alloc, &inputs), Some(30));
-    Ok(())
-}
-
-#[test]
-fn there_may_be_256_resources(rt: HostRuntime) -> Result<(), Fail> {
-    let alloc = rt.alloc();
-    expect_nothing(&rt, alloc, EMPTY, resources(alloc, 256)?.as_str())?;
-    let more = resources(alloc, 257)?;
-    let inputs = inputs_of(EMPTY, more.as_str(), "");
-    assert_eq!(rt; refusal_of(&rt, alloc, &inputs), Some(15));
-    Ok(())
+    let (within, past) = (tower(alloc, 16)?, tower(alloc, 17)?);
+    expect_limit(&rt, alloc, [within.as_str(), ""], [past.as_str(), ""], 25)?;
+    let (within, past) = (crowd(alloc, 4096)?, crowd(alloc, 4097)?);
+    expect_limit(&rt, alloc, [within.as_str(), ""], [past.as_str(), ""], 30)?;
+    let (within, past) = (resources(alloc, 256)?, resources(alloc, 257)?);
+    expect_limit(
+        &rt,
+        alloc,
+        [EMPTY, within.as_str()],
+        [EMPTY, past.as_str()],
+        15,
+    )
 }

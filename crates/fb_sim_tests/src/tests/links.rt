@@ -1,9 +1,7 @@
 //! Events and values that go from one resource to another over links.
 
-use super::{Case, ENOUGH, expect};
+use super::{Case, ENOUGH};
 use fb_sim::outcome::Outcome;
-use fb_types::run::Form;
-use std::test::Fail;
 
 /// A latch whose event and value go to a switch.
 pub const LATCH_AND_SWITCH: &str = "APPLICATION A FBS F : E_SR; W : E_SWITCH; END_FBS\n\
@@ -26,7 +24,7 @@ pub const SPLIT_APART: &str = "resource = [\n\
     ]\n\
     link = [{ from = 'R1', to = 'R2', latency = 1 }]\n";
 
-const SENT: [Case; 4] = [
+pub const SENT: [Case<'static>; 4] = [
     // The arrival is exactly as late as the latency says.
     Case {
         declaration: "APPLICATION A FBS S : E_RESTART; M : E_MERGE; END_FBS\n\
@@ -106,8 +104,3 @@ const SENT: [Case; 4] = [
         outcome: Outcome::End(2),
     },
 ];
-
-#[test]
-fn messages_arrive_in_their_order(rt: HostRuntime) -> Result<(), Fail> {
-    expect(&rt, rt.alloc(), Form::One, SENT.as_slice())
-}

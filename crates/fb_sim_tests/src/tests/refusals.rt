@@ -1,5 +1,7 @@
 //! Inputs that are refused: the number of the first that refuses them is answered, and nothing is written.
 
+use super::algorithms::TOO_DEEP;
+use super::event_blocks::CYCLE;
 use super::{ENOUGH, inputs_of, to};
 use fb_read::error::ReadError;
 use fb_sim::options::Inputs;
@@ -43,107 +45,105 @@ pub fn refusal_of(rt: &impl Abort, alloc: Global, inputs: &Inputs<'_>) -> Option
     number
 }
 
-/// Declarations, and the numbers of their refusals.
-const DECLARATIONS: [(&str, u8); 5] = [
-    // A literal past 2^127 - 1.
-    (
-        "APPLICATION A FBS K : E_CTU(PV := 170141183460469231731687303715884105728); END_FBS END_APPLICATION",
-        2,
-    ),
-    (
-        "FUNCTION_BLOCK F EC_STATES S; END_STATES\nALGORITHM A IN ST: X :=",
-        3,
-    ),
-    (
-        "APPLICATION A FBS Ab : E_MERGE; AB : E_MERGE; END_FBS END_APPLICATION",
-        20,
-    ),
-    ("APPLICATION A FBS X : E_NONE; END_FBS END_APPLICATION", 21),
-    (
-        "FUNCTION_BLOCK F FBS X : F; END_FBS END_FUNCTION_BLOCK\n\
-         APPLICATION A FBS END_FBS END_APPLICATION",
-        25,
-    ),
-];
-
-#[test]
-fn declarations(rt: HostRuntime) -> Result<(), Fail> {
-    for (declaration, number) in DECLARATIONS {
-        let inputs = inputs_of(declaration, "", "");
-        assert_eq!(rt;
-            refusal_of(&rt, rt.alloc(), &inputs),
-            Some(number),
-            "{declaration}"
-        );
-    }
-    Ok(())
-}
-
-#[test]
-fn a_fault_of_syntax_has_a_line(rt: HostRuntime) -> Result<(), Fail> {
-    let text = "FUNCTION_BLOCK F EC_STATES S; END_STATES\nALGORITHM A IN ST: X :=";
-    let found = check(rt.alloc(), &inputs_of(text, "", ""));
-    assert!(rt;
-        matches!(
-            found,
-            Err(RunError::Refused(Refusal::Declaration(ReadError::Syntax { line: 2 })))
-        )
-    );
-    Ok(())
-}
+/// A refusal: the declaration, the deployment, the stimuli, and the number.
+type Row = (&'static str, &'static str, &'static str, u8);
 
 const RESTART: &str = "APPLICATION A FBS S : E_RESTART; M : E_MERGE; END_FBS\n\
     EVENT_CONNECTIONS S.COLD TO M.EI1; END_CONNECTIONS END_APPLICATION";
 
-const RESTART_APART: &str = "resource = [\n\
-    { device = 'D', name = 'R1', instances = ['S'] },\n\
-    { device = 'D', name = 'R2', instances = ['M'] },\n\
-    ]\n";
-
-/// What stands behind the resources, and the number of the refusal. With a latency of 2 the first link is accepted.
-const LINKS: [(&str, u8); 11] = [
-    ("link = [", 10),
-    ("link = [{ from = 'R1', to = 'R1', latency = 2 }]\n", 11),
-    (
-        "link = [{ from = 'R1', to = 'R2', latency = 2, loss = 0 }]\n",
-        11,
-    ),
-    ("link = [{ from = 'R1', to = 'R2', latency = 0 }]\n", 12),
-    (
-        "link = [{ from = 'R1', to = 'R2', latency = 1000001 }]\n",
-        12,
-    ),
-    (
-        "link = [{ from = 'R1', to = 'R2', latencies = [[0, 0]] }]\n",
-        12,
-    ),
-    // Tables of latencies that do not begin with tick 0, do not rise, or are empty.
-    (
-        "link = [{ from = 'R1', to = 'R2', latencies = [[1, 5]] }]\n",
-        16,
-    ),
-    (
-        "link = [{ from = 'R1', to = 'R2', latencies = [[0, 5], [0, 1]] }]\n",
-        16,
-    ),
-    ("link = [{ from = 'R1', to = 'R2', latencies = [] }]\n", 16),
-    ("link = [{ from = 'R1', to = 'R9', latency = 2 }]\n", 21),
-    ("", 27),
-];
-
-#[test]
-fn links_of_deployments(rt: HostRuntime) -> Result<(), Fail> {
-    let alloc = rt.alloc();
-    for (link, number) in LINKS {
-        let deploy = format!(in alloc; "{RESTART_APART}{link}")?;
-        let inputs = inputs_of(RESTART, deploy.as_str(), "");
-        assert_eq!(rt; refusal_of(&rt, alloc, &inputs), Some(number), "{link}");
-    }
-    Ok(())
+/// A restart and a merge in a resource each, with what stands behind the resources. With a latency of 2 the first link
+/// is accepted.
+macro_rules! apart {
+    ($links:literal, $number:literal) => {
+        (
+            RESTART,
+            concat!(
+                "resource = [\n",
+                "{ device = 'D', name = 'R1', instances = ['S'] },\n",
+                "{ device = 'D', name = 'R2', instances = ['M'] },\n",
+                "]\n",
+                $links
+            ),
+            "",
+            $number
+        )
+    };
 }
 
-/// Declarations and deployments, and the numbers of their refusals.
-const DEPLOYMENTS: [(&str, &str, u8); 2] = [
+/// Stimuli of a delay.
+macro_rules! stimuli {
+    ($rows:literal, $number:literal) => {
+        (
+            "APPLICATION A FBS D : E_DELAY; END_FBS END_APPLICATION",
+            "",
+            $rows,
+            $number
+        )
+    };
+}
+
+const TWICE: &str = "APPLICATION A FBS S : E_MERGE; S : E_MERGE; END_FBS END_APPLICATION";
+
+const DECLARATIONS: [Row; 6] = [
+    // A literal past 2^127 - 1.
+    (
+        "APPLICATION A FBS K : E_CTU(PV := 170141183460469231731687303715884105728); END_FBS END_APPLICATION",
+        "",
+        "",
+        2,
+    ),
+    (FAULT_IN_LINE_2, "", "", 3),
+    // A sum of 65 terms nests too deep.
+    (TOO_DEEP, "", "", 5),
+    (
+        "APPLICATION A FBS Ab : E_MERGE; AB : E_MERGE; END_FBS END_APPLICATION",
+        "",
+        "",
+        20,
+    ),
+    (
+        "APPLICATION A FBS X : E_NONE; END_FBS END_APPLICATION",
+        "",
+        "",
+        21,
+    ),
+    (
+        "FUNCTION_BLOCK F FBS X : F; END_FBS END_FUNCTION_BLOCK\n\
+         APPLICATION A FBS END_FBS END_APPLICATION",
+        "",
+        "",
+        25,
+    ),
+];
+
+const DEPLOYMENTS: [Row; 13] = [
+    apart!("link = [", 10),
+    apart!("link = [{ from = 'R1', to = 'R1', latency = 2 }]\n", 11),
+    apart!(
+        "link = [{ from = 'R1', to = 'R2', latency = 2, loss = 0 }]\n",
+        11
+    ),
+    apart!("link = [{ from = 'R1', to = 'R2', latency = 0 }]\n", 12),
+    apart!(
+        "link = [{ from = 'R1', to = 'R2', latency = 1000001 }]\n",
+        12
+    ),
+    apart!(
+        "link = [{ from = 'R1', to = 'R2', latencies = [[0, 0]] }]\n",
+        12
+    ),
+    // Tables of latencies that do not begin with tick 0, do not rise, or are empty.
+    apart!(
+        "link = [{ from = 'R1', to = 'R2', latencies = [[1, 5]] }]\n",
+        16
+    ),
+    apart!(
+        "link = [{ from = 'R1', to = 'R2', latencies = [[0, 5], [0, 1]] }]\n",
+        16
+    ),
+    apart!("link = [{ from = 'R1', to = 'R2', latencies = [] }]\n", 16),
+    apart!("link = [{ from = 'R1', to = 'R9', latency = 2 }]\n", 21),
+    apart!("", 27),
     // The merge lies in no resource.
     (
         RESTART,
@@ -152,6 +152,7 @@ const DEPLOYMENTS: [(&str, &str, u8); 2] = [
          { device = 'D', name = 'R2', instances = [] },\n\
          ]\n\
          link = [{ from = 'R1', to = 'R2', latency = 2 }]\n",
+        "",
         26,
     ),
     // No event goes with the value of the latch.
@@ -163,50 +164,21 @@ const DEPLOYMENTS: [(&str, &str, u8); 2] = [
          { device = 'D', name = 'R2', instances = ['W'] },\n\
          ]\n\
          link = [{ from = 'R1', to = 'R2', latency = 2 }]\n",
+        "",
         28,
     ),
 ];
 
-#[test]
-fn deployments(rt: HostRuntime) -> Result<(), Fail> {
-    for (declaration, deploy, number) in DEPLOYMENTS {
-        let inputs = inputs_of(declaration, deploy, "");
-        assert_eq!(rt;
-            refusal_of(&rt, rt.alloc(), &inputs),
-            Some(number),
-            "{deploy}"
-        );
-    }
-    Ok(())
-}
-
-/// Stimuli of a delay, and the numbers of their refusals.
-const STIMULI: [(&str, u8); 5] = [
-    ("tick,event\n", 13),
-    ("tick,event,values\n-1,D.START,\n", 14),
-    ("tick,event,values\n1000000000001,D.START,\n", 15),
-    ("tick,event,values\n0,D.GO,\n", 29),
-    ("tick,event,values\n0,D.STOP,DT=1\n", 29),
+const STIMULI: [Row; 5] = [
+    stimuli!("tick,event\n", 13),
+    stimuli!("tick,event,values\n-1,D.START,\n", 14),
+    stimuli!("tick,event,values\n1000000000001,D.START,\n", 15),
+    stimuli!("tick,event,values\n0,D.GO,\n", 29),
+    stimuli!("tick,event,values\n0,D.STOP,DT=1\n", 29),
 ];
 
-#[test]
-fn rows_of_stimuli(rt: HostRuntime) -> Result<(), Fail> {
-    for (stimuli, number) in STIMULI {
-        let delay = "APPLICATION A FBS D : E_DELAY; END_FBS END_APPLICATION";
-        let inputs = inputs_of(delay, "", stimuli);
-        assert_eq!(rt;
-            refusal_of(&rt, rt.alloc(), &inputs),
-            Some(number),
-            "{stimuli}"
-        );
-    }
-    Ok(())
-}
-
-const TWICE: &str = "APPLICATION A FBS S : E_MERGE; S : E_MERGE; END_FBS END_APPLICATION";
-
-/// A declaration, a deployment and stimuli with a fault each, or fewer, and the number that is answered.
-const SEVERAL: [(&str, &str, &str, u8); 4] = [
+/// The declaration, the deployment and the stimuli have a fault each, or fewer of them: the first that refuses is answered.
+const SEVERAL: [Row; 4] = [
     ("?", "[", "tick,event\n", 2),
     (TWICE, "[", "tick,event\n", 10),
     (TWICE, "", "tick,event\n", 13),
@@ -214,10 +186,36 @@ const SEVERAL: [(&str, &str, &str, u8); 4] = [
 ];
 
 #[test]
-fn the_first_that_refuses_is_answered(rt: HostRuntime) -> Result<(), Fail> {
-    for (declaration, deploy, stimuli, number) in SEVERAL {
-        let inputs = inputs_of(declaration, deploy, stimuli);
-        assert_eq!(rt; refusal_of(&rt, rt.alloc(), &inputs), Some(number));
+fn inputs_are_refused_by_number(rt: HostRuntime) -> Result<(), Fail> {
+    for rows in [
+        DECLARATIONS.as_slice(),
+        DEPLOYMENTS.as_slice(),
+        STIMULI.as_slice(),
+        SEVERAL.as_slice(),
+    ] {
+        for (declaration, deploy, stimuli, number) in rows {
+            let inputs = inputs_of(declaration, deploy, stimuli);
+            assert_eq!(rt;
+                refusal_of(&rt, rt.alloc(), &inputs),
+                Some(*number),
+                "{declaration}{deploy}{stimuli}"
+            );
+        }
     }
+    Ok(())
+}
+
+const FAULT_IN_LINE_2: &str = "FUNCTION_BLOCK F EC_STATES S; END_STATES\nALGORITHM A IN ST: X :=";
+
+#[test]
+fn a_fault_of_syntax_has_a_line(rt: HostRuntime) -> Result<(), Fail> {
+    let found = check(rt.alloc(), &inputs_of(FAULT_IN_LINE_2, "", ""));
+    assert!(rt;
+        matches!(
+            found,
+            Err(RunError::Refused(Refusal::Declaration(ReadError::Syntax { line: 2 })))
+        )
+    );
+    assert!(rt; matches!(check(rt.alloc(), &inputs_of(CYCLE, "", "")), Ok(())));
     Ok(())
 }

@@ -1,14 +1,12 @@
 //! Rings of resources, each of which leads to the next over a link of its own.
 
-use super::{ENOUGH, inputs_of, to, with_room};
-use fb_phase::OpenGate;
-use fb_sim::options::Options;
-use fb_sim::outcome::{Outcome, RunError};
-use fb_sim::run::run;
-use fb_sim::serial::run_serial;
+use super::writers::{expect_written, write_to};
+use super::{Case, ENOUGH, lines_in, with_room};
+use fb_sim::outcome::Outcome;
 use fb_types::run::Form;
 use std::alloc::{AllocError, Global};
 use std::process::Abort;
+use std::str::from_utf8;
 use std::sync::Wait;
 use std::test::Fail;
 use std::thread::Threads;
@@ -98,53 +96,51 @@ const RINGS: [Ring; 4] = [
     },
 ];
 
-/// What a writer gets of the ring's trace that takes so many bytes at each call.
-fn trace_of(rt: &impl Abort, alloc: Global, ring: &Ring, step: usize) -> Result<Vec<u8>, Fail> {
-    let declaration = declaration_of(alloc, ring.last)?;
-    let deploy = deployment_of(alloc, ring.last)?;
-    let inputs = inputs_of(declaration.as_str(), deploy.as_str(), "");
+/// What a writer gets of the ring that takes so many bytes at each call.
+fn trace_of<R: Abort + Threads + Wait + Sync>(
+    rt: &R,
+    alloc: Global,
+    ring: &Case<'_>,
+    form: Form,
+    workers: u64,
+    step: usize,
+) -> Result<Vec<u8>, Fail> {
     let mut out = with_room(alloc, step, 1_000_000);
-    let options = to(10_000, ENOUGH, ring.form);
-    let outcome = run_serial(alloc, &inputs, options, &mut out)?;
-    assert_eq!(rt; outcome, Outcome::End(10_000));
+    let outcome = write_to(rt, alloc, ring, form, workers, &mut out)?;
+    assert_eq!(rt; outcome, ring.outcome);
     Ok(out.got)
+}
+
+fn ring_of<'a>(declaration: &'a str, deploy: &'a str, horizon: u64, trace: &'a str) -> Case<'a> {
+    Case {
+        declaration,
+        deploy,
+        stimuli: "",
+        horizon,
+        steps: ENOUGH,
+        trace,
+        outcome: Outcome::End(horizon),
+    }
 }
 
 #[test]
 fn an_event_goes_round(rt: HostRuntime) -> Result<(), Fail> {
-    for ring in &RINGS {
-        let trace = trace_of(&rt, rt.alloc(), ring, 1_000_000)?;
-        let lines = trace.iter().filter(|byte| **byte == b'\n').count();
-        assert_eq!(rt; lines, ring.lines);
-        assert!(rt; trace.starts_with(ring.begin.as_bytes()));
-        assert!(rt; trace.ends_with(ring.end.as_bytes()));
+    let alloc = rt.alloc();
+    for told in &RINGS {
+        let declaration = declaration_of(alloc, told.last)?;
+        let deploy = deployment_of(alloc, told.last)?;
+        let ring = ring_of(declaration.as_str(), deploy.as_str(), 10_000, "");
+        let trace = trace_of(&rt, alloc, &ring, told.form, 0, 1_000_000)?;
+        assert_eq!(rt; lines_in(trace.as_slice()), told.lines);
+        assert!(rt; trace.starts_with(told.begin.as_bytes()));
+        assert!(rt; trace.ends_with(told.end.as_bytes()));
         // The same through a writer that takes one byte at each call.
-        let slow = trace_of(&rt, rt.alloc(), ring, 1)?;
-        assert!(rt; slow.as_slice() == trace.as_slice());
-        let by = by_workers(&rt, rt.alloc(), ring, 7)?;
-        assert!(rt; by.as_slice() == trace.as_slice());
+        for workers in [0, 7] {
+            let slow = trace_of(&rt, alloc, &ring, told.form, workers, 1)?;
+            assert!(rt; slow.as_slice() == trace.as_slice(), "by {workers} workers");
+        }
     }
     Ok(())
-}
-
-/// The same by workers, through a writer that takes one byte at each call.
-fn by_workers<R: Abort + Threads + Wait + Sync>(
-    rt: &R,
-    alloc: Global,
-    ring: &Ring,
-    workers: u64,
-) -> Result<Vec<u8>, Fail> {
-    let declaration = declaration_of(alloc, ring.last)?;
-    let deploy = deployment_of(alloc, ring.last)?;
-    let inputs = inputs_of(declaration.as_str(), deploy.as_str(), "");
-    let mut out = with_room(alloc, 1, 1_000_000);
-    let options = Options {
-        workers,
-        ..to(10_000, ENOUGH, ring.form)
-    };
-    let outcome = run(rt, alloc, &inputs, options, &mut out, &OpenGate)?;
-    assert_eq!(rt; outcome, Outcome::End(10_000));
-    Ok(out.got)
 }
 
 /// What is written of a small ring, where a writer fails after so many bytes, is so much of the trace.
@@ -153,22 +149,9 @@ fn a_writer_may_fail_at_each_byte(rt: HostRuntime) -> Result<(), Fail> {
     let alloc = rt.alloc();
     let declaration = declaration_of(alloc, 3)?;
     let deploy = deployment_of(alloc, 3)?;
-    let inputs = inputs_of(declaration.as_str(), deploy.as_str(), "");
-    let options = Options {
-        workers: 2,
-        ..to(20, ENOUGH, Form::One)
-    };
-    let mut whole = Vec::new(alloc);
-    run_serial(alloc, &inputs, options, &mut whole)?;
-    for room in 0..whole.len() {
-        let mut out = with_room(alloc, 1_000, room);
-        let found = run(&rt, alloc, &inputs, options, &mut out, &OpenGate);
-        let is_told = matches!(found, Err(RunError::Write(count)) if count == room as u128);
-        assert!(rt; is_told, "after {room} bytes");
-        assert!(rt;
-            out.got.as_slice() == &whole.as_slice()[..room],
-            "after {room} bytes"
-        );
-    }
-    Ok(())
+    let ring = ring_of(declaration.as_str(), deploy.as_str(), 20, "");
+    let whole = trace_of(&rt, alloc, &ring, Form::One, 0, 1_000_000)?;
+    let trace = from_utf8(whole.as_slice())?;
+    let written = ring_of(declaration.as_str(), deploy.as_str(), 20, trace);
+    expect_written(&rt, alloc, &written, 2)
 }

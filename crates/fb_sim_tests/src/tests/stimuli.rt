@@ -1,7 +1,6 @@
-//! Many stimuli, and none.
+//! As many stimuli as there may be.
 
-use super::event_blocks::CYCLE;
-use super::{ENOUGH, expect_run, inputs_of, to};
+use super::{ENOUGH, inputs_of, lines_in, to};
 use fb_phase::OpenGate;
 use fb_sim::outcome::Outcome;
 use fb_sim::run::run;
@@ -29,20 +28,11 @@ fn rows_that_fall_are_taken_as_their_ticks_rise(rt: HostRuntime) -> Result<(), F
     let options = to(100_000, ENOUGH, Form::One);
     let outcome = run_serial(alloc, &inputs, options, &mut out)?;
     assert_eq!(rt; outcome, Outcome::End(100_000));
-    let lines = out.iter().filter(|byte| **byte == b'\n').count();
-    assert_eq!(rt; lines, 200_001);
+    assert_eq!(rt; lines_in(out.as_slice()), 200_001);
     assert!(rt; out.starts_with(b"0 MAIN > M.EI1\n0 MAIN < M.EO\n1 MAIN > M.EI1\n"));
     assert!(rt; out.ends_with(b"\n99999 MAIN > M.EI1\n99999 MAIN < M.EO\nend 100000\n"));
     let mut by_workers = Vec::new(alloc);
     run(&rt, alloc, &inputs, options, &mut by_workers, &OpenGate)?;
     assert!(rt; by_workers.as_slice() == out.as_slice());
     Ok(())
-}
-
-#[test]
-fn a_head_without_rows_gives_no_stimuli(rt: HostRuntime) -> Result<(), Fail> {
-    let inputs = inputs_of(CYCLE, "", "tick,event,values\n");
-    let trace = "0 MAIN < S.COLD\n0 MAIN > C.START DT=3\n3 MAIN < C.EO\n6 MAIN < C.EO\nend 8\n";
-    let options = to(8, ENOUGH, Form::One);
-    expect_run(&rt, rt.alloc(), &inputs, options, trace, Outcome::End(8))
 }

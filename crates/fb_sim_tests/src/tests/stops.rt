@@ -1,64 +1,31 @@
 //! Stops where there are several resources: the least by tick and resource counts.
 
-use super::{expect_run, inputs_of, to};
-use fb_sim::options::Options;
+use super::Case;
 use fb_sim::outcome::Outcome;
-use fb_types::run::{Form, StopMark};
+use fb_types::run::StopMark;
 use fb_types::value::Reason;
-use std::alloc::Global;
-use std::process::Abort;
-use std::sync::Wait;
-use std::test::Fail;
-use std::thread::Threads;
 
-/// A block that runs without end once it has begun. An event, a transition and an action are its first three steps.
-pub const LOOPER: &str = "FUNCTION_BLOCK LOOPER\n\
-    EVENT_INPUT GO; END_EVENT\n\
-    EVENT_OUTPUT TICKED; END_EVENT\n\
-    EC_STATES IDLE; BUSY : -> TICKED; END_STATES\n\
-    EC_TRANSITIONS IDLE TO BUSY := GO; BUSY TO BUSY := 1; END_TRANSITIONS\n\
-    END_FUNCTION_BLOCK\n";
-
-/// Instances with no connections, the run of which stops by its steps.
-#[derive(Clone, Copy)]
-pub struct Stopped {
-    pub instances: &'static str,
-    pub deploy: &'static str,
-    pub stimuli: &'static str,
-    pub horizon: u64,
-    pub steps: u64,
-    pub trace: &'static str,
-    pub tick: u64,
-    pub resource: u32,
-}
-
-fn expect_stop<R: Abort + Threads + Wait + Sync>(
-    rt: &R,
-    alloc: Global,
-    stopped: &Stopped,
-) -> Result<(), Fail> {
-    let instances = stopped.instances;
-    let declaration = format!(in alloc;
-        "{LOOPER}APPLICATION A FBS {instances} END_FBS END_APPLICATION"
-    )?;
-    let inputs = inputs_of(declaration.as_str(), stopped.deploy, stopped.stimuli);
-    let options = Options {
-        horizon: stopped.horizon,
-        steps: stopped.steps,
-        workers: 1,
-        form: Form::One,
+/// Instances with no connections. A `LOOPER` runs without end once it has begun. An event, a transition and an action are
+/// its first three steps.
+macro_rules! with_looper {
+    ($instances:literal) => {
+        concat!(
+            "FUNCTION_BLOCK LOOPER\n",
+            "EVENT_INPUT GO; END_EVENT\n",
+            "EVENT_OUTPUT TICKED; END_EVENT\n",
+            "EC_STATES IDLE; BUSY : -> TICKED; END_STATES\n",
+            "EC_TRANSITIONS IDLE TO BUSY := GO; BUSY TO BUSY := 1; END_TRANSITIONS\n",
+            "END_FUNCTION_BLOCK\n",
+            "APPLICATION A FBS ",
+            $instances,
+            " END_FBS END_APPLICATION"
+        )
     };
-    let outcome = Outcome::Stop(StopMark {
-        tick: stopped.tick,
-        resource: stopped.resource,
-        reason: Reason::Steps,
-    });
-    expect_run(rt, alloc, &inputs, options, stopped.trace, outcome)
 }
 
 /// In the tick of the stop the resource before it has run whole, and the one behind it not at all.
-pub const BETWEEN: Stopped = Stopped {
-    instances: "A : E_MERGE; L : LOOPER; C : E_MERGE;",
+pub const BETWEEN: Case<'static> = Case {
+    declaration: with_looper!("A : E_MERGE; L : LOOPER; C : E_MERGE;"),
     deploy: "resource = [\n\
         { device = 'D', name = 'R1', instances = ['A'] },\n\
         { device = 'D', name = 'R2', instances = ['L'] },\n\
@@ -75,19 +42,18 @@ pub const BETWEEN: Stopped = Stopped {
         7 R2 < L.TICKED\n\
         7 R2 < L.TICKED\n\
         stop 7 R2 steps\n",
-    tick: 7,
-    resource: 1,
+    outcome: Outcome::Stop(StopMark {
+        tick: 7,
+        resource: 1,
+        reason: Reason::Steps,
+    }),
 };
 
-#[test]
-fn a_stop_cuts_its_tick(rt: HostRuntime) -> Result<(), Fail> {
-    expect_stop(&rt, rt.alloc(), &BETWEEN)
-}
-
-const STOPS: [Stopped; 3] = [
+pub const STOPS: [Case<'static>; 4] = [
+    BETWEEN,
     // Two stops in one tick.
-    Stopped {
-        instances: "K : LOOPER; L : LOOPER;",
+    Case {
+        declaration: with_looper!("K : LOOPER; L : LOOPER;"),
         deploy: "resource = [\n\
             { device = 'D', name = 'R1', instances = ['K'] },\n\
             { device = 'D', name = 'R2', instances = ['L'] },\n\
@@ -98,12 +64,15 @@ const STOPS: [Stopped; 3] = [
         trace: "7 R1 > K.GO\n\
             7 R1 < K.TICKED\n\
             stop 7 R1 steps\n",
-        tick: 7,
-        resource: 0,
+        outcome: Outcome::Stop(StopMark {
+            tick: 7,
+            resource: 0,
+            reason: Reason::Steps,
+        }),
     },
     // The lesser resource would stop at a later tick.
-    Stopped {
-        instances: "M : E_MERGE; L : LOOPER; K : LOOPER;",
+    Case {
+        declaration: with_looper!("M : E_MERGE; L : LOOPER; K : LOOPER;"),
         deploy: "resource = [\n\
             { device = 'D', name = 'R1', instances = ['M', 'L'] },\n\
             { device = 'D', name = 'R2', instances = ['K'] },\n\
@@ -117,12 +86,15 @@ const STOPS: [Stopped; 3] = [
             50 R2 > K.GO\n\
             50 R2 < K.TICKED\n\
             stop 50 R2 steps\n",
-        tick: 50,
-        resource: 1,
+        outcome: Outcome::Stop(StopMark {
+            tick: 50,
+            resource: 1,
+            reason: Reason::Steps,
+        }),
     },
     // Events of other resources behind the stop leave no lines.
-    Stopped {
-        instances: "M : E_MERGE; K : LOOPER; N : E_MERGE;",
+    Case {
+        declaration: with_looper!("M : E_MERGE; K : LOOPER; N : E_MERGE;"),
         deploy: "resource = [\n\
             { device = 'D', name = 'R1', instances = ['M'] },\n\
             { device = 'D', name = 'R2', instances = ['K'] },\n\
@@ -137,15 +109,10 @@ const STOPS: [Stopped; 3] = [
             50 R2 > K.GO\n\
             50 R2 < K.TICKED\n\
             stop 50 R2 steps\n",
-        tick: 50,
-        resource: 1,
+        outcome: Outcome::Stop(StopMark {
+            tick: 50,
+            resource: 1,
+            reason: Reason::Steps,
+        }),
     },
 ];
-
-#[test]
-fn the_least_stop_ends_the_run(rt: HostRuntime) -> Result<(), Fail> {
-    for stopped in &STOPS {
-        expect_stop(&rt, rt.alloc(), stopped)?;
-    }
-    Ok(())
-}
