@@ -8,6 +8,7 @@ mod event_blocks;
 mod forms;
 mod gates;
 mod latencies;
+mod later_rounds;
 mod limits;
 mod links;
 mod options;
