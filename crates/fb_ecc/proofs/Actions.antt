@@ -8,7 +8,7 @@ use Rattle.std.proofs.lemmas.List.Elements.{All-push}
 use Rattle.std.proofs.lemmas.Option.{slice_get-map, slice_get_within, slice_get-get_or, same_Some}
 use Rattle.fb_types.specs.Names.{Name, same_name}
 use Rattle.fb_types.specs.Blocks.{named, bound, outputs_with, types_of, variables_of, Bound, Emission}
-use Rattle.fb_types.specs.Bodies.{Point, End, Went, Left, Returned, Stopped, RunsBody}
+use Rattle.fb_types.specs.Bodies.{Point, End, Went, Left, Returned, Stopped, RunsAll, RunsBody, ended}
 use Rattle.fb_types.specs.Charts.{Place, Moving, Halts, Performs, Acts, emitting, at_point, algorithm_of}
 use Rattle.fb_types.specs.Numbers.{event_at, emission_of, pair_up}
 use Rattle.fb_types.specs.Syntax.{Stmts, no_stmt, body_of}
@@ -197,43 +197,47 @@ algorithm_here t k (Some n) o =
 
 -- ---- Algorithms that ran
 
+-- the statements ran, and RETURN among them ends the algorithm alone
 runs_as :
     (t : BasicType) (k : ℕ) (name : Option Name) (n : Named t k name) (y : Algorithm) (ds : List Declared) (p q : Point) (e : End) → slice_get t.algorithms k ≡ Some y
-    → ds ≡ declared_by t → RunsBody (types_in ds) (body_of y.body) p e q → RunsBody (types_of t) (algorithm_of t n.algorithm) p e q
+    → ds ≡ declared_by t → RunsAll (types_in ds) (body_of y.body) p e q → RunsBody (types_of t) (algorithm_of t n.algorithm) p (ended e) q
 runs_as t k name n y ds p q e at declared run =
     let same : y ≡ n.element = same_Some y n.element (sym at ∙ n.at) in
-    let body : body_of y.body ≡ algorithm_of t n.algorithm = ap (λ (a : Algorithm). body_of a.body) same ∙ sym n.body in
-    subst (λ (types : Types). RunsBody types (algorithm_of t n.algorithm) p e q) (ap types_in declared ∙ types_declared t)
-    (subst (λ (b : Stmts). RunsBody (types_in ds) b p e q) body run)
+    let body : body_of y.body ≡ algorithm_of t n.algorithm = ap (λ (a : Algorithm). body_of a.body) same ∙ sym n.body in (
+      e,
+      subst (λ (types : Types). RunsAll types (algorithm_of t n.algorithm) p e q) (ap types_in declared ∙ types_declared t)
+          (subst (λ (b : Stmts). RunsAll (types_in ds) b p e q) body run),
+      refl,
+    )
 
 performs_some :
-    (t : BasicType) (n : Name) (p : Place) (m : Point) (f : Flow) → RunsBody (types_of t) (algorithm_of t n) (record { vars = p.vars; left = p.left }) (end_of (Ok f)) m
+    (t : BasicType) (n : Name) (p : Place) (m : Point) (f : Flow) → RunsBody (types_of t) (algorithm_of t n) (record { vars = p.vars; left = p.left }) (ended (end_of (Ok f))) m
     → Performs t (Some n) (Halts None) p None (at_point p m)
 performs_some t n p m flow.Went run = (Went, m, run, (refl, refl))
 performs_some t n p m flow.Left run = (Left, m, run, (refl, refl))
-performs_some t n p m flow.Returned run = (Returned, m, run, (refl, refl))
+performs_some t n p m flow.Returned run = (Went, m, run, (refl, refl))
 
 pub performed_ok :
     (t : BasicType) (k : ℕ) (name : Option Name) (n : Named t k name) (y : Algorithm) (ds : List Declared) (p : Place) (slots new : List Slot) (left less : ℕ)
     (result : Result Flow Reason) (f : Flow) → slice_get t.algorithms k ≡ Some y → ds ≡ declared_by t → result ≡ Ok f
-    → RunsBody (types_in ds) (body_of y.body) (record { vars = values_of slots; left = left }) (end_of result) (record { vars = values_of new; left = less })
+    → RunsAll (types_in ds) (body_of y.body) (record { vars = values_of slots; left = left }) (end_of result) (record { vars = values_of new; left = less })
     → Performs t name (Halts None) (with_slots p slots left) None (with_slots p new less)
 performed_ok t k name n y ds p slots new left less result f at declared ok run =
     let m : Point = record { vars = values_of new; left = less } in
     let ran = runs_as t k name n y ds (record { vars = values_of slots; left = left }) m (end_of (Ok f)) at declared
-    (subst (λ (r : Result Flow Reason). RunsBody (types_in ds) (body_of y.body) (record { vars = values_of slots; left = left }) (end_of r) m) ok run) in
+    (subst (λ (r : Result Flow Reason). RunsAll (types_in ds) (body_of y.body) (record { vars = values_of slots; left = left }) (end_of r) m) ok run) in
     subst (λ (o : Option Name). Performs t o (Halts None) (with_slots p slots left) None (with_slots p new less)) (sym n.is)
     (performs_some t n.algorithm (with_slots p slots left) m f ran)
 
 pub performed_err :
     (t : BasicType) (k : ℕ) (name : Option Name) (n : Named t k name) (y : Algorithm) (ds : List Declared) (p : Place) (slots new : List Slot) (left less : ℕ)
     (result : Result Flow Reason) (r : Reason) → slice_get t.algorithms k ≡ Some y → ds ≡ declared_by t → result ≡ Err r
-    → RunsBody (types_in ds) (body_of y.body) (record { vars = values_of slots; left = left }) (end_of result) (record { vars = values_of new; left = less })
+    → RunsAll (types_in ds) (body_of y.body) (record { vars = values_of slots; left = left }) (end_of result) (record { vars = values_of new; left = less })
     → Performs t name (Halts None) (with_slots p slots left) (Some r) (with_slots p new less)
 performed_err t k name n y ds p slots new left less result r at declared err run =
     let m : Point = record { vars = values_of new; left = less } in
     let ran = runs_as t k name n y ds (record { vars = values_of slots; left = left }) m (Stopped r) at declared
-    (subst (λ (s : Result Flow Reason). RunsBody (types_in ds) (body_of y.body) (record { vars = values_of slots; left = left }) (end_of s) m) err run) in
+    (subst (λ (s : Result Flow Reason). RunsAll (types_in ds) (body_of y.body) (record { vars = values_of slots; left = left }) (end_of s) m) err run) in
     subst (λ (o : Option Name). Performs t o (Halts None) (with_slots p slots left) (Some r) (with_slots p new less)) (sym n.is)
     (Stopped r, m, ran, (refl, refl))
 

@@ -3,11 +3,12 @@
 ghost use Rattle.std.specs.Prelude.{◌≡◌, ◌++◌, ◌∷◌, [], ◌<◌, length, map, All, List, IfOk, OnOk, true};
 ghost use Rattle.fb_types.specs.Headline.{system_of};
 ghost use Rattle.fb_types.specs.Numbers.{carried_of, emission_of, line_of, path_at, port_of, ports_at};
-ghost use Rattle.fb_types.specs.Reactions.{Outcome, emitted_all, spread};
+ghost use Rattle.fb_types.specs.Reactions.{Outcome, World, emitted_all, spread};
 ghost use Rattle.fb_types.specs.States as model;
 ghost use Rattle.fb_system.specs.Lines.{BelongsTo, IsEmission};
 ghost use Rattle.fb_system.specs.Ports.{IsCarried, IsPort, IsTarget};
 ghost use Rattle.fb_tree.specs.Changes.{Changes};
+ghost use Rattle.fb_tree.specs.Worlds.{IsForest};
 ghost use Rattle.fb_emit.specs.Emitting.{GoesTo, HasEmitted, carried_by, outputs_at, outputs_shown};
 ghost use Rattle.fb_emit.specs.Outs.{AreOuts, IsOut, Stands, out_of};
 
@@ -163,6 +164,9 @@ fn emit_one(
     requires outs { AreOuts (system_of system.now) forest.old.resource outbox.old }
     ensures emitted { OnOk result (HasEmitted system.now key.now instance forest.old outbox.old (emission ∷ []) forest.new outbox.new) }
     ensures resource { forest.new.resource ≡ forest.old.resource }
+
+    // Also where memory runs out.
+    ensures whole { (w : World) → IsForest system.now forest.old w → (v : World) × IsForest system.now forest.new v }
 {
     let Emission { event, values } = emission;
     let places = system.outputs_with(instance, event);
@@ -186,7 +190,7 @@ fn emit_one(
 }
 
 /// Emits output events of an instance in their order: their variables are published, each has a line, and each goes
-/// where its connections lead. The error is that memory runs out.
+/// where its connections lead. The error is that memory runs out; each instance has its block then too.
 pub fn emit_all(
     forest: &mut Forest,
     outbox: &mut Outbox,
@@ -206,6 +210,9 @@ pub fn emit_all(
         (emitted_all (system_of system.now) key.now (path_at (system_of system.now) instance) (map (emission_of (ports_at (system_of system.now) (path_at (system_of system.now) instance))) emits) o)) }
     ensures outs { OnOk result (AreOuts (system_of system.now) forest.new.resource outbox.new) }
     ensures resource { forest.new.resource ≡ forest.old.resource }
+
+    // Also where memory runs out.
+    ensures whole { (w : World) → IsForest system.now forest.old w → (v : World) × IsForest system.now forest.new v }
 {
     for emission in emits.into_vec() {
         emit_one(forest, outbox, system, key, instance, emission)?;

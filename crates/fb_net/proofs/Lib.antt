@@ -3,3 +3,4 @@ pub mod Charting
 pub mod Crossing
 pub mod Sampling
 pub mod Taking
+pub mod Wholes

@@ -126,6 +126,9 @@ module _ (i : Inputs) (k : Key) (row : ℕ) (s : StimulusAt) (is : IsStimulusAt 
   brought : (w : World) → IsForest i old w → IsForest i mid (with_slots p sets w)
   brought w h = changes.stands w h lies
 
+  pub stimulus-whole : (w : World) → IsForest i old w → (v : World) × IsForest i mid v
+  stimulus-whole w h = (with_slots p sets w, brought w h)
+
   pub stimulus-typed : StandTyped i old → IsTypedEvent sys (event_of i (waits.Stimulus row)) → StandTyped i mid
   stimulus-typed typed fits =
       let w : World = typed.0 in (

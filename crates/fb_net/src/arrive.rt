@@ -4,13 +4,14 @@ ghost use Rattle.std.specs.Prelude.{◌≡◌, ◌≢◌, ◌<◌, ◌≤◌, �
 ghost use Rattle.fb_types.specs.Blocks.{Basic, Event};
 ghost use Rattle.fb_types.specs.Headline.{system_of};
 ghost use Rattle.fb_types.specs.Numbers.{emission_of, line_of, path_at, ports_at};
+ghost use Rattle.fb_types.specs.Reactions.{World};
 ghost use Rattle.fb_types.specs.declared.library.BasicType.{BasicType};
 ghost use Rattle.fb_emit.specs.Outs.{AreOuts};
 ghost use Rattle.fb_react.specs.Leaves.{IsOne};
 ghost use Rattle.fb_sample.specs.Samples.{names_in};
 ghost use Rattle.fb_system.specs.Lines.{IsEmission};
 ghost use Rattle.fb_system.specs.Ports.{IsCompositeAt, IsPort, IsTarget};
-ghost use Rattle.fb_tree.specs.Worlds.{InForest};
+ghost use Rattle.fb_tree.specs.Worlds.{InForest, IsForest};
 ghost use Rattle.fb_typing.specs.Typed.{IsTypedSystem};
 ghost use Rattle.fb_net.specs.Arrivals.{Arrives, ComesTo, HasReacted, IsReady, StandTyped, Tells, entering, leaving, reacting, sampling};
 ghost use Rattle.fb_net.specs.Events.{Remembered};
@@ -50,6 +51,9 @@ fn take_samples(
     ensures taken { OnOk result (ComesTo system.now (sampling system.now key.now at) forest.old outbox.old forest.new outbox.new) }
     ensures ready { OnOk result (IsReady system.now key.now forest.new outbox.new) }
     ensures resource { forest.new.resource ≡ forest.old.resource }
+
+    // Also where memory runs out.
+    ensures whole { (w : World) → IsForest system.now forest.old w → (v : World) × IsForest system.now forest.new v }
 {
     let alloc = *outbox.lines.allocator();
     let values = sampled_values(alloc, forest, system, at)?;
@@ -77,6 +81,9 @@ fn arrive_event(
     ensures reacted { OnOk result (ComesTo system.now (reacting system.now key.now kind at) forest.old outbox.old forest.new outbox.new) }
     ensures outs { OnOk result (AreOuts (system_of system.now) forest.new.resource outbox.new) }
     ensures resource { forest.new.resource ≡ forest.old.resource }
+
+    // Also where memory runs out.
+    ensures whole { (w : World) → IsForest system.now forest.old w → (v : World) × IsForest system.now forest.new v }
 {
     take_samples(forest, outbox, system, key, at)?;
     let mut emits = Items::new(*outbox.lines.allocator());
@@ -100,6 +107,9 @@ fn enter(
     ensures entered { OnOk result (ComesTo system.now (entering system.now key.now at) forest.old outbox.old forest.new outbox.new) }
     ensures outs { OnOk result (AreOuts (system_of system.now) forest.new.resource outbox.new) }
     ensures resource { forest.new.resource ≡ forest.old.resource }
+
+    // Also where memory runs out.
+    ensures whole { (w : World) → IsForest system.now forest.old w → (v : World) × IsForest system.now forest.new v }
 {
     take_samples(forest, outbox, system, key, at)?;
     send_out(&mut outbox.outs, forest, system, at, &[])
@@ -121,6 +131,9 @@ fn leave(
     ensures left { OnOk result (ComesTo system.now (leaving system.now key.now at) forest.old outbox.old forest.new outbox.new) }
     ensures outs { OnOk result (AreOuts (system_of system.now) forest.new.resource outbox.new) }
     ensures resource { forest.new.resource ≡ forest.old.resource }
+
+    // Also where memory runs out.
+    ensures whole { (w : World) → IsForest system.now forest.old w → (v : World) × IsForest system.now forest.new v }
 {
     let alloc = *outbox.lines.allocator();
     let values = shown_values(alloc, forest, system, at)?;
@@ -151,6 +164,9 @@ fn tell(
         (map (emission_of (ports_at (system_of system.now) (path_at (system_of system.now) at.instance))) emits) forest.old outbox.old forest.new outbox.new) }
     ensures outs { OnOk result (AreOuts (system_of system.now) forest.new.resource outbox.new) }
     ensures resource { forest.new.resource ≡ forest.old.resource }
+
+    // Also where memory runs out.
+    ensures whole { (w : World) → IsForest system.now forest.old w → (v : World) × IsForest system.now forest.new v }
 {
     write_taken(outbox, system, key, at, values)?;
     emit_all(forest, outbox, system, key, at.instance, emits)
@@ -179,6 +195,9 @@ fn arrive_basic(
     ensures outs { Remembered result (AreOuts (system_of system.now) forest.new.resource outbox.new) }
     ensures fewer { meter.new.left ≤ meter.old.left }
     ensures resource { forest.new.resource ≡ forest.old.resource }
+
+    // Also where memory runs out.
+    ensures whole { (w : World) → IsForest system.now forest.old w → (v : World) × IsForest system.now forest.new v }
 {
     let alloc = *outbox.lines.allocator();
     let Ok(values) = sampled_values(alloc, forest, system, at) else {
@@ -231,6 +250,9 @@ pub(crate) fn arrive(
     ensures outs { Remembered result (AreOuts (system_of system.now) forest.new.resource outbox.new) }
     ensures fewer { meter.new.left ≤ meter.old.left }
     ensures resource { forest.new.resource ≡ forest.old.resource }
+
+    // Also where memory runs out.
+    ensures whole { (w : World) → IsForest system.now forest.old w → (v : World) × IsForest system.now forest.new v }
 {
     system.facts();
     match system.kind(at.instance) {

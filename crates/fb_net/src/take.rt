@@ -4,9 +4,10 @@ ghost use Rattle.std.specs.Prelude.{◌≡◌, ◌<◌, ◌≤◌, ◌^◌, ℕ,
 ghost use Rattle.fb_types.specs.Blocks as model;
 ghost use Rattle.fb_types.specs.Headline.{system_of};
 ghost use Rattle.fb_types.specs.Numbers.{path_at};
+ghost use Rattle.fb_types.specs.Reactions.{World};
 ghost use Rattle.fb_emit.specs.Outs.{AreOuts};
 ghost use Rattle.fb_react.specs.Leaves.{IsOne};
-ghost use Rattle.fb_tree.specs.Worlds.{InForest};
+ghost use Rattle.fb_tree.specs.Worlds.{InForest, IsForest};
 ghost use Rattle.fb_typing.specs.Typed.{IsTypedEvent};
 ghost use Rattle.fb_net.specs.Arrivals.{ComesTo, IsReady, StandTyped, expiring};
 ghost use Rattle.fb_net.specs.Events.{Came, HasTaken, IsEventIn, Remembered, event_of};
@@ -48,6 +49,9 @@ fn take_stimulus(
     ensures outs { Remembered result (AreOuts (system_of system.now) forest.new.resource outbox.new) }
     ensures fewer { meter.new.left ≤ meter.old.left }
     ensures resource { forest.new.resource ≡ forest.old.resource }
+
+    // Also where memory runs out.
+    ensures whole { (w : World) → IsForest system.now forest.old w → (v : World) × IsForest system.now forest.new v }
 {
     let stimulus = system.stimulus(row);
     set_slots(forest, system, stimulus.target.instance, stimulus.sets);
@@ -75,6 +79,9 @@ fn take_arrival(
     ensures outs { Remembered result (AreOuts (system_of system.now) forest.new.resource outbox.new) }
     ensures fewer { meter.new.left ≤ meter.old.left }
     ensures resource { forest.new.resource ≡ forest.old.resource }
+
+    // Also where memory runs out.
+    ensures whole { (w : World) → IsForest system.now forest.old w → (v : World) × IsForest system.now forest.new v }
 {
     hold_carried(forest, system, message.values.as_slice());
     arrive(forest, outbox, system, key, message.target, meter)
@@ -98,6 +105,9 @@ fn expire(
     ensures expired { OnOk result (ComesTo system.now (expiring system.now key.now kind instance) forest.old outbox.old forest.new outbox.new) }
     ensures outs { OnOk result (AreOuts (system_of system.now) forest.new.resource outbox.new) }
     ensures resource { forest.new.resource ≡ forest.old.resource }
+
+    // Also where memory runs out.
+    ensures whole { (w : World) → IsForest system.now forest.old w → (v : World) × IsForest system.now forest.new v }
 {
     let mut emits = Items::new(*outbox.lines.allocator());
     outbox.timer = expire_event(forest, system, kind, instance, key.tick, &mut emits)?;
@@ -119,6 +129,9 @@ fn take_timer(
     ensures taken { OnOk result ((left : ℕ) → Came system.now key.now (Event.Timer instance) forest.old outbox.old left None forest.new left outbox.new) }
     ensures outs { OnOk result (AreOuts (system_of system.now) forest.new.resource outbox.new) }
     ensures resource { forest.new.resource ≡ forest.old.resource }
+
+    // Also where memory runs out.
+    ensures whole { (w : World) → IsForest system.now forest.old w → (v : World) × IsForest system.now forest.new v }
 {
     match system.kind(instance) {
         TypeNumber::Event(kind) => expire(forest, outbox, system, kind, key, instance),
@@ -147,6 +160,9 @@ pub(crate) fn take_event(
     ensures outs { Remembered result (AreOuts (system_of system.now) forest.new.resource outbox.new) }
     ensures fewer { meter.new.left ≤ meter.old.left }
     ensures resource { forest.new.resource ≡ forest.old.resource }
+
+    // Also where memory runs out.
+    ensures whole { (w : World) → IsForest system.now forest.old w → (v : World) × IsForest system.now forest.new v }
 {
     match event {
         Event::Stimulus(row) => take_stimulus(forest, outbox, system, key, *row, meter),

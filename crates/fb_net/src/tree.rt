@@ -57,8 +57,8 @@ impl Tree {
     /// event itself. The lines are put behind those in the outbox, which has no events before.
     ///
     /// # Errors
-    /// `Halt::Stop` where a reason stops the resource: the lines before it stand. `Halt::Memory`, after which nothing
-    /// is said of the blocks.
+    /// `Halt::Stop` where a reason stops the resource: the lines before it stand. `Halt::Memory`, after which each
+    /// instance of the resource has its block still, and no more is said of the blocks.
     pub fn take(
         &mut self,
         system: &System,
@@ -80,6 +80,9 @@ impl Tree {
         ensures outs { Remembered result (AreOuts (system_of system.now) self.new.resource outbox.new) }
         ensures fewer { meter.new.left ≤ meter.old.left }
         ensures resource { self.new.resource ≡ self.old.resource }
+
+        // Also where memory runs out.
+        ensures whole { (w : World) × IsForest system.now self.new w }
     {
         take_event(&mut self.forest, outbox, system, key, event, meter)
     }

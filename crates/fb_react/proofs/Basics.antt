@@ -26,7 +26,7 @@ use Rattle.fb_tree.specs.declared.block.BasicBlock.{BasicBlock}
 use Rattle.fb_tree.specs.declared.block.Block.{Block}
 use Rattle.fb_tree.specs.declared.block.Block.TheVariants as block
 use Rattle.fb_tree.specs.declared.resource.Forest.{Forest}
-use Rattle.fb_react.specs.Leaves.{ChartCame, ChartEnded, EachWorld, chart_start, charted_block}
+use Rattle.fb_react.specs.Leaves.{ChartCame, ChartEnded, EachWorld, IsOne, chart_start, charted_block}
 use Rattle.fb_react.proofs.Leaves.{basic_is, leaf_basic}
 
 -- where the program's chart begins
@@ -67,21 +67,33 @@ module _ (i : Inputs) (old mid new : Forest) (at : Target) (t : BasicType) (valu
     (is_block : IsBlockOf t s)
     (back : (w : World) (b : model.Block) → IsForestBut i mid at.instance w → components_of (block.Basic (record x { state = s })) ≡ []
     → StandsFor (system_of i) (path_at (system_of i) at.instance) (own_of (block.Basic (record x { state = s }))) b → IsForest i new (with_instance i at.instance b w)) where
-  came : (stop : Option Reason) → reacting t at.event (begun t x.state at.event values before []) stop (after_it t s after emits)
-      → EachWorld i old at (ChartCame i old at t values before stop new after emits)
-  came stop moves w forest lies =
+  -- the blocks stand for the world with the block as it is now
+  stands_after : (w : World) → IsForest i old w → InForest i old at.instance
+      → IsForest i new (with_instance i at.instance (charted_block (after_it t s after emits) (block_in i w at.instance)) w)
+  stands_after w forest lies =
       let sys = system_of i in
       let p : Path = path_at sys at.instance in
       let o = out w forest lies in
       let stood = taken i at.instance w found d x mid t kind is basic o in
-      let c : Place = after_it t s after emits in
-      let b : model.Block = charted_block c (block_in i w at.instance) in
+      let b : model.Block = charted_block (after_it t s after emits) (block_in i w at.instance) in
       let stands : BasicStands t s b × ShellStands sys p x.shell b =
       (record { sound = stood.0.sound; block = is_block; memory = refl; variables = λ n. refl }, record { slots = stood.1.slots; published = stood.1.published }) in
+      back w b o.rest (leaf_basic (record x { state = s })) (subst (λ T. T) (sym (basic_is sys p t (record x { state = s }) b kind)) stands)
+
+  -- however the reaction has ended, each instance has its block
+  pub whole_from : IsOne i old at.instance → (w : World) × IsForest i new w
+  whole_from (w, forest, lies) =
+      (with_instance i at.instance (charted_block (after_it t s after emits) (block_in i w at.instance)) w, stands_after w forest lies)
+
+  came : (stop : Option Reason) → reacting t at.event (begun t x.state at.event values before []) stop (after_it t s after emits)
+      → EachWorld i old at (ChartCame i old at t values before stop new after emits)
+  came stop moves w forest lies =
+      let stood = taken i at.instance w found d x mid t kind is basic (out w forest lies) in
+      let c : Place = after_it t s after emits in
       record {
         place = c;
         reacts = subst (λ (q : Place). reacting t at.event q stop c) (start_is t x.state (block_in i w at.instance) at.event values before stood.0) moves;
-        stands = back w b o.rest (leaf_basic (record x { state = s })) (subst (λ T. T) (sym (basic_is sys p t (record x { state = s }) b kind)) stands);
+        stands = stands_after w forest lies;
         left = refl;
         emitted = refl;
       }

@@ -1,5 +1,5 @@
 -- How the reactions of an event block stand among the blocks of its resource.
-use Rattle.std.proofs.Common.{◌≡◌, ◌++◌, ℕ, List, [], map, Option, Some, sym, ap, subst, ◌∙◌}
+use Rattle.std.proofs.Common.{◌≡◌, ◌++◌, ℕ, List, [], map, Option, Some, refl, sym, ap, subst, ◌∙◌}
 use Rattle.fb_types.specs.Names.{Name, Path}
 use Rattle.fb_types.specs.Blocks.{Event, ports_of_event_block, variable_names}
 use Rattle.fb_types.specs.EventBlocks.{Memory, Reaction, reaction, expiry}
@@ -100,3 +100,22 @@ came i old mid new k kind found d x s r model_r ask before emits of_kind is even
       timer = asks ∙ ap (λ (y : Reaction). y.timer) same;
       emitted = subst (λ (j : EventKind). meanings j emits ≡ emissions_of j r) stood.0.is_kind all ∙ ap (emissions_of kind) same;
     }
+
+-- However the reaction has ended, each instance has its block.
+pub whole : (i : Inputs) (old mid new : Forest) (k : ℕ) (kind : EventKind) (found : Option Block) (d : Block) (x : EventBlock) (s : State)
+    → (system_of i).kind (path_at (system_of i) k) ≡ Some (Event kind) → found ≡ Some d → d ≡ block.Event x
+    → ((w : World) → IsForest i old w → InForest i old k → IsOut i k w found mid)
+    → ((w : World) (b : model.Block) → IsForestBut i mid k w → components_of (block.Event (record x { state = s })) ≡ []
+    → StandsFor (system_of i) (path_at (system_of i) k) (own_of (block.Event (record x { state = s }))) b → IsForest i new (with_instance i k b w))
+    → s.kind ≡ x.state.kind → (w : World) → IsForest i old w → InForest i old k → (v : World) × IsForest i new v
+whole i old mid new k kind found d x s of_kind is event out back kept w forest lies =
+    let o = out w forest lies in
+    let stood = taken i k w found d x mid kind of_kind is event o in
+    let b : model.Block = record (block_in i w k) { memory = model.Remembers s.memory } in
+    let stands : EventStands (system_of i) (path_at (system_of i) k) kind (record x { state = s }) b × ShellStands (system_of i) (path_at (system_of i) k) x.shell b = (
+      record { is_kind = kept ∙ stood.0.is_kind; memory = refl; variables = stood.0.variables },
+      record { slots = stood.1.slots; published = stood.1.published },
+    ) in (
+      with_instance i k b w,
+      back w b o.rest (leaf_event (record x { state = s })) (subst (λ T. T) (sym (event_is (system_of i) (path_at (system_of i) k) kind (record x { state = s }) b of_kind)) stands),
+    )

@@ -4,8 +4,10 @@ ghost use Rattle.std.specs.Prelude.{◌≡◌, ◌≤◌, [], length, map, All, 
 ghost use Rattle.fb_types.specs.Blocks.{Basic, inputs_with};
 ghost use Rattle.fb_types.specs.Headline.{system_of};
 ghost use Rattle.fb_types.specs.Numbers.{event_at, path_at};
+ghost use Rattle.fb_types.specs.Reactions.{World};
 ghost use Rattle.fb_system.specs.Lines.{IsEmission};
 ghost use Rattle.fb_system.specs.Ports.{IsPort};
+ghost use Rattle.fb_tree.specs.Worlds.{IsForest};
 ghost use Rattle.fb_react.specs.Leaves.{ChartEnded, IsOne};
 
 use fb_ecc::reaction::react;
@@ -21,8 +23,8 @@ use fb_types::value::Value;
 /// values of the variables WITH the event. What it emits is put into `emits`, which is empty before.
 ///
 /// # Errors
-/// `Halt::Stop` where a reason ends the reaction: the emissions before it stand. `Halt::Memory`, after which nothing
-/// is said.
+/// `Halt::Stop` where a reason ends the reaction: the emissions before it stand. `Halt::Memory`, after which each
+/// instance has its block still, and no more is said.
 pub fn react_basic(
     forest: &mut Forest,
     system: &System,
@@ -42,6 +44,9 @@ pub fn react_basic(
     ensures fewer { meter.new.left ≤ meter.old.left }
     ensures emissions { All (IsEmission block.now.ports) emits.new }
     ensures resource { forest.new.resource ≡ forest.old.resource }
+
+    // Also where memory runs out.
+    ensures whole { (w : World) × IsForest system.now forest.new w }
 {
     let alloc = emits.allocator();
     match forest.take_out(alloc, system, at.instance) {

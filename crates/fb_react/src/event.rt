@@ -23,7 +23,7 @@ use std::alloc::AllocError;
 /// its timer.
 ///
 /// # Errors
-/// `AllocError` where memory ran out, after which nothing is said.
+/// `AllocError` where memory ran out, after which each instance has its block still, and no more is said.
 pub fn react_event(
     forest: &mut Forest,
     system: &System,
@@ -42,6 +42,9 @@ pub fn react_event(
         EventCame system.now at.instance kind (taken_reaction system.now kind at tick w) forest.new ask emits.new w) }
     ensures emissions { All (IsEmission (ports_of_event_block kind)) emits.new }
     ensures resource { forest.new.resource ≡ forest.old.resource }
+
+    // Also where memory runs out.
+    ensures whole { (w : World) × IsForest system.now forest.new w }
 {
     let alloc = emits.allocator();
     match forest.take_out(alloc, system, at.instance) {
@@ -64,7 +67,7 @@ pub fn react_event(
 /// emits is put into `emits`, which is empty before. Gives what it asks of its timer.
 ///
 /// # Errors
-/// `AllocError` where memory ran out, after which nothing is said.
+/// `AllocError` where memory ran out, after which each instance has its block still, and no more is said.
 pub fn expire_event(
     forest: &mut Forest,
     system: &System,
@@ -82,6 +85,9 @@ pub fn expire_event(
         EventCame system.now instance kind (expiry_reaction system.now kind instance tick w) forest.new ask emits.new w) }
     ensures emissions { All (IsEmission (ports_of_event_block kind)) emits.new }
     ensures resource { forest.new.resource ≡ forest.old.resource }
+
+    // Also where memory runs out.
+    ensures whole { (w : World) × IsForest system.now forest.new w }
 {
     let alloc = emits.allocator();
     match forest.take_out(alloc, system, instance) {

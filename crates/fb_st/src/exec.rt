@@ -3,7 +3,7 @@
 ghost use Rattle.std.specs.Prelude.{◌≡◌, ◌≤◌, ◌<◌, true, OnOk};
 ghost use Rattle.fb_types.specs.Syntax.{body_of, expr_of, stmt_of, step_of, If, Case, For, While, Repeat};
 ghost use Rattle.fb_types.specs.Values.{whole};
-ghost use Rattle.fb_types.specs.Bodies.{RunsBody, Runs, RunsAll, RunsChoice, RunsBranch, Counts, Loop, Step, Then, Advances};
+ghost use Rattle.fb_types.specs.Bodies.{Runs, RunsAll, RunsChoice, RunsBranch, Counts, Loop, Step, Then, Advances};
 ghost use Rattle.fb_st.specs.Frames.{declared_in, types_in, is_declared};
 ghost use Rattle.fb_st.specs.Flows.{end_of, point, before_step, all_of, choices_of, branches_of};
 ghost use Rattle.fb_st.specs.Known.{AssignsKnown, AllKnown, ChoicesKnown, BranchesKnown};
@@ -16,19 +16,16 @@ use fb_types::reference::Reference;
 use fb_types::text::{Body, Branch, Choice, Expr, Stmt};
 use fb_types::value::{Reason, Value};
 
-/// A run of the statements of an algorithm, which RETURN ends as its last statement does. EXIT outside of
-/// loops, as no accepted text has it, gives `Left`. After a reason the frame holds what the statements
-/// before it left. A caller without an accepted text asks `knows` first.
+/// A run of the statements of an algorithm. RETURN gives `Returned`, which ends the algorithm as its last
+/// statement does. EXIT outside of loops, as no accepted text has it, gives `Left`. After a reason the frame
+/// holds what the statements before it left. A caller without an accepted text asks `knows` first.
 pub fn exec(body: &Body, frame: &mut Frame, meter: &mut Meter) -> Result<Flow, Reason>
     requires known { AllKnown (declared_in frame.old) (body_of body.now) }
-    ensures run { RunsBody (types_in (declared_in frame.old)) (body_of body.now) (point frame.old meter.old) (end_of result) (point frame.new meter.new) }
+    ensures run { RunsAll (types_in (declared_in frame.old)) (body_of body.now) (point frame.old meter.old) (end_of result) (point frame.new meter.new) }
     ensures declared { declared_in frame.new ≡ declared_in frame.old }
     ensures fewer { meter.new.left ≤ meter.old.left }
 {
-    match run_all(body.statements.as_slice(), frame, meter)? {
-        Flow::Went | Flow::Returned => Ok(Flow::Went),
-        Flow::Left => Ok(Flow::Left),
-    }
+    run_all(body.statements.as_slice(), frame, meter)
 }
 
 /// A run of one statement.

@@ -1,7 +1,8 @@
 -- What waits at the beginning, one stimulus or instance after another.
-use Rattle.std.proofs.Common.{◌≡◌, ◌≢◌, ℕ, suc, ◌+◌, ◌^◌, ◌<◌, Bool, true, false, cond, List, [], ◌∷◌, ◌++◌, length, take, refl, sym, ap, ◌∙◌, append-nil, Option, Some, None, get_or, arith}
+use Rattle.std.proofs.Common.{◌≡◌, ◌≢◌, ℕ, suc, ◌+◌, ◌^◌, ◌<◌, Bool, true, false, cond, List, [], ◌∷◌, ◌++◌, length, take, refl, sym, ap, ◌∙◌, append-nil, Option, Some, None, get_or, inl, inr, arith}
 use Rattle.std.specs.Prelude.{flat_map, option_map, slice_get}
 use Rattle.std.proofs.Math.Seq.{take-suc, take-length}
+use Rattle.std.proofs.lemmas.Bool.{cases_lt}
 use Rattle.std.proofs.lemmas.Grind.{flat_map-append}
 use Rattle.std.proofs.lemmas.List.{length-map, length-take-le}
 use Rattle.std.proofs.lemmas.Option.{slice_get_within, get_or_from_slice_get, unwrap_or-slice_get}
@@ -35,6 +36,16 @@ use Rattle.fb_take.specs.Waiting.{IsInOrder, MayWait, meaning}
 use Rattle.fb_take.proofs.Lists.{all_at}
 use Rattle.fb_take.proofs.PostLaws.{meaning_put, order_put, port_path, timer_class, timer_instance}
 use Rattle.fb_take.proofs.ReadyIs.{sound_system}
+
+-- ---- How many stimuli there are
+
+-- accepted stimuli are few, so that the number of a row fits
+pub few_rows : (i : Inputs) → AreAccepted i → length i.stimuli < 2 ^ 32
+few_rows i accepted =
+    elim (cases_lt 100000 (length i.stimuli)) [
+      | inl more ↦ absurd (accepted 30 (inr (inr (inr (inr (inr (inr (inr (inr (inr (inr (refl, inr more))))))))))))
+      | inr few ↦ omega (arith, few)
+    ]
 
 -- ---- Lists of pairs
 

@@ -41,6 +41,14 @@ fn resource_of(system: &System, instance: u32) -> u32
     system.resource(instance) as u32
 }
 
+/// How many stimuli there are, at most 100,000.
+fn row_count(system: &System) -> u32
+    ensures { result ≡ length system.now.stimuli }
+{
+    system.facts();
+    system.stimuli().len() as u32
+}
+
 /// The key of the stimulus at a row.
 fn key_of_stimulus(system: &System, row: u32) -> Key
     requires { row < length system.now.stimuli }
@@ -63,11 +71,10 @@ fn put_stimuli(agenda: &mut Agenda, system: &System, of: Option<u32>) -> Result<
     requires { HasStimuli system.now of 0 agenda.old }
     ensures { OnOk result (HasStimuli system.now of (length system.now.stimuli) agenda.new) }
 {
-    for row in 0..system.stimuli().len() {
-        let number = u32::try_from(row).map_err(|_| AllocError)?;
-        let key = key_of_stimulus(system, number);
+    for row in 0..row_count(system) {
+        let key = key_of_stimulus(system, row);
         if is_asked(of, key.resource) {
-            agenda.put(key, Event::Stimulus(number))?;
+            agenda.put(key, Event::Stimulus(row))?;
         }
     }
     Ok(())
@@ -142,10 +149,9 @@ fn put_apart(agendas: &mut Vec<Agenda>, system: &System) -> Result<(), AllocErro
     requires { OneEach system.now (λ r. HasStimuli system.now (Some r) 0) agendas.old.items }
     ensures { OnOk result (OneEach system.now (λ r. HasStimuli system.now (Some r) (length system.now.stimuli)) agendas.new.items) }
 {
-    for row in 0..system.stimuli().len() {
-        let number = u32::try_from(row).map_err(|_| AllocError)?;
-        let key = key_of_stimulus(system, number);
-        agendas[key.resource as usize].put(key, Event::Stimulus(number))?;
+    for row in 0..row_count(system) {
+        let key = key_of_stimulus(system, row);
+        agendas[key.resource as usize].put(key, Event::Stimulus(row))?;
     }
     Ok(())
 }

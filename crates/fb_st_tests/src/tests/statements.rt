@@ -387,7 +387,8 @@ fn inner_return(rt: &impl Abort, alloc: Global) -> Items<Stmt> {
 #[test]
 fn return_leaves_the_algorithm(rt: HostRuntime) {
     let alloc = rt.alloc();
-    expect(&rt, alloc, inner_return(&rt, alloc), 99, went(5, 0));
+    let returned = (Ok(Flow::Returned), 5, 0);
+    expect(&rt, alloc, inner_return(&rt, alloc), 99, returned);
 }
 
 #[test]

@@ -15,5 +15,9 @@ loop-emission-preserved c =
           c.loop-emission.invariant.parts
           ∙ ap (λ (rest : List Emission). es ++ rest) step.0
           ∙ sym (append_assoc es (c.in-Some.emission ∷ []) c.next.new.self.rest.items);
+      whole = λ w stood. let v = c.loop-emission.invariant.whole w stood in c.emit_one.ensures.whole v.0 v.1;
       counted = let before = c.loop-emission.invariant.counted in let sizes = ap length step.0 in omega arith;
     }
+
+pub returns-in_err-emit_one-clause-whole : goal.returns-in_err-emit_one-clause-whole
+returns-in_err-emit_one-clause-whole c = λ w stood. let v = c.loop-emission.invariant.whole w stood in c.emit_one.ensures.whole v.0 v.1

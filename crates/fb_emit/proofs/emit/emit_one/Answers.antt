@@ -11,6 +11,7 @@ use Rattle.fb_emit.specs.Emitting.{carried_by, outputs_at, outputs_shown}
 use Rattle.fb_emit.specs.Outs.{out_of}
 use Rattle.fb_emit.specs.declared.outbox.Outbox.{Outbox}
 use Rattle.fb_emit.proofs.Emitting.{Doing, are_carried, has_emitted}
+use Rattle.fb_emit.proofs.Publishing.{whole}
 use Rattle.fb_emit.proofs.emit.emit_one.Goals as goal
 
 pub send_out-requires-clause-carried : goal.send_out-requires-clause-carried
@@ -44,3 +45,15 @@ returns-clause-emitted c =
       timer = refl;
     } in
     has_emitted i c.args.key.now k f x e g y done c.requires.instance c.requires.here c.requires.resource c.requires.named c.requires.emission c.requires.outs
+
+pub returns-in_err-carried-clause-whole : goal.returns-in_err-carried-clause-whole
+returns-in_err-carried-clause-whole c = λ w stood. whole c.args.system.now c.args.forest.now c.publish_all.new.forest c.args.instance _ c.publish_all.ensures c.requires.here w stood
+
+pub returns-in_err-send_out-clause-whole : goal.returns-in_err-send_out-clause-whole
+returns-in_err-send_out-clause-whole c = λ w stood. whole c.args.system.now c.args.forest.now c.publish_all.new.forest c.args.instance _ c.publish_all.ensures c.requires.here w stood
+
+pub returns-in_err-push-clause-whole : goal.returns-in_err-push-clause-whole
+returns-in_err-push-clause-whole c = λ w stood. whole c.args.system.now c.args.forest.now c.publish_all.new.forest c.args.instance _ c.publish_all.ensures c.requires.here w stood
+
+pub returns-clause-whole : goal.returns-clause-whole
+returns-clause-whole c = λ w stood. whole c.args.system.now c.args.forest.now c.publish_all.new.forest c.args.instance _ c.publish_all.ensures c.requires.here w stood

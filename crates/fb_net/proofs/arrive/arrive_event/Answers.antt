@@ -15,3 +15,12 @@ returns-clause-reacted c =
     c.react_event.new.forest c.emit_all.new.forest c.args.outbox.now c.take_samples.new.outbox c.emit_all.new.outbox c.in_ok-outbox.field-0 c.react_event.new.emits
     c.in_ok-take_samples.ensures.taken (c.requires.here ∙ sym c.take_samples.ensures.resource) c.in_ok-outbox.ensures.reacted put_out)
     c.emit_all.ensures.emitted
+
+pub returns-in_err-take_samples-clause-whole : goal.returns-in_err-take_samples-clause-whole
+returns-in_err-take_samples-clause-whole c = c.take_samples.ensures.whole
+
+pub returns-in_err-outbox-clause-whole : goal.returns-in_err-outbox-clause-whole
+returns-in_err-outbox-clause-whole c = λ w stood. c.react_event.ensures.whole
+
+pub returns-clause-whole : goal.returns-clause-whole
+returns-clause-whole c = λ w stood. let v = c.react_event.ensures.whole in c.emit_all.ensures.whole v.0 v.1

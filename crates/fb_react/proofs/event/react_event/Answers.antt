@@ -5,7 +5,7 @@ use Rattle.fb_tree.specs.Changes.{block_in}
 use Rattle.fb_tree.specs.declared.block.Block.TheVariants as block
 use Rattle.fb_event.specs.Reactions.{reaction_to}
 use Rattle.fb_react.specs.Leaves.{taken_reaction}
-use Rattle.fb_react.proofs.Events.{came, taken_agrees, typed}
+use Rattle.fb_react.proofs.Events.{came, taken_agrees, typed, whole}
 use Rattle.fb_react.proofs.event.react_event.Goals as goal
 
 pub react-end-requires-clause-typed : goal.react-end-requires-clause-typed
@@ -25,3 +25,17 @@ returns-in-Ok-clause-reacted c =
     (event.field-0-is ∙ ap block.Event (sym event.event-is)) c.take_out.ensures.out (λ w b. c.put_back.ensures.back w b)
     (λ w stood. taken_agrees (system_of i) (path_at (system_of i) k) c.args.kind _ (block_in i w k) c.args.at.event c.args.tick c.as_slice-inputs.result.now c.as_slice-inputs.ensures c.requires.kind stood)
     c.react-end.ensures.kind c.in-Ok.ensures.memory c.in-Ok.ensures.timer c.requires.fresh c.in-Ok.ensures.emitted
+
+pub returns-in-Ok-clause-whole : goal.returns-in-Ok-clause-whole
+returns-in-Ok-clause-whole c =
+    let event = c.in-Some-Event in
+    whole c.args.system.now c.args.forest.now c.take_out.new.self c.put_back.new.self c.args.at.instance c.args.kind c.take_out.result event.field-0 _ c.react-end.new.state c.requires.kind event.is
+    (event.field-0-is ∙ ap block.Event (sym event.event-is)) c.take_out.ensures.out (λ w b. c.put_back.ensures.back w b) c.react-end.ensures.kind
+    c.requires.typed.0 c.requires.typed.1 c.requires.typed.2
+
+pub returns-in-Err-clause-whole : goal.returns-in-Err-clause-whole
+returns-in-Err-clause-whole c =
+    let event = c.in-Some-Event in
+    whole c.args.system.now c.args.forest.now c.take_out.new.self c.put_back.new.self c.args.at.instance c.args.kind c.take_out.result event.field-0 _ c.react-end.new.state c.requires.kind event.is
+    (event.field-0-is ∙ ap block.Event (sym event.event-is)) c.take_out.ensures.out (λ w b. c.put_back.ensures.back w b) c.react-end.ensures.kind
+    c.requires.typed.0 c.requires.typed.1 c.requires.typed.2

@@ -1,9 +1,6 @@
 use Rattle.std.proofs.Common.{◌≡◌, ◌<◌, Some, length, refl, rules, subst, arith}
 use Rattle.std.proofs.lemmas.Option.{slice_get_read}
-use Rattle.fb_agenda.specs.declared.agenda.Event.TheVariants.{Stimulus}
-use Rattle.fb_take.specs.Openings.{HasStimuli, IsStimulusKey, OneEach}
-use Rattle.fb_take.specs.Posts.{IsPut}
-use Rattle.fb_take.specs.Waiting.{MayWait}
+use Rattle.fb_take.specs.Openings.{HasStimuli, OneEach}
 use Rattle.fb_take.proofs.Apart.{stimulus_apart}
 use Rattle.fb_take.proofs.open.put_apart.Goals as goal
 
@@ -14,14 +11,13 @@ loop-row-preserved c =
     let agendas = c.loop-row.agendas.items in
     let key = c.key_of_stimulus-key.result in
     let old = c.index_mut.result.now in
-    let same : c.in_ok-number.number ≡ row = search rules in
-    let is = subst (λ n. IsStimulusKey i n key) same c.key_of_stimulus-key.ensures.key in
-    let may = subst (λ n. MayWait i 0 key (Stimulus n)) same c.key_of_stimulus-key.ensures.waits in
+    let is = c.key_of_stimulus-key.ensures.key in
+    let may = c.key_of_stimulus-key.ensures.waits in
     let counted = c.loop-row.invariant.counted in
     let named = may.resource in
     let within : key.resource < length agendas = omega (arith, counted, named) in
     stimulus_apart i row key old c.put.new.self agendas within (slice_get_read agendas (length agendas) key.resource old refl within c.index_mut.ensures.value) is may
-    (subst (λ n. IsPut old c.put.new.self key (Stimulus n)) same c.in_ok-put.ensures.put) c.put.ensures.due c.loop-row.invariant
+    c.in_ok-put.ensures.put c.put.ensures.due c.loop-row.invariant
 
 pub returns : goal.returns
 returns c =

@@ -1,8 +1,4 @@
-use Rattle.std.proofs.Common.{◌≡◌, rules, sym, subst, ◌∙◌}
-use Rattle.fb_agenda.specs.declared.agenda.Event.TheVariants.{Stimulus}
-use Rattle.fb_take.specs.Openings.{IsStimulusKey}
-use Rattle.fb_take.specs.Posts.{IsPut}
-use Rattle.fb_take.specs.Waiting.{MayWait}
+use Rattle.std.proofs.Common.{sym, ◌∙◌}
 use Rattle.fb_take.proofs.OpenIs.{stimuli_put, stimuli_skip}
 use Rattle.fb_take.proofs.open.put_stimuli.Goals as goal
 use Rattle.fb_take.proofs.open.put_stimuli.Goals.{then-is_asked+in_ok-put, else-is_asked}
@@ -13,13 +9,12 @@ loop-row-preserved c =
     let row = c.loop-row.row in
     let old = c.loop-row.agenda in
     let key = c.key_of_stimulus-key.result in
-    let same : c.in_ok-number.number ≡ row = search rules in
-    let is = subst (λ n. IsStimulusKey i n key) same c.key_of_stimulus-key.ensures.key in
-    let may = subst (λ n. MayWait i 0 key (Stimulus n)) same c.key_of_stimulus-key.ensures.waits in
+    let is = c.key_of_stimulus-key.ensures.key in
+    let may = c.key_of_stimulus-key.ensures.waits in
     elim c.if-is_asked.branch [
       | then-is_asked+in_ok-put w ↦
           rw w.agenda-is
           (stimuli_put i c.args.of row key old w.put.new.self is may (sym c.is_asked.ensures ∙ w.if-is_asked.true)
-          (subst (λ n. IsPut old w.put.new.self key (Stimulus n)) same w.in_ok-put.ensures.put) w.put.ensures.due c.loop-row.invariant)
+          w.in_ok-put.ensures.put w.put.ensures.due c.loop-row.invariant)
       | else-is_asked w ↦ rw w.agenda-is (stimuli_skip i c.args.of row key old is (sym c.is_asked.ensures ∙ w.if-is_asked.false) c.loop-row.invariant)
     ]

@@ -1,0 +1,9 @@
+use Rattle.std.proofs.Common.{subst, sym}
+use Rattle.fb_tree.specs.Worlds.{IsForest}
+use Rattle.fb_tree.specs.declared.resource.Forest.{Forest}
+use Rattle.fb_net.proofs.tree.Tree.take.Goals as goal
+
+pub returns-clause-whole : goal.returns-clause-whole
+returns-clause-whole c =
+    let w = c.requires.belongs.0 in
+    c.take_event.ensures.whole w (subst (λ (f : Forest). IsForest c.args.system.now f w) (sym c.self.view_is) c.requires.belongs.1)
