@@ -1,3 +1,4 @@
+pub mod Keywords
 pub mod Skips
 pub mod NumberLaws
 pub mod FrontLaws

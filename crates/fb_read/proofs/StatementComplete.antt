@@ -24,7 +24,7 @@ use Rattle.fb_read.specs.ExpressionGrammar.{IsExpression}
 use Rattle.fb_read.specs.StatementNodes.{label_of, choice_of, branch_of, body_of}
 use Rattle.fb_read.specs.StatementGrammar.{IsBound, is_bound, is_negative, IsLabel, is_single, is_range, IsStep, no_step, is_step, IsStatement, is_empty, is_exit, is_return, is_assignment, is_if, is_case, is_for, is_while, is_repeat, AreStatements, no_statement, then_statements, IsChoice, is_choice, IsElsif, is_elsif, AreElsifs, no_elsif, then_elsifs, IsBranch, is_branch, AreBranches, no_branch, then_branches, AreOthers, no_others, are_others, IsBody, is_body}
 use Rattle.fb_read.specs.Expressions.{expression}
-use Rattle.fb_read.specs.Statements.{bound, label, assignment, step, simple, begins_statement, begins_label, block, choice, elsif, choices, branch, branches, others, if_statement, case_statement, for_body, for_by, for_to, for_statement, while_statement, repeat_statement, statement, nested_statement, body}
+use Rattle.fb_read.specs.Statements.{bound, label, assignment, step, simple, begins_statement, begins_label, block, choice, elsif, choices, branch, branches, others, if_statement, case_statement, loop_body, case_body, cases, for_end, bounds, for_to, for_statement, while_statement, repeat_statement, statement, nested_statement, body}
 use Rattle.fb_read.proofs.Steps.{done, after-unseen}
 use Rattle.fb_read.proofs.Lists.{IsComplete, Anything, always, all-always, picked, separated-complete}
 use Rattle.fb_read.proofs.Rooms.{room, bind-is, map-room, same-room, leb-over, both-over, expression-room, over-both, over-expression, over-node}
@@ -325,11 +325,22 @@ module _ (below : ℕ) (inner : Parser Stmt) (i : IsRoomy inner IsStatement Anyt
       (rw (others-complete ys c behind o refl refl)
       (bind-is (block_over below ys) 0 (block_over below ys) ys behind _ (s.If (x ∷ xs) ys) rest (omega arith) refl)))
 
+  case-body-complete : (y : Branch) (ys : List Branch) (zs : List Stmt) (c d e rest : Tokens) → IsBranch y c d → AreBranches ys d e
+      → AreOthers zs e (token.Mark mark.EndCase ∷ (token.Mark mark.Semicolon ∷ rest)) → case_body inner (token.Mark mark.Of ∷ c) ≡ room (max (branches_over y ys) (block_over below zs)) (cases (y ∷ ys) zs) rest
+  unfolding case_body expect same_mark
+  case-body-complete y ys zs c d e rest b bs o =
+      let behind : Tokens = token.Mark mark.EndCase ∷ (token.Mark mark.Semicolon ∷ rest) in
+      let inside = cases (y ∷ ys) zs in
+      rw (branches-complete y ys c d e b bs (others-ended o (end_case (token.Mark mark.Semicolon ∷ rest))))
+      (bind-is (branches_over y ys) (block_over below zs) (max (branches_over y ys) (block_over below zs)) (y ∷ ys) e _ inside rest refl
+      (rw (others-complete zs e behind o refl refl)
+      (bind-is (block_over below zs) 0 (block_over below zs) zs behind _ inside rest (omega arith) refl)))
+
   case-complete : (x : Expr) (y : Branch) (ys : List Branch) (zs : List Stmt) (a c d e rest : Tokens) → IsExpression x a (token.Mark mark.Of ∷ c) → IsBranch y c d → AreBranches ys d e
       → AreOthers zs e (token.Mark mark.EndCase ∷ (token.Mark mark.Semicolon ∷ rest)) → case_statement inner a ≡ room (over (suc below) (s.Case x (y ∷ ys) zs)) (s.Case x (y ∷ ys) zs) rest
-  unfolding case_statement expect same_mark
+  unfolding case_statement
   case-complete x y ys zs a c d e rest l b bs o =
-      let behind : Tokens = token.Mark mark.EndCase ∷ (token.Mark mark.Semicolon ∷ rest) in
+      let over_all : ℕ = max (branches_over y ys) (block_over below zs) in
       let found = s.Case x (y ∷ ys) zs in
       rw (expression-room x a (token.Mark mark.Of ∷ c) l (of-stops c))
       (bind-is (expression_over x) (max (branches_over y ys) (block_over below zs)) (over (suc below) found) x (token.Mark mark.Of ∷ c) _ found rest
@@ -337,23 +348,32 @@ module _ (below : ℕ) (inner : Parser Stmt) (i : IsRoomy inner IsStatement Anyt
       (max (nesting x) (max (deepest (map branch_expression_nesting (y ∷ ys))) (deepest (map expression_nesting zs))))
       (statement_nesting found) (expression_nesting found) (max (expression_over x) (max (branches_over y ys) (block_over below zs))) (nesting-Case x (y ∷ ys) zs) (inside-Case x (y ∷ ys) zs)
       (case-parts below x y ys zs))
-      (rw (branches-complete y ys c d e b bs (others-ended o (end_case (token.Mark mark.Semicolon ∷ rest))))
-      (bind-is (branches_over y ys) (block_over below zs) (max (branches_over y ys) (block_over below zs)) (y ∷ ys) e _ found rest refl
-      (rw (others-complete zs e behind o refl refl)
-      (bind-is (block_over below zs) 0 (block_over below zs) zs behind _ found rest (omega arith) refl)))))
+      (rw (case-body-complete y ys zs c d e rest b bs o)
+      (bind-is over_all 0 over_all (cases (y ∷ ys) zs) rest _ found rest (omega arith) refl)))
 
   for-body-complete : (xs : List Stmt) (h rest : Tokens) → AreStatements xs h (token.Mark mark.EndFor ∷ (token.Mark mark.Semicolon ∷ rest))
-      → for_body inner (token.Mark mark.Do ∷ h) ≡ room (block_over below xs) xs rest
-  unfolding for_body expect same_mark
+      → loop_body inner mark.EndFor (token.Mark mark.Do ∷ h) ≡ room (block_over below xs) xs rest
+  unfolding loop_body expect same_mark
   for-body-complete xs h rest b =
       let behind : Tokens = token.Mark mark.EndFor ∷ (token.Mark mark.Semicolon ∷ rest) in
       rw (block-complete xs h behind b refl)
       (bind-is (block_over below xs) 0 (block_over below xs) xs behind _ xs rest (omega arith) refl)
 
+  for-end-complete : (y : Expr) (z : Option Expr) (e f h : Tokens) → IsExpression y e f → IsStep z f (token.Mark mark.Do ∷ h)
+      → for_end (token.Mark mark.To ∷ e) ≡ room (max (expression_over y) (by_nesting z - most_nesting)) (bounds y z) (token.Mark mark.Do ∷ h)
+  unfolding for_end expect same_mark
+  for-end-complete y z e f h m k =
+      let by : ℕ = by_nesting z - most_nesting in
+      let behind : Tokens = token.Mark mark.Do ∷ h in
+      rw (expression-room y e f m (by-stops-of k))
+      (bind-is (expression_over y) by (max (expression_over y) by) y f _ (bounds y z) behind refl
+      (rw (step-complete k)
+      (bind-is by 0 by z behind _ (bounds y z) behind (omega arith) refl)))
+
   for-complete : (n : Name) (x y : Expr) (z : Option Expr) (xs : List Stmt) (c e f h rest : Tokens) → IsExpression x c (token.Mark mark.To ∷ e) → IsExpression y e f
       → IsStep z f (token.Mark mark.Do ∷ h) → AreStatements xs h (token.Mark mark.EndFor ∷ (token.Mark mark.Semicolon ∷ rest))
       → for_statement inner (token.Name n ∷ (token.Mark mark.Assign ∷ c)) ≡ room (over (suc below) (s.For n x y z xs)) (s.For n x y z xs) rest
-  unfolding for_statement for_to for_by name expect same_mark
+  unfolding for_statement for_to name expect same_mark
   for-complete n x y z xs c e f h rest l m k b =
       let found = s.For n x y z xs in
       let by : ℕ = by_nesting z - most_nesting in
@@ -363,23 +383,28 @@ module _ (below : ℕ) (inner : Parser Stmt) (i : IsRoomy inner IsStatement Anyt
       (over-node below most_nesting (deepest (map statement_nesting xs)) (max (nesting x) (max (nesting y) (max (by_nesting z) (deepest (map expression_nesting xs)))))
       (statement_nesting found) (expression_nesting found) (max (expression_over x) (max (expression_over y) (max by inside))) (nesting-For n x y z xs) (inside-For n x y z xs)
       (for-parts below x y z xs))
-      (rw (expression-room y e f m (by-stops-of k))
-      (bind-is (expression_over y) (max by inside) (max (expression_over y) (max by inside)) y f _ found rest refl
-      (rw (step-complete k)
-      (bind-is by inside (max by inside) z (token.Mark mark.Do ∷ h) _ found rest refl
+      (rw (for-end-complete y z e f h m k)
+      (bind-is (max (expression_over y) by) inside (max (expression_over y) (max by inside)) (bounds y z) (token.Mark mark.Do ∷ h) _ found rest (omega arith)
       (rw (for-body-complete xs h rest b)
-      (bind-is inside 0 inside xs rest _ found rest (omega arith) refl)))))))
+      (bind-is inside 0 inside xs rest _ found rest (omega arith) refl)))))
+
+  while-body-complete : (xs : List Stmt) (h rest : Tokens) → AreStatements xs h (token.Mark mark.EndWhile ∷ (token.Mark mark.Semicolon ∷ rest))
+      → loop_body inner mark.EndWhile (token.Mark mark.Do ∷ h) ≡ room (block_over below xs) xs rest
+  unfolding loop_body expect same_mark
+  while-body-complete xs h rest b =
+      let behind : Tokens = token.Mark mark.EndWhile ∷ (token.Mark mark.Semicolon ∷ rest) in
+      rw (block-complete xs h behind b refl)
+      (bind-is (block_over below xs) 0 (block_over below xs) xs behind _ xs rest (omega arith) refl)
 
   while-complete : (x : Expr) (xs : List Stmt) (a c rest : Tokens) → IsExpression x a (token.Mark mark.Do ∷ c) → AreStatements xs c (token.Mark mark.EndWhile ∷ (token.Mark mark.Semicolon ∷ rest))
       → while_statement inner a ≡ room (over (suc below) (s.While x xs)) (s.While x xs) rest
-  unfolding while_statement expect same_mark
+  unfolding while_statement
   while-complete x xs a c rest l b =
-      let behind : Tokens = token.Mark mark.EndWhile ∷ (token.Mark mark.Semicolon ∷ rest) in
       rw (expression-room x a (token.Mark mark.Do ∷ c) l (do-stops c))
       (bind-is (expression_over x) (block_over below xs) (over (suc below) (s.While x xs)) x (token.Mark mark.Do ∷ c) _ (s.While x xs) rest
       (omega (arith, nesting-While x xs, inside-While x xs))
-      (rw (block-complete xs c behind b refl)
-      (bind-is (block_over below xs) 0 (block_over below xs) xs behind _ (s.While x xs) rest (omega arith) refl)))
+      (rw (while-body-complete xs c rest b)
+      (bind-is (block_over below xs) 0 (block_over below xs) xs rest _ (s.While x xs) rest (omega arith) refl)))
 
   repeat-complete : (x : Expr) (xs : List Stmt) (a c rest : Tokens) → AreStatements xs a (token.Mark mark.Until ∷ c) → IsExpression x c (token.Mark mark.EndRepeat ∷ (token.Mark mark.Semicolon ∷ rest))
       → repeat_statement inner a ≡ room (over (suc below) (s.Repeat xs x)) (s.Repeat xs x) rest

@@ -1,6 +1,7 @@
 -- Statements that are read are derived by the grammar, and keep the limits of nesting.
-use Rattle.std.proofs.Common.{◌≡◌, ℕ, zero, suc, pos, ◌≤◌, List, [], ◌∷◌, Ok, Option, Some, None, sym, ap, ◌∙◌, subst, inl, inr, arith}
+use Rattle.std.proofs.Common.{◌≡◌, ℕ, zero, suc, pos, ◌≤◌, List, [], ◌∷◌, map, Ok, Option, Some, None, sym, ap, ◌∙◌, subst, inl, inr, arith}
 use Rattle.std.proofs.Math.IntN.{neg_ℤ}
+use Rattle.fb_types.specs.Names.{Name}
 use Rattle.fb_types.specs.declared.text.Expr.{Expr}
 use Rattle.fb_types.specs.declared.text.Stmt.{Stmt}
 use Rattle.fb_types.specs.declared.text.Stmt.TheVariants as s
@@ -10,12 +11,12 @@ use Rattle.fb_types.specs.declared.text.Body.{Body}
 use Rattle.fb_read.specs.declared.token.Mark.TheVariants as mark
 use Rattle.fb_read.specs.Tokens.{Tokens}
 use Rattle.fb_read.specs.Parser.{Parser, Outcome, and_then, pure, sees, after, expect, name, whole, separated}
-use Rattle.fb_read.specs.Nesting.{by_nesting, most_nesting, statement_nesting, branch_nesting, choice_nesting, expression_nesting, branch_expression_nesting, choice_expression_nesting, BodyFits}
+use Rattle.fb_read.specs.Nesting.{nesting, deepest, by_nesting, most_nesting, statement_nesting, branch_nesting, choice_nesting, expression_nesting, branch_expression_nesting, choice_expression_nesting, BodyFits}
 use Rattle.fb_read.specs.Grammar.{IsMark}
 use Rattle.fb_read.specs.StatementNodes.{label_of, choice_of, branch_of, body_of}
 use Rattle.fb_read.specs.StatementGrammar.{IsBound, is_bound, is_negative, IsLabel, is_single, is_range, IsStep, no_step, is_step, IsStatement, is_empty, is_exit, is_return, is_assignment, is_if, is_case, is_for, is_while, is_repeat, AreStatements, no_statement, then_statements, IsChoice, is_choice, IsElsif, is_elsif, AreElsifs, no_elsif, then_elsifs, IsBranch, is_branch, AreBranches, no_branch, then_branches, AreOthers, no_others, are_others, IsBody, is_body}
 use Rattle.fb_read.specs.Expressions.{expression}
-use Rattle.fb_read.specs.Statements.{bound, label, assignment, step, simple, begins_statement, begins_label, block, choice, elsif, choices, branch, branches, others, if_statement, case_statement, for_body, for_by, for_to, for_statement, while_statement, repeat_statement, statement, nested_statement, body}
+use Rattle.fb_read.specs.Statements.{bound, label, assignment, step, simple, begins_statement, begins_label, block, choice, elsif, choices, branch, branches, others, if_statement, case_statement, loop_body, case_body, for_end, for_to, for_statement, while_statement, repeat_statement, statement, nested_statement, body}
 use Rattle.fb_read.proofs.Steps.{both_ok, made, expected, eaten, named, counted}
 use Rattle.fb_read.proofs.Lists.{IsSound, separated-sound}
 use Rattle.fb_read.proofs.Several.{ItemRight, ListRight, several-sound, each-right}
@@ -105,6 +106,13 @@ step-right ts x rest h =
     ]
 
 -- ---- statements that hold others
+
+for-fits : (below : ℕ) (n : Name) (x y : Expr) (z : Option Expr) (xs : List Stmt) → deepest (map statement_nesting xs) ≤ below → statement_nesting (s.For n x y z xs) ≤ suc below
+for-fits below n x y z xs h = omega (arith, nesting-For n x y z xs)
+
+for-inside : (n : Name) (x y : Expr) (z : Option Expr) (xs : List Stmt) → nesting x ≤ most_nesting → nesting y ≤ most_nesting → by_nesting z ≤ most_nesting
+    → deepest (map expression_nesting xs) ≤ most_nesting → expression_nesting (s.For n x y z xs) ≤ most_nesting
+for-inside n x y z xs a b c d = omega (arith, inside-For n x y z xs)
 
 abbrev pub BlockRight : ℕ → List Stmt → Tokens → Tokens → Type 0
 BlockRight = ListRight AreStatements statement_nesting expression_nesting
@@ -235,35 +243,39 @@ module _ (below : ℕ) (inner : Parser Stmt) (i : IsSound inner (StatementRight 
       }))
 
   case-right : (start ts : Tokens) (x : Stmt) (rest : Tokens) → IsMark mark.Case start ts → case_statement inner ts ≡ Ok (x, rest) → StatementRight (suc below) x start rest
-  unfolding case_statement
+  unfolding case_statement case_body
   case-right start ts x rest k h =
       let p = both_ok (expression ts) _ (x, rest) h in
-      let q = both_ok (expect mark.Of p.1) _ (x, rest) p.3 in
-      let a = both_ok (branches inner q.1) _ (x, rest) q.3 in
-      let b = both_ok (others inner a.1) _ (x, rest) a.3 in
-      let c = both_ok (expect mark.EndCase b.1) _ (x, rest) b.3 in
-      let d = both_ok (expect mark.Semicolon c.1) _ (x, rest) c.3 in
+      let i = both_ok (case_body inner p.1) _ (x, rest) p.3 in
+      let q = both_ok (expect mark.Of p.1) _ (i.0, i.1) i.2 in
+      let a = both_ok (branches inner q.1) _ (i.0, i.1) q.3 in
+      let b = both_ok (others inner a.1) _ (i.0, i.1) a.3 in
+      let c = both_ok (expect mark.EndCase b.1) _ (i.0, i.1) b.3 in
+      let d = both_ok (expect mark.Semicolon c.1) _ (i.0, i.1) c.3 in
+      let end = ap (λ (r : Outcome (List Branch × List Stmt)). and_then r (λ y. pure (s.Case p.0 y.0 y.1))) d.3 ∙ i.3 in
       let e = expression-right ts p.0 p.1 p.2 in
       let r = branches-right q.1 a.0 a.1 a.2 in
       let o = others-right a.1 b.0 b.1 b.2 in
       let all = r.first ∷ r.more in
       let same : s.Case p.0 all b.0 ≡ s.Case p.0 a.0 b.0 = ap (λ (xs : List Branch). s.Case p.0 xs b.0) (sym r.all_is) in
-      made (StatementRight (suc below)) (s.Case p.0 a.0 b.0) x start d.1 rest d.3 (subst (λ (y : Stmt). StatementRight (suc below) y start d.1) same (record {
+      made (StatementRight (suc below)) (s.Case p.0 a.0 b.0) x start d.1 rest end (subst (λ (y : Stmt). StatementRight (suc below) y start d.1) same (record {
         derived = is_case k e.derived (expected mark.Of p.1 q.1 q.2) r.one.derived r.others.derived o.derived (expected mark.EndCase b.1 c.1 c.2) (expected mark.Semicolon c.1 d.1 d.2);
         fits = omega (arith, nesting-Case p.0 all b.0, r.one.fits, r.others.fits, o.fits);
         inside = omega (arith, inside-Case p.0 all b.0, e.fits, r.one.inside, r.others.inside, o.inside);
       }))
 
   for-right : (start ts : Tokens) (x : Stmt) (rest : Tokens) → IsMark mark.For start ts → for_statement inner ts ≡ Ok (x, rest) → StatementRight (suc below) x start rest
-  unfolding for_statement for_to for_by for_body
+  unfolding for_statement for_to for_end loop_body
   for-right start ts x rest k h =
       let n = both_ok (name ts) _ (x, rest) h in
       let m = both_ok (expect mark.Assign n.1) _ (x, rest) n.3 in
       let p = both_ok (expression m.1) _ (x, rest) m.3 in
-      let t = both_ok (expect mark.To p.1) _ (x, rest) p.3 in
-      let q = both_ok (expression t.1) _ (x, rest) t.3 in
-      let z = both_ok (step q.1) _ (x, rest) q.3 in
-      let o = both_ok (for_body inner z.1) _ (x, rest) z.3 in
+      let i = both_ok (for_end p.1) _ (x, rest) p.3 in
+      let t = both_ok (expect mark.To p.1) _ (i.0, i.1) i.2 in
+      let q = both_ok (expression t.1) _ (i.0, i.1) t.3 in
+      let z = both_ok (step q.1) _ (i.0, i.1) q.3 in
+      let behind = ap (λ (r : Outcome (Expr × Option Expr)). and_then r (λ y t. and_then (loop_body inner mark.EndFor t) (λ body. pure (s.For n.0 p.0 y.0 y.1 body)))) z.3 ∙ i.3 in
+      let o = both_ok (loop_body inner mark.EndFor z.1) _ (x, rest) behind in
       let u = both_ok (expect mark.Do z.1) _ (o.0, o.1) o.2 in
       let b = both_ok (block inner u.1) _ (o.0, o.1) u.3 in
       let c = both_ok (expect mark.EndFor b.1) _ (o.0, o.1) b.3 in
@@ -276,21 +288,23 @@ module _ (below : ℕ) (inner : Parser Stmt) (i : IsSound inner (StatementRight 
       made (StatementRight (suc below)) (s.For n.0 p.0 q.0 z.0 b.0) x start d.1 rest same (record {
         derived = is_for k (named ts n.0 n.1 n.2) (expected mark.Assign n.1 m.1 m.2) e.derived (expected mark.To p.1 t.1 t.2) f.derived g.derived
             (expected mark.Do z.1 u.1 u.2) l.derived (expected mark.EndFor b.1 c.1 c.2) (expected mark.Semicolon c.1 d.1 d.2);
-        fits = omega (arith, nesting-For n.0 p.0 q.0 z.0 b.0, l.fits);
-        inside = omega (arith, inside-For n.0 p.0 q.0 z.0 b.0, e.fits, f.fits, g.inside, l.inside);
+        fits = for-fits below n.0 p.0 q.0 z.0 b.0 l.fits;
+        inside = for-inside n.0 p.0 q.0 z.0 b.0 e.fits f.fits g.inside l.inside;
       })
 
   while-right : (start ts : Tokens) (x : Stmt) (rest : Tokens) → IsMark mark.While start ts → while_statement inner ts ≡ Ok (x, rest) → StatementRight (suc below) x start rest
-  unfolding while_statement
+  unfolding while_statement loop_body
   while-right start ts x rest k h =
       let p = both_ok (expression ts) _ (x, rest) h in
-      let u = both_ok (expect mark.Do p.1) _ (x, rest) p.3 in
-      let b = both_ok (block inner u.1) _ (x, rest) u.3 in
-      let c = both_ok (expect mark.EndWhile b.1) _ (x, rest) b.3 in
-      let d = both_ok (expect mark.Semicolon c.1) _ (x, rest) c.3 in
+      let o = both_ok (loop_body inner mark.EndWhile p.1) _ (x, rest) p.3 in
+      let u = both_ok (expect mark.Do p.1) _ (o.0, o.1) o.2 in
+      let b = both_ok (block inner u.1) _ (o.0, o.1) u.3 in
+      let c = both_ok (expect mark.EndWhile b.1) _ (o.0, o.1) b.3 in
+      let d = both_ok (expect mark.Semicolon c.1) _ (o.0, o.1) c.3 in
+      let same = ap (λ (r : Outcome (List Stmt)). and_then r (λ body. pure (s.While p.0 body))) d.3 ∙ o.3 in
       let e = expression-right ts p.0 p.1 p.2 in
       let l = block-right u.1 b.0 b.1 b.2 in
-      made (StatementRight (suc below)) (s.While p.0 b.0) x start d.1 rest d.3 (record {
+      made (StatementRight (suc below)) (s.While p.0 b.0) x start d.1 rest same (record {
         derived = is_while k e.derived (expected mark.Do p.1 u.1 u.2) l.derived (expected mark.EndWhile b.1 c.1 c.2) (expected mark.Semicolon c.1 d.1 d.2);
         fits = omega (arith, nesting-While p.0 b.0, l.fits);
         inside = omega (arith, inside-While p.0 b.0, e.fits, l.inside);

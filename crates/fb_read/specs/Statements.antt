@@ -106,6 +106,20 @@ simple = do
             pure s.Return)
               else assignment))
 
+abbrev pub bounds : Expr → Option Expr → Expr × Option Expr
+bounds end by = (end, by)
+
+-- the end of a FOR and its step, from TO on
+unfoldable pub for_end : Parser (Expr × Option Expr)
+for_end = do
+  expect mark.To
+  end ← expression
+  by ← step
+  pure (bounds end by)
+
+abbrev pub cases : List Branch → List Stmt → List Branch × List Stmt
+cases found other = (found, other)
+
 -- inner: the parser of the statements inside
 module _ (inner : Parser Stmt) where
   unfoldable pub block : Parser (List Stmt)
@@ -155,39 +169,38 @@ module _ (inner : Parser Stmt) where
     expect mark.Semicolon
     pure (s.If found other)
 
-  -- behind CASE
-  unfoldable pub case_statement : Parser Stmt
-  case_statement = do
-    selector ← expression
+  -- the branches of a CASE and what is done else, from OF on
+  unfoldable pub case_body : Parser (List Branch × List Stmt)
+  case_body = do
     expect mark.Of
     found ← branches
     other ← others
     expect mark.EndCase
     expect mark.Semicolon
-    pure (s.Case selector found other)
+    pure (cases found other)
 
-  -- the statements of a FOR, between DO and its end
-  unfoldable pub for_body : Parser (List Stmt)
-  for_body = do
+  -- behind CASE
+  unfoldable pub case_statement : Parser Stmt
+  case_statement = do
+    selector ← expression
+    inside ← case_body
+    pure (s.Case selector inside.0 inside.1)
+
+  -- the statements of a loop, from DO on, up to this mark and the end of the loop
+  unfoldable pub loop_body : Mark → Parser (List Stmt)
+  loop_body end = do
     expect mark.Do
     body ← block
-    expect mark.EndFor
+    expect end
     expect mark.Semicolon
     pure body
-
-  -- a FOR from its step on
-  unfoldable pub for_by : (variable : Name) (start end : Expr) → Parser Stmt
-  for_by variable start end = do
-    by ← step
-    body ← for_body
-    pure (s.For variable start end by body)
 
   -- a FOR from its TO on
   unfoldable pub for_to : (variable : Name) (start : Expr) → Parser Stmt
   for_to variable start = do
-    expect mark.To
-    end ← expression
-    for_by variable start end
+    until ← for_end
+    body ← loop_body mark.EndFor
+    pure (s.For variable start until.0 until.1 body)
 
   -- behind FOR
   unfoldable pub for_statement : Parser Stmt
@@ -201,10 +214,7 @@ module _ (inner : Parser Stmt) where
   unfoldable pub while_statement : Parser Stmt
   while_statement = do
     condition ← expression
-    expect mark.Do
-    body ← block
-    expect mark.EndWhile
-    expect mark.Semicolon
+    body ← loop_body mark.EndWhile
     pure (s.While condition body)
 
   -- behind REPEAT

@@ -1,123 +1,82 @@
 //! Keywords.
 
-ghost use Rattle.std.specs.Prelude.{◌≡◌};
+ghost use Rattle.std.specs.Prelude.{◌≡◌, map};
 ghost use Rattle.fb_read.specs.Words as spec;
 
 use crate::token::Mark;
 
-/// The mark of the first text that the word is.
-macro_rules! look_up {
-    ($word:expr; $($text:literal => $mark:ident,)*) => {
-        $(if $word == $text.as_slice() {
-            return Some(Mark::$mark);
-        })*
-    };
-}
+const KEYWORDS: [(&[u8], Mark); 60] = [
+    (b"FUNCTION_BLOCK", Mark::FunctionBlock),
+    (b"END_FUNCTION_BLOCK", Mark::EndFunctionBlock),
+    (b"APPLICATION", Mark::Application),
+    (b"END_APPLICATION", Mark::EndApplication),
+    (b"EVENT_INPUT", Mark::EventInput),
+    (b"EVENT_OUTPUT", Mark::EventOutput),
+    (b"END_EVENT", Mark::EndEvent),
+    (b"WITH", Mark::With),
+    (b"VAR_INPUT", Mark::VarInput),
+    (b"VAR_OUTPUT", Mark::VarOutput),
+    (b"VAR", Mark::Var),
+    (b"END_VAR", Mark::EndVar),
+    (b"FBS", Mark::Fbs),
+    (b"END_FBS", Mark::EndFbs),
+    (b"EVENT_CONNECTIONS", Mark::EventConnections),
+    (b"DATA_CONNECTIONS", Mark::DataConnections),
+    (b"END_CONNECTIONS", Mark::EndConnections),
+    (b"EC_STATES", Mark::EcStates),
+    (b"END_STATES", Mark::EndStates),
+    (b"EC_TRANSITIONS", Mark::EcTransitions),
+    (b"END_TRANSITIONS", Mark::EndTransitions),
+    (b"ALGORITHM", Mark::Algorithm),
+    (b"END_ALGORITHM", Mark::EndAlgorithm),
+    (b"TO", Mark::To),
+    (b"BOOL", Mark::Bool),
+    (b"SINT", Mark::Sint),
+    (b"INT", Mark::Int),
+    (b"DINT", Mark::Dint),
+    (b"LINT", Mark::Lint),
+    (b"USINT", Mark::Usint),
+    (b"UINT", Mark::Uint),
+    (b"UDINT", Mark::Udint),
+    (b"ULINT", Mark::Ulint),
+    (b"TIME", Mark::Time),
+    (b"TRUE", Mark::True),
+    (b"FALSE", Mark::False),
+    (b"IF", Mark::If),
+    (b"THEN", Mark::Then),
+    (b"ELSIF", Mark::Elsif),
+    (b"ELSE", Mark::Else),
+    (b"END_IF", Mark::EndIf),
+    (b"CASE", Mark::Case),
+    (b"OF", Mark::Of),
+    (b"END_CASE", Mark::EndCase),
+    (b"FOR", Mark::For),
+    (b"BY", Mark::By),
+    (b"DO", Mark::Do),
+    (b"END_FOR", Mark::EndFor),
+    (b"WHILE", Mark::While),
+    (b"END_WHILE", Mark::EndWhile),
+    (b"REPEAT", Mark::Repeat),
+    (b"UNTIL", Mark::Until),
+    (b"END_REPEAT", Mark::EndRepeat),
+    (b"EXIT", Mark::Exit),
+    (b"RETURN", Mark::Return),
+    (b"AND", Mark::And),
+    (b"OR", Mark::Or),
+    (b"XOR", Mark::Xor),
+    (b"NOT", Mark::Not),
+    (b"MOD", Mark::Mod),
+];
 
-fn block_word(word: &[u8]) -> Option<Mark>
-    ensures { result ≡ spec.look_up spec.block_words word.now }
+/// The mark of the first entry that the word is.
+fn look_up(mut table: &[(&[u8], Mark)], word: &[u8]) -> Option<Mark>
+    ensures { result ≡ spec.look_up (map (λ k. (k.0.now, k.1)) table.entry.now) word.now }
 {
-    look_up! { word;
-        b"FUNCTION_BLOCK" => FunctionBlock,
-        b"END_FUNCTION_BLOCK" => EndFunctionBlock,
-        b"APPLICATION" => Application,
-        b"END_APPLICATION" => EndApplication,
-        b"EVENT_INPUT" => EventInput,
-        b"EVENT_OUTPUT" => EventOutput,
-        b"END_EVENT" => EndEvent,
-        b"WITH" => With,
-        b"VAR_INPUT" => VarInput,
-        b"VAR_OUTPUT" => VarOutput,
-        b"VAR" => Var,
-        b"END_VAR" => EndVar,
-        b"FBS" => Fbs,
-        b"END_FBS" => EndFbs,
-    }
-    None
-}
-
-fn section_word(word: &[u8]) -> Option<Mark>
-    ensures { result ≡ spec.look_up spec.section_words word.now }
-{
-    look_up! { word;
-        b"EVENT_CONNECTIONS" => EventConnections,
-        b"DATA_CONNECTIONS" => DataConnections,
-        b"END_CONNECTIONS" => EndConnections,
-        b"EC_STATES" => EcStates,
-        b"END_STATES" => EndStates,
-        b"EC_TRANSITIONS" => EcTransitions,
-        b"END_TRANSITIONS" => EndTransitions,
-        b"ALGORITHM" => Algorithm,
-        b"END_ALGORITHM" => EndAlgorithm,
-        b"TO" => To,
-    }
-    None
-}
-
-fn type_word(word: &[u8]) -> Option<Mark>
-    ensures { result ≡ spec.look_up spec.type_words word.now }
-{
-    look_up! { word;
-        b"BOOL" => Bool,
-        b"SINT" => Sint,
-        b"INT" => Int,
-        b"DINT" => Dint,
-        b"LINT" => Lint,
-        b"USINT" => Usint,
-        b"UINT" => Uint,
-        b"UDINT" => Udint,
-        b"ULINT" => Ulint,
-        b"TIME" => Time,
-        b"TRUE" => True,
-        b"FALSE" => False,
-    }
-    None
-}
-
-fn statement_word(word: &[u8]) -> Option<Mark>
-    ensures { result ≡ spec.look_up spec.statement_words word.now }
-{
-    look_up! { word;
-        b"IF" => If,
-        b"THEN" => Then,
-        b"ELSIF" => Elsif,
-        b"ELSE" => Else,
-        b"END_IF" => EndIf,
-        b"CASE" => Case,
-        b"OF" => Of,
-        b"END_CASE" => EndCase,
-        b"FOR" => For,
-        b"BY" => By,
-        b"DO" => Do,
-        b"END_FOR" => EndFor,
-    }
-    None
-}
-
-fn loop_word(word: &[u8]) -> Option<Mark>
-    ensures { result ≡ spec.look_up spec.loop_words word.now }
-{
-    look_up! { word;
-        b"WHILE" => While,
-        b"END_WHILE" => EndWhile,
-        b"REPEAT" => Repeat,
-        b"UNTIL" => Until,
-        b"END_REPEAT" => EndRepeat,
-        b"EXIT" => Exit,
-        b"RETURN" => Return,
-    }
-    None
-}
-
-fn operator_word(word: &[u8]) -> Option<Mark>
-    ensures { result ≡ spec.look_up spec.operator_words word.now }
-{
-    look_up! { word;
-        b"AND" => And,
-        b"OR" => Or,
-        b"XOR" => Xor,
-        b"NOT" => Not,
-        b"MOD" => Mod,
+    while let [entry, rest @ ..] = table {
+        if word == entry.0 {
+            return Some(entry.1);
+        }
+        table = rest;
     }
     None
 }
@@ -127,10 +86,5 @@ fn operator_word(word: &[u8]) -> Option<Mark>
 pub fn keyword(word: &[u8]) -> Option<Mark>
     ensures { result ≡ spec.keyword word.now }
 {
-    block_word(word)
-        .or_else(|| section_word(word))
-        .or_else(|| type_word(word))
-        .or_else(|| statement_word(word))
-        .or_else(|| loop_word(word))
-        .or_else(|| operator_word(word))
+    look_up(&KEYWORDS, word)
 }

@@ -68,6 +68,17 @@ fn step(alloc: Global, cursor: &mut Cursor<'_>) -> Result<Option<Expr>, ParseFau
     }
 }
 
+/// The end of a FOR and its step, from TO on.
+#[tactic(auto, unfolding(crate::specs::Statements::for_end))]
+fn for_end(alloc: Global, cursor: &mut Cursor<'_>) -> Result<(Expr, Option<Expr>), ParseFault>
+    ensures { Reads (spec.for_end cursor.old) result cursor.new }
+{
+    cursor.expect(Mark::To)?;
+    let end = expression(alloc, cursor)?;
+    let step = step(alloc, cursor)?;
+    Ok((end, step))
+}
+
 /// A statement that holds no others.
 #[tactic(auto, unfolding(crate::specs::Statements::simple))]
 fn simple(alloc: Global, cursor: &mut Cursor<'_>) -> Result<Stmt, ParseFault>
@@ -202,6 +213,20 @@ impl<F: Fn(Global, &mut Cursor<'_>, u32) -> Result<Stmt, ParseFault>> Rules<F> {
         Ok(Stmt::If(choices, others))
     }
 
+    /// The branches of a CASE and what is done else, from OF on.
+    #[tactic(auto, unfolding(crate::specs::Statements::case_body))]
+    fn case_body(&self, cursor: &mut Cursor<'_>) -> Result<(Items<Branch>, Items<Stmt>), ParseFault>
+        requires { StatementNests self.now.below (F.pre self.now.inner) (F.post self.now.inner) }
+        ensures { Reads (spec.case_body (spec.nested_statement self.now.below) cursor.old) result cursor.new }
+    {
+        cursor.expect(Mark::Of)?;
+        let branches = self.branches(cursor)?;
+        let others = self.others(cursor)?;
+        cursor.expect(Mark::EndCase)?;
+        cursor.expect(Mark::Semicolon)?;
+        Ok((branches, others))
+    }
+
     /// What stands behind CASE.
     #[tactic(auto, unfolding(crate::specs::Statements::case_statement))]
     fn case_statement(&self, cursor: &mut Cursor<'_>) -> Result<Stmt, ParseFault>
@@ -209,42 +234,21 @@ impl<F: Fn(Global, &mut Cursor<'_>, u32) -> Result<Stmt, ParseFault>> Rules<F> {
         ensures { Reads (spec.case_statement (spec.nested_statement self.now.below) cursor.old) result cursor.new }
     {
         let selector = expression(self.alloc, cursor)?;
-        cursor.expect(Mark::Of)?;
-        let branches = self.branches(cursor)?;
-        let others = self.others(cursor)?;
-        cursor.expect(Mark::EndCase)?;
-        cursor.expect(Mark::Semicolon)?;
+        let (branches, others) = self.case_body(cursor)?;
         Ok(Stmt::Case(selector, branches, others))
     }
 
-    /// The statements of a FOR, between DO and its end.
-    #[tactic(auto, unfolding(crate::specs::Statements::for_body))]
-    fn for_body(&self, cursor: &mut Cursor<'_>) -> Result<Items<Stmt>, ParseFault>
+    /// The statements of a loop, from DO on, up to this mark and the end of the loop.
+    #[tactic(auto, unfolding(crate::specs::Statements::loop_body))]
+    fn loop_body(&self, cursor: &mut Cursor<'_>, end: Mark) -> Result<Items<Stmt>, ParseFault>
         requires { StatementNests self.now.below (F.pre self.now.inner) (F.post self.now.inner) }
-        ensures { Reads (spec.for_body (spec.nested_statement self.now.below) cursor.old) result cursor.new }
+        ensures { Reads (spec.loop_body (spec.nested_statement self.now.below) end cursor.old) result cursor.new }
     {
         cursor.expect(Mark::Do)?;
         let body = self.block(cursor)?;
-        cursor.expect(Mark::EndFor)?;
+        cursor.expect(end)?;
         cursor.expect(Mark::Semicolon)?;
         Ok(body)
-    }
-
-    /// A FOR from its step on.
-    #[tactic(auto, unfolding(crate::specs::Statements::for_by))]
-    fn for_by(
-        &self,
-        cursor: &mut Cursor<'_>,
-        variable: Reference,
-        start: Expr,
-        end: Expr,
-    ) -> Result<Stmt, ParseFault>
-        requires { StatementNests self.now.below (F.pre self.now.inner) (F.post self.now.inner) }
-        ensures { Reads (spec.for_by (spec.nested_statement self.now.below) variable start end cursor.old) result cursor.new }
-    {
-        let step = step(self.alloc, cursor)?;
-        let body = self.for_body(cursor)?;
-        Ok(Stmt::For(variable, start, end, step, body))
     }
 
     /// A FOR from its TO on.
@@ -258,9 +262,9 @@ impl<F: Fn(Global, &mut Cursor<'_>, u32) -> Result<Stmt, ParseFault>> Rules<F> {
         requires { StatementNests self.now.below (F.pre self.now.inner) (F.post self.now.inner) }
         ensures { Reads (spec.for_to (spec.nested_statement self.now.below) variable start cursor.old) result cursor.new }
     {
-        cursor.expect(Mark::To)?;
-        let end = expression(self.alloc, cursor)?;
-        self.for_by(cursor, variable, start, end)
+        let (end, step) = for_end(self.alloc, cursor)?;
+        let body = self.loop_body(cursor, Mark::EndFor)?;
+        Ok(Stmt::For(variable, start, end, step, body))
     }
 
     /// What stands behind FOR.
@@ -282,10 +286,7 @@ impl<F: Fn(Global, &mut Cursor<'_>, u32) -> Result<Stmt, ParseFault>> Rules<F> {
         ensures { Reads (spec.while_statement (spec.nested_statement self.now.below) cursor.old) result cursor.new }
     {
         let condition = expression(self.alloc, cursor)?;
-        cursor.expect(Mark::Do)?;
-        let body = self.block(cursor)?;
-        cursor.expect(Mark::EndWhile)?;
-        cursor.expect(Mark::Semicolon)?;
+        let body = self.loop_body(cursor, Mark::EndWhile)?;
         Ok(Stmt::While(condition, body))
     }
 
