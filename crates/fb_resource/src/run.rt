@@ -3,11 +3,12 @@
 ghost use Rattle.std.specs.Prelude.{◌≡◌, ◌^◌, ◌≤◌, None, IfOk, OnOk};
 ghost use Rattle.fb_resource.specs.Resources.{HasRun, IsOf, mark_of};
 ghost use Rattle.fb_resource.specs.Runs.{HasTakenAll, IsRunning};
+ghost use Rattle.fb_resource.specs.declared.resource.WindowDone.TheVariants.{Ran};
 
 use crate::resource::{Inner, Resource, WindowDone};
 use fb_system::system::System;
 use fb_take::take::take;
-use fb_types::run::StopMark;
+use fb_types::run::{Line, Message, StopMark};
 use std::alloc::{AllocError, Global};
 use std::mem;
 
@@ -58,6 +59,17 @@ impl Inner {
     }
 }
 
+/// What a resource gave in a run.
+#[derive(Drop)]
+pub struct Output {
+    /// The lines, in its order.
+    pub lines: Vec<Line>,
+    /// The messages that it sent, in its order.
+    pub sent: Vec<Message>,
+    /// Where and why it stopped, if it did.
+    pub stop: Option<StopMark>,
+}
+
 impl Resource {
     /// Takes all events below a tick, or up to its stop. In each tick it has so many steps.
     pub fn run_to(mut self, alloc: Global, system: &System, to: u64, steps: u64) -> WindowDone
@@ -68,17 +80,39 @@ impl Resource {
         requires few { steps ≤ 10 ^ 7 }
         ensures { HasRun system.now steps self to result }
     {
-        let inner = &mut *self.inner;
-        let Ok(stop) = inner.take_all(system, to, steps) else {
+        let Ok(Output { lines, sent, stop }) = self.run_here(alloc, system, to, steps) else {
             return WindowDone::NoMemory;
         };
-        let lines = mem::replace(&mut inner.queues.outbox.lines, Vec::new(alloc));
-        let sent = mem::replace(&mut inner.queues.mail, Vec::new(alloc));
         WindowDone::Ran {
             resource: self,
             lines,
             sent,
             stop,
         }
+    }
+
+    /// Takes all events below a tick, or up to its stop, where it is. In each tick it has so many steps.
+    ///
+    /// # Errors
+    /// When memory runs out, or a link has carried 2^128 messages. Then nothing is said of the resource.
+    pub fn run_here(
+        &mut self,
+        alloc: Global,
+        system: &System,
+        to: u64,
+        steps: u64,
+    ) -> Result<Output, AllocError>
+        requires of { IsOf system.now steps self.old }
+        requires live { self.old.stopped ≡ None }
+        requires ahead { self.old.clock ≤ to }
+        requires early { to ≤ 10 ^ 12 }
+        requires few { steps ≤ 10 ^ 7 }
+        ensures { IfOk result (λ o. HasRun system.now steps self.old to (Ran self.new o.lines o.sent o.stop)) }
+    {
+        let inner = &mut *self.inner;
+        let stop = inner.take_all(system, to, steps)?;
+        let lines = mem::replace(&mut inner.queues.outbox.lines, Vec::new(alloc));
+        let sent = mem::replace(&mut inner.queues.mail, Vec::new(alloc));
+        Ok(Output { lines, sent, stop })
     }
 }

@@ -137,20 +137,20 @@ module _ (i : Inputs) (good : AreGood i) (horizon limit_ : ℕ) (es : List (Core
 
     -- nothing is kept
     pub none_left : (pending : List (List run.Line)) (ls : List Line) → HasHanded i limit_ horizon c pending ls → (r : ℕ) → r < count_of (system_of i) → lines_in i limit_ pending r ≡ []
-    none_left pending ls h r b = go (lines_in i limit_ pending r) (h.left.rest r b) (h.left.waits r b)
+    none_left pending ls h r b = go (lines_in i limit_ pending r) (h.handed.left.rest r b) (h.waits r b)
       where
-        go : (p : List Line) → p ≡ lines_from M (until h.left.edge r) (c r).lines → Each (λ (y : Line). IsFinalIn M (count_of (system_of i)) c y.key.tick r → ⊥) p → p ≡ []
+        go : (p : List Line) → p ≡ lines_from M (until h.handed.left.edge r) (c r).lines → Each (λ (y : Line). IsFinalIn M (count_of (system_of i)) c y.key.tick r → ⊥) p → p ≡ []
         go [] one w = refl
         go (l ∷ p) one w =
-            let below = each_filter M (λ (y : Line). y.key.tick < horizon) (λ (y : Line). not (nat_lt y.key.tick (until h.left.edge r))) (c r).lines (core_below r) in
+            let below = each_filter M (λ (y : Line). y.key.tick < horizon) (λ (y : Line). not (nat_lt y.key.tick (until h.handed.left.edge r))) (c r).lines (core_below r) in
             absurd (w.0 (all_final l.key.tick r ((subst (λ (xs : List Line). Each (λ (y : Line). y.key.tick < horizon) xs) (sym one) below).0)))
 
     -- what was handed out of each resource are all its lines
-    whole : (pending : List (List run.Line)) (ls : List Line) (h : HasHanded i limit_ horizon c pending ls) (r : ℕ) → r < count_of (system_of i) → lines_before M (until h.left.edge r) (c r).lines ≡ (c r).lines
-    whole pending ls h r b = all_before M (until h.left.edge r) (c r).lines (none_from M (until h.left.edge r) (c r).lines (sym (h.left.rest r b) ∙ none_left pending ls h r b))
+    whole : (pending : List (List run.Line)) (ls : List Line) (h : HasHanded i limit_ horizon c pending ls) (r : ℕ) → r < count_of (system_of i) → lines_before M (until h.handed.left.edge r) (c r).lines ≡ (c r).lines
+    whole pending ls h r b = all_before M (until h.handed.left.edge r) (c r).lines (none_from M (until h.handed.left.edge r) (c r).lines (sym (h.handed.left.rest r b) ∙ none_left pending ls h r b))
 
     pub all_merged : (pending : List (List run.Line)) (ls : List Line) → HasHanded i limit_ horizon c pending ls → IsMerge M (count_of (system_of i)) (λ r. (c r).lines) ls
-    all_merged pending ls h = merge_same M (count_of (system_of i)) (λ r. lines_before M (until h.left.edge r) (c r).lines) (λ r. (c r).lines) ls (whole pending ls h) h.left.merged
+    all_merged pending ls h = merge_same M (count_of (system_of i)) (λ r. lines_before M (until h.handed.left.edge r) (c r).lines) (λ r. (c r).lines) ls (whole pending ls h) h.handed.left.merged
 
   module _ (ts : List Taken) (x : IsSimulation (system_of i) (stimuli_of i) horizon limit_ ts) where
     abbrev is : List (Item (machine (system_of i) limit_))
@@ -197,7 +197,7 @@ module _ (i : Inputs) (good : AreGood i) (horizon limit_ : ℕ) (es : List (Core
 
     -- what was handed out begins the lines of the simulation
     pub left_begins : (pending : List (List run.Line)) (ls : List Line) → HasHanded i limit_ horizon c pending ls → (rest : List Line) × (lines_of ts ≡ ls ++ rest)
-    left_begins pending ls h = front_of h.left.edge h.left.final ls h.left.merged
+    left_begins pending ls h = front_of h.handed.left.edge h.handed.left.final ls h.handed.left.merged
 
     pub all_left : (e : IsAtHorizon M (count_of (system_of i)) horizon c) (pending : List (List run.Line)) (ls : List Line) → HasHanded i limit_ horizon c pending ls → ls ≡ lines_of ts
     all_left e pending ls h =

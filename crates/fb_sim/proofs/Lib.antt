@@ -2,6 +2,7 @@ pub mod AdvanceIs
 pub mod Edges
 pub mod Fronts
 pub mod Outcomes
+pub mod Rising
 pub mod Refused
 pub mod RoundIs
 pub mod RunIs

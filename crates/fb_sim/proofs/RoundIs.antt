@@ -18,10 +18,11 @@ use Rattle.fb_system.specs.Lines.{BelongsTo}
 use Rattle.fb_sound.proofs.Accepting.{sound_of}
 use Rattle.fb_resource.proofs.Existence.{there_is}
 use Rattle.fb_resource.specs.declared.resource.Inner.{Inner}
-use Rattle.fb_window.specs.Finality.{HasHanded, core_of}
+use Rattle.fb_window.specs.Bounding.{AreGreatest}
+use Rattle.fb_window.specs.Finality.{HasHanded, HasKept, core_of}
 use Rattle.fb_window.specs.Law.{lines_to}
 use Rattle.fb_window.specs.Standing.{IsAt}
-use Rattle.fb_window.specs.Settling.{IsUnderWay, Settles, after_phase, lists_of}
+use Rattle.fb_window.specs.Settling.{Settles, after_phase, lists_of}
 use Rattle.fb_window.specs.declared.cores.Core.{Core}
 use Rattle.fb_window.specs.declared.cores.Settled.{Settled}
 use Rattle.fb_window.specs.declared.cores.Settled.TheVariants as settled
@@ -29,6 +30,7 @@ use Rattle.fb_window.proofs.Phasing.{phase_of, is_phase}
 use Rattle.fb_window.proofs.TellsAll.{end_told, stop_told}
 use Rattle.fb_sim.specs.Rounds.{Begin, AreAll, HasCome, IsHomeAgain}
 use Rattle.fb_sim.proofs.Fronts.{left_begins, all_left, all_stopped}
+use Rattle.fb_sim.proofs.Rising.{rises}
 
 module _ (i : Inputs) (good : AreGood i) (limit horizon : ℕ) where
   -- what was handed out of a core begins the lines of the simulation
@@ -69,9 +71,11 @@ module _ (i : Inputs) (good : AreGood i) (limit horizon : ℕ) where
         ending = ap (λ t. AtStop t s reason) (sym at) ∙ sym (told.ending x.0 x.1);
       }
 
-  module _ (es : List (CoreStep (machine (system_of i) limit))) (xs : List Inner) (before : List (List run.Line)) (ls : List Line) (under : IsUnderWay i limit horizon es xs before ls)
-      (bounds : List ℕ) (workers : ℕ → ℕ) where
-    pub home_again : (s : Settled) → Settles i limit horizon es bounds before workers s → IsHomeAgain i limit horizon ls s
+  module _ (es : List (CoreStep (machine (system_of i) limit))) (xs : List Inner) (before : List (List run.Line)) (ls : List Line)
+      (sc : IsSchedule (machine (system_of i) limit) horizon (opening_core (system_of i) (stimuli_of i) limit) es) (at : IsAt i limit (core_of i limit es) xs)
+      (left : HasKept i limit horizon (core_of i limit es) before ls)
+      (cap : ℕ) (bounds : List ℕ) (greatest : AreGreatest (system_of i) limit horizon cap (core_of i limit es) bounds) (workers : ℕ → ℕ) where
+    pub home_again : (s : Settled) → Settles i limit horizon es bounds before workers s → IsHomeAgain i limit horizon (core_of i limit es) ls s
     home_again (settled.Going core out) st =
         let M = machine (system_of i) limit in
         let n = count_of (system_of i) in
@@ -85,10 +89,11 @@ module _ (i : Inputs) (good : AreGood i) (limit horizon : ℕ) where
             record {
               of = record { inputs = k.inputs; steps = k.steps; kept = k.kept };
               steps = after_phase i limit es fs;
-              way = record { schedule = st.schedule fs ph; at = k.at; left = k.left ls under.left };
+              way = record { schedule = st.schedule fs ph; at = k.at; left = k.left ls left };
             },
             se.1,
             se.2,
+            rises i good limit horizon es sc xs at cap bounds greatest workers st.turns st.are_turns fs ph core.resources.items k.at se.1 se.2 se.3,
           );
         }
     home_again (settled.Ended core out) st =
@@ -101,7 +106,7 @@ module _ (i : Inputs) (good : AreGood i) (limit horizon : ℕ) where
         let come : HasCome i limit horizon core (ls ++ map (line_of (system_of i)) out.items) = record {
           of = record { inputs = k.inputs; steps = k.steps; kept = k.kept };
           steps = after_phase i limit es fs;
-          way = record { schedule = st.schedule fs ph; at = k.at; left = k.left ls under.left };
+          way = record { schedule = st.schedule fs ph; at = k.at; left = k.left ls left };
         } in
         record { belong = k.belong; after = (come, se.1, come_all core (ls ++ map (line_of (system_of i)) out.items) come se.1) }
     home_again (settled.Stopped out mark) st =
@@ -114,7 +119,7 @@ module _ (i : Inputs) (good : AreGood i) (limit horizon : ℕ) where
           belong = se.2;
           after = (
             se.0.counted,
-            stop_all (after_phase i limit es fs) (st.schedule fs ph) mark.resource mark.reason mark.tick (ls ++ map (line_of (system_of i)) out.items) se.0 se.1 (se.3 ls under.left),
+            stop_all (after_phase i limit es fs) (st.schedule fs ph) mark.resource mark.reason mark.tick (ls ++ map (line_of (system_of i)) out.items) se.0 se.1 (se.3 ls left),
           );
         }
 
@@ -129,8 +134,8 @@ module _ (i : Inputs) (limit horizon : ℕ) where
   pub opened_kept : (pending : List (Vec run.Line)) → HasHanded i limit horizon (core_of i limit []) (lists_of pending) [] → All (λ p. All (BelongsTo (system_of i)) p.items) pending
   opened_kept pending h k d within =
       let long : length (lists_of pending) ≡ length pending = length-map pending (λ (p : Vec run.Line). p.items) in
-      let count = h.counted in
-      let none = no_elements (line_of (system_of i)) (slice_index_or (lists_of pending) k []) (h.left.rest k (omega arith)) in
+      let count = h.handed.counted in
+      let none = no_elements (line_of (system_of i)) (slice_index_or (lists_of pending) k []) (h.handed.left.rest k (omega arith)) in
       let same : slice_index_or (lists_of pending) k [] ≡ (slice_index_or pending k d).items = get_or-map (λ (p : Vec run.Line). p.items) pending k d [] within in
       subst (λ (ls : List run.Line). All (BelongsTo (system_of i)) ls) (sym none ∙ same) (λ j e b. absurd (omega arith))
 

@@ -5,12 +5,15 @@ use Rattle.std.specs.Result.{IsErrAnd}
 use Rattle.std.proofs.KnownBytes.{Appends-nil, Appends-trans}
 use Rattle.fb_types.specs.Headline.{Inputs, system_of}
 use Rattle.fb_types.specs.Simulation.{Ending, AtHorizon, AtStop, ending_of}
-use Rattle.fb_types.specs.Parts.{count_of}
+use Rattle.fb_types.specs.Cores.{IsFloor}
+use Rattle.fb_types.specs.Parts.{machine, count_of}
 use Rattle.fb_types.specs.States.{Line}
 use Rattle.fb_types.specs.Text.{last_line, trace_text}
 use Rattle.fb_types.specs.declared.run.StopMark.{StopMark}
 use Rattle.fb_sound.specs.Sound.{AreGood}
 use Rattle.fb_trace.specs.Progress.{IsPartWritten, bounded}
+use Rattle.fb_window.specs.Finality.{core_of}
+use Rattle.fb_window.specs.Settling.{IsUnderWay, lists_of}
 use Rattle.fb_window.specs.declared.cores.Core.{Core}
 use Rattle.fb_sim.specs.Given.{Given}
 use Rattle.fb_sim.specs.Serial.{AreTrace, AreWithin, Declares, IsRefusal, Writes, WritesPart}
@@ -21,23 +24,34 @@ use Rattle.fb_sim.specs.declared.options.Options.{Options}
 use Rattle.fb_sim.specs.declared.outcome.RunError.{RunError}
 use Rattle.fb_sim.specs.declared.outcome.RunError.TheVariants.{Refused, Memory, Write, BadOption, Failed}
 use Rattle.fb_sim.specs.declared.progress.Round.TheVariants.{Going, Ended, Stopped}
+use Rattle.fb_sim.specs.declared.tally.Tally.{Tally}
 use Rattle.fb_sim.proofs.RoundIs.{come_begins}
 use Rattle.fb_sim.proofs.Texts.{bounded-length, lines_text-append, part-after, part-before}
 
 -- ---- Rounds
 
--- From where these lines were handed out, the core has come on, and the writer has got the text of the next ones, of so many bytes.
-pub record Came (i : Inputs) (o : Options) (ls : List Line) (core : Core) (old now : Option (List ℕ)) (n : ℕ) : Type 0 where
+-- From where these lines were handed out, the core has come on by some rounds, and the writer has got the text of the next ones, of so many bytes. No event comes before the tick that has the number of the rounds.
+pub record Came (i : Inputs) (o : Options) (ls : List Line) (core : Core) (old now : Option (List ℕ)) (n rounds : ℕ) : Type 0 where
   pub out : List Line
   pub come : HasCome i o.steps o.horizon core (ls ++ out)
+  pub floor : IsFloor (machine (system_of i) o.steps) (core_of i o.steps come.steps) rounds
   pub got : Appends old now (text_of i o.form out)
   pub counted : n ≡ bounded (length (text_of i o.form out))
 
+-- the same lines, named otherwise
+abbrev come_as : (i : Inputs) (limit horizon : ℕ) (core : Core) (ks ls : List Line) → ks ≡ ls → HasCome i limit horizon core ks → HasCome i limit horizon core ls
+come_as i limit horizon core ks ls e h = record {
+  of = h.of;
+  steps = h.steps;
+  way = subst (λ (xs : List Line). IsUnderWay i limit horizon h.steps core.resources.items (lists_of core.pending.items) xs) e h.way;
+}
+
 module _ (i : Inputs) (o : Options) (ls : List Line) where
-  pub came_first : (core : Core) (old : Option (List ℕ)) → HasCome i o.steps o.horizon core ls → Came i o ls core old old 0
+  pub came_first : (core : Core) (old : Option (List ℕ)) → HasCome i o.steps o.horizon core ls → Came i o ls core old old 0 0
   came_first core old h = record {
     out = [];
-    come = subst (λ (ks : List Line). HasCome i o.steps o.horizon core ks) (sym (append-nil ls)) h;
+    come = come_as i o.steps o.horizon core ls (ls ++ []) (sym (append-nil ls)) h;
+    floor = λ s k b. absurd (omega arith);
     got = Appends-nil old;
     counted = omega arith;
   }
@@ -54,39 +68,44 @@ module _ (i : Inputs) (o : Options) (ls : List Line) where
       ap (λ z. bounded (z + m)) a ∙ ap (λ z. bounded (bounded (length (text_of i o.form ks)) + z)) b
       ∙ bounded-length (text_of i o.form ks) (text_of i o.form ms) ∙ ap (λ (t : List ℕ). bounded (length t)) (joined ks ms)
 
-  module _ (core : Core) (old mid new : Option (List ℕ)) (n : ℕ) (c : Came i o ls core old mid n) where
-    pub came_more : (next : Core) (m : ℕ) → CountedRounds i o (ls ++ c.out) mid new (Ok (Going next, m)) → Came i o ls next old new (bounded (n + m))
+  module _ (core : Core) (old mid new : Option (List ℕ)) (n rounds : ℕ) (c : Came i o ls core old mid n rounds) where
+    -- There are no more rounds than ticks.
+    pub came_early : (next : Core) (m : Tally) → CountedRounds i o (core_of i o.steps c.come.steps) (ls ++ c.out) mid new (Ok (Going next, m)) → rounds < o.horizon
+    came_early next m r = let risen = r.1.3 rounds c.floor in risen.0
+
+    pub came_more : (next : Core) (m : Tally) → CountedRounds i o (core_of i o.steps c.come.steps) (ls ++ c.out) mid new (Ok (Going next, m)) → Came i o ls next old new (bounded (n + m.bytes)) (rounds + 1)
     came_more next m r = record {
       out = c.out ++ r.0;
-      come = subst (λ (ks : List Line). HasCome i o.steps o.horizon next ks) (append_assoc ls c.out r.0) r.1.0;
+      come = come_as i o.steps o.horizon next ((ls ++ c.out) ++ r.0) (ls ++ (c.out ++ r.0)) (append_assoc ls c.out r.0) r.1.0;
+      floor = let risen = r.1.3 rounds c.floor in risen.1;
       got = both_got old mid new c.out r.0 c.got r.2;
-      counted = both_counted c.out r.0 n m c.counted r.3;
+      counted = both_counted c.out r.0 n m.bytes c.counted r.3;
     }
 
-    pub came_end : (last : Core) (m : ℕ) → CountedRounds i o (ls ++ c.out) mid new (Ok (Ended last, m)) → RunsOn i o ls old new (Ok (AtEnd last, bounded (n + m)))
+    pub came_end : (last : Core) (m : Tally) → CountedRounds i o (core_of i o.steps c.come.steps) (ls ++ c.out) mid new (Ok (Ended last, m)) → RunsOn i o ls old new (Ok (AtEnd last, bounded (n + m.bytes)))
     came_end last m r = (
       c.out ++ r.0,
       subst (λ (ks : List Line). IsFinished i o.steps o.horizon (AtEnd last) ks) (append_assoc ls c.out r.0) r.1,
       both_got old mid new c.out r.0 c.got r.2,
-      both_counted c.out r.0 n m c.counted r.3,
+      both_counted c.out r.0 n m.bytes c.counted r.3,
     )
 
-    pub came_stop : (mark : StopMark) (m : ℕ) → CountedRounds i o (ls ++ c.out) mid new (Ok (Stopped mark, m)) → RunsOn i o ls old new (Ok (AtMark mark, bounded (n + m)))
+    pub came_stop : (mark : StopMark) (m : Tally) → CountedRounds i o (core_of i o.steps c.come.steps) (ls ++ c.out) mid new (Ok (Stopped mark, m)) → RunsOn i o ls old new (Ok (AtMark mark, bounded (n + m.bytes)))
     came_stop mark m r = (
       c.out ++ r.0,
       subst (λ (ks : List Line). IsFinished i o.steps o.horizon (AtMark mark) ks) (append_assoc ls c.out r.0) r.1,
       both_got old mid new c.out r.0 c.got r.2,
-      both_counted c.out r.0 n m c.counted r.3,
+      both_counted c.out r.0 n m.bytes c.counted r.3,
     )
 
-    pub came_short : (m : ℕ) → CountedRounds i o (ls ++ c.out) mid new (Err (Write m)) → RunsOn i o ls old new (Err (Write (bounded (n + m))))
+    pub came_short : (m : ℕ) → CountedRounds i o (core_of i o.steps c.come.steps) (ls ++ c.out) mid new (Err (Write m)) → RunsOn i o ls old new (Err (Write (bounded (n + m))))
     came_short m r = (
       c.out ++ r.0,
       subst (λ (ks : List Line). Begin i o.steps o.horizon ks) (append_assoc ls c.out r.0) r.1,
       subst (λ (t : List ℕ). IsPartWritten old new t (bounded (n + m))) (joined c.out r.0) (part-after (text_of i o.form c.out) c.got c.counted r.2),
     )
 
-    pub came_wanting : AreGood i → CountedRounds i o (ls ++ c.out) mid new (Err Memory) → RunsOn i o ls old new (Err Memory)
+    pub came_wanting : AreGood i → CountedRounds i o (core_of i o.steps c.come.steps) (ls ++ c.out) mid new (Err Memory) → RunsOn i o ls old new (Err Memory)
     came_wanting good same = (
       c.out,
       come_begins i good o.steps o.horizon core (ls ++ c.out) c.come,
@@ -94,7 +113,7 @@ module _ (i : Inputs) (o : Options) (ls : List Line) where
     )
 
     -- the options of a round may name other workers
-    pub came_failed : AreGood i → (w : ℕ) (e : RunError) → CountedRounds i (record { horizon = o.horizon; steps = o.steps; workers = w; form = o.form }) (ls ++ c.out) mid new (Err e) → RunsOn i o ls old new (Err (behind n e))
+    pub came_failed : AreGood i → (w : ℕ) (e : RunError) → CountedRounds i (record { horizon = o.horizon; steps = o.steps; workers = w; form = o.form }) (core_of i o.steps c.come.steps) (ls ++ c.out) mid new (Err e) → RunsOn i o ls old new (Err (behind n e))
     came_failed good w (Write m) r = came_short m r
     came_failed good w Memory same = came_wanting good same
     came_failed good w (Refused r) bad = absurd bad

@@ -64,16 +64,18 @@ module _ (i : Inputs) (good : AreGood i) (limit t u : ℕ) (later : t ≤ u) whe
           schedule = schedule_later M t u later h.steps (opening_core (system_of i) (stimuli_of i) limit) sc;
           at = h.way.at;
           left = record {
-            counted = h.way.left.counted;
-            left = record {
-              edge = before_tick t;
-              final = λ r s b far near. all_final i good t limit h.steps sc e s r (subst (λ (z : ℕ). s < z) (until_tick t r) near);
-              merged = merge_same M n (λ r. (core_of i limit h.steps r).lines) (λ r. lines_before M (until (before_tick t) r) (core_of i limit h.steps r).lines) ls
-                  (λ r b. sym (ap (λ (z : ℕ). lines_before M z (core_of i limit h.steps r).lines) (until_tick t r) ∙ all_before M t (core_of i limit h.steps r).lines (below r)))
-                  (all_merged i good t limit h.steps sc e kept ls h.way.left);
-              rest = λ r b. none r b ∙ sym (ap (λ (z : ℕ). lines_from M z (core_of i limit h.steps r).lines) (until_tick t r) ∙ nothing_from M t (core_of i limit h.steps r).lines (below r));
-              waits = λ r b. subst (λ (xs : List Line). Each (λ (x : Line). IsFinalIn M n (core_of i limit h.steps) x.key.tick r → ⊥) xs) (sym (none r b)) tt;
+            handed = record {
+              counted = h.way.left.handed.counted;
+              left = record {
+                edge = before_tick t;
+                final = λ r s b far near. all_final i good t limit h.steps sc e s r (subst (λ (z : ℕ). s < z) (until_tick t r) near);
+                merged = merge_same M n (λ r. (core_of i limit h.steps r).lines) (λ r. lines_before M (until (before_tick t) r) (core_of i limit h.steps r).lines) ls
+                    (λ r b. sym (ap (λ (z : ℕ). lines_before M z (core_of i limit h.steps r).lines) (until_tick t r) ∙ all_before M t (core_of i limit h.steps r).lines (below r)))
+                    (all_merged i good t limit h.steps sc e kept ls h.way.left);
+                rest = λ r b. none r b ∙ sym (ap (λ (z : ℕ). lines_from M z (core_of i limit h.steps r).lines) (until_tick t r) ∙ nothing_from M t (core_of i limit h.steps r).lines (below r));
+              };
             };
+            waits = λ r b. subst (λ (xs : List Line). Each (λ (x : Line). IsFinalIn M n (core_of i limit h.steps) x.key.tick r → ⊥) xs) (sym (none r b)) tt;
           };
         };
       }

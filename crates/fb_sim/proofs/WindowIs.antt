@@ -1,6 +1,8 @@
 -- From what the calls of a round say of each other's values to what the round hands out.
 use Rattle.std.proofs.Common.{◌≡◌, ℕ, List, ◌++◌, map, length, Option, Result, Ok, Err, sym, ap, ap₂, ◌∙◌, subst}
+use Rattle.std.specs.Global.{Vec}
 use Rattle.std.specs.Prelude.{All}
+use Rattle.std.proofs.lemmas.List.{length-map}
 use Rattle.std.specs.List.{AllZip}
 use Rattle.std.specs.Result.{IsErrAnd}
 use Rattle.std.specs.Io.KnownBytes.{Appends}
@@ -8,6 +10,7 @@ use Rattle.fb_types.specs.Headline.{Inputs, system_of, stimuli_of}
 use Rattle.fb_types.specs.Numbers.{line_of}
 use Rattle.fb_types.specs.States.{Line}
 use Rattle.fb_types.specs.Cores.{CoreStep, opening_core}
+use Rattle.fb_types.specs.Cores as model_cores
 use Rattle.fb_types.specs.Parts.{machine}
 use Rattle.fb_types.specs.Schedules.{IsSchedule}
 use Rattle.fb_types.specs.declared.run.Line as run
@@ -16,33 +19,37 @@ use Rattle.fb_system.specs.Lines.{BelongsTo}
 use Rattle.fb_resource.specs.declared.resource.Inner.{Inner}
 use Rattle.fb_resource.specs.declared.resource.WindowDone.{WindowDone}
 use Rattle.fb_trace.specs.Progress.{IsPartWritten, bounded}
+use Rattle.fb_window.specs.Bounding.{AreGreatest}
 use Rattle.fb_window.specs.Finality.{core_of}
 use Rattle.fb_window.specs.Jobs.{AreOf, Does, JobModel, MayLeave, jobs_of}
 use Rattle.fb_window.specs.Reaching.{OfEachCore}
 use Rattle.fb_window.specs.Settling.{AreLegal, HasLeft, Settles, lists_of}
 use Rattle.fb_window.specs.Standing.{IsAt}
+use Rattle.fb_window.specs.Walking.{Walks, after_walk}
 use Rattle.fb_window.specs.declared.cores.Away.{Away}
 use Rattle.fb_window.specs.declared.cores.Core.{Core}
 use Rattle.fb_window.specs.declared.cores.Settled.{Settled}
 use Rattle.fb_window.specs.declared.cores.Settled.TheVariants as settled
-use Rattle.fb_sim.specs.Rounds.{Begin, CountedRounds, HasCome, IsHomeAgain, Rounds, WritesPartOf, lines_out, round_of, text_of}
+use Rattle.fb_sim.specs.Rounds.{Begin, CountedRounds, HasCome, HasWalked, IsAfter, IsHomeAgain, IsOnItsWay, Rounds, WritesPartOf, lines_out, round_of, text_of}
 use Rattle.fb_sim.specs.declared.options.Options.{Options}
 use Rattle.fb_sim.specs.declared.outcome.RunError.{RunError}
 use Rattle.fb_sim.specs.declared.outcome.RunError.TheVariants.{Refused, Memory, Write, BadOption, Failed}
 use Rattle.fb_sim.specs.declared.progress.Round.{Round}
+use Rattle.fb_sim.specs.declared.progress.Round.TheVariants.{Going, Ended, Stopped}
+use Rattle.fb_sim.specs.declared.tally.Tally.{Tally}
 use Rattle.fb_sim.proofs.RoundIs.{all_begin, come_begins, home_again}
 
 -- what holds of the inputs and the limit holds of the core's own
 at_core : (P : Inputs → ℕ → Type 0) (j i : Inputs) (l limit : ℕ) → j ≡ i → l ≡ limit → P i limit → P j l
 at_core P j i l limit e f h = subst (λ (x : Inputs). P x l) (sym e) (subst (λ (y : ℕ). P i y) (sym f) h)
 
-module _ (i : Inputs) (limit horizon : ℕ) (core : Core) (ls : List Line) (h : HasCome i limit horizon core ls) where
+module _ (i : Inputs) (limit horizon : ℕ) (core : Core) (ls : List Line) (h : IsOnItsWay i limit horizon core ls) where
   -- the core has the resources of its system
   pub are_of : AreOf core.system core.steps core.resources.items
   are_of = at_core (λ j l. AreOf j l core.resources.items) core.system i core.steps limit h.of.inputs h.of.steps (record {
-    counted = h.way.at.counted;
-    numbered = λ r x at. (h.way.at.each r x at).number;
-    of = λ r x at. (h.way.at.each r x at).of;
+    counted = h.at.counted;
+    numbered = λ r x at. (h.at.each r x at).number;
+    of = λ r x at. (h.at.each r x at).of;
   })
 
   module _ (all : List ℕ) where
@@ -50,13 +57,20 @@ module _ (i : Inputs) (limit horizon : ℕ) (core : Core) (ls : List Line) (h : 
     may_leave f =
         let g : OfEachCore i limit horizon core.resources.items (λ c. MayLeave all core.resources.items) =
         at_core (λ j l. OfEachCore j l horizon core.resources.items (λ c. MayLeave all core.resources.items)) i core.system limit core.steps (sym h.of.inputs) (sym h.of.steps) f in
-        g h.steps h.way.schedule h.way.at
+        g h.steps h.schedule h.at
 
     are_legal : OfEachCore core.system core.steps horizon core.resources.items (λ c. AreLegal core.system core.steps horizon c all) → AreLegal i limit horizon (core_of i limit h.steps) all
     are_legal f =
         let g : OfEachCore i limit horizon core.resources.items (λ c. AreLegal i limit horizon c all) =
         at_core (λ j l. OfEachCore j l horizon core.resources.items (λ c. AreLegal j l horizon c all)) i core.system limit core.steps (sym h.of.inputs) (sym h.of.steps) f in
-        g h.steps h.way.schedule h.way.at
+        g h.steps h.schedule h.at
+
+    are_greatest : (cap : ℕ) → OfEachCore core.system core.steps horizon core.resources.items (λ c. AreGreatest (system_of core.system) core.steps horizon cap c all)
+        → AreGreatest (system_of i) limit horizon cap (core_of i limit h.steps) all
+    are_greatest cap f =
+        let g : OfEachCore i limit horizon core.resources.items (λ c. AreGreatest (system_of i) limit horizon cap c all) =
+        at_core (λ j l. OfEachCore j l horizon core.resources.items (λ c. AreGreatest (system_of j) l horizon cap c all)) i core.system limit core.steps (sym h.of.inputs) (sym h.of.steps) f in
+        g h.steps h.schedule h.at
 
     -- ---- What is away
 
@@ -81,34 +95,84 @@ module _ (i : Inputs) (limit horizon : ℕ) (core : Core) (ls : List Line) (h : 
 
       pub is_home : (s : Settled) → AreGood i → away.horizon ≡ horizon
           → OfEachCore core.system core.steps horizon core.resources.items (λ c. AreLegal core.system core.steps horizon c all)
-          → Says away.system away.steps away.horizon (lists_of away.pending.items) s → IsHomeAgain i limit horizon ls s
-      is_home s good to legal says =
+          → (cap : ℕ) → OfEachCore core.system core.steps horizon core.resources.items (λ c. AreGreatest (system_of core.system) core.steps horizon cap c all)
+          → Says away.system away.steps away.horizon (lists_of away.pending.items) s → IsHomeAgain i limit horizon (core_of i limit h.steps) ls s
+      is_home s good to legal cap greatest says =
           let a : Says i away.steps away.horizon (lists_of away.pending.items) s = subst (λ (j : Inputs). Says j away.steps away.horizon (lists_of away.pending.items) s) (system ∙ h.of.inputs) says in
           let b : Says i limit away.horizon (lists_of away.pending.items) s = subst (λ (l : ℕ). Says i l away.horizon (lists_of away.pending.items) s) (steps ∙ h.of.steps) a in
           let c : Says i limit horizon (lists_of away.pending.items) s = subst (λ (u : ℕ). Says i limit u (lists_of away.pending.items) s) to b in
           let d : Says i limit horizon (lists_of core.pending.items) s = subst (λ (ps : List (List run.Line)). Says i limit horizon ps s) (ap (λ ps. lists_of ps.items) pending) c in
-          home_again i good limit horizon h.steps core.resources.items (lists_of core.pending.items) ls h.way all (λ r. 0) s
-          (d core.resources.items all h.steps (λ r. 0) left h.way.schedule h.way.at (are_legal legal))
+          home_again i good limit horizon h.steps core.resources.items (lists_of core.pending.items) ls h.schedule h.at h.left cap all (are_greatest cap greatest) (λ r. 0) s
+          (d core.resources.items all h.steps (λ r. 0) left h.schedule h.at (are_legal legal))
+
+-- ---- A walk before the window
+
+module _ (i : Inputs) (limit horizon : ℕ) (core : Core) (ls : List Line) (h : HasCome i limit horizon core ls) where
+  -- what a walk asks for
+  pub walk_come : (es : List (CoreStep (machine (system_of core.system) core.steps)))
+      × IsSchedule (machine (system_of core.system) core.steps) horizon (opening_core (system_of core.system) (stimuli_of core.system) core.steps) es
+      × IsAt core.system core.steps (core_of core.system core.steps es) core.resources.items
+  walk_come = at_core (λ j l. (es : List (CoreStep (machine (system_of j) l))) × IsSchedule (machine (system_of j) l) horizon (opening_core (system_of j) (stimuli_of j) l) es × IsAt j l (core_of j l es) core.resources.items)
+      core.system i core.steps limit h.of.inputs h.of.steps (h.steps, h.way.schedule, h.way.at)
+
+  pub walk_counted : length core.pending.items ≡ length core.resources.items
+  walk_counted = sym (length-map core.pending.items (λ (p : Vec run.Line). p.items)) ∙ h.way.left.handed.counted ∙ sym h.way.at.counted
+
+  pub walk_pending : All (λ p. All (BelongsTo (system_of core.system)) p.items) core.pending.items
+  walk_pending = subst (λ (j : Inputs). All (λ p. All (BelongsTo (system_of j)) p.items) core.pending.items) (sym h.of.inputs) h.of.kept
+
+  module _ (most : ℕ) (next : Core) (system : next.system ≡ core.system) (steps : next.steps ≡ core.steps) where
+    has_walked : All (λ p. All (BelongsTo (system_of i)) p.items) next.pending.items → Walks i limit horizon most core next → HasWalked i limit horizon (core_of i limit h.steps) ls next
+    has_walked belong walks =
+        let led = walks h.steps h.way.schedule h.way.at in
+        let l = led.1 in
+        record {
+          way = record {
+            of = record { inputs = system ∙ h.of.inputs; steps = steps ∙ h.of.steps; kept = belong };
+            steps = after_walk i limit h.steps led.0;
+            schedule = l.schedule;
+            at = l.at;
+            left = l.left ls h.way.left.handed;
+          };
+          floors = l.floors;
+        }
+
+    pub walked_on : All (λ p. All (BelongsTo (system_of core.system)) p.items) next.pending.items → Walks core.system core.steps horizon most core next
+        → HasWalked i limit horizon (core_of i limit h.steps) ls next
+    walked_on belong walks =
+        has_walked (subst (λ (j : Inputs). All (λ p. All (BelongsTo (system_of j)) p.items) next.pending.items) h.of.inputs belong)
+        (at_core (λ j l. Walks j l horizon most core next) i core.system limit core.steps (sym h.of.inputs) (sym h.of.steps) walks)
+
+-- A round of the core after a walk is one of the core before it.
+module _ (i : Inputs) (limit horizon : ℕ) (c : model_cores.Core (machine (system_of i) limit)) (ls ms : List Line) (core : Core) (h : HasWalked i limit horizon c ls core) where
+  after_since : (round : Round) → IsAfter i limit horizon (core_of i limit h.way.steps) ms round → IsAfter i limit horizon c ms round
+  after_since (Going next) a = (a.0, a.1, a.2, λ m floor. a.3 m (h.floors m floor))
+  after_since (Ended last) a = a
+  after_since (Stopped mark) a = a
+
+pub home_since : (i : Inputs) (limit horizon : ℕ) (c : model_cores.Core (machine (system_of i) limit)) (ls : List Line) (core : Core) (h : HasWalked i limit horizon c ls core) (s : Settled)
+    → IsHomeAgain i limit horizon (core_of i limit h.way.steps) ls s → IsHomeAgain i limit horizon c ls s
+home_since i limit horizon c ls core h s home = record { belong = home.belong; after = after_since i limit horizon c ls (ls ++ map (line_of (system_of i)) (lines_out s)) core h (round_of s) home.after }
 
 -- ---- What is written
 
-module _ (i : Inputs) (o : Options) (ls : List Line) (old new : Option (List ℕ)) where
-  pub counted_whole : (s : Settled) (n : ℕ) → IsHomeAgain i o.steps o.horizon ls s → Appends old new (text_of i o.form (map (line_of (system_of i)) (lines_out s)))
-      → n ≡ bounded (length (text_of i o.form (map (line_of (system_of i)) (lines_out s)))) → CountedRounds i o ls old new (Ok (round_of s, n))
+module _ (i : Inputs) (o : Options) (c : model_cores.Core (machine (system_of i) o.steps)) (ls : List Line) (old new : Option (List ℕ)) where
+  pub counted_whole : (s : Settled) (n : Tally) → IsHomeAgain i o.steps o.horizon c ls s → Appends old new (text_of i o.form (map (line_of (system_of i)) (lines_out s)))
+      → n.bytes ≡ bounded (length (text_of i o.form (map (line_of (system_of i)) (lines_out s)))) → CountedRounds i o c ls old new (Ok (round_of s, n))
   counted_whole s n h got counted = (map (line_of (system_of i)) (lines_out s), h.after, got, counted)
 
-  home_begins : AreGood i → (s : Settled) → IsHomeAgain i o.steps o.horizon ls s → Begin i o.steps o.horizon (ls ++ map (line_of (system_of i)) (lines_out s))
+  home_begins : AreGood i → (s : Settled) → IsHomeAgain i o.steps o.horizon c ls s → Begin i o.steps o.horizon (ls ++ map (line_of (system_of i)) (lines_out s))
   home_begins good (settled.Going core out) h = come_begins i good o.steps o.horizon core (ls ++ map (line_of (system_of i)) out.items) h.after.0
   home_begins good (settled.Ended core out) h = come_begins i good o.steps o.horizon core (ls ++ map (line_of (system_of i)) out.items) h.after.0
   home_begins good (settled.Stopped out mark) h = all_begin i good o.steps o.horizon (ls ++ map (line_of (system_of i)) out.items) _ h.after.1
 
-  pub counted_part : AreGood i → (s : Settled) (n : ℕ) → IsHomeAgain i o.steps o.horizon ls s → IsPartWritten old new (text_of i o.form (map (line_of (system_of i)) (lines_out s))) n
-      → CountedRounds i o ls old new (Err (Write n))
+  pub counted_part : AreGood i → (s : Settled) (n : ℕ) → IsHomeAgain i o.steps o.horizon c ls s → IsPartWritten old new (text_of i o.form (map (line_of (system_of i)) (lines_out s))) n
+      → CountedRounds i o c ls old new (Err (Write n))
   counted_part good s n h part = (map (line_of (system_of i)) (lines_out s), home_begins good s h, part)
 
   -- a writer that failed
-  pub counted_failed : AreGood i → (s : Settled) (e : RunError) → IsHomeAgain i o.steps o.horizon ls s → WritesPartOf old new (text_of i o.form (map (line_of (system_of i)) (lines_out s))) e
-      → CountedRounds i o ls old new (Err e)
+  pub counted_failed : AreGood i → (s : Settled) (e : RunError) → IsHomeAgain i o.steps o.horizon c ls s → WritesPartOf old new (text_of i o.form (map (line_of (system_of i)) (lines_out s))) e
+      → CountedRounds i o c ls old new (Err e)
   counted_failed good s (Write n) h part = counted_part good s n h part
   counted_failed good s (Refused r) h part = absurd part
   counted_failed good s Memory h part = absurd part
@@ -116,18 +180,18 @@ module _ (i : Inputs) (o : Options) (ls : List Line) (old new : Option (List ℕ
   counted_failed good s Failed h part = absurd part
 
   -- memory that was wanting before anything was written
-  pub counted_wanting : (e : RunError) → e ≡ Memory → new ≡ old → CountedRounds i o ls old new (Err e)
-  counted_wanting e is same = subst (λ (f : RunError). CountedRounds i o ls old new (Err f)) (sym is) same
+  pub counted_wanting : (e : RunError) → e ≡ Memory → new ≡ old → CountedRounds i o c ls old new (Err e)
+  counted_wanting e is same = subst (λ (f : RunError). CountedRounds i o c ls old new (Err f)) (sym is) same
 
   -- without the count
-  pub uncounted : (round : Round) (n : ℕ) → CountedRounds i o ls old new (Ok (round, n)) → Rounds i o ls old new (Ok round)
+  pub uncounted : (round : Round) (n : Tally) → CountedRounds i o c ls old new (Ok (round, n)) → Rounds i o c ls old new (Ok round)
   uncounted round n r = (r.0, r.1, r.2)
 
   -- the error that `?` passes on
-  pub counted_passed : (r : Result (Round × ℕ) RunError) (e : RunError) → IsErrAnd r (λ f. f ≡ e) → CountedRounds i o ls old new (Err e) → CountedRounds i o ls old new r
+  pub counted_passed : (r : Result (Round × Tally) RunError) (e : RunError) → IsErrAnd r (λ f. f ≡ e) → CountedRounds i o c ls old new (Err e) → CountedRounds i o c ls old new r
   counted_passed (Ok x) e bad h = absurd bad
-  counted_passed (Err f) e is h = subst (λ (x : RunError). CountedRounds i o ls old new (Err x)) (sym is) h
+  counted_passed (Err f) e is h = subst (λ (x : RunError). CountedRounds i o c ls old new (Err x)) (sym is) h
 
-  pub passed : (r : Result Round RunError) (e : RunError) → IsErrAnd r (λ f. f ≡ e) → CountedRounds i o ls old new (Err e) → Rounds i o ls old new r
+  pub passed : (r : Result Round RunError) (e : RunError) → IsErrAnd r (λ f. f ≡ e) → CountedRounds i o c ls old new (Err e) → Rounds i o c ls old new r
   passed (Ok x) e bad h = absurd bad
-  passed (Err f) e is h = subst (λ (x : RunError). Rounds i o ls old new (Err x)) (sym is) h
+  passed (Err f) e is h = subst (λ (x : RunError). Rounds i o c ls old new (Err x)) (sym is) h

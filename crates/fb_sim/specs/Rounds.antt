@@ -6,16 +6,18 @@ use Rattle.fb_types.specs.Simulation.{Taken, IsSimulation, Ending, AtHorizon, At
 use Rattle.fb_types.specs.Numbers.{line_of}
 use Rattle.fb_types.specs.States.{Line}
 use Rattle.fb_types.specs.Text.{lines_text}
-use Rattle.fb_types.specs.Cores.{CoreStep}
+use Rattle.fb_types.specs.Cores.{CoreStep, IsFloor, opening_core}
+use Rattle.fb_types.specs.Cores as model_cores
 use Rattle.fb_types.specs.Parts.{machine, count_of}
-use Rattle.fb_types.specs.Schedules.{IsAtHorizon, IsLeastStop}
+use Rattle.fb_types.specs.Schedules.{IsAtHorizon, IsLeastStop, IsSchedule}
 use Rattle.fb_types.specs.declared.run.Form.{Form}
 use Rattle.fb_types.specs.declared.run.Line as run
 use Rattle.fb_types.specs.declared.value.Reason.{Reason}
 use Rattle.fb_system.specs.Lines.{BelongsTo}
 use Rattle.fb_trace.specs.Progress.{IsPartWritten, bounded}
-use Rattle.fb_window.specs.Finality.{core_of}
+use Rattle.fb_window.specs.Finality.{HasKept, core_of}
 use Rattle.fb_window.specs.Settling.{IsUnderWay, lists_of}
+use Rattle.fb_window.specs.Standing.{IsAt}
 use Rattle.fb_window.specs.declared.cores.Core.{Core}
 use Rattle.fb_window.specs.declared.cores.Settled.{Settled}
 use Rattle.fb_window.specs.declared.cores.Settled.TheVariants as settled
@@ -28,6 +30,7 @@ use Rattle.fb_sim.specs.declared.drive.Finish.{Finish}
 use Rattle.fb_sim.specs.declared.drive.Finish.TheVariants.{AtEnd, AtMark}
 use Rattle.fb_sim.specs.declared.progress.Round.{Round}
 use Rattle.fb_sim.specs.declared.progress.Round.TheVariants.{Going, Ended, Stopped}
+use Rattle.fb_sim.specs.declared.tally.Tally.{Tally}
 
 -- ---- What was handed out
 
@@ -59,17 +62,23 @@ pub record HasCome (i : Inputs) (limit horizon : ℕ) (core : Core) (ls : List L
   pub steps : List (CoreStep (machine (system_of i) limit))
   pub way : IsUnderWay i limit horizon steps core.resources.items (lists_of core.pending.items) ls
 
--- These lines were handed out after a round, and it says how far the run is.
-abbrev pub IsAfter : (i : Inputs) (limit horizon : ℕ) (ls : List Line) → Round → Type 0
-IsAfter i limit horizon ls (Going core) =
+-- From c to d the least tick of all events has risen, and it was before the horizon: each tick that no event of c precedes is below the
+-- horizon, and no event of d precedes the tick after it.
+abbrev pub Rises : (i : Inputs) (limit horizon : ℕ) (c d : model_cores.Core (machine (system_of i) limit)) → Type 0
+Rises i limit horizon c d = (m : ℕ) → IsFloor (machine (system_of i) limit) c m → (m < horizon) × IsFloor (machine (system_of i) limit) d (m + 1)
+
+-- These lines were handed out after a round of the core c, and it says how far the run is. A run that goes on has come on: so it ends.
+abbrev pub IsAfter : (i : Inputs) (limit horizon : ℕ) (c : model_cores.Core (machine (system_of i) limit)) (ls : List Line) → Round → Type 0
+IsAfter i limit horizon c ls (Going core) =
     (come : HasCome i limit horizon core ls)
     × (IsAtHorizon (machine (system_of i) limit) (count_of (system_of i)) horizon (core_of i limit come.steps) → ⊥)
     × ((s : ℕ) (reason : Reason) → IsLeastStop (machine (system_of i) limit) (count_of (system_of i)) (core_of i limit come.steps) s reason → ⊥)
-IsAfter i limit horizon ls (Ended core) =
+    × Rises i limit horizon c (core_of i limit come.steps)
+IsAfter i limit horizon c ls (Ended core) =
     (come : HasCome i limit horizon core ls)
     × IsAtHorizon (machine (system_of i) limit) (count_of (system_of i)) horizon (core_of i limit come.steps)
     × AreAll i limit horizon ls (AtHorizon horizon)
-IsAfter i limit horizon ls (Stopped mark) = (mark.resource < count_of (system_of i)) × AreAll i limit horizon ls (AtStop mark.tick mark.resource mark.reason)
+IsAfter i limit horizon c ls (Stopped mark) = (mark.resource < count_of (system_of i)) × AreAll i limit horizon ls (AtStop mark.tick mark.resource mark.reason)
 
 abbrev pub text_of : Inputs → Form → List Line → List ℕ
 text_of i form ls = lines_text form (system_of i) ls
@@ -98,20 +107,20 @@ IsShort old new text before Memory = ⊥
 IsShort old new text before BadOption = ⊥
 IsShort old new text before Failed = ⊥
 
--- Where these lines were handed out, a round hands out the next ones, and the writer gets their text, or a part of it.
-abbrev pub Rounds : Inputs → Options → (ls : List Line) → (old new : Option (List ℕ)) → Result Round RunError → Type 0
-Rounds i o ls old new (Ok round) = (out : List Line) × IsAfter i o.steps o.horizon (ls ++ out) round × Appends old new (text_of i o.form out)
-Rounds i o ls old new (Err (Write n)) = (out : List Line) × Begin i o.steps o.horizon (ls ++ out) × IsPartWritten old new (text_of i o.form out) n
-Rounds i o ls old new (Err Memory) = new ≡ old
-Rounds i o ls old new (Err (Refused r)) = ⊥
-Rounds i o ls old new (Err BadOption) = ⊥
-Rounds i o ls old new (Err Failed) = ⊥
+-- Where these lines were handed out of the core c, a round hands out the next ones, and the writer gets their text, or a part of it.
+abbrev pub Rounds : (i : Inputs) (o : Options) (c : model_cores.Core (machine (system_of i) o.steps)) (ls : List Line) → (old new : Option (List ℕ)) → Result Round RunError → Type 0
+Rounds i o c ls old new (Ok round) = (out : List Line) × IsAfter i o.steps o.horizon c (ls ++ out) round × Appends old new (text_of i o.form out)
+Rounds i o c ls old new (Err (Write n)) = (out : List Line) × Begin i o.steps o.horizon (ls ++ out) × IsPartWritten old new (text_of i o.form out) n
+Rounds i o c ls old new (Err Memory) = new ≡ old
+Rounds i o c ls old new (Err (Refused r)) = ⊥
+Rounds i o c ls old new (Err BadOption) = ⊥
+Rounds i o c ls old new (Err Failed) = ⊥
 
 -- The same, with the count of the bytes that were written.
-abbrev pub CountedRounds : Inputs → Options → (ls : List Line) → (old new : Option (List ℕ)) → Result (Round × ℕ) RunError → Type 0
-CountedRounds i o ls old new (Ok (round, n)) =
-    (out : List Line) × IsAfter i o.steps o.horizon (ls ++ out) round × Appends old new (text_of i o.form out) × (n ≡ bounded (length (text_of i o.form out)))
-CountedRounds i o ls old new (Err e) = Rounds i o ls old new (Err e)
+abbrev pub CountedRounds : (i : Inputs) (o : Options) (c : model_cores.Core (machine (system_of i) o.steps)) (ls : List Line) → (old new : Option (List ℕ)) → Result (Round × Tally) RunError → Type 0
+CountedRounds i o c ls old new (Ok (round, tally)) =
+    (out : List Line) × IsAfter i o.steps o.horizon c (ls ++ out) round × Appends old new (text_of i o.form out) × (tally.bytes ≡ bounded (length (text_of i o.form out)))
+CountedRounds i o c ls old new (Err e) = Rounds i o c ls old new (Err e)
 
 -- ---- A run
 
@@ -162,7 +171,20 @@ lines_out (settled.Going core out) = out.items
 lines_out (settled.Ended core out) = out.items
 lines_out (settled.Stopped out mark) = out.items
 
--- All are home again, and these lines are the next ones.
-pub record IsHomeAgain (i : Inputs) (limit horizon : ℕ) (ls : List Line) (s : Settled) : Type 0 where
+-- All are home again after a round of the core c, and these lines are the next ones.
+pub record IsHomeAgain (i : Inputs) (limit horizon : ℕ) (c : model_cores.Core (machine (system_of i) limit)) (ls : List Line) (s : Settled) : Type 0 where
   pub belong : All (BelongsTo (system_of i)) (lines_out s)
-  pub after : IsAfter i limit horizon (ls ++ map (line_of (system_of i)) (lines_out s)) (round_of s)
+  pub after : IsAfter i limit horizon c (ls ++ map (line_of (system_of i)) (lines_out s)) (round_of s)
+
+-- The core has come to where it stands by some steps, each in its turn, and these lines were handed out of it: but of those that it keeps some may be final by now.
+pub record IsOnItsWay (i : Inputs) (limit horizon : ℕ) (core : Core) (ls : List Line) : Type 0 where
+  pub of : IsCoreOf i limit core
+  pub steps : List (CoreStep (machine (system_of i) limit))
+  pub schedule : IsSchedule (machine (system_of i) limit) horizon (opening_core (system_of i) (stimuli_of i) limit) steps
+  pub at : IsAt i limit (core_of i limit steps) core.resources.items
+  pub left : HasKept i limit horizon (core_of i limit steps) (lists_of core.pending.items) ls
+
+-- So a core is after some turns of single resources from c, which hand nothing out and lower no floor.
+pub record HasWalked (i : Inputs) (limit horizon : ℕ) (c : model_cores.Core (machine (system_of i) limit)) (ls : List Line) (core : Core) : Type 0 where
+  pub way : IsOnItsWay i limit horizon core ls
+  pub floors : (m : ℕ) → IsFloor (machine (system_of i) limit) c m → IsFloor (machine (system_of i) limit) (core_of i limit way.steps) m

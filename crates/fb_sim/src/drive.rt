@@ -9,6 +9,7 @@ use crate::options::Options;
 use crate::outcome::RunError;
 use crate::progress::Round;
 use crate::round::counted_round;
+use crate::tally::Plan;
 use fb_phase::Gate;
 use fb_system::system::System;
 use fb_types::run::StopMark;
@@ -17,9 +18,6 @@ use std::alloc::Global;
 use std::io::Write;
 use std::sync::Wait;
 use std::thread::Threads;
-
-/// A round that writes fewer bytes than these is little work, so that the next one is made without threads.
-const MUCH: u128 = 10_000;
 
 /// How a run comes to its end.
 #[derive(Drop)]
@@ -40,18 +38,9 @@ fn later(written: u128, error: RunError) -> RunError
     }
 }
 
-/// How many workers the next round has, after one that wrote so many bytes.
-fn next_workers(count: u128, most: u64) -> u64
-    requires some { 1 ≤ most }
-    requires few { most ≤ 64 }
-    ensures some { 1 ≤ result }
-    ensures few { result ≤ 64 }
-{
-    if count < MUCH { 1 } else { most }
-}
-
 /// Runs a core by rounds to the horizon, or to a stop, and writes all lines, but no last line. The count is that of the
-/// bytes that were written. The first round has all workers.
+/// bytes that were written. The first round has all workers, and each other one as many as what the round before it did
+/// is worth. There are no more rounds than ticks.
 pub(crate) fn run_on<R: Threads + Wait + Sync, W: Write, P: Gate>(
     rt: &R,
     alloc: Global,
@@ -69,12 +58,18 @@ pub(crate) fn run_on<R: Threads + Wait + Sync, W: Write, P: Gate>(
     let mut core = first;
     let mut written: u128 = 0;
     let mut workers = options.workers;
-    for _ in rt.forever() {
-        let now = Options { workers, ..options };
-        match counted_round(rt, alloc, system, core, now, out, gate) {
-            Ok((round, count)) => {
-                written = written.saturating_add(count);
-                workers = next_workers(count, options.workers);
+    let mut turns = 0;
+    // Each round that the run goes on after has left a tick behind: none is left after as many.
+    for _ in 0..options.horizon + 1 {
+        let plan = Plan {
+            options: Options { workers, ..options },
+            turns,
+        };
+        match counted_round(rt, alloc, system, core, plan, out, gate) {
+            Ok((round, tally)) => {
+                written = written.saturating_add(tally.bytes);
+                workers = tally.workers(options.workers);
+                turns = tally.turns();
                 match round {
                     Round::Going(next) => core = next,
                     Round::Ended(last) => return Ok((Finish::AtEnd(last), written)),

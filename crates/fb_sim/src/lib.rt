@@ -11,4 +11,5 @@ pub mod run;
 pub mod serial;
 pub mod simulation;
 pub mod state;
+mod tally;
 mod work;

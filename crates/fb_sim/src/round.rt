@@ -10,15 +10,17 @@ ghost use Rattle.fb_types.specs.States as model;
 ghost use Rattle.fb_types.specs.Text.{lines_text};
 ghost use Rattle.fb_system.specs.Lines.{BelongsTo};
 ghost use Rattle.fb_trace.specs.Progress.{bounded};
+ghost use Rattle.fb_window.specs.Finality.{core_of};
 ghost use Rattle.fb_window.specs.Jobs.{Does};
 ghost use Rattle.fb_sim.specs.Serial.{AreWithin};
 ghost use Rattle.fb_sim.specs.Rounds as spec;
-ghost use Rattle.fb_sim.specs.Rounds.{CountedRounds, HasCome, IsHomeAgain, Rounds, WritesPartOf, lines_out};
+ghost use Rattle.fb_sim.specs.Rounds.{CountedRounds, HasCome, HasWalked, IsHomeAgain, IsOnItsWay, Rounds, WritesPartOf, lines_out};
 ghost use Rattle.fb_sim.specs.declared.outcome.RunError.TheVariants.{Memory};
 
 use crate::options::Options;
 use crate::outcome::RunError;
 use crate::progress::Round;
+use crate::tally::{Plan, Tally};
 use crate::work::Windows;
 use fb_phase::{Gate, run_all};
 use fb_resource::resource::WindowDone;
@@ -35,15 +37,30 @@ use std::thread::Threads;
 /// How many ticks past the least event a bound may lie, so that a round does not gather lines without end.
 const CAP: u64 = 1024;
 
-/// How many workers the jobs want: no more than there are jobs with something to do, since the others cost next to
-/// nothing, and a thread costs more than one job.
-fn workers_for(jobs: &[Job], most: u64) -> usize
+/// How many of the jobs have something to do.
+fn busy_in(jobs: &[Job]) -> usize {
+    jobs.iter().filter(|job| !job.is_idle()).count()
+}
+
+/// How many lines the jobs gave.
+fn lines_in(dones: &[WindowDone]) -> usize {
+    let mut count: usize = 0;
+    for done in dones {
+        if let WindowDone::Ran { lines, .. } = done {
+            count = count.saturating_add(lines.len());
+        }
+    }
+    count
+}
+
+/// How many workers the busy jobs want: no more than there are of them, since the others cost next to nothing, and a
+/// thread costs more than one job.
+fn workers_for(busy: usize, most: u64) -> usize
     requires some { 1 ≤ most }
     requires few { most ≤ 64 }
     ensures some { 1 ≤ result }
     ensures few { result ≤ 64 }
 {
-    let busy = jobs.iter().filter(|job| !job.is_idle()).count();
     busy.min(most as usize).max(1)
 }
 
@@ -85,7 +102,20 @@ fn run_jobs<R: Threads + Wait + Sync, P: Gate>(
     Ok(run_all(rt, alloc, &Windows, jobs, workers, gate)?)
 }
 
-/// Runs each resource to its bound, by the workers, and puts all back together.
+/// The core after the turns of single resources that are planned. What has become final meanwhile is handed out after
+/// the next window.
+fn walked(alloc: Global, system: &System, core: Core, plan: Plan) -> Result<Core, RunError>
+    requires options { AreWithin plan.options }
+    requires come { (ls : List model.Line) × HasCome system.now plan.options.steps plan.options.horizon core ls }
+    ensures on { (ls : List model.Line) (come : HasCome system.now plan.options.steps plan.options.horizon core ls)
+        → IfOk result (λ d. HasWalked system.now plan.options.steps plan.options.horizon (core_of system.now plan.options.steps come.steps) ls d) }
+    ensures memory { IfErr result (λ e. e ≡ Memory) }
+{
+    Ok(core.walk(alloc, system, plan.options.horizon, plan.turns)?)
+}
+
+/// Runs each resource to its bound, by the workers, and puts all back together. It tells how many resources had
+/// something to do, and how many lines they gave.
 fn window<R: Threads + Wait + Sync, P: Gate>(
     rt: &R,
     alloc: Global,
@@ -93,18 +123,22 @@ fn window<R: Threads + Wait + Sync, P: Gate>(
     core: Core,
     options: Options,
     gate: &P,
-) -> Result<Settled, RunError>
+) -> Result<(Settled, usize, usize), RunError>
     requires options { AreWithin options }
-    requires come { (ls : List model.Line) × HasCome system.now options.steps options.horizon core ls }
-    ensures home { (ls : List model.Line) → HasCome system.now options.steps options.horizon core ls → IfOk result (IsHomeAgain system.now options.steps options.horizon ls) }
+    requires come { (ls : List model.Line) × IsOnItsWay system.now options.steps options.horizon core ls }
+    ensures home { (ls : List model.Line) (way : IsOnItsWay system.now options.steps options.horizon core ls)
+        → IfOk result (λ r. IsHomeAgain system.now options.steps options.horizon (core_of system.now options.steps way.steps) ls r.0) }
     ensures memory { IfErr result (λ e. e ≡ Memory) }
 {
     system.facts();
     let bounds = core.bounds(options.horizon, CAP);
     let (away, jobs) = core.jobs(alloc, system, bounds)?;
-    let workers = workers_for(jobs.as_slice(), options.workers);
+    let busy = busy_in(jobs.as_slice());
+    let workers = workers_for(busy, options.workers);
     let dones = run_jobs(rt, alloc, jobs, workers, gate)?;
-    Ok(away.settle(alloc, system, dones)?)
+    let lines = lines_in(dones.as_slice());
+    let settled = away.settle(alloc, system, dones)?;
+    Ok((settled, busy, lines))
 }
 
 /// The lines that are to be written.
@@ -148,28 +182,31 @@ fn hand_out<W: Write>(
     }
 }
 
-/// A round, with the count of the bytes that were written.
+/// A round as planned, with what it has done.
 pub(crate) fn counted_round<R: Threads + Wait + Sync, W: Write, P: Gate>(
     rt: &R,
     alloc: Global,
     system: &System,
     core: Core,
-    options: Options,
+    plan: Plan,
     out: &mut W,
     gate: &P,
-) -> Result<(Round, u128), RunError>
-    requires options { AreWithin options }
-    requires come { (ls : List model.Line) × HasCome system.now options.steps options.horizon core ls }
-    ensures { (ls : List model.Line) → HasCome system.now options.steps options.horizon core ls → CountedRounds system.now options ls (W.contents out.old) (W.contents out.new) result }
+) -> Result<(Round, Tally), RunError>
+    requires options { AreWithin plan.options }
+    requires come { (ls : List model.Line) × HasCome system.now plan.options.steps plan.options.horizon core ls }
+    ensures { (ls : List model.Line) (come : HasCome system.now plan.options.steps plan.options.horizon core ls)
+        → CountedRounds system.now plan.options (core_of system.now plan.options.steps come.steps) ls (W.contents out.old) (W.contents out.new) result }
 {
     system.facts();
-    let settled = window(rt, alloc, system, core, options, gate)?;
-    let count = hand_out(out, system, options.form, lines_of(&settled))?;
-    Ok((round_of(settled), count))
+    let core = walked(alloc, system, core, plan)?;
+    let (settled, busy, lines) = window(rt, alloc, system, core, plan.options, gate)?;
+    let bytes = hand_out(out, system, plan.options.form, lines_of(&settled))?;
+    Ok((round_of(settled), Tally { bytes, busy, lines }))
 }
 
 /// Runs each resource to its bound, exchanges their messages, and writes the lines that have become final, but no last
-/// line. What a chain of rounds from the opening has written is the text of the final lines.
+/// line. What a chain of rounds from the opening has written is the text of the final lines. While a run goes on the
+/// least tick of all events rises in each round, and is below the horizon: so there are no more rounds than ticks.
 ///
 /// It waits for its workers, and for the gate where that waits.
 ///
@@ -186,8 +223,10 @@ pub fn round<R: Threads + Wait + Sync, W: Write, P: Gate>(
 ) -> Result<Round, RunError>
     requires options { AreWithin options }
     requires come { (ls : List model.Line) × HasCome system.now options.steps options.horizon core ls }
-    ensures { (ls : List model.Line) → HasCome system.now options.steps options.horizon core ls → Rounds system.now options ls (W.contents out.old) (W.contents out.new) result }
+    ensures { (ls : List model.Line) (come : HasCome system.now options.steps options.horizon core ls)
+        → Rounds system.now options (core_of system.now options.steps come.steps) ls (W.contents out.old) (W.contents out.new) result }
 {
-    let (round, _) = counted_round(rt, alloc, system, core, options, out, gate)?;
+    let plan = Plan { options, turns: 0 };
+    let (round, _) = counted_round(rt, alloc, system, core, plan, out, gate)?;
     Ok(round)
 }

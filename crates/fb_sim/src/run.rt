@@ -54,7 +54,8 @@ pub(crate) fn close<W: Write>(
 ///
 /// Each round runs every resource as far as no message can reach it any more, then exchanges the messages, and then
 /// writes the lines that have become final. No memory is asked for between the first byte of a round and its last.
-/// It waits for its workers, and for the gate where that waits.
+/// Where the round before had little to do, up to 256 turns of single resources go before, on the calling thread and
+/// past no gate. It waits for its workers, and for the gate where that waits.
 ///
 /// # Errors
 /// `BadOption` before all else; then `Refused`, after which nothing was written; `Memory`, after which a beginning of

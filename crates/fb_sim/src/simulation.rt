@@ -112,7 +112,7 @@ impl Simulation {
             Phase::Running if to <= self.to => Ok(Outcome::End(self.to)),
             Phase::Running => match self.state.take() {
                 Some(core) => self.run_to(rt, core, to, out, gate),
-                None => Err(RunError::Failed),
+                None => unreachable!(),
             },
         }
     }

@@ -9,7 +9,7 @@ use Rattle.fb_types.specs.Cores.{Core, floor, floor_of}
 use Rattle.fb_types.specs.Schedules.{IsFinal}
 use Rattle.fb_types.proofs.EachLaws.{each_map, each_both, each_append}
 use Rattle.fb_resource.proofs.Lines.{filter_in, filter_out, filter_joined, filter_all, filter_nothing, merge_same}
-use Rattle.fb_window.specs.Finality.{Edge, until, lines_from, TicksRise, IsFinalIn, IsLeastTick, IsEdge, HaveLeft}
+use Rattle.fb_window.specs.Finality.{Edge, until, lines_from, TicksRise, IsFinalIn, IsLeastTick, IsEdge, HaveLeft, NoneIsFinal}
 
 some_of : {A : Type 0} (o : Option A) → is_some o ≡ true → (x : A) × (o ≡ Some x)
 some_of None h = absurd cc
@@ -314,8 +314,8 @@ pub record IsLater (M : Machine) (count horizon : ℕ) (c d : Core M) (more : �
   pub stays : (r t : ℕ) → r < count → IsFinalIn M count c t r → IsFinalIn M count d t r
   pub fresh : (r : ℕ) → r < count → Each (λ (x : M.Line). IsFinalIn M count c (M.line_tick x) r → ⊥) (more r)
 
-module _ (M : Machine) (count horizon : ℕ) (c d : Core M) (kept more : ℕ → List M.Line) (ls : List M.Line) (m : ℕ) (f : Edge)
-    (later : IsLater M count horizon c d more) (h : HaveLeft M count horizon c kept ls) (edge : IsEdge M count d m f) (low : IsLeastTick M horizon d m) where
+module _ (M : Machine) (count horizon : ℕ) (c d : Core M) (kept more : ℕ → List M.Line) (ls : List M.Line)
+    (later : IsLater M count horizon c d more) (h : HaveLeft M count horizon c kept ls) where
   -- what was added lies from the old edge on
   late : (r : ℕ) → r < count → Each (λ (x : M.Line). until h.edge r ≤ M.line_tick x) (more r)
   late r b =
@@ -325,7 +325,7 @@ module _ (M : Machine) (count horizon : ℕ) (c d : Core M) (kept more : ℕ →
       (each_right _ (c r).lines (more r) (subst (Each (λ (x : M.Line). M.line_tick x < horizon)) (later.grown r b) (later.below r b)))
       (later.fresh r b)
 
-  before : (r : ℕ) → r < count → lines_before M (until h.edge r) (d r).lines ≡ lines_before M (until h.edge r) (c r).lines
+  pub before : (r : ℕ) → r < count → lines_before M (until h.edge r) (d r).lines ≡ lines_before M (until h.edge r) (c r).lines
   before r b =
       ap (λ z. lines_before M (until h.edge r) z) (later.grown r b) ∙ filter_joined (is_before M (until h.edge r)) (c r).lines (more r)
       ∙ ap (λ z. lines_before M (until h.edge r) (c r).lines ++ z) (none_before M (until h.edge r) (more r) (late r b)) ∙ append_none (lines_before M (until h.edge r) (c r).lines)
@@ -335,6 +335,17 @@ module _ (M : Machine) (count horizon : ℕ) (c d : Core M) (kept more : ℕ →
       ap (λ z. z ++ more r) (h.rest r b) ∙ ap (λ z. lines_from M (until h.edge r) (c r).lines ++ z) (sym (all_from M (until h.edge r) (more r) (late r b)))
       ∙ sym (filter_joined (λ z. not (is_before M (until h.edge r) z)) (c r).lines (more r)) ∙ ap (λ z. lines_from M (until h.edge r) z) (sym (later.grown r b))
 
+  -- Where none of it is handed out, it is kept with what was kept before.
+  pub kept_more : HaveLeft M count horizon d (λ r. kept r ++ more r) ls
+  kept_more = record {
+    edge = h.edge;
+    final = λ r t b u v. later.stays r t b (h.final r t b u v);
+    merged = merge_same M count _ _ ls (λ r b. sym (before r b)) h.merged;
+    rest = whole;
+  }
+
+module _ (M : Machine) (count horizon : ℕ) (c d : Core M) (kept more : ℕ → List M.Line) (ls : List M.Line) (m : ℕ) (f : Edge)
+    (later : IsLater M count horizon c d more) (h : HaveLeft M count horizon c kept ls) (edge : IsEdge M count d m f) (low : IsLeastTick M horizon d m) where
   inside : (r : ℕ) → r < count → Each (λ (x : M.Line). M.line_tick x < until h.edge r → M.line_tick x < until f r) (d r).lines
   inside r b =
       each_map _ _ (d r).lines
@@ -345,14 +356,14 @@ module _ (M : Machine) (count horizon : ℕ) (c d : Core M) (kept more : ℕ →
       (later.below r b)
 
   rest : (r : ℕ) → r < count → lines_from M (until f r) (kept r ++ more r) ≡ lines_from M (until f r) (d r).lines
-  rest r b = ap (λ z. lines_from M (until f r) z) (whole r b) ∙ from_from M (until h.edge r) (until f r) (d r).lines (inside r b)
+  rest r b = ap (λ z. lines_from M (until f r) z) (whole M count horizon c d kept more ls later h r b) ∙ from_from M (until h.edge r) (until f r) (d r).lines (inside r b)
 
   -- Of what was kept, and what was added, the part before the new edge was merged and handed out. Then all that was handed out is a merge to that edge.
   pub handed_merge : (out : List M.Line) → IsMerge M count (λ r. lines_before M (until f r) (kept r ++ more r)) out → IsMerge M count (λ r. lines_before M (until f r) (d r).lines) (ls ++ out)
   handed_merge out merge =
       merge_more M count h.edge f (λ r. (d r).lines) ls out later.rise inside
-      (merge_same M count _ _ ls (λ r b. sym (before r b)) h.merged)
-      (merge_same M count _ _ out (λ r b. ap (λ z. lines_before M (until f r) z) (whole r b)) merge)
+      (merge_same M count _ _ ls (λ r b. sym (before M count horizon c d kept more ls later h r b)) h.merged)
+      (merge_same M count _ _ out (λ r b. ap (λ z. lines_before M (until f r) z) (whole M count horizon c d kept more ls later h r b)) merge)
 
   -- and the part from it on is what is kept
   pub handed_more : (out : List M.Line) → IsMerge M count (λ r. lines_before M (until f r) (kept r ++ more r)) out → HaveLeft M count horizon d (λ r. lines_from M (until f r) (kept r ++ more r)) (ls ++ out)
@@ -361,9 +372,12 @@ module _ (M : Machine) (count horizon : ℕ) (c d : Core M) (kept more : ℕ →
     final = λ r t b u v. (m, low.is_floor, final_edge M count d m f edge r t v);
     merged = handed_merge out merge;
     rest = rest;
-    waits = λ r b.
-        subst (Each (λ (x : M.Line). IsFinalIn M count d (M.line_tick x) r → ⊥)) (sym (rest r b))
-        (each_map _ _ (lines_from M (until f r) (d r).lines)
-        (λ x q. not_final_in M count d m f edge horizon low r (M.line_tick x) q.0 (ltb-false (M.line_tick x) (until f r) (not-true (is_before M (until f r) x) q.1)))
-        (each_filter _ (λ z. not (is_before M (until f r) z)) (d r).lines (later.below r b)));
   }
+
+  -- none of which is final
+  pub none_final : NoneIsFinal M count d (λ r. lines_from M (until f r) (kept r ++ more r))
+  none_final r b =
+      subst (Each (λ (x : M.Line). IsFinalIn M count d (M.line_tick x) r → ⊥)) (sym (rest r b))
+      (each_map _ _ (lines_from M (until f r) (d r).lines)
+      (λ x q. not_final_in M count d m f edge horizon low r (M.line_tick x) q.0 (ltb-false (M.line_tick x) (until f r) (not-true (is_before M (until f r) x) q.1)))
+      (each_filter _ (λ z. not (is_before M (until f r) z)) (d r).lines (later.below r b)))

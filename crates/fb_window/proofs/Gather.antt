@@ -14,16 +14,16 @@ use Rattle.fb_types.specs.declared.run.Line.{Line}
 use Rattle.fb_types.proofs.EachLaws.{each_map}
 use Rattle.fb_trace.specs.Merging.{AreMerged, AreRising, IsRising, Rises, resource_of, tick_of}
 use Rattle.fb_trace.proofs.Merged.{is_merge}
-use Rattle.fb_window.specs.Finality.{Edge, until, lines_from, TicksRise, IsEdge, IsLeastTick, HaveLeft, HasHanded, lines_in}
+use Rattle.fb_window.specs.Finality.{Edge, until, lines_from, TicksRise, IsEdge, IsLeastTick, HaveLeft, HasHanded, HasKept, NoneIsFinal, lines_in}
 use Rattle.fb_window.specs.Frontiers.{AreCut}
 use Rattle.fb_window.specs.Settling.{lists_of}
-use Rattle.fb_window.proofs.Edges.{IsLater, each_filter, whole, handed_merge, handed_more}
+use Rattle.fb_window.proofs.Edges.{IsLater, each_filter, whole, handed_merge, handed_more, none_final}
 use Rattle.fb_window.proofs.Handing.{AreLinesOf}
 use Rattle.fb_window.proofs.Places.{has_at, is_at, one_at, index_at}
 
 -- ---- Lists
 
-map_append : {X Y : Type 0} (f : X → Y) (xs ys : List X) → map f (xs ++ ys) ≡ map f xs ++ map f ys
+pub map_append : {X Y : Type 0} (f : X → Y) (xs ys : List X) → map f (xs ++ ys) ≡ map f xs ++ map f ys
 map_append f [] ys = refl
 map_append f (x ∷ xs) ys = ap (λ z. f x ∷ z) (map_append f xs ys)
 
@@ -39,11 +39,11 @@ each_under : {X Y : Type 0} (P : X → Type 0) (Q : Y → Type 0) (f : X → Y) 
 each_under P Q f [] g h = tt
 each_under P Q f (x ∷ xs) g h = (g x h.0, each_under P Q f xs g h.1)
 
-map_length : {X Y : Type 0} (f : X → Y) (xs : List X) → length (map f xs) ≡ length xs
+pub map_length : {X Y : Type 0} (f : X → Y) (xs : List X) → length (map f xs) ≡ length xs
 map_length f [] = refl
 map_length f (x ∷ xs) = ap suc (map_length f xs)
 
-list_at : (ps : List (Vec Line)) (r : ℕ) (p : Vec Line) → slice_get ps r ≡ Some p → slice_index_or (lists_of ps) r [] ≡ p.items
+pub list_at : (ps : List (Vec Line)) (r : ℕ) (p : Vec Line) → slice_get ps r ≡ Some p → slice_index_or (lists_of ps) r [] ≡ p.items
 list_at ps r p e = index_at (lists_of ps) r p.items [] (got ps r p e)
   where
     got : (qs : List (Vec Line)) (n : ℕ) (q : Vec Line) → slice_get qs n ≡ Some q → slice_get (lists_of qs) n ≡ Some q.items
@@ -67,8 +67,10 @@ module _ (M : Machine) where
     final = h.final;
     merged = h.merged;
     rest = λ r b. same r b ∙ h.rest r b;
-    waits = λ r b. subst (Each _) (sym (same r b)) (h.waits r b);
   }
+
+  pub none_same : (count : ℕ) (c : Core M) (some others : ℕ → List M.Line) → ((r : ℕ) → r < count → others r ≡ some r) → NoneIsFinal M count c some → NoneIsFinal M count c others
+  none_same count c some others same h r b = subst (Each _) (sym (same r b)) (h r b)
 
 -- ---- One round
 
@@ -104,11 +106,11 @@ module _ (i : Inputs) (limit horizon : ℕ) (c d : Core (machine (system_of i) l
       ap named (joined r p.0 q p.1 f) ∙ map_append (line_of (system_of i)) p.0.items (more r)
       ∙ ap (λ z. named z ++ named (more r)) (sym (list_at before r p.0 p.1))
 
-  module _ (ls : List model.Line) (left : HasHanded i limit horizon c (lists_of before) ls) where
+  module _ (ls : List model.Line) (left : HasKept i limit horizon c (lists_of before) ls) where
     whole_is : (r : ℕ) (q : Vec Line) → slice_get pending r ≡ Some q → named q.items ≡ lines_from M (until left.left.edge r) (d r).lines
     whole_is r q f =
         let b : r < count = let g = is_at pending r q f in omega arith in
-        pending_is r q f ∙ whole M count horizon c d (lines_in i limit (lists_of before)) (λ n. named (more n)) ls m e later left.left edge low r b
+        pending_is r q f ∙ whole M count horizon c d (lines_in i limit (lists_of before)) (λ n. named (more n)) ls later left.left r b
 
     pending_rises : (r : ℕ) (q : Vec Line) → slice_get pending r ≡ Some q → Rises tick_of q.items
     pending_rises r q f = rises_under i limit q.items (subst (TicksRise M) (sym (whole_is r q f)) (rise_filter M _ (d r).lines (lines r).rise))
@@ -168,9 +170,12 @@ module _ (i : Inputs) (limit horizon : ℕ) (c d : Core (machine (system_of i) l
     -- and the others are kept.
     pub out_handed : (out : List Line) → (AreRising fronts → AreMerged fronts out) → HasHanded i limit horizon d (lists_of rests) (ls ++ named out)
     out_handed out h = record {
-      counted = map_length (λ (v : Vec Line). v.items) rests ∙ cut.rests ∙ counted_too;
-      left = left_same M count horizon d _ (lines_in i limit (lists_of rests)) (ls ++ named out) rest_is
-          (handed_more M count horizon c d (lines_in i limit (lists_of before)) (λ n. named (more n)) ls m e later left.left edge low (named out) (merges out (h fronts_rise)));
+      handed = record {
+        counted = map_length (λ (v : Vec Line). v.items) rests ∙ cut.rests ∙ counted_too;
+        left = left_same M count horizon d _ (lines_in i limit (lists_of rests)) (ls ++ named out) rest_is
+            (handed_more M count horizon c d (lines_in i limit (lists_of before)) (λ n. named (more n)) ls m e later left.left edge low (named out) (merges out (h fronts_rise)));
+      };
+      waits = none_same M count d _ (lines_in i limit (lists_of rests)) rest_is (none_final M count horizon c d (lines_in i limit (lists_of before)) (λ n. named (more n)) ls m e later left.left edge low);
     }
       where
         rest_is : (r : ℕ) → r < count → lines_in i limit (lists_of rests) r ≡ lines_from M (until e r) (all_of r)

@@ -19,7 +19,7 @@ use Rattle.fb_resource.proofs.Bridge.{world_of}
 use Rattle.fb_resource.proofs.Lines.{merge_one, merge_same}
 use Rattle.fb_resource.proofs.Opening.{is_opening}
 use Rattle.fb_resource.proofs.OwnPart.{lawful}
-use Rattle.fb_window.specs.Finality.{Edge, until, lines_from, IsFinalIn, IsEdge, HaveLeft}
+use Rattle.fb_window.specs.Finality.{Edge, until, lines_from, IsFinalIn, IsEdge, HaveLeft, NoneIsFinal}
 use Rattle.fb_window.specs.Law.{lines_to}
 use Rattle.fb_window.proofs.Edges.{until_before, until_within, until_outside, until_past, until_cases, none_since_each, each_filter, none_before, all_before, before_whole, IsLater}
 use Rattle.fb_window.proofs.Handing.{AreLinesOf, core_lines, is_later}
@@ -37,8 +37,8 @@ module _ (M : Machine) where
   -- at the horizon all lines were handed out
   pub left_at_end : (count horizon : ℕ) (c : Core M) (kept : ℕ → List M.Line) (ls : List M.Line)
       → ((r : ℕ) → r < count → Each (λ (x : M.Line). M.line_tick x < horizon) (c r).lines)
-      → IsAtHorizon M count horizon c → HaveLeft M count horizon c kept ls → IsMerge M count (λ r. (c r).lines) ls
-  left_at_end count horizon c kept ls below at h =
+      → IsAtHorizon M count horizon c → HaveLeft M count horizon c kept ls → NoneIsFinal M count c kept → IsMerge M count (λ r. (c r).lines) ls
+  left_at_end count horizon c kept ls below at h waits =
       merge_same M count _ _ ls (λ r b. before_whole M (until h.edge r) (c r).lines (sym (h.rest r b) ∙ none_since_each (kept r) (none r b))) h.merged
     where
       final : (r t : ℕ) → t < horizon → IsFinalIn M count c t r
@@ -56,7 +56,7 @@ module _ (M : Machine) where
           each_both (λ (x : M.Line). M.line_tick x < horizon) _ _ (kept r) (λ x i n. n (final r (M.line_tick x) i))
           (subst (Each (λ (x : M.Line). M.line_tick x < horizon)) (sym (h.rest r b))
           (each_map _ _ (lines_from M (until h.edge r) (c r).lines) (λ x q. q.0) (each_filter _ (λ z. not (nat_lt (M.line_tick z) (until h.edge r))) (c r).lines (below r b))))
-          (h.waits r b)
+          (waits r b)
 
   -- at the least stop the edge is there, within the lines of the resource that stops
   pub until_at_stop : (count : ℕ) (c : Core M) (m : ℕ) (e : Edge) (s : ℕ) (reason : M.Reason) → IsEdge M count c m e → IsLeastStop M count c s reason

@@ -189,6 +189,11 @@ module _ (M : Machine) where
       let up = raised_more M horizon w c runs v m fl in
       record { n = u.m; more = up; goes = goes_all law w horizon es c runs u u.m (omega arith) x }
 
+  -- a tick that no event precedes stays one
+  pub floor_stays : (law : IsLawful M) (w : World M) (horizon : ℕ) (es : List (CoreStep M)) (c : Core M) (runs : ℕ → List (Item M)) (v : Inv M horizon w c runs) → IsSchedule M horizon c es
+      → (m : ℕ) → IsFloor M c m → IsFloor M (core_after M c es) m
+  floor_stays law w horizon es c runs v x m fl s k b = let y = onward law w horizon es c runs v m fl x in let up = y.more in y.goes.is_floor s k (omega arith)
+
   -- what is final stays final
   pub final_stays : (law : IsLawful M) (w : World M) (horizon : ℕ) (es : List (CoreStep M)) (c : Core M) (runs : ℕ → List (Item M)) (v : Inv M horizon w c runs) (count : ℕ) → IsSchedule M horizon c es
       → (r t : ℕ) → IsFinalIn M count c t r → IsFinalIn M count (core_after M c es) t r

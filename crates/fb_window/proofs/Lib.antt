@@ -29,9 +29,14 @@ pub mod HomeIs
 pub mod Leaves
 pub mod Opens
 pub mod Turns
+pub mod Delivers
+pub mod Receives
 pub mod Posted
 pub mod Standings
 pub mod Gather
 pub mod Targets
 pub mod Rounds
 pub mod Sends
+pub mod Single
+pub mod Walking
+pub mod Walked

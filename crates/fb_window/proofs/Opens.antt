@@ -68,14 +68,16 @@ length_lists (p ∷ ps) = ap suc (length_lists ps)
 pub opened_left : (i : Inputs) (limit horizon : ℕ) (pending : List (Vec Line)) → length pending ≡ count_of (system_of i) → All (λ (p : Vec Line). p.items ≡ []) pending
     → HasHanded i limit horizon (core_of i limit []) (lists_of pending) []
 opened_left i limit horizon pending counted none = record {
-  counted = length_lists pending ∙ counted;
-  left = record {
-    edge = first;
-    final = λ r t b u l. let e = first_until r in absurd (omega arith);
-    merged = record { order = tt; parts = λ r b. refl; counted = tt };
-    rest = λ r b. nothing r;
-    waits = λ r b. subst (Each _) (sym (nothing r)) tt;
+  handed = record {
+    counted = length_lists pending ∙ counted;
+    left = record {
+      edge = first;
+      final = λ r t b u l. let e = first_until r in absurd (omega arith);
+      merged = record { order = tt; parts = λ r b. refl; counted = tt };
+      rest = λ r b. nothing r;
+    };
   };
+  waits = λ r b. subst (Each _) (sym (nothing r)) tt;
 }
   where
     nothing : (r : ℕ) → lines_in i limit (lists_of pending) r ≡ []

@@ -33,14 +33,14 @@ module _ (M : Machine) where
   phase_of turns zero = []
   phase_of turns (suc n) = phase_of turns n ++ turn_steps M n (turns n)
 
-  own_steps : (r : ℕ) (o : Option (Turn M)) → steps_of M r (turn_steps M r o) ≡ turn_steps M r o
+  pub own_steps : (r : ℕ) (o : Option (Turn M)) → steps_of M r (turn_steps M r o) ≡ turn_steps M r o
   own_steps r None = refl
   own_steps r (Some t) =
       let e = eq-eqb r r refl in
       filter_in (is_step_of M r) (Lend t.worker r t.bound) (Give t.worker r t.run ∷ []) e
       ∙ ap (λ z. Lend t.worker r t.bound ∷ z) (filter_in (is_step_of M r) (Give t.worker r t.run) [] e)
 
-  other_steps : (q r : ℕ) (o : Option (Turn M)) → (q ≡ r → ⊥) → steps_of M r (turn_steps M q o) ≡ []
+  pub other_steps : (q r : ℕ) (o : Option (Turn M)) → (q ≡ r → ⊥) → steps_of M r (turn_steps M q o) ≡ []
   other_steps q r None n = refl
   other_steps q r (Some t) n =
       let e = ne_eqb q r n in

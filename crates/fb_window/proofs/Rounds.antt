@@ -31,7 +31,7 @@ use Rattle.fb_resource.proofs.Opening.{is_counted, is_opening}
 use Rattle.fb_resource.proofs.OwnPart.{lawful}
 use Rattle.fb_resource.specs.declared.resource.Inner.{Inner}
 use Rattle.fb_resource.specs.declared.resource.WindowDone.{WindowDone}
-use Rattle.fb_window.specs.Finality.{Edge, until, HasHanded, IsEdge, IsLeastTick, core_of}
+use Rattle.fb_window.specs.Finality.{Edge, until, HasHanded, HasKept, IsEdge, IsLeastTick, core_of}
 use Rattle.fb_window.specs.Frontiers.{AreCut, IsEnd, IsFirstStop, IsFrontier, AreAllPast, AreAtHorizon}
 use Rattle.fb_window.specs.Homes.{AreHome}
 use Rattle.fb_window.specs.Jobs.{Does, jobs_of, resting_of}
@@ -75,7 +75,7 @@ pub record HasFound (i : Inputs) (horizon : ℕ) (h : Home) (zs : List Inner) (f
   pub merged : AreRising fronts → AreMerged fronts out
   pub ends : IsEnd horizon zs end
 
-schedule_rest : (M : Machine) (horizon : ℕ) (es fs : List (CoreStep M)) (c : Core M) → IsSchedule M horizon c (es ++ fs) → IsSchedule M horizon (core_after M c es) fs
+pub schedule_rest : (M : Machine) (horizon : ℕ) (es fs : List (CoreStep M)) (c : Core M) → IsSchedule M horizon c (es ++ fs) → IsSchedule M horizon (core_after M c es) fs
 schedule_rest M horizon [] fs c x = x
 schedule_rest M horizon (e ∷ es) fs c x = schedule_rest M horizon es fs _ x.1
 
@@ -159,7 +159,7 @@ module _ (i : Inputs) (good : AreGood i) (limit horizon : ℕ) (es : List (CoreS
   joined : (r : ℕ) (p q : Vec Line) → slice_get before r ≡ Some p → slice_get h.pending.items r ≡ Some q → q.items ≡ p.items ++ more r
   joined r p q e f = joined_of r p q (let b = is_at_place h.pending.items r q f in let n = home.pending in let k = at.counted in omega arith) e f (cases_lt r (count_of sys))
 
-  before_counted : {ls : List model.Line} → HasHanded i limit horizon c (lists_of before) ls → length before ≡ count_of (system_of i)
+  before_counted : {ls : List model.Line} → HasKept i limit horizon c (lists_of before) ls → length before ≡ count_of (system_of i)
   before_counted left = sym (length_lists before) ∙ left.counted
     where
       length_lists : (ps : List (Vec Line)) → length (lists_of ps) ≡ length ps
@@ -203,11 +203,11 @@ module _ (i : Inputs) (good : AreGood i) (limit horizon : ℕ) (es : List (CoreS
     lines : (r : ℕ) → AreLinesOf (machine (system_of i) limit) horizon r (d r).lines
     lines r = core_lines M law horizon w d (runs_after M (es ++ fs ++ Exchange ∷ [])) end_inv r
 
-    handed : (ls : List model.Line) → HasHanded i limit horizon c (lists_of before) ls → HasHanded i limit horizon d (lists_of rests) (ls ++ map (line_of (system_of i)) out)
+    handed : (ls : List model.Line) → HasKept i limit horizon c (lists_of before) ls → HasHanded i limit horizon d (lists_of rests) (ls ++ map (line_of (system_of i)) out)
     handed ls left =
         out_handed i limit horizon c d before h.pending.items more (before_counted left) (home.pending ∙ at.counted) joined later lines found.least found.edge edge low fronts rests found.cut ls left out found.merged
 
-    merges : (ls : List model.Line) → HasHanded i limit horizon c (lists_of before) ls
+    merges : (ls : List model.Line) → HasKept i limit horizon c (lists_of before) ls
         → IsMerge (machine (system_of i) limit) (count_of (system_of i)) (λ r. lines_before (machine (system_of i) limit) (until found.edge r) (d r).lines) (ls ++ map (line_of (system_of i)) out)
     merges ls left =
         out_merges i limit horizon c d before h.pending.items more (before_counted left) (home.pending ∙ at.counted) joined later lines found.least found.edge edge low fronts rests found.cut ls left out found.merged
@@ -262,7 +262,7 @@ module _ (i : Inputs) (good : AreGood i) (limit horizon : ℕ) (es : List (CoreS
         → IsLeastStop (machine (system_of i) limit) (count_of (system_of i)) d m.resource m.reason
         × ((d m.resource).clock ≡ m.tick)
         × All (BelongsTo (system_of i)) out
-        × ((ls : List model.Line) → HasHanded i limit horizon c (lists_of before) ls
+        × ((ls : List model.Line) → HasKept i limit horizon c (lists_of before) ls
         → IsMerge (machine (system_of i) limit) (count_of (system_of i)) (lines_to (system_of i) limit m.tick m.resource d) (ls ++ map (line_of (system_of i)) out))
     stopped m e belong = (
       stop,

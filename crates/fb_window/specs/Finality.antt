@@ -47,13 +47,16 @@ module _ (M : Machine) where
     pub least : (q : ℕ) → q < count → (e.tick < floor M c m q) ⊎ ((e.tick ≡ floor M c m q) × (e.resource ≤ q))
     pub stopped : e.within ≡ is_some (c e.resource).state.stop
 
-  -- These lines were handed out: the final ones, in the order of the trace. The rest of each resource's lines is kept, none of which is final.
+  -- These lines were handed out, in the order of the trace: final ones. The rest of each resource's lines is kept.
   pub record HaveLeft (count horizon : ℕ) (c : Core M) (kept : ℕ → List M.Line) (ls : List M.Line) : Type 0 where
     pub edge : Edge
     pub final : (r t : ℕ) → r < count → t < horizon → t < until edge r → IsFinalIn count c t r
     pub merged : IsMerge M count (λ r. lines_before M (until edge r) (c r).lines) ls
     pub rest : (r : ℕ) → r < count → kept r ≡ lines_from (until edge r) (c r).lines
-    pub waits : (r : ℕ) → r < count → Each (λ (x : M.Line). IsFinalIn count c (M.line_tick x) r → ⊥) (kept r)
+
+  -- No line that is kept is final.
+  abbrev pub NoneIsFinal : (count : ℕ) → Core M → (kept : ℕ → List M.Line) → Type 0
+  NoneIsFinal count c kept = (r : ℕ) → r < count → Each (λ (x : M.Line). IsFinalIn count c (M.line_tick x) r → ⊥) (kept r)
 
 -- ---- In a run
 
@@ -65,7 +68,12 @@ core_of i limit es = core_after (machine (system_of i) limit) (opening_core (sys
 abbrev pub lines_in : (i : Inputs) (limit : ℕ) → (lists : List (List Line)) → (resource : ℕ) → List model.Line
 lines_in i limit ps r = map (line_of (system_of i)) (slice_index_or ps r [])
 
--- The lines were handed out of the core, and these lists are kept, one for each resource.
-pub record HasHanded (i : Inputs) (limit horizon : ℕ) (c : Core (machine (system_of i) limit)) (kept : List (List Line)) (ls : List model.Line) : Type 0 where
+-- The lines were handed out of the core, and these lists are kept, one for each resource. Some of their lines may be final by now.
+pub record HasKept (i : Inputs) (limit horizon : ℕ) (c : Core (machine (system_of i) limit)) (kept : List (List Line)) (ls : List model.Line) : Type 0 where
   pub counted : length kept ≡ count_of (system_of i)
   pub left : HaveLeft (machine (system_of i) limit) (count_of (system_of i)) horizon c (lines_in i limit kept) ls
+
+-- All final lines were handed out of the core: of those that are kept none is final.
+pub record HasHanded (i : Inputs) (limit horizon : ℕ) (c : Core (machine (system_of i) limit)) (kept : List (List Line)) (ls : List model.Line) : Type 0 where
+  pub handed : HasKept i limit horizon c kept ls
+  pub waits : NoneIsFinal (machine (system_of i) limit) (count_of (system_of i)) c (lines_in i limit kept)

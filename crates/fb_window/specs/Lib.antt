@@ -10,3 +10,4 @@ pub mod Homes
 pub mod Mails
 pub mod Frontiers
 pub mod Settling
+pub mod Walking

@@ -1,11 +1,12 @@
 -- Messages that come from the outboxes onto the agendas of their receivers (this project's profile).
 use Rattle.std.specs.Prelude.{◌≡◌, ℕ, ◌⊎◌, List, [], length, Some, slice_get}
 use Rattle.std.specs.Global.{Vec}
+use Rattle.std.specs.List.{filter}
 use Rattle.fb_types.specs.Systems.{System}
 use Rattle.fb_types.specs.declared.run.Message.{Message}
 use Rattle.fb_resource.specs.Resources.{HasReceived}
 use Rattle.fb_resource.specs.declared.resource.Inner.{Inner}
-use Rattle.fb_link.specs.Exchanges.{AreFor}
+use Rattle.fb_link.specs.Exchanges.{AreFor, goes_to}
 
 -- each has received the messages in the list at its place
 pub record AreDelivered (xs : List Inner) (boxes : List (Vec Message)) (ys : List Inner) : Type 0 where
@@ -19,3 +20,8 @@ pub record ArePosted (sys : System) (all : List Message) (xs ys : List Inner) : 
   pub each : (r : ℕ) (x : Inner) → slice_get xs r ≡ Some x
       → (y : Inner) × (slice_get ys r ≡ Some y)
       × (((all ≡ []) × (y ≡ x)) ⊎ ((ms : List Message) × AreFor sys r all ms × HasReceived ms x y))
+
+-- Each has received those of the messages that go to it, in their order.
+pub record AreGiven (sys : System) (ms : List Message) (xs ys : List Inner) : Type 0 where
+  pub counted : length ys ≡ length xs
+  pub each : (r : ℕ) (x : Inner) → slice_get xs r ≡ Some x → (y : Inner) × (slice_get ys r ≡ Some y) × HasReceived (filter (goes_to sys r) ms) x y

@@ -16,7 +16,7 @@ use Rattle.fb_system.specs.Lines.{BelongsTo}
 use Rattle.fb_resource.specs.declared.resource.Inner.{Inner}
 use Rattle.fb_window.specs.Law.{lines_to}
 use Rattle.fb_window.specs.Phases.{Turn, IsPhase, MayTurn}
-use Rattle.fb_window.specs.Finality.{HasHanded, core_of}
+use Rattle.fb_window.specs.Finality.{HasHanded, HasKept, core_of}
 use Rattle.fb_window.specs.Standing.{IsAt}
 use Rattle.fb_window.specs.Jobs.{jobs_of, resting_of}
 use Rattle.fb_window.specs.declared.cores.Away.{Away}
@@ -63,7 +63,7 @@ pub record IsKept (i : Inputs) (limit horizon : ℕ) (c d : model_cores.Core (ma
   pub inputs : core.system ≡ i
   pub steps : core.steps ≡ limit
   pub at : IsAt i limit d core.resources.items
-  pub left : (ls : List model.Line) → HasHanded i limit horizon c before ls → HasHanded i limit horizon d (lists_of core.pending.items) (ls ++ map (line_of (system_of i)) out)
+  pub left : (ls : List model.Line) → HasKept i limit horizon c before ls → HasHanded i limit horizon d (lists_of core.pending.items) (ls ++ map (line_of (system_of i)) out)
   pub belong : All (BelongsTo (system_of i)) out
   pub kept : All (λ p. All (BelongsTo (system_of i)) p.items) core.pending.items
 
@@ -88,7 +88,7 @@ IsSettled i limit horizon c d bs before (Stopped out mark) =
     IsLeastStop (machine (system_of i) limit) (count_of (system_of i)) d mark.resource mark.reason
     × ((d mark.resource).clock ≡ mark.tick)
     × All (BelongsTo (system_of i)) out.items
-    × ((ls : List model.Line) → HasHanded i limit horizon c before ls
+    × ((ls : List model.Line) → HasKept i limit horizon c before ls
     → IsMerge (machine (system_of i) limit) (count_of (system_of i)) (lines_to (system_of i) limit mark.tick mark.resource d) (ls ++ map (line_of (system_of i)) out.items))
 
 -- The steps of a phase and the exchange after it.

@@ -19,7 +19,7 @@ pub(crate) enum End {
 }
 
 /// The least stop, by tick, then resource.
-fn first_stop(resources: &[Resource]) -> Option<StopMark>
+pub(crate) fn first_stop(resources: &[Resource]) -> Option<StopMark>
     requires { length resources.now ≤ 256 }
     ensures some { IfSome result (IsFirstStop resources.now (length resources.now)) }
     ensures none { IfNone result (AreLive resources.now) }

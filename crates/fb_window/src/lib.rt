@@ -18,3 +18,4 @@ mod leave;
 mod open;
 mod post;
 pub mod settle;
+mod walk;

@@ -1,4 +1,4 @@
-//! Later rounds of a run have several workers too, where the round before them wrote much.
+//! Later rounds of a run have several workers too, where the window before them gave many lines.
 
 use super::gates::Meeting;
 use super::{ENOUGH, inputs_of, lines_in, to};

@@ -1,14 +1,14 @@
+use Rattle.std.proofs.Common.{arith}
 use Rattle.fb_sound.specs.Sound.{AreGood}
-use Rattle.fb_sim.proofs.RunIs.{came_first, came_more, came_end, came_stop, came_failed}
+use Rattle.fb_sim.proofs.RunIs.{came_early, came_first, came_more, came_end, came_stop, came_failed}
 use Rattle.fb_sim.proofs.drive.run_on.Goals as goal
 
 pub loop-init : goal.loop-init
 loop-init g c = record {
   some = c.requires.options.workers_least;
   few = c.requires.options.workers_most;
+  early = omega arith;
   came = λ ls h. came_first c.args.system.now c.args.options ls c.args.first _ h;
-  runs = tt;
-  finite = tt;
 }
 
 pub counted_round-requires-clause-options : goal.counted_round-requires-clause-options
@@ -31,31 +31,33 @@ counted_round-requires-clause-come g c κs w =
 -- one round more
 pub loop-preserved : goal.loop-preserved
 loop-preserved g c = record {
-  some = c.next_workers-workers.ensures.some;
-  few = c.next_workers-workers.ensures.few;
+  some = c.workers-workers.ensures.some;
+  few = c.workers-workers.ensures.few;
+  early =
+      let came = c.loop.invariant.came c.requires.come.0 c.requires.come.1 in
+      let early = came_early c.args.system.now c.args.options c.requires.come.0 c.loop.core _ _ _ c.loop.written c.loop.counter came c.in-Going.next c.in-Ok.tally (rw c.in-Going.is at c.in-Ok.ensures _ came.come) in
+      omega (arith, early);
   came =
       λ ls h.
       let came = c.loop.invariant.came ls h in
       rw c.saturating_add-written.ensures
-      (came_more c.args.system.now c.args.options ls c.loop.core _ _ _ c.loop.written came c.in-Going.next c.in-Ok.count (rw c.in-Going.is at c.in-Ok.ensures _ came.come));
-  runs = tt;
-  finite = tt;
+      (came_more c.args.system.now c.args.options ls c.loop.core _ _ _ c.loop.written c.loop.counter came c.in-Going.next c.in-Ok.tally (rw c.in-Going.is at c.in-Ok.ensures _ came.come));
 }
 
 pub returns-in-Ended : goal.returns-in-Ended
 returns-in-Ended g c ls h =
     let came = c.loop.invariant.came ls h in
     rw c.saturating_add-written.ensures
-    (came_end c.args.system.now c.args.options ls c.loop.core _ _ _ c.loop.written came c.in-Ended.last c.in-Ok.count (rw c.in-Ended.is at c.in-Ok.ensures _ came.come))
+    (came_end c.args.system.now c.args.options ls c.loop.core _ _ _ c.loop.written c.loop.counter came c.in-Ended.last c.in-Ok.tally (rw c.in-Ended.is at c.in-Ok.ensures _ came.come))
 
 pub returns-in-Stopped : goal.returns-in-Stopped
 returns-in-Stopped g c ls h =
     let came = c.loop.invariant.came ls h in
     rw c.saturating_add-written.ensures
-    (came_stop c.args.system.now c.args.options ls c.loop.core _ _ _ c.loop.written came c.in-Stopped.mark c.in-Ok.count (rw c.in-Stopped.is at c.in-Ok.ensures _ came.come))
+    (came_stop c.args.system.now c.args.options ls c.loop.core _ _ _ c.loop.written c.loop.counter came c.in-Stopped.mark c.in-Ok.tally (rw c.in-Stopped.is at c.in-Ok.ensures _ came.come))
 
 pub returns-in-Err : goal.returns-in-Err
 returns-in-Err g c ls h =
     let came = c.loop.invariant.came ls h in
     let good : AreGood c.args.system.now = record { accepted = c.facts.ensures.accepted; limits = c.facts.ensures.limits } in
-    rw c.later.ensures (came_failed c.args.system.now c.args.options ls c.loop.core _ _ _ c.loop.written came good c.loop.workers c.in-Err.error (c.in-Err.ensures _ came.come))
+    rw c.later.ensures (came_failed c.args.system.now c.args.options ls c.loop.core _ _ _ c.loop.written c.loop.counter came good c.loop.workers c.in-Err.error (c.in-Err.ensures _ came.come))

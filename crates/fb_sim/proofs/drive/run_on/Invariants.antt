@@ -8,8 +8,7 @@ abbrev pub invariant-loop : goal.invariant-loop
 invariant-loop g l = record {
   some : 1 ≤ l.workers;
   few : l.workers ≤ 64;
+  early : l.counter ≤ l.options.horizon;
   came : (ls : List Line) → HasCome l.system l.options.steps l.options.horizon l.fn.first ls
-      → Came l.system l.options ls l.core (g.W.Write.contents l.initial.out) (g.W.Write.contents l.out) l.written;
-  runs : (goal.iterator-loop g).can_next l.iterator';
-  finite : (goal.iterator-loop g).is_finite l.iterator';
+      → Came l.system l.options ls l.core (g.W.Write.contents l.initial.out) (g.W.Write.contents l.out) l.written l.counter;
 }

@@ -42,4 +42,4 @@ pub returns-clause-home : goal.returns-clause-home
 returns-clause-home g c ls h =
     let kept = c.in_ok-away.ensures.kept in
     is_home c.args.system.now c.args.options.steps c.args.options.horizon c.args.core ls h c.bounds-bounds.result.all _ kept.0 kept.1 kept.3 c.in_ok-away.ensures.away _
-    (record { accepted = c.facts.ensures.accepted; limits = c.facts.ensures.limits }) (kept.2 ∙ c.bounds-bounds.ensures.horizon) c.bounds-bounds.ensures.legal c.in_ok-settle.ensures
+    (record { accepted = c.facts.ensures.accepted; limits = c.facts.ensures.limits }) (kept.2 ∙ c.bounds-bounds.ensures.horizon) c.bounds-bounds.ensures.legal _ c.bounds-bounds.ensures.bounds c.in_ok-settled.ensures

@@ -1,0 +1,57 @@
+//! What a round has done, and how the next one is made of it.
+
+ghost use Rattle.std.specs.Prelude.{◌≤◌};
+
+use crate::options::Options;
+
+/// A window that gave fewer lines than these was so little work that neither a thread was worth its while, nor a look
+/// at each resource and each link, which a round has and a turn of a single resource has not.
+const MANY_LINES: usize = 64;
+
+/// How many turns of single resources go before a window, where the one before had little to do. The lines that they
+/// give wait for that window.
+const TURNS: u64 = 256;
+
+/// What a round has done.
+#[derive(Clone, Copy)]
+pub(crate) struct Tally {
+    /// The bytes that it wrote.
+    pub bytes: u128,
+    /// The resources that had something to do in its window.
+    pub busy: usize,
+    /// The lines that they gave.
+    pub lines: usize,
+}
+
+/// How a round is made.
+#[derive(Clone, Copy)]
+pub(crate) struct Plan {
+    /// The options of the run, but with as many workers as the round has at most.
+    pub options: Options,
+    /// How many turns of single resources go before its window, at most.
+    pub turns: u64,
+}
+
+impl Tally {
+    /// Whether its window had little to do.
+    fn is_thin(&self) -> bool {
+        self.busy < 2 || self.lines < MANY_LINES
+    }
+
+    /// How many workers the next round has at most.
+    pub(crate) fn workers(&self, most: u64) -> u64
+        requires some { 1 ≤ most }
+        requires few { most ≤ 64 }
+        ensures some { 1 ≤ result }
+        ensures few { result ≤ 64 }
+    {
+        if self.is_thin() { 1 } else { most }
+    }
+
+    /// How many turns of single resources go before the window of the next round, at most.
+    pub(crate) fn turns(&self) -> u64
+        ensures few { result ≤ 256 }
+    {
+        if self.is_thin() { TURNS } else { 0 }
+    }
+}

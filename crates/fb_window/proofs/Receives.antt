@@ -1,0 +1,138 @@
+-- Messages that come to resources one after another.
+use Rattle.std.proofs.Common.{◌≡◌, ◌≢◌, ℕ, ◌<◌, ◌==◌, Bool, true, false, Some, List, [], ◌∷◌, ◌++◌, map, length, refl, sym, ap, ◌∙◌, subst, ⊎_elim, arith, All, append-nil, inl, inr, ◌⊎◌}
+use Rattle.std.specs.Prelude.{slice_get, slice_set}
+use Rattle.std.specs.List.{filter}
+use Rattle.std.proofs.lemmas.Bool.{cases_eq, cond-true, cond-false, eq-eqb, ne_eqb, eqb-false}
+use Rattle.std.proofs.lemmas.List.{length-set}
+use Rattle.std.proofs.lemmas.List.Elements.{All-nil, All-cons, All-head, All-tail, filter-append}
+use Rattle.fb_types.specs.Headline.{Inputs, system_of}
+use Rattle.fb_types.specs.Keys.{or_else, found, same_key}
+use Rattle.fb_types.specs.Machines.{Local, Each}
+use Rattle.fb_types.specs.Parts.{machine}
+use Rattle.fb_types.specs.Systems.{System}
+use Rattle.fb_types.specs.declared.key.Key.{Key}
+use Rattle.fb_types.specs.declared.run.Message.{Message}
+use Rattle.fb_types.proofs.Lookups.{found-append, or_else_assoc, same_cases}
+use Rattle.fb_take.specs.Posts.{arriving}
+use Rattle.fb_link.specs.Exchanges.{goes_to, key_of, keyed, receiver_of}
+use Rattle.fb_link.proofs.Keyed.{found_kept}
+use Rattle.fb_link.proofs.Lists.{set_here, set_apart}
+use Rattle.fb_resource.specs.Resources.{HasReceived, IsFor, IsOf, StandsFor, with_messages}
+use Rattle.fb_resource.specs.declared.resource.Inner.{Inner}
+use Rattle.fb_window.specs.Mails.{AreGiven}
+use Rattle.fb_window.proofs.Delivers.{map_append}
+use Rattle.fb_window.proofs.Places.{has_at, is_at, one_at}
+
+-- ---- One resource
+
+-- where none come, it is as it was
+received_none : (x : Inner) → HasReceived [] x x
+received_none x = record { besides = refl; of = λ i limit of fit. of; stands = λ i limit of fit l s. s }
+
+all_front : {X : Type 0} (P : X → Type 0) (xs ys : List X) → All P (xs ++ ys) → All P xs
+all_front P [] ys h = All-nil P
+all_front P (x ∷ xs) ys h = All-cons P x xs (All-head P x (xs ++ ys) h) (all_front P xs ys (All-tail P x (xs ++ ys) h))
+
+all_back : {X : Type 0} (P : X → Type 0) (xs ys : List X) → All P (xs ++ ys) → All P ys
+all_back P [] ys h = h
+all_back P (x ∷ xs) ys h = all_back P xs ys (All-tail P x (xs ++ ys) h)
+
+-- and of one more behind the others
+received_more : (ms : List Message) (m : Message) (x y z : Inner) → HasReceived ms x y → HasReceived (m ∷ []) y z → HasReceived (ms ++ m ∷ []) x z
+received_more ms m x y z f g = record {
+  besides = g.besides ∙ ap (λ (u : Inner). record u { queues = record u.queues { agenda = z.queues.agenda } }) f.besides;
+  of = λ i limit of fit. g.of i limit (f.of i limit of (front i fit)) (last i fit);
+  stands = λ i limit of fit l s.
+      subst (λ (n : Local (machine (system_of i) limit)). StandsFor i limit n z) (joined i limit l)
+      (g.stands i limit (f.of i limit of (front i fit)) (last i fit) (with_messages i limit ms l) (f.stands i limit of (front i fit) l s));
+}
+  where
+    front : (i : Inputs) → All (IsFor i x) (ms ++ m ∷ []) → All (IsFor i x) ms
+    front i fit = all_front (IsFor i x) ms (m ∷ []) fit
+
+    last : (i : Inputs) → All (IsFor i x) (ms ++ m ∷ []) → All (IsFor i y) (m ∷ [])
+    last i fit =
+        let it = All-head (IsFor i x) m [] (all_back (IsFor i x) ms (m ∷ []) fit) in
+        All-cons (IsFor i y) m []
+        (record {
+          message = it.message;
+          here = it.here ∙ sym (ap (λ (u : Inner). u.tree.resource) f.besides);
+          later = let same = ap (λ (u : Inner). u.clock) f.besides in let late = it.later in omega arith;
+        })
+        (All-nil (IsFor i y))
+
+    inbox_is : (i : Inputs) (limit : ℕ) (l : Local (machine (system_of i) limit)) (k : Key)
+        → or_else (found k (map (arriving i) (m ∷ []))) (or_else (found k (map (arriving i) ms)) (l.inbox k)) ≡ or_else (found k (map (arriving i) (ms ++ m ∷ []))) (l.inbox k)
+    inbox_is i limit l k =
+        sym (or_else_assoc (found k (map (arriving i) (m ∷ []))) (found k (map (arriving i) ms)) (l.inbox k))
+        ∙ ap (λ o. or_else o (l.inbox k)) (sym (found-append k (map (arriving i) ms) (map (arriving i) (m ∷ []))) ∙ ap (λ z. found k z) (sym (map_append (arriving i) ms (m ∷ []))))
+
+    joined : (i : Inputs) (limit : ℕ) (l : Local (machine (system_of i) limit)) → with_messages i limit (m ∷ []) (with_messages i limit ms l) ≡ with_messages i limit (ms ++ m ∷ []) l
+    joined i limit l = λ u. record l { inbox = λ k. inbox_is i limit l k u }
+
+-- ---- All of them
+
+pub given_none : (sys : System) (xs : List Inner) → AreGiven sys [] xs xs
+given_none sys xs = record { counted = refl; each = λ r x e. (x, e, received_none x) }
+
+goes : (sys : System) (ms : List Message) (m : Message) (r : ℕ) → receiver_of sys m ≡ r → filter (goes_to sys r) (ms ++ m ∷ []) ≡ filter (goes_to sys r) ms ++ m ∷ []
+goes sys ms m r e =
+    filter-append (goes_to sys r) ms (m ∷ [])
+    ∙ ap (λ z. filter (goes_to sys r) ms ++ z) (cond-true (goes_to sys r m) (m ∷ []) [] (eq-eqb (receiver_of sys m) r e))
+
+stays : (sys : System) (ms : List Message) (m : Message) (r : ℕ) → receiver_of sys m ≢ r → filter (goes_to sys r) (ms ++ m ∷ []) ≡ filter (goes_to sys r) ms
+stays sys ms m r n =
+    filter-append (goes_to sys r) ms (m ∷ [])
+    ∙ ap (λ z. filter (goes_to sys r) ms ++ z) (cond-false (goes_to sys r m) (m ∷ []) [] (ne_eqb (receiver_of sys m) r n))
+    ∙ append-nil (filter (goes_to sys r) ms)
+
+-- what is at another place of a list in which one element was set
+pub set_other : {A : Type 0} (xs : List A) (i j : ℕ) (x y : A) → j ≢ i → slice_get xs j ≡ Some y → slice_get (slice_set xs i x) j ≡ Some y
+set_other xs i j x y apart e =
+    let b = is_at xs j y e in
+    let n = length-set xs i x in
+    let f = has_at (slice_set xs i x) j (omega arith) in
+    f.1 ∙ ap (λ z. Some z) (one_at xs j f.0 y (set_apart xs i j x f.0 apart f.1) e)
+
+pub set_same : {A : Type 0} (xs : List A) (i : ℕ) (x : A) → i < length xs → slice_get (slice_set xs i x) i ≡ Some x
+set_same xs i x b =
+    let n = length-set xs i x in
+    let f = has_at (slice_set xs i x) i (omega arith) in
+    f.1 ∙ ap (λ z. Some z) (sym (set_here xs i x f.0 b f.1))
+
+-- one more message comes to its receiver
+pub given_more : (sys : System) (ms : List Message) (m : Message) (xs ys : List Inner) (r : ℕ) (y z : Inner) → AreGiven sys ms xs ys → slice_get ys r ≡ Some y → receiver_of sys m ≡ r
+    → HasReceived (m ∷ []) y z → AreGiven sys (ms ++ m ∷ []) xs (slice_set ys r z)
+given_more sys ms m xs ys r y z g at to h = record {
+  counted = length-set ys r z ∙ g.counted;
+  each = λ q x e. go q x e (cases_eq q r);
+}
+  where
+    go : (q : ℕ) (x : Inner) → slice_get xs q ≡ Some x → ((q ≡ r) ⊎ (q ≢ r)) → (u : Inner) × (slice_get (slice_set ys r z) q ≡ Some u) × HasReceived (filter (goes_to sys q) (ms ++ m ∷ [])) x u
+    go q x e (inl same) =
+        let p = g.each q x e in
+        let was : p.0 ≡ y = one_at ys r p.0 y (subst (λ (n : ℕ). slice_get ys n ≡ Some p.0) same p.1) at in (
+          z,
+          subst (λ (n : ℕ). slice_get (slice_set ys r z) n ≡ Some z) (sym same) (set_same ys r z (is_at ys r y at)),
+          subst (λ (ns : List Message). HasReceived ns x z) (sym (goes sys ms m q (to ∙ sym same)))
+              (received_more (filter (goes_to sys q) ms) m x y z (subst (λ (u : Inner). HasReceived (filter (goes_to sys q) ms) x u) was p.2) h),
+        )
+    go q x e (inr apart) =
+        let p = g.each q x e in (
+          p.0,
+          set_other ys r q z p.0 apart p.1,
+          subst (λ (ns : List Message). HasReceived ns x p.0) (sym (stays sys ms m q (λ f. apart (sym f ∙ to)))) p.2,
+        )
+
+-- ---- Under keys
+
+each_all : {X : Type 0} (P : X → Type 0) (xs : List X) → ((x : X) → P x) → Each P xs
+each_all P [] f = tt
+each_all P (x ∷ xs) f = (f x, each_all P xs f)
+
+-- under a key of a resource stands among the messages to it what stands among all
+pub found_to : (sys : System) (r : ℕ) (ms : List Message) (k : Key) → k.resource ≡ r → found k (keyed sys (filter (goes_to sys r) ms)) ≡ found k (keyed sys ms)
+found_to sys r ms k e = sym (found_kept (key_of sys) k (goes_to sys r) ms (each_all _ ms (λ m n. elsewhere m n)))
+  where
+    elsewhere : (m : Message) → goes_to sys r m ≡ false → same_key (key_of sys m) k ≡ false
+    elsewhere m n = ⊎_elim (λ s. absurd (eqb-false (receiver_of sys m) r n (ap (λ z. z.resource) s ∙ e))) (λ s. s) (same_cases (key_of sys m) k)

@@ -1,0 +1,9 @@
+use Rattle.fb_window.specs.Frontiers.{AreLive}
+use Rattle.fb_window.proofs.Walked.{HasGone}
+use Rattle.fb_window.proofs.cores.Core.walk.Given as goal
+
+abbrev pub invariant-loop : goal.invariant-loop
+invariant-loop l = record {
+  gone : HasGone l.fn.self.system l.fn.self.steps l.horizon l.fn.self l.core l.counter;
+  live : AreLive l.core.resources.items;
+}

@@ -1,0 +1,145 @@
+//! Turns of one resource after another, on one thread.
+
+ghost use Rattle.std.specs.Prelude.{◌≡◌, ◌^◌, ◌<◌, ◌≤◌, ℕ, List, None, Some, All, IfOk, OnOk, length, slice_get};
+ghost use Rattle.fb_agenda.specs.Agendas.{IsNext, waiting};
+ghost use Rattle.fb_resource.specs.Resources.{IsOf};
+ghost use Rattle.fb_resource.specs.declared.resource.Inner.{Inner};
+ghost use Rattle.fb_types.specs.Cores.{CoreStep, opening_core};
+ghost use Rattle.fb_types.specs.Headline.{stimuli_of, system_of};
+ghost use Rattle.fb_types.specs.Parts.{count_of, machine};
+ghost use Rattle.fb_types.specs.Schedules.{IsSchedule};
+ghost use Rattle.fb_types.specs.declared.key.Key.{Key};
+ghost use Rattle.fb_system.specs.Lines.{BelongsTo};
+ghost use Rattle.fb_window.specs.Finality.{core_of};
+ghost use Rattle.fb_window.specs.Mails.{AreGiven};
+ghost use Rattle.fb_window.specs.Standing.{IsAt};
+ghost use Rattle.fb_window.specs.Walking.{HasTurned, Walks};
+
+use crate::cores::{Core, Failed};
+use crate::ends::first_stop;
+use fb_resource::resource::Resource;
+use fb_system::system::System;
+use fb_types::run::{Message, StopMark};
+use std::alloc::{AllocError, Global};
+
+/// The first resource that has the least event, and the tick of this event; the tick is the horizon where no event
+/// comes before it.
+fn first_least(resources: &[Resource], horizon: u64) -> (usize, u64)
+    ensures cap { result.1 ≤ horizon }
+    ensures low { (r : ℕ) (x : Inner) (j : Key) → slice_get resources.now r ≡ Some x → j.tick < result.1 → waiting x.queues.agenda j ≡ None }
+    ensures there { result.1 < horizon → (x : Inner) × (slice_get resources.now result.0 ≡ Some x) × IsNext x.queues.agenda result.1 }
+{
+    let mut first = 0;
+    let mut least = horizon;
+    for (place, resource) in resources.iter().enumerate() {
+        if let Some(tick) = resource.next() {
+            if tick < least {
+                first = place;
+                least = tick;
+            }
+        }
+    }
+    (first, least)
+}
+
+/// Puts each message on the agenda of its receiver.
+#[tactic(auto, using(crate::proofs::Receives::given_none))]
+fn give(
+    alloc: Global,
+    system: &System,
+    resources: &mut Vec<Resource>,
+    sent: Vec<Message>,
+) -> Result<(), AllocError>
+    requires targets { All (λ m. m.target.instance < length (system_of system.now).paths) sent.items }
+    requires counted { length resources.old.items ≡ count_of (system_of system.now) }
+    ensures { OnOk result (AreGiven (system_of system.now) sent.items resources.old.items resources.new.items) }
+{
+    system.facts();
+    for message in sent {
+        let receiver = system.resource(message.target.instance);
+        let mut one = Vec::new(alloc);
+        one.push(message)?;
+        match resources[receiver].receive(one) {
+            Ok(()) => {}
+            Err((error, _message)) => return Err(error),
+        }
+    }
+    Ok(())
+}
+
+impl Core {
+    /// Runs a resource below a tick, keeps its lines, and delivers its messages. Tells where it stopped, if it did.
+    fn turn(
+        &mut self,
+        alloc: Global,
+        system: &System,
+        place: usize,
+        to: u64,
+    ) -> Result<Option<StopMark>, AllocError>
+        requires system { system.now ≡ self.old.system }
+        requires counted { length self.old.resources.items ≡ count_of (system_of self.old.system) }
+        requires pending { length self.old.pending.items ≡ length self.old.resources.items }
+        requires place { place < length self.old.resources.items }
+        requires of { (x : Inner) → slice_get self.old.resources.items place ≡ Some x → IsOf self.old.system self.old.steps x }
+        requires live { (x : Inner) → slice_get self.old.resources.items place ≡ Some x → x.stopped ≡ None }
+        requires ahead { (x : Inner) → slice_get self.old.resources.items place ≡ Some x → x.clock ≤ to }
+        requires early { to ≤ 10 ^ 12 }
+        requires few_steps { self.old.steps ≤ 10 ^ 7 }
+        ensures system { OnOk result (self.new.system ≡ self.old.system) }
+        ensures steps { OnOk result (self.new.steps ≡ self.old.steps) }
+        ensures turned { IfOk result (HasTurned self.old.system self.old.steps place to self.old self.new) }
+    {
+        let steps = self.steps;
+        let output = self.resources[place].run_here(alloc, system, to, steps)?;
+        let mut lines = output.lines;
+        self.pending[place].append(&mut lines)?;
+        give(alloc, system, &mut self.resources, output.sent)?;
+        Ok(output.stop)
+    }
+
+    /// Up to so many turns, each of the first resource that has the least event of all: it takes what it has at the
+    /// tick of this event, and its messages are delivered. All is done on this thread, and no line is handed out. The
+    /// walk ends early where a resource has stopped, or no event comes before the horizon. Ticks are milliseconds.
+    ///
+    /// This is for stretches in which a round would have little to do: a round looks at each resource and each link.
+    ///
+    /// # Errors
+    /// When memory runs out.
+    pub fn walk(
+        self,
+        alloc: Global,
+        system: &System,
+        horizon: u64,
+        most: u64,
+    ) -> Result<Core, Failed>
+        requires system { system.now ≡ self.system }
+        requires come { (es : List (CoreStep (machine (system_of self.system) self.steps)))
+            × IsSchedule (machine (system_of self.system) self.steps) horizon (opening_core (system_of self.system) (stimuli_of self.system) self.steps) es
+            × IsAt self.system self.steps (core_of self.system self.steps es) self.resources.items }
+        requires counted { length self.pending.items ≡ length self.resources.items }
+        requires pending { All (λ p. All (BelongsTo (system_of self.system)) p.items) self.pending.items }
+        requires early { horizon ≤ 10 ^ 12 }
+        requires some_steps { 1 ≤ self.steps }
+        requires few_steps { self.steps ≤ 10 ^ 7 }
+        ensures system { IfOk result (λ d. d.system ≡ self.system) }
+        ensures steps { IfOk result (λ d. d.steps ≡ self.steps) }
+        ensures pending { IfOk result (λ d. All (λ p. All (BelongsTo (system_of self.system)) p.items) d.pending.items) }
+        ensures walks { IfOk result (Walks self.system self.steps horizon most self) }
+    {
+        system.facts();
+        let mut core = self;
+        if first_stop(&core.resources).is_some() {
+            return Ok(core);
+        }
+        for _ in 0..most {
+            let (place, tick) = first_least(&core.resources, horizon);
+            if tick == horizon {
+                return Ok(core);
+            }
+            if core.turn(alloc, system, place, tick + 1)?.is_some() {
+                return Ok(core);
+            }
+        }
+        Ok(core)
+    }
+}
