@@ -78,9 +78,14 @@ FILES = {
 # Named pipes, and what is written into each before it ends.
 PIPES = {"pipe": CYCLE, "cut_pipe": CYCLE[:40], "empty_pipe": b"", "long_pipe": FILES["longest"]}
 
-# What the help of a run has of each argument: its name, and words of its sentence.
-HELP = """DECL, declaration of the types, --deploy, in TOML, --stim, in CSV, --horizon, at which the run ends, --steps, most steps,
---workers, How many workers, --serial, on one thread, --trace, form of the trace""".replace("\n", " ").split(", ")
+# What the help has of a run and of a check: each argument's name and words of its sentence, with the range, and an example.
+HELP_OF_FILES = ("DECL", "declaration of the types", "--deploy", "in TOML", "at most 1 MiB", "--stim", "in CSV", "at most 16 MiB")
+HELP_OF_RUN = (
+    *HELP_OF_FILES, "--horizon", "in milliseconds, at which the run ends, 1 to 1000000000000", "--steps", "most steps", "1 to 10000000",
+    "--workers", "How many workers", "1 to 64", "--serial", "on one thread", "--trace", "form of the trace", "Example: fbsim run ",
+)
+HELP_OF_CHECK = (*HELP_OF_FILES, "Example: fbsim check ")
+HELP_OF_ALL = ("run", "writes the trace", "check", "which fault comes first", "a millisecond", "Example: fbsim run ")
 
 # The ways to run an example.
 WAYS = [["--serial"], *(["--workers", count] for count in ("1", "2", "7", "64"))]
@@ -110,10 +115,10 @@ ROOM = 10
 
 
 CALLS = [
-    Call(["--help"], 0, out=None),
-    Call(["help"], 0, out=None),
-    Call(["check", "-h"], 0, out=None),
-    Call(["run", "--help"], 0, out=None, has=tuple(HELP)),
+    Call(["--help"], 0, out=None, has=HELP_OF_ALL),
+    Call(["help"], 0, out=None, has=HELP_OF_ALL),
+    Call(["check", "-h"], 0, out=None, has=HELP_OF_CHECK),
+    Call(["run", "--help"], 0, out=None, has=HELP_OF_RUN),
     Call(["check", "cycle"], 0, out=b"accepted\n"),
     Call(["check", "-"], 0, out=b"accepted\n", given=CYCLE),
     Call(["run", "cycle", "--horizon", "8"], 0, out=TO_8),

@@ -1,19 +1,9 @@
 //! The simulator's program.
 #![tactic(auto)]
 
-mod command;
-mod failure;
-mod files;
-mod line;
-mod output;
-mod source;
-mod status;
-#[cfg(test)]
-mod tests;
-
-use crate::command::command;
-use crate::failure::Failure;
-use crate::files::Files;
+use fb_command::command::command;
+use fb_command::failure::Failure;
+use fb_command::files::Files;
 use std::process::ExitCode;
 use std::sync::Wait;
 use std::thread::Threads;

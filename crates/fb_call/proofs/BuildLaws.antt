@@ -1,0 +1,43 @@
+-- Commands that are made argument by argument, none of them global.
+use Rattle.std.proofs.Common.{◌≡◌, ◌||◌, Bool, Result, Ok, Err, false, ap, ap₂, ◌∙◌}
+use Rattle.std.specs.Prelude.{IfOk}
+use Rattle.clap.specs.Words.{App, Rule, AddsArg, AddsSubcommand, app_of, rule_of, with_rule, with_subcommand}
+use Rattle.clap.specs.declared.builder.arg.Arg.{Arg}
+use Rattle.clap.specs.declared.builder.command.Command.{Command}
+use Rattle.clap.specs.declared.builder.command.Command.TheViews.{out-Command as fields_of}
+
+-- what a command stands for, and that nothing in it is global
+pub record Stands (c : Command) (a : App) : Type 0 where
+  pub app : app_of c ≡ a
+  pub local : (fields_of c).has_globals ≡ false
+
+-- one more argument
+pub grown : (old new : Command) (x : Arg) (a : App) (r : Rule) → AddsArg old x new → x.global ≡ false → rule_of x ≡ r → Stands old a → Stands new (with_rule a r)
+grown old new x a r adds local is at =
+    record {
+      app = adds.shape local ∙ ap (λ (b : App). with_rule b (rule_of x)) at.app ∙ ap (with_rule a) is;
+      local = adds.globals ∙ ap (λ (b : Bool). b || x.global) at.local ∙ local;
+    }
+
+pub grown_well : {E : Type 0} (old : Command) (made : Result Command E) (x : Arg) (a : App) (r : Rule) → IfOk made (AddsArg old x) → x.global ≡ false → rule_of x ≡ r → Stands old a
+    → IfOk made (λ c. Stands c (with_rule a r))
+grown_well old (Err e) x a r adds local is at = tt
+grown_well old (Ok new) x a r adds local is at = grown old new x a r adds local is at
+
+-- what is asked of the command that is made
+pub app_well : {E : Type 0} (made : Result Command E) (a : App) → IfOk made (λ c. Stands c a) → IfOk made (λ c. app_of c ≡ a)
+app_well (Err e) a at = tt
+app_well (Ok c) a at = at.app
+
+pub local_well : {E : Type 0} (made : Result Command E) (a : App) → IfOk made (λ c. Stands c a) → IfOk made (λ c. (fields_of c).has_globals ≡ false)
+local_well (Err e) a at = tt
+local_well (Ok c) a at = at.local
+
+-- one more subcommand
+pub joined : (old new sub : Command) (a b : App) → AddsSubcommand old sub new → (fields_of sub).has_globals ≡ false → app_of old ≡ a → app_of sub ≡ b → app_of new ≡ with_subcommand a b.top
+joined old new sub a b adds local is of = adds.shape local ∙ ap₂ with_subcommand is (ap (λ (x : App). x.top) of)
+
+pub joined_well : {E : Type 0} (old : Command) (made : Result Command E) (sub : Command) (a b : App) → IfOk made (AddsSubcommand old sub) → (fields_of sub).has_globals ≡ false
+    → app_of old ≡ a → app_of sub ≡ b → IfOk made (λ c. app_of c ≡ with_subcommand a b.top)
+joined_well old (Err e) sub a b adds local is of = tt
+joined_well old (Ok new) sub a b adds local is of = joined old new sub a b adds local is of

@@ -1,0 +1,329 @@
+//! The command line.
+
+ghost use Rattle.std.specs.Prelude.{◌≡◌, ◌≢◌, ℕ, IfOk, IfErr, IfSome, IfNone, OnOk, map, false};
+ghost use Rattle.fb_call.specs.Line as spec;
+ghost use Rattle.fb_call.specs.Line.{AreCall, AreNoCall, AskHelp, AreForms, IsCall, IsCallOf, IsFault, IsFlag, IsForm, IsHelp, IsNumber, IsOrder, IsTaken, command_name};
+ghost use Rattle.fb_call.specs.declared.line.LineFault.TheVariants.{Memory};
+ghost use Rattle.fb_call.specs.declared.line.Call.{Call};
+ghost use Rattle.fb_call.specs.declared.line.Order.{Order};
+ghost use Rattle.fb_types.specs.declared.run.Form.{Form};
+ghost use Rattle.clap.specs.Words.{app_of, rows_of, found_of, rule_of, kind_of, subcommand_rows_of};
+ghost use Rattle.clap.specs.declared.builder.command.Command.TheViews.{out-Command as fields_of};
+
+use clap::builder::ValueParser;
+use clap::error::ErrorKind;
+use clap::{Arg, ArgAction, ArgMatches, Command, Error};
+use fb_types::run::Form;
+use std::alloc::{AllocError, Global};
+
+/// What is asked for, and of which files.
+#[derive(Clone, Copy)]
+pub struct Call<'a> {
+    pub order: Order,
+    /// The name of the declaration's file; `-` is standard input, here and below.
+    pub declaration: &'a str,
+    /// The name of the deployment's file, where one is given.
+    pub deploy: Option<&'a str>,
+    /// The name of the file with the stimuli, where one is given.
+    pub stimuli: Option<&'a str>,
+}
+
+/// What is asked for.
+#[derive(Clone, Copy)]
+pub enum Order {
+    /// Whether the inputs are accepted.
+    Check,
+    /// The trace of a run.
+    Run {
+        /// The tick at which the run ends, 1 to 10^12.
+        horizon: u64,
+        /// The most steps that a resource makes in one tick, 1 to 10,000,000.
+        steps: u64,
+        /// How many workers there are, 1 to 64.
+        workers: u64,
+        /// Whether all is run by one queue of events on one thread, whatever the number of workers.
+        serial: bool,
+        /// The form of the trace.
+        form: Form,
+    },
+}
+
+/// Why the words name no call.
+#[derive(Drop)]
+pub enum LineFault {
+    Memory,
+    /// Help was asked for, and this is its text.
+    Help(String),
+    /// The words are no call, for what this text says.
+    Fault(String),
+}
+
+impl From<AllocError> for LineFault {
+    ghost from_gives = { λ _ e. e ≡ Memory };
+
+    fn from(_error: AllocError) -> LineFault {
+        LineFault::Memory
+    }
+}
+
+/// What is said of words that the parser takes and that name no call all the same.
+const NO_CALL: &str = "error: the words name no call\n";
+
+const ABOUT: &str =
+    "Simulates IEC 61499-1 control applications in virtual time; one tick is a millisecond of it.";
+
+const EXAMPLE: &str =
+    "Example: fbsim run cell.iec --deploy cell.toml --stim cell.csv --horizon 1000";
+
+const RUN_ABOUT: &str =
+    "Runs an application and writes the trace of its events to standard output.";
+
+const RUN_EXAMPLE: &str =
+    "Example: fbsim run cell.iec --deploy cell.toml --stim cell.csv --horizon 1000 --workers 4";
+
+const CHECK_ABOUT: &str = "Says whether a run would take these files, or which fault comes first.";
+
+const CHECK_EXAMPLE: &str = "Example: fbsim check cell.iec --deploy cell.toml --stim cell.csv";
+
+const DECLARATION_HELP: &str =
+    "The file with the declaration of the types and the application, at most 1 MiB; `-` is standard input, here and below.";
+
+const DEPLOY_HELP: &str =
+    "The file with the deployment, in TOML, at most 1 MiB; without it one resource MAIN has every instance.";
+
+const STIMULI_HELP: &str =
+    "The file with the stimuli, in CSV, at most 16 MiB; without it there are none.";
+
+const HORIZON_HELP: &str = "The tick, in milliseconds, at which the run ends, 1 to 1000000000000.";
+
+const STEPS_HELP: &str =
+    "The most steps that a resource makes in one tick, 1 to 10000000; it stops at the next one.";
+
+const WORKERS_HELP: &str =
+    "How many workers run the resources, 1 to 64; the trace is the same with any number.";
+
+const SERIAL_HELP: &str =
+    "Runs all resources by one queue of events on one thread; the trace is the same.";
+
+const TRACE_HELP: &str =
+    "The form of the trace; with 2 each line but the last begins with its event's class, a and b.";
+
+/// What the forms of the trace are called.
+const FORM_WORDS: &[&str] = &["1", "2"];
+
+/// An option that takes the name of a file.
+fn file<'a>(alloc: Global, id: &'a str, help: &'a str) -> Arg<'a>
+    ensures rule { rule_of result ≡ spec.file id.entry.now }
+    ensures local { result.global ≡ false }
+{
+    Arg::new(alloc, id).long(id).help(help)
+}
+
+/// A command with the names of its files, and what the help says of it.
+fn files<'a>(
+    alloc: Global,
+    name: &'a str,
+    about: &'a str,
+    example: &'a str,
+) -> Result<Command<'a>, AllocError>
+    ensures app { IfOk result (λ c. app_of c ≡ spec.files name.entry.now) }
+    ensures globals { IfOk result (λ c. (fields_of c).has_globals ≡ false) }
+{
+    let declaration = Arg::new(alloc, "DECL")
+        .required(true)
+        .help(DECLARATION_HELP);
+    let deploy = file(alloc, "deploy", DEPLOY_HELP);
+    let stimuli = file(alloc, "stim", STIMULI_HELP);
+    Command::new(alloc, name)
+        .about(about)
+        .after_help(example)
+        .arg(declaration)?
+        .arg(deploy)?
+        .arg(stimuli)
+}
+
+/// An option that takes a value of this kind.
+fn limited<'a>(alloc: Global, id: &'a str, values: ValueParser<'a>, help: &'a str) -> Arg<'a>
+    ensures rule { rule_of result ≡ spec.limited id.entry.now values.entry }
+    ensures local { result.global ≡ false }
+{
+    Arg::new(alloc, id).long(id).value_parser(values).help(help)
+}
+
+/// An option without a value, which is there or is not.
+fn flag<'a>(alloc: Global, id: &'a str, help: &'a str) -> Arg<'a>
+    ensures rule { rule_of result ≡ spec.flag id.entry.now }
+    ensures local { result.global ≡ false }
+{
+    Arg::new(alloc, id)
+        .long(id)
+        .action(ArgAction::SetTrue)
+        .help(help)
+}
+
+/// Whole numbers from 1 to the most.
+fn up_to<'a>(most: u64) -> ValueParser<'a>
+    ensures { result ≡ spec.up_to most }
+{
+    ValueParser::Unsigned(1, most)
+}
+
+/// The words of the forms of the trace, and no others.
+fn forms<'a>() -> ValueParser<'a>
+    ensures { AreForms result }
+{
+    ValueParser::Names(FORM_WORDS)
+}
+
+/// The command with the options that are numbers: how far a run goes, and by how many workers.
+fn with_numbers<'a>(alloc: Global, command: Command<'a>) -> Result<Command<'a>, AllocError>
+    requires { (fields_of command).has_globals ≡ false }
+    ensures app { IfOk result (λ c. app_of c ≡ spec.with_numbers (app_of command.entry)) }
+    ensures globals { IfOk result (λ c. (fields_of c).has_globals ≡ false) }
+{
+    let horizon = limited(alloc, "horizon", up_to(1_000_000_000_000), HORIZON_HELP).required(true);
+    let steps = limited(alloc, "steps", up_to(10_000_000), STEPS_HELP).default_value("10000");
+    let workers = limited(alloc, "workers", up_to(64), WORKERS_HELP).default_value("1");
+    command.arg(horizon)?.arg(steps)?.arg(workers)
+}
+
+/// The command with the options that say how far a run goes, how it is made, and what its trace is like.
+fn with_run_options<'a>(
+    alloc: Global,
+    command: Command<'a>,
+    forms: ValueParser<'a>,
+) -> Result<Command<'a>, AllocError>
+    requires { (fields_of command).has_globals ≡ false }
+    ensures app { IfOk result (λ c. app_of c ≡ spec.with_run_options forms.entry (app_of command.entry)) }
+    ensures globals { IfOk result (λ c. (fields_of c).has_globals ≡ false) }
+{
+    let serial = flag(alloc, "serial", SERIAL_HELP);
+    let trace = limited(alloc, "trace", forms, TRACE_HELP).default_value("1");
+    with_numbers(alloc, command)?.arg(serial)?.arg(trace)
+}
+
+fn simulator<'a>(alloc: Global, forms: ValueParser<'a>) -> Result<Command<'a>, AllocError>
+    ensures { IfOk result (λ c. app_of c ≡ spec.simulator_with forms.entry) }
+{
+    let run = with_run_options(alloc, files(alloc, "run", RUN_ABOUT, RUN_EXAMPLE)?, forms)?;
+    let check = files(alloc, "check", CHECK_ABOUT, CHECK_EXAMPLE)?;
+    Command::new(alloc, "fbsim")
+        .about(ABOUT)
+        .after_help(EXAMPLE)
+        .subcommand_required(true)
+        .subcommand(run)?
+        .subcommand(check)
+}
+
+fn number(found: &ArgMatches<'_>, id: &str) -> Option<u64>
+    ensures number { IfSome result (IsNumber (rows_of (found_of found.now)) id.now) }
+    ensures none { IfNone result ((n : ℕ) → IsNumber (rows_of (found_of found.now)) id.now n → ⊥) }
+{
+    found.get_one::<u64>(id)
+}
+
+/// Whether an option without a value is there.
+fn has_flag(found: &ArgMatches<'_>, id: &str) -> bool
+    ensures { IsFlag (rows_of (found_of found.now)) id.now result }
+{
+    let Some(word) = found.get_str(id) else {
+        return false;
+    };
+    matches!(word, "true")
+}
+
+/// The form of the trace that is asked for.
+fn form_of(found: &ArgMatches<'_>) -> Option<Form>
+    ensures form { IfSome result (IsForm (rows_of (found_of found.now))) }
+    ensures none { IfNone result ((f : Form) → IsForm (rows_of (found_of found.now)) f → ⊥) }
+{
+    match found.get_str("trace")? {
+        "1" => Some(Form::One),
+        "2" => Some(Form::Two),
+        _ => None,
+    }
+}
+
+fn order_of(name: &str, found: &ArgMatches<'_>) -> Option<Order>
+    ensures name { IfSome result (λ o. name.now ≡ command_name o) }
+    ensures options { IfSome result (λ o. IsOrder (rows_of (found_of found.now)) o) }
+    ensures none { IfNone result ((o : Order) → name.now ≡ command_name o → IsOrder (rows_of (found_of found.now)) o → ⊥) }
+{
+    if name == "check" {
+        return Some(Order::Check);
+    }
+    if name == "run" {
+        return Some(Order::Run {
+            horizon: number(found, "horizon")?,
+            steps: number(found, "steps")?,
+            workers: number(found, "workers")?,
+            serial: has_flag(found, "serial"),
+            form: form_of(found)?,
+        });
+    }
+    None
+}
+
+fn call_of<'a>(name: &str, found: &ArgMatches<'a>) -> Option<Call<'a>>
+    ensures name { IfSome result (λ c. name.now ≡ command_name c.order) }
+    ensures rows { IfSome result (λ c. IsCall (rows_of (found_of found.now)) c) }
+    ensures none { IfNone result ((c : Call) → name.now ≡ command_name c.order → IsCall (rows_of (found_of found.now)) c → ⊥) }
+{
+    let declaration = found.get_str("DECL")?;
+    let deploy = found.get_str("deploy");
+    let stimuli = found.get_str("stim");
+    let order = order_of(name, found)?;
+    Some(Call {
+        order,
+        declaration,
+        deploy,
+        stimuli,
+    })
+}
+
+fn fault(alloc: Global, error: &Error) -> LineFault
+    ensures help { IsHelp result → kind_of error.now ≡ ErrorKind.DisplayHelp }
+    ensures fault { IsFault result → kind_of error.now ≢ ErrorKind.OutOfMemory }
+    ensures no_help { IsFault result → kind_of error.now ≢ ErrorKind.DisplayHelp }
+{
+    let kind = error.kind();
+    if kind == ErrorKind::OutOfMemory {
+        return LineFault::Memory;
+    }
+    match format!(in alloc; "{error}") {
+        Err(_) => LineFault::Memory,
+        Ok(text) if kind == ErrorKind::DisplayHelp => LineFault::Help(text),
+        Ok(text) => LineFault::Fault(text),
+    }
+}
+
+/// The call that the matches of the words make.
+fn call_in<'a>(alloc: Global, matches: &ArgMatches<'a>) -> Result<Call<'a>, LineFault>
+    ensures call { IfOk result (IsCallOf (subcommand_rows_of matches.now)) }
+    ensures none { IfErr result (λ e. IsFault e → (c : Call) → IsCallOf (subcommand_rows_of matches.now) c → ⊥) }
+    ensures help { IfErr result (λ e. ¬ (IsHelp e)) }
+{
+    if let Some((name, found)) = matches.subcommand() {
+        if let Some(call) = call_of(name, found) {
+            return Ok(call);
+        }
+    }
+    Err(LineFault::Fault(String::from_str(alloc, NO_CALL)?))
+}
+
+/// The call that the words name, the program's own name first.
+///
+/// # Errors
+/// `Help` where help is asked for, `Fault` where the words are no call, and `Memory`.
+pub fn parse<'a>(alloc: Global, words: &'a [&'a str]) -> Result<Call<'a>, LineFault>
+    ensures call { IfOk result (AreCall (map (λ w. w.now) words.entry.now)) }
+    ensures taken { OnOk result (IsTaken (map (λ w. w.now) words.entry.now)) }
+    ensures help { IfErr result (λ e. IsHelp e → AskHelp (map (λ w. w.now) words.entry.now)) }
+    ensures none { IfErr result (λ e. IsFault e → AreNoCall (map (λ w. w.now) words.entry.now)) }
+{
+    let command = simulator(alloc, forms())?;
+    match command.try_get_matches_from(words) {
+        Ok(matches) => call_in(alloc, &matches),
+        Err(error) => Err(fault(alloc, &error)),
+    }
+}

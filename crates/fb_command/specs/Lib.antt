@@ -1,0 +1,4 @@
+pub mod Failures
+pub mod Files
+pub mod Texts
+pub mod Command

@@ -1,0 +1,78 @@
+//! The files of the machine.
+
+ghost use Rattle.std.specs.Prelude.{◌≡◌, ◌≤◌, IfOk, IfSome, false, take, vec_len};
+
+use crate::source::{Source, SourceFault};
+use std::alloc::Global;
+use std::io::{ErrorKind, Read};
+use std::{fs, rt};
+
+/// How many bytes are read at a time, at most.
+const SIZE: usize = 8192;
+
+/// The files of the machine. The name `-` is standard input, once.
+#[derive(Drop)]
+pub struct Files<'r, R> {
+    runtime: &'r R,
+    has_read_input: bool,
+}
+
+impl<'r, R: rt::Files + Input> Files<'r, R> {
+    /// All files, with standard input not yet read.
+    pub fn new(runtime: &'r R) -> Files<'r, R>
+        ensures { result.has_read_input ≡ false }
+    {
+        Files {
+            runtime,
+            has_read_input: false,
+        }
+    }
+}
+
+/// The first bytes of a reader, at most so many.
+///
+/// # Errors
+/// `File` where the reader fails, and `Memory`.
+pub fn read_most<R: Read>(alloc: Global, from: &mut R, most: usize) -> Result<Vec<u8>, SourceFault>
+    ensures short { IfOk result (λ bytes. vec_len bytes ≤ most) }
+    ensures front { IfOk result (λ bytes. IfSome (R.remaining from.old) (λ all. bytes.items ≡ take most all)) }
+{
+    let mut bytes = Vec::new(alloc);
+    let mut part = [0; SIZE];
+    for _ in 0..u64::MAX {
+        let room = (most - bytes.len()).min(SIZE);
+        if room == 0 {
+            return Ok(bytes);
+        }
+        match from.read(&mut part[..room]) {
+            Ok(0) => return Ok(bytes),
+            Ok(count) => match bytes.extend_from_slice(&part[..count]) {
+                Ok(()) => {}
+                Err(_) => return Err(SourceFault::Memory),
+            },
+            Err(error) if error.kind() == ErrorKind::Interrupted => {}
+            Err(_) => return Err(SourceFault::File),
+        }
+    }
+    Err(SourceFault::File)
+}
+
+impl<'r, R: rt::Files + Input> Source for Files<'r, R> {
+    ghost use Rattle.fb_command.specs.Files.{TakesInput};
+
+    ghost gives = { λ old name most result new. TakesInput old.has_read_input new.has_read_input name result };
+
+    fn read(&mut self, alloc: Global, name: &str, most: usize) -> Result<Vec<u8>, SourceFault> {
+        if name == "-" {
+            if self.has_read_input {
+                return Err(SourceFault::File);
+            }
+            self.has_read_input = true;
+            return read_most(alloc, &mut self.runtime.reader(), most);
+        }
+        match fs::open(self.runtime, name) {
+            Ok(mut file) => read_most(alloc, &mut file, most),
+            Err(_) => Err(SourceFault::File),
+        }
+    }
+}

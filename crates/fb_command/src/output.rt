@@ -1,0 +1,38 @@
+//! Bytes that are written, with a count of them where the writer fails.
+
+ghost use Rattle.std.specs.Prelude.{◌≡◌, ◌≤◌, length, take, OnOk, IfErr};
+ghost use Rattle.std.specs.Io.KnownBytes.{Appends};
+ghost use Rattle.fb_command.specs.Failures.{WritesPart};
+
+use crate::failure::Failure;
+use std::io::Write;
+
+/// Writes as many of the bytes as the writer takes before it fails, and tells how many.
+fn write_front<W: Write>(out: &mut W, bytes: &[u8]) -> usize
+    ensures within { result ≤ length bytes.now }
+    ensures got { Appends (W.contents out.old) (W.contents out.new) (take result bytes.now) }
+{
+    let mut taken = 0;
+    while taken < bytes.len() {
+        match out.write(&bytes[taken..]) {
+            Ok(0) | Err(_) => return taken,
+            Ok(count) => taken += count,
+        }
+    }
+    taken
+}
+
+/// Writes a text.
+///
+/// # Errors
+/// `Write` where the writer failed before it had got all of it, with the bytes that it has got.
+pub fn write_text<W: Write>(out: &mut W, text: &[u8]) -> Result<(), Failure>
+    ensures whole { OnOk result (Appends (W.contents out.old) (W.contents out.new) text.now) }
+    ensures part { IfErr result (WritesPart (W.contents out.old) (W.contents out.new) text.now) }
+{
+    let taken = write_front(out, text);
+    if taken < text.len() {
+        return Err(Failure::Write(taken as u128));
+    }
+    Ok(())
+}

@@ -1,0 +1,34 @@
+//! How a call of the program ends, as a number.
+
+ghost use Rattle.std.specs.Prelude.{◌≡◌};
+ghost use Rattle.fb_command.specs.Failures.{status_of};
+
+use crate::failure::Failure;
+
+/// What a call of the program has done.
+#[derive(Clone, Copy)]
+pub enum Done {
+    /// The help is written.
+    Helped,
+    /// The declaration is accepted.
+    Accepted,
+    /// The run came to its horizon.
+    Ended,
+    /// A resource stopped before.
+    Stopped,
+}
+
+/// The status of the program: 0 where all went well, 1 where the run stopped, 2 where the inputs are refused,
+/// 3 where a file or the output failed, 4 where memory was wanting, and 5 where the words name no call.
+pub fn status(end: &Result<Done, Failure>) -> u8
+    ensures { result ≡ status_of end.now }
+{
+    match end {
+        Ok(Done::Helped | Done::Accepted | Done::Ended) => 0,
+        Ok(Done::Stopped) => 1,
+        Err(Failure::Refused(_)) => 2,
+        Err(Failure::File | Failure::Write(_)) => 3,
+        Err(Failure::Memory) => 4,
+        Err(Failure::Line(_) | Failure::BadOption) => 5,
+    }
+}

@@ -1,5 +1,0 @@
-pub mod Line
-pub mod Failures
-pub mod Files
-pub mod Texts
-pub mod Command
