@@ -3,9 +3,10 @@
 
 Without a crate it is the whole gate: the examples are those of the tests; then, from nothing, every crate and its
 tests are proved, every wrong body in crates/*/must-fail is shown to be refused, tests and programs are run, and the
-program is called at least once for each status (tools/calls.py), on texts that are cut or changed in one byte
-(tools/hostile.py), and with each of its requests for memory refused (tools/refuse.py). Then it tells the processor seconds
-of each crate. The last line is 'N passed, M failed', and the status 0 where none failed.
+program is called at least once for each status (tools/calls.py), as docs/FIRST_APPLICATION.md has it
+(tools/first_application.py), on texts that are cut or changed in one byte (tools/hostile.py), and with each of its requests
+for memory refused (tools/refuse.py). Then it tells the processor seconds of each crate. The last line is 'N passed, M
+failed', and the status 0 where none failed.
 
 With crates it does the same for these alone, over the libraries below them as they are built in out/.
 --jobs N uses N processors, and not all.
@@ -22,6 +23,7 @@ import tempfile
 import time
 
 import calls
+import first_application
 import hostile
 import refuse
 from kit import TOP, rt, rtlib
@@ -148,11 +150,16 @@ def call_after_each_run():
     what is made of texts and of memory."""
     run = rt.run
 
+    def tries(made):
+        yield first_application.main(made) == 0
+        yield hostile.try_all(made)
+        yield refuse.try_all(made)
+
     def run_and_call(crate, tests, ending=""):
         is_well = run(crate, tests, ending)
         if is_well and not tests and crate.name == calls.PROGRAM:
             made = f"{crate.folder}/out/{crate.name}{ending}"
-            return calls.make_all(made) and (bool(ending) or all([hostile.try_all(made), refuse.try_all(made)]))
+            return calls.make_all(made) and (bool(ending) or all([*tries(made)]))
         return is_well
 
     rt.run = run_and_call

@@ -1,0 +1,116 @@
+#!/usr/bin/env python3
+"""tools/first_application.py [PROGRAM]: follows docs/FIRST_APPLICATION.md as its reader does, and compares what is printed.
+
+It goes through the page from top to bottom. A line that is a file's name in backquotes and a colon, and the block below it, is a file
+to be written, in place of an earlier one of that name. A block `console` has commands behind `$ ` and below each what it prints:
+`./simulate WORD..`, with `| tail -n N` behind it or not, and `echo $?`. Each is called of the built program, or of PROGRAM, and where
+it prints anything else, this says so and ends with status 1."""
+
+import os
+import re
+import shlex
+import sys
+
+from kit import TOP
+from program import Room
+
+PAGE = f"{TOP}/docs/FIRST_APPLICATION.md"
+PROGRAM = f"{TOP}/crates/fbsim/out/fbsim"
+# Where the page has its files. Here they stand in a room of their own.
+FOLDER = "/tmp/"
+FILE = re.compile(r"`" + FOLDER + r"([\w.]+)`:")
+
+
+def blocks(page):
+    """Returns the page's blocks in their order: the line above, what stands behind the opening fence, the first line's number, the lines."""
+    found, above, opened = [], "", None
+    for number, line in enumerate(page.splitlines(), 1):
+        if opened:
+            if line == "```":
+                found.append(opened)
+                opened = None
+            else:
+                opened[3].append(line)
+        elif line.startswith("```"):
+            opened = (above, line[3:], number + 1, [])
+        elif line:
+            above = line
+    if opened:
+        sys.exit(f"{PAGE}: a block is not closed")
+    return found
+
+
+def commands(number, lines):
+    """Returns the commands of a block, each with its line's number and what it is to print."""
+    found = []
+    for at, line in enumerate(lines, number):
+        if line.startswith("$ "):
+            found.append((at, line[2:], []))
+        elif found:
+            found[-1][2].append(line)
+        else:
+            sys.exit(f"{PAGE}:{at}: a line above the first command")
+    return found
+
+
+class Reader:
+    """Who follows the page: calls the program, and remembers the status of the last call."""
+
+    def __init__(self, room):
+        self.room, self.status = room, None
+
+    def write(self, name, lines):
+        with open(f"{self.room.folder}/{name}", "w") as it:
+            it.writelines(line + "\n" for line in lines)
+
+    def does(self, command):
+        """Returns the lines that a command prints."""
+        if command == "echo $?":
+            return [str(self.status)]
+        called, _, cut = command.partition(" | ")
+        program, *words = shlex.split(called)
+        if program != "./simulate":
+            sys.exit(f"{PAGE}: another command: {command}")
+        ran = self.room.call([word.removeprefix(FOLDER) for word in words])
+        self.status = ran.returncode
+        lines = (ran.stdout + ran.stderr).decode().splitlines()
+        if not cut:
+            return lines
+        # The status of a pipe is that of its last command.
+        self.status = 0
+        return lines[-int(re.fullmatch(r"tail -n (\d+)", cut)[1]) :]
+
+
+def follow(page, reader):
+    """Returns how many commands there are, and what is to be said of those that print another thing."""
+    count, faults = 0, []
+    for above, how, number, lines in blocks(page):
+        if how == "console":
+            for at, command, told in commands(number, lines):
+                printed = reader.does(command)
+                count += 1
+                if printed != told:
+                    faults.append("\n  ".join([f"{PAGE}:{at}: $ {command}", "prints:", *printed]))
+        elif name := FILE.fullmatch(above):
+            reader.write(name[1], lines)
+        else:
+            sys.exit(f"{PAGE}:{number}: a block that is neither a file nor commands")
+    return count, faults
+
+
+def main(program=PROGRAM):
+    """Follows the page and returns the status: 0 where all is printed as it stands there."""
+    if not os.path.exists(program):
+        sys.exit(f"{program} is not built: ./simulate builds it")
+    with open(PAGE) as it:
+        page = it.read()
+    with Room(program) as room:
+        count, faults = follow(page, Reader(room))
+    for fault in faults:
+        print(fault, file=sys.stderr)
+    print(f"first application: {count - len(faults)} of {count} commands print what the page has")
+    return 1 if faults else 0
+
+
+if __name__ == "__main__":
+    sys.exit(main(*sys.argv[1:]))
