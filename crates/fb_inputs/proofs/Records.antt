@@ -3,7 +3,9 @@ use Rattle.std.proofs.Common.{◌≡◌, ◌==◌, ℕ, zero, suc, ◌+◌, ◌<
 use Rattle.std.specs.Option.{IfSome}
 use Rattle.std.proofs.lemmas.Bool.{false≢true}
 use Rattle.csv.specs.Machine.{Read, ends_at_end, next_record, step, is_end, fields_after, field_after, in_field, start_field, start_record, after_end, ends_with}
-use Rattle.csv.specs.Reading.{Reached, ReadRecord, Ready, default_config, records_from, records_next, source_of}
+use Rattle.csv.specs.Reading.{ExplainsRead, Reached, ReadRecord, Ready, default_config, records_from, records_next, source_of}
+use Rattle.csv.specs.declared.error.ErrorKind.{ErrorKind}
+use Rattle.csv.specs.declared.error.ErrorKind.TheVariants as kind
 use Rattle.csv.specs.declared.iter.ByteRecordsIntoIter.{ByteRecordsIntoIter}
 use Rattle.csv.specs.declared.parser.Action.{Action}
 use Rattle.csv.specs.declared.parser.Action.TheVariants as act
@@ -15,6 +17,7 @@ use Rattle.csv.specs.declared.reader.Trim.TheVariants as trim
 use Rattle.csv.proofs.ReadFacts.{rows-end, rows-more}
 use Rattle.fb_inputs.specs.Words.{Text}
 use Rattle.fb_inputs.specs.Rows.{Row}
+use Rattle.fb_inputs.specs.Stimuli.{IsOfReading}
 
 -- ---- A record takes at least one byte, and the reader stands between records behind it.
 
@@ -120,11 +123,21 @@ pub record IsAt (it : ByteRecordsIntoIter (Bor (List ℕ))) (z : Text) : Type 0 
   pub config : it.rdr.config ≡ default_config
   pub source : source_of known it.rdr ≡ Some z
   pub between : ends_at_end it.rdr.state ≡ false
+  pub flexible : it.rdr.flexible ≡ true
 
-pub at_more : (a b : ByteRecordsIntoIter (Bor (List ℕ))) (z : Text) (fields : Row) → IsAt a z → ReadRecord known a.rdr b.rdr true fields → b.rdr.first ≡ true → 0 < b.left
+-- rows of any lengths are read as bytes, so that no other error comes
+pub of_reading : (it : ByteRecordsIntoIter (Bor (List ℕ))) (z : Text) (b : Reader (Bor (List ℕ))) (k : ErrorKind) → IsAt it z → ExplainsRead known it.rdr b false k → IsOfReading k
+of_reading it z b (kind.Io e) here why = tt
+of_reading it z b kind.OutOfMemory here why = tt
+of_reading it z b (kind.UnequalLengths pos expected len) here why = absurd (false≢true (sym why.0 ∙ here.flexible))
+of_reading it z b (kind.Utf8 pos err) here why = absurd (false≢true why.0)
+of_reading it z b (kind.Serialize text) here why = absurd why
+of_reading it z b (kind.Deserialize pos err) here why = absurd why
+
+pub at_more : (a b : ByteRecordsIntoIter (Bor (List ℕ))) (z : Text) (fields : Row) → IsAt a z → ReadRecord known a.rdr b.rdr true fields → b.rdr.first ≡ true → 0 < b.left → b.rdr.flexible ≡ a.rdr.flexible
     → (y : Text) × IsAt b y × (rows_from a.rdr.state z ≡ fields ∷ rows_from b.rdr.state y)
 unfolding Reached
-at_more a b z fields here r first left =
+at_more a b z fields here r first left kept =
     let (y, source, reached) = rows-more known a.rdr b.rdr fields default_config a.rdr.state z z [] here.config here.source (refl, refl) r in
     let (p, reads, is, behind) = reached in
     let l : Leaves a.rdr.state z p = rw reads at (leaves a.rdr.state [] [] z) in
@@ -136,6 +149,7 @@ at_more a b z fields here r first left =
       config = r.2 ∙ here.config;
       source = source;
       between = ap ends_at_end (sym behind.0) ∙ l.2;
+      flexible = kept ∙ here.flexible;
     } in
     let rows = next ∙ ap (λ (row : Row). row ∷ rows_from p.1 p.2) (sym is) ∙ ap (λ (s : State). fields ∷ rows_from s p.2) behind.0 ∙ ap (λ (t : Text). fields ∷ rows_from b.rdr.state t) behind.1 in
     (y, there, rows)
@@ -144,8 +158,8 @@ pub at_end : (a b : ByteRecordsIntoIter (Bor (List ℕ))) (z : Text) → IsAt a 
 at_end a b z here r = rows_from-none a.rdr.state z (rows-end known a.rdr b.rdr [] default_config z here.config here.source r)
 
 pub at_start : (it : ByteRecordsIntoIter (Bor (List ℕ))) (r : Reader (Bor (List ℕ))) (z : Text) → it.rdr ≡ r → 0 < it.left → r.trim ≡ trim.None → r.has_headers ≡ false → r.headers ≡ None
-    → r.config ≡ default_config → source_of known r ≡ Some z → r.state ≡ st.StartRecord → IsAt it z × (it.rdr.state ≡ st.StartRecord)
-at_start it r z same left trims heads none config source start = (
+    → r.config ≡ default_config → source_of known r ≡ Some z → r.state ≡ st.StartRecord → r.flexible ≡ true → IsAt it z × (it.rdr.state ≡ st.StartRecord)
+at_start it r z same left trims heads none config source start flexible = (
   record {
     trim = ap (λ (x : Reader (Bor (List ℕ))). x.trim) same ∙ trims;
     ready = inr (inr (ap (λ (x : Reader (Bor (List ℕ))). x.has_headers) same ∙ heads, ap (λ (x : Reader (Bor (List ℕ))). x.headers) same ∙ none));
@@ -153,6 +167,7 @@ at_start it r z same left trims heads none config source start = (
     config = ap (λ (x : Reader (Bor (List ℕ))). x.config) same ∙ config;
     source = ap (source_of known) same ∙ source;
     between = ap (λ (x : Reader (Bor (List ℕ))). ends_at_end x.state) same ∙ ap ends_at_end start;
+    flexible = ap (λ (x : Reader (Bor (List ℕ))). x.flexible) same ∙ flexible;
   },
   ap (λ (x : Reader (Bor (List ℕ))). x.state) same ∙ start,
 )

@@ -3,12 +3,23 @@ use Rattle.std.specs.Prelude.{ℕ, ◌+◌, ◌^◌, Bool, ◌&&◌, if◌then�
 use Rattle.std.specs.Option.{option_map_or}
 use Rattle.std.specs.Str.{bytes_eq}
 use Rattle.csv.specs.Reading.{records, default_config, strip_bom}
+use Rattle.csv.specs.declared.error.ErrorKind.{ErrorKind}
+use Rattle.csv.specs.declared.error.ErrorKind.TheVariants as kind
 use Rattle.fb_types.specs.declared.deploy.Stimulus.{Stimulus}
 use Rattle.fb_inputs.specs.Refusals.{Outcome, ◌>>=◌, or_refuse, bad_row, bad_number, over_limit}
 use Rattle.fb_inputs.specs.Lists.{each}
 use Rattle.fb_inputs.specs.Words.{Text}
 use Rattle.fb_inputs.specs.Numbers.{natural}
 use Rattle.fb_inputs.specs.Rows.{Row, draft, setting}
+
+-- The reader of records of bytes was refused memory, or failed itself.
+abbrev pub IsOfReading : ErrorKind → Type 0
+IsOfReading (kind.Io e) = Unit {0}
+IsOfReading kind.OutOfMemory = Unit {0}
+IsOfReading (kind.Utf8 pos err) = ⊥
+IsOfReading (kind.UnequalLengths pos expected len) = ⊥
+IsOfReading (kind.Serialize why) = ⊥
+IsOfReading (kind.Deserialize pos err) = ⊥
 
 abbrev pub most_bytes : ℕ
 most_bytes = 16777216

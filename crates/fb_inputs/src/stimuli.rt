@@ -1,6 +1,7 @@
 //! Stimuli.
 
 ghost use Rattle.std.specs.Prelude.{◌≡◌, Ok, Err, map, IfOk, IfErr, IfSome, option_map};
+ghost use Rattle.csv.specs.Reading.{error_kind};
 ghost use Rattle.csv.specs.Records.{fields_of};
 ghost use Rattle.fb_inputs.specs.Refusals.{Answers, number_of};
 ghost use Rattle.fb_inputs.specs.Stimuli as spec;
@@ -8,7 +9,7 @@ ghost use Rattle.fb_inputs.specs.Stimuli as spec;
 use crate::error::InputError;
 use crate::number::natural;
 use crate::row::{draft_of, settings};
-use csv::{ByteRecord, ReaderBuilder};
+use csv::{ByteRecord, Error, ErrorKind, ReaderBuilder};
 use fb_types::deploy::Stimulus;
 use fb_types::items::Items;
 use std::alloc::Global;
@@ -75,6 +76,18 @@ fn stimulus(alloc: Global, before: usize, row: &ByteRecord) -> Result<Stimulus, 
     })
 }
 
+/// What an error of reading a record tells. Records of bytes, of any lengths, are refused for want of memory, or because
+/// the reader underneath failed; over a slice nothing but memory can fail there.
+fn refusal(error: Error) -> InputError
+    requires { spec.IsOfReading (error_kind error) }
+    ensures { result ≡ InputError.Memory }
+{
+    match error.kind() {
+        ErrorKind::OutOfMemory | ErrorKind::Io(_) => InputError::Memory,
+        _ => unreachable!(),
+    }
+}
+
 /// The stimuli that bytes of CSV give: none without a record, else those of the rows behind the first record,
 /// which is `tick,event,values`. Ticks are milliseconds.
 ///
@@ -95,17 +108,18 @@ pub fn read_stimuli(alloc: Global, bytes: &[u8]) -> Result<Vec<Stimulus>, InputE
     let Some(first) = rows.next() else {
         return Ok(Vec::new(alloc));
     };
-    // Over a slice nothing but memory can fail.
-    let Ok(head) = first else {
-        return Err(InputError::Memory);
+    let head = match first {
+        Ok(head) => head,
+        Err(error) => return Err(refusal(error)),
     };
     if !is_head(&head) {
         return Err(InputError::Row);
     }
     let mut found = Items::new(alloc);
     for next in rows {
-        let Ok(row) = next else {
-            return Err(InputError::Memory);
+        let row = match next {
+            Ok(row) => row,
+            Err(error) => return Err(refusal(error)),
         };
         found.push(stimulus(alloc, found.len(), &row)?)?;
     }
