@@ -4,5 +4,3 @@
 pub mod agenda;
 mod arrivals;
 mod rising;
-#[cfg(test)]
-mod tests;

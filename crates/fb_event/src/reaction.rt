@@ -113,6 +113,3 @@ fn first(inputs: &[Value]) -> Value
         [value, ..] => *value,
     }
 }
-
-#[cfg(test)]
-mod tests;

@@ -2,5 +2,3 @@
 #![tactic(auto)]
 
 pub mod links;
-#[cfg(test)]
-mod tests;

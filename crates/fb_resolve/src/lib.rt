@@ -8,6 +8,4 @@ mod networks;
 pub mod numbers;
 mod ports;
 pub mod resolve;
-#[cfg(test)]
-mod tests;
 mod types;

@@ -4,5 +4,3 @@
 mod interfaces;
 mod ports;
 pub mod rows;
-#[cfg(test)]
-mod tests;

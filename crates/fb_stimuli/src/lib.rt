@@ -5,6 +5,4 @@ mod directory;
 mod fill;
 mod interfaces;
 pub mod stimuli;
-#[cfg(test)]
-mod tests;
 mod values;

@@ -2,6 +2,4 @@
 #![tactic(auto)]
 
 mod table;
-#[cfg(test)]
-mod tests;
 pub mod wiring;

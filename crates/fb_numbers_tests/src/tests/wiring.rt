@@ -1,0 +1,158 @@
+//! A network of two components: which ends its connections join, at components and at the boundary.
+//! And one in which the second component is connected at a port with a high number alone.
+
+use fb_resolve::numbers::{End, NetworkNumbers, Wire};
+use fb_types::items::Items;
+use fb_wiring::wiring::Wiring;
+use std::alloc::Global;
+use std::process::Abort;
+
+/// The first port at the boundary.
+const BOUNDARY: End = End {
+    component: None,
+    port: 0,
+};
+
+/// The first port of the first component.
+const FIRST: End = End {
+    component: Some(0),
+    port: 0,
+};
+
+/// The third port of the second component.
+const THIRD_OF_SECOND: End = End {
+    component: Some(1),
+    port: 2,
+};
+
+/// A port of the second component with a high number.
+const FAR_OF_SECOND: End = End {
+    component: Some(1),
+    port: 1_000_000,
+};
+
+/// The port before that one, which is not connected.
+const NEXT_TO_FAR: End = End {
+    component: Some(1),
+    port: 999_999,
+};
+
+/// The connections of events and of data; where those of events lead from some ends; and from where those of data come to
+/// some ends.
+type Network = (
+    &'static [Wire],
+    &'static [Wire],
+    &'static [(End, &'static [End])],
+    &'static [(End, Option<End>)],
+);
+
+/// Events from the boundary to the first component, and from there to both ends. Data from the first component to the
+/// second, and from the second to the boundary.
+const NEAR: Network = (
+    &[
+        Wire {
+            from: BOUNDARY,
+            to: FIRST,
+        },
+        Wire {
+            from: FIRST,
+            to: THIRD_OF_SECOND,
+        },
+        Wire {
+            from: FIRST,
+            to: BOUNDARY,
+        },
+    ],
+    &[
+        Wire {
+            from: FIRST,
+            to: THIRD_OF_SECOND,
+        },
+        Wire {
+            from: THIRD_OF_SECOND,
+            to: BOUNDARY,
+        },
+    ],
+    &[
+        (BOUNDARY, &[FIRST]),
+        (FIRST, &[THIRD_OF_SECOND, BOUNDARY]),
+        (THIRD_OF_SECOND, &[]),
+    ],
+    &[
+        (BOUNDARY, Some(THIRD_OF_SECOND)),
+        (FIRST, None),
+        (THIRD_OF_SECOND, Some(FIRST)),
+    ],
+);
+
+/// Events from the first component to the far port, and from there to the boundary and back to the first component. Data
+/// from the first component to the far port, and from there to the boundary. The ports below it have no ends.
+const FAR: Network = (
+    &[
+        Wire {
+            from: FIRST,
+            to: FAR_OF_SECOND,
+        },
+        Wire {
+            from: FAR_OF_SECOND,
+            to: BOUNDARY,
+        },
+        Wire {
+            from: FAR_OF_SECOND,
+            to: FIRST,
+        },
+    ],
+    &[
+        Wire {
+            from: FIRST,
+            to: FAR_OF_SECOND,
+        },
+        Wire {
+            from: FAR_OF_SECOND,
+            to: BOUNDARY,
+        },
+    ],
+    &[
+        (FIRST, &[FAR_OF_SECOND]),
+        (FAR_OF_SECOND, &[BOUNDARY, FIRST]),
+        (NEXT_TO_FAR, &[]),
+    ],
+    &[
+        (FAR_OF_SECOND, Some(FIRST)),
+        (BOUNDARY, Some(FAR_OF_SECOND)),
+        (NEXT_TO_FAR, None),
+    ],
+);
+
+fn wiring_of(rt: &impl Abort, alloc: Global, events: &[Wire], data: &[Wire]) -> Wiring {
+    let numbers = NetworkNumbers {
+        types: Items::new(alloc),
+        parameters: Items::new(alloc),
+        event_wires: Items::from_slice(alloc, events).expect(rt, "memory"),
+        data_wires: Items::from_slice(alloc, data).expect(rt, "memory"),
+    };
+    Wiring::of(alloc, numbers).expect(rt, "memory")
+}
+
+fn expect_network(rt: &impl Abort, alloc: Global, network: &Network) {
+    let (events, data, targets, sources) = *network;
+    let wiring = wiring_of(rt, alloc, events, data);
+    for (end, wanted) in targets {
+        assert!(rt; wiring.targets(*end) == *wanted);
+    }
+    for (end, wanted) in sources {
+        assert!(rt; wiring.source(*end) == *wanted);
+    }
+    assert!(rt; wiring.numbers().data_wires.len() == data.len());
+}
+
+#[test]
+fn connections_by_their_ends(rt: HostRuntime) {
+    expect_network(&rt, rt.alloc(), &NEAR);
+}
+
+/// The ports below the one that is connected have no ends, at either sort of wires.
+#[test]
+fn far_port_of_a_component(rt: HostRuntime) {
+    expect_network(&rt, rt.alloc(), &FAR);
+}
