@@ -31,7 +31,7 @@ digit-word b lt = elim (cases_Bool (leb 48 b && leb b 57)) [
   ]
 ]
 
-digit-decimal : (b : ℕ) → digit_of b < 10 → is_ascii_digit b ≡ true
+pub digit-decimal : (b : ℕ) → digit_of b < 10 → is_ascii_digit b ≡ true
 digit-decimal b lt = elim (cases_Bool (leb 48 b && leb b 57)) [
   | inl d ↦ d
   | inr d ↦ elim (cases_Bool (leb 65 b && leb b 70)) [
@@ -61,7 +61,7 @@ are_digits-word base wanted (b ∷ z) le h = go (λ w. are_digits-word base w z 
     go again false e h = let p = and_parts _ _ h in let lt = ltb-true (digit_of b) base p.0 in (digit-word b (omega arith), again false p.1)
 
 -- the digits of a number
-number-digits : (base : ℕ) (z : Text) (n : ℕ) → number base z ≡ Some n → are_digits base true z ≡ true
+pub number-digits : (base : ℕ) (z : Text) (n : ℕ) → number base z ≡ Some n → are_digits base true z ≡ true
 unfolding number
 number-digits base z n h = go (are_digits base true z) refl h
   where

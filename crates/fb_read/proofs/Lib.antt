@@ -30,3 +30,7 @@ pub mod BlocksComplete
 pub mod WholeLaws
 pub mod ByteLaws
 pub mod LongestLaws
+pub mod CutLaws
+pub mod PauseLaws
+pub mod DurationLaws
+pub mod FaultLaws

@@ -28,23 +28,23 @@ same_found t u m n h = let p : (t, m) ≡ (u, n) = pair (t, m) (u, n) h in (ap (
 
 -- ---- what each kind of token that was found says
 
-record Timed (negative : Bool) (m : ℕ) (o : Option ℕ) (t : Token) (n : ℕ) : Type 0 where
-  ticks : ℕ
-  ticks_are : o ≡ Some ticks
-  token_is : token.Time (signed negative ticks) ≡ t
-  length_is : m ≡ n
+pub record Timed (negative : Bool) (m : ℕ) (o : Option ℕ) (t : Token) (n : ℕ) : Type 0 where
+  pub ticks : ℕ
+  pub ticks_are : o ≡ Some ticks
+  pub token_is : token.Time (signed negative ticks) ≡ t
+  pub length_is : m ≡ n
 
 timed-found : (negative : Bool) (m : ℕ) (o : Option ℕ) (t : Token) (n : ℕ) → timed negative m o ≡ Ok (t, n) → Timed negative m o t n
 timed-found negative m None t n h = absurd cc
 timed-found negative m (Some ticks) t n h =
     let p = same_found (token.Time (signed negative ticks)) t m n h in record { ticks = ticks; ticks_are = refl; token_is = p.0; length_is = p.1 }
 
-time-found : (z : Text) (start : ℕ) (t : Token) (n : ℕ) → time z start ≡ Ok (t, n)
+pub time-found : (z : Text) (start : ℕ) (t : Token) (n : ℕ) → time z start ≡ Ok (t, n)
     → Timed (eqb (at z start) 45) (parts_start z start + word_len (drop (parts_start z start) z)) (duration (in_upper (word_of (drop (parts_start z start) z)))) t n
 unfolding time
 time-found z start t n h = timed-found _ _ _ t n h
 
-parts_start-least : (z : Text) (start : ℕ) → start ≤ parts_start z start
+pub parts_start-least : (z : Text) (start : ℕ) → start ≤ parts_start z start
 parts_start-least z start = go (eqb (at z start) 45)
   where
     go : (b : Bool) → start ≤ cond b (start + 1) start
@@ -72,13 +72,13 @@ word-least z t n h = go (word-found z t n h)
     go (as_time c w e) = let f = time-found z (word_len z + 1) t n e in omega (arith, f.length_is, parts_start-least z (word_len z + 1))
     go (as_name w e) = omega arith
 
-record Whole (m : ℕ) (o : Option ℕ) (t : Token) (n : ℕ) : Type 0 where
-  value : ℕ
-  value_is : o ≡ Some value
-  token_is : token.Whole value ≡ t
-  length_is : m ≡ n
+pub record Whole (m : ℕ) (o : Option ℕ) (t : Token) (n : ℕ) : Type 0 where
+  pub value : ℕ
+  pub value_is : o ≡ Some value
+  pub token_is : token.Whole value ≡ t
+  pub length_is : m ≡ n
 
-whole-found : (m : ℕ) (o : Option ℕ) (t : Token) (n : ℕ) → whole m o ≡ Ok (t, n) → Whole m o t n
+pub whole-found : (m : ℕ) (o : Option ℕ) (t : Token) (n : ℕ) → whole m o ≡ Ok (t, n) → Whole m o t n
 whole-found m None t n h = absurd cc
 whole-found m (Some value) t n h = let p = same_found (token.Whole value) t m n h in record { value = value; value_is = refl; token_is = p.0; length_is = p.1 }
 
@@ -110,7 +110,7 @@ literal-least z t n h = go (literal-found z t n h)
 -- ---- signs
 
 -- how a sign depends on the byte after it
-data Signs : Option (Mark × ℕ) → Option (Mark × ℕ) → Type 0 where
+pub data Signs : Option (Mark × ℕ) → Option (Mark × ℕ) → Type 0 where
   none : Signs None None
   alone : {k : Mark} → Signs (sign k 1) (sign k 1)
   double : {j k : Mark} → Signs (sign j 2) (sign k 1)
@@ -123,7 +123,7 @@ longer : (b : Bool) {u x v : Option (Mark × ℕ)} → Signs u v → Signs x v �
 longer true s r = s
 longer false s r = r
 
-signs : (b next : ℕ) → Signs (sign_of b next) (sign_of b 0)
+pub signs : (b next : ℕ) → Signs (sign_of b next) (sign_of b 0)
 signs b next =
     either (eqb b 59) alone (either (eqb b 58) (longer (eqb next 61) double alone)
     (either (eqb b 44) alone (either (eqb b 46) (longer (eqb next 46) double alone)
@@ -214,25 +214,25 @@ front-empty : front [] ≡ Err bad_byte
 unfolding front
 front-empty = refl
 
-front-letter : (b : ℕ) (y : Text) → is_letter b ≡ true → front (b ∷ y) ≡ word (b ∷ y)
+pub front-letter : (b : ℕ) (y : Text) → is_letter b ≡ true → front (b ∷ y) ≡ word (b ∷ y)
 unfolding front
 front-letter b y l = rw l refl
 
-front-digit : (b : ℕ) (y : Text) → is_ascii_digit b ≡ true → front (b ∷ y) ≡ literal (b ∷ y)
+pub front-digit : (b : ℕ) (y : Text) → is_ascii_digit b ≡ true → front (b ∷ y) ≡ literal (b ∷ y)
 unfolding front
 front-digit b y d = rw (digit-not-letter b d, d) refl
 
-front-sign : (b : ℕ) (y : Text) → is_word b ≡ false → front (b ∷ y) ≡ marked b (sign_of b (at y 0))
+pub front-sign : (b : ℕ) (y : Text) → is_word b ≡ false → front (b ∷ y) ≡ marked b (sign_of b (at y 0))
 unfolding front
 front-sign b y f = let p = or_parts (is_letter b) (is_ascii_digit b) f in rw (p.0, p.1) refl
 
 -- ---- no longer front is a token
 
 -- a text that is T or TIME in upper case
-data IsTimeWord : Text → Type 0 where
+pub data IsTimeWord : Text → Type 0 where
   time_word : {b : ℕ} {w : Text} → is_letter b ≡ true → AreWord (b ∷ w) → IsTimeWord (b ∷ w)
 
-time-word : (w : Text) → is_time_word (in_upper w) ≡ true → IsTimeWord w
+pub time-word : (w : Text) → is_time_word (in_upper w) ≡ true → IsTimeWord w
 time-word w h = elim (or_cases (bytes_eq (in_upper w) (codes "T")) (bytes_eq (in_upper w) (codes "TIME")) h) [
   | inl e ↦ go w (codes "T") (bytes_same (in_upper w) (codes "T") e) refl (refl, tt)
   | inr e ↦ go w (codes "TIME") (bytes_same (in_upper w) (codes "TIME") e) refl (refl, (refl, (refl, (refl, tt))))
@@ -242,7 +242,7 @@ time-word w h = elim (or_cases (bytes_eq (in_upper w) (codes "T")) (bytes_eq (in
     go [] u e l a = absurd (true≢false (sym (subst (λ (v : Text). is_letter (at v 0) ≡ true) (sym e) l)))
     go (b ∷ w) u e l a = time_word (upper-letter b (subst (λ (v : Text). is_letter (at v 0) ≡ true) (sym e) l)) (in_upper-word (b ∷ w) (subst AreWord (sym e) a))
 
-word-is-time : (w y : Text) → AreWord w → is_time_word (in_upper w) ≡ true → word (w ++ 35 ∷ y) ≡ time (w ++ 35 ∷ y) (length w + 1)
+pub word-is-time : (w y : Text) → AreWord w → is_time_word (in_upper w) ≡ true → word (w ++ 35 ∷ y) ≡ time (w ++ 35 ∷ y) (length w + 1)
 unfolding word
 word-is-time w y a i =
     let ends : word_len (w ++ 35 ∷ y) ≡ length w = word-ends w 35 y a refl in
@@ -250,14 +250,17 @@ word-is-time w y a i =
     let here : at (w ++ 35 ∷ y) (length w) ≡ 35 = get_or_at w 35 y 0 (length w) refl in
     rw (ends, taken, here, i) refl
 
-at-behind : (w y : Text) (c : ℕ) → at (w ++ c ∷ y) (length w + 1) ≡ at y 0
+pub at-behind : (w y : Text) (c : ℕ) → at (w ++ c ∷ y) (length w + 1) ≡ at y 0
 at-behind w y c = get_or-append-add w (c ∷ y) 1 0
 
-drop-behind : (w y : Text) (c : ℕ) → drop (length w + 1) (w ++ c ∷ y) ≡ y
+pub drop-behind : (w y : Text) (c : ℕ) → drop (length w + 1) (w ++ c ∷ y) ≡ y
 drop-behind [] y c = refl
 drop-behind (b ∷ w) y c = let k : suc (length w) + 1 ≡ suc (length w + 1) = omega arith in rw k (drop-behind w y c)
 
-not_minus : (x : ℕ) → is_word x ≡ true → eqb x 45 ≡ false
+pub drop-two : (w y : Text) (c d : ℕ) → drop (length w + 1 + 1) (w ++ c ∷ (d ∷ y)) ≡ y
+drop-two w y c d = sym (drop-drop 1 (length w + 1) (w ++ c ∷ (d ∷ y))) ∙ ap (drop 1) (drop-behind w (d ∷ y) c)
+
+pub not_minus : (x : ℕ) → is_word x ≡ true → eqb x 45 ≡ false
 not_minus x h = false_from_ne_true (eqb x 45) (λ e. true≢false (sym h ∙ ap is_word (eqb-true x 45 e)))
 
 duration-reaches : (w : Text) (x : ℕ) (z rest : Text) (t : Token) (n : ℕ) → AreWord (x ∷ z) → time (w ++ 35 ∷ (x ∷ z ++ rest)) (length w + 1) ≡ Ok (t, n) → length (w ++ 35 ∷ (x ∷ z)) ≤ n
@@ -277,18 +280,18 @@ negative-reaches w z rest t n a h =
     let f = time-found text (length w + 1) t n h in
     let here : at text (length w + 1) ≡ 45 = at-behind w (45 ∷ (z ++ rest)) 35 in
     let starts : parts_start text (length w + 1) ≡ length w + 1 + 1 = rw here refl in
-    let behind : drop (length w + 1 + 1) text ≡ z ++ rest = sym (drop-drop 1 (length w + 1) text) ∙ ap (drop 1) (drop-behind w (45 ∷ (z ++ rest)) 35) in
+    let behind : drop (length w + 1 + 1) text ≡ z ++ rest = drop-two w (z ++ rest) 35 45 in
     let len : length w + 1 + 1 + word_len (z ++ rest) ≡ n = rw (starts, behind) at f.length_is in
     let reach : length z ≤ word_len (z ++ rest) = longest z rest a in
     rw (length-append w (35 ∷ (45 ∷ z))) (omega arith)
 
 -- the three bases
-data IsBase : Text → ℕ → Type 0 where
+pub data IsBase : Text → ℕ → Type 0 where
   two : IsBase (50 ∷ []) 2
   eight : IsBase (56 ∷ []) 8
   sixteen : IsBase (49 ∷ (54 ∷ [])) 16
 
-base-is : (w : Text) (base : ℕ) → base_of w ≡ Some base → IsBase w base
+pub base-is : (w : Text) (base : ℕ) → base_of w ≡ Some base → IsBase w base
 base-is w base h =
     elim (chosen (bytes_eq w (codes "2")) (Some 2) (cond (bytes_eq w (codes "8")) (Some 8) (cond (bytes_eq w (codes "16")) (Some 16) None)) (Some base) h) [
       | inl p ↦ as_base (50 ∷ []) 2 (bytes_same w (codes "2") p.0) p.1 two
@@ -314,7 +317,7 @@ based-reaches two z rest t n a h = let f = whole-found (2 + word_len (z ++ rest)
 based-reaches eight z rest t n a h = let f = whole-found (2 + word_len (z ++ rest)) (number 8 (word_of (z ++ rest))) t n h in omega (arith, longest z rest a, f.length_is)
 based-reaches sixteen z rest t n a h = let f = whole-found (3 + word_len (z ++ rest)) (number 16 (word_of (z ++ rest))) t n h in omega (arith, longest z rest a, f.length_is)
 
-base-most : {w : Text} {base : ℕ} → IsBase w base → base ≤ 16
+pub base-most : {w : Text} {base : ℕ} → IsBase w base → base ≤ 16
 base-most two = omega arith
 base-most eight = omega arith
 base-most sixteen = omega arith
@@ -340,7 +343,7 @@ sign-reaches b (c ∷ z) rest k t n f e h =
     let same : sign k (length (b ∷ (c ∷ z))) ≡ sign m.mark n = sym e ∙ m.sign_is in
     omega (arith, same_length k m.mark (length (b ∷ (c ∷ z))) n same)
 
-no-duration : (v : ℕ) → duration [] ≡ Some v → ⊥
+pub no-duration : (v : ℕ) → duration [] ≡ Some v → ⊥
 unfolding parts number
 no-duration v e = cc
 

@@ -29,3 +29,5 @@ pub mod Fits
 pub mod BlocksGrammar
 pub mod Whole
 pub mod Longest
+pub mod Pauses
+pub mod TimeParts

@@ -1,12 +1,34 @@
 //! Laws of the definitions that contracts cite.
 
-ghost use Rattle.fb_read.specs.Longest.{TakesLongest};
+ghost use Rattle.fb_read.specs.Longest.{TakesLongest, CutsExactly, FaultsExactly};
+ghost use Rattle.fb_read.specs.Pauses.{SkipsExactly};
+ghost use Rattle.fb_read.specs.TimeParts.{DurationsExactly};
 ghost use Rattle.fb_read.specs.Whole.{DeclaresOne};
 ghost use Rattle.fb_read.specs.ReadsExactly.{ReadsExpressions, ReadsBodies};
 
 /// At each place the longest token is taken, and no letter, digit or underscore follows a literal.
 pub fn takes_longest()
     ensures { TakesLongest }
+{}
+
+/// A token is found at the front of a text exactly where it is cut off there, so where none is found there is none.
+pub fn cuts_exactly()
+    ensures { CutsExactly }
+{}
+
+/// Where there is no token, the first byte is at fault exactly where it may not stand outside of comments.
+pub fn faults_exactly()
+    ensures { FaultsExactly }
+{}
+
+/// Blanks and comments are skipped between tokens, all of them and nothing else.
+pub fn skips_exactly()
+    ensures { SkipsExactly }
+{}
+
+/// A duration is one or more parts with units that fall, and has the sum of their ticks.
+pub fn durations_exactly()
+    ensures { DurationsExactly }
 {}
 
 /// A text declares at most one library.

@@ -1,0 +1,5 @@
+use Rattle.fb_read.proofs.FaultLaws.{faults-exactly}
+use Rattle.fb_read.proofs.laws.faults_exactly.Goals as goal
+
+pub returns : goal.returns
+returns c = faults-exactly
