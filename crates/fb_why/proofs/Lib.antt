@@ -1,0 +1,5 @@
+mod NetworkPlaces
+mod BlockPlaces
+mod TypePorts
+mod DeploymentPlaces
+mod AllPlaces

@@ -1,0 +1,4 @@
+pub mod Explained
+pub mod Sites
+pub mod Unknown
+pub mod Mentions

@@ -1,0 +1,158 @@
+//! What names stand for in a declaration, looked for from name to name.
+
+ghost use Rattle.std.specs.Prelude.{◌≡◌, IfOk, option_map};
+ghost use Rattle.std.specs.Option.{option_copied};
+ghost use Rattle.std.specs.List.{find, list_any};
+ghost use Rattle.fb_types.specs.Names.{same_name};
+ghost use Rattle.fb_types.specs.Blocks.{among, ports_of};
+ghost use Rattle.fb_types.specs.Flat as spec;
+ghost use Rattle.fb_types.specs.Repeated.{block_type_names};
+ghost use Rattle.fb_resolve.specs.Types.{ArePortsOfKinds, kind_place, ports_of_block};
+ghost use Rattle.fb_why.specs.Sites.{names_of_sort};
+
+use fb_types::event_kind::EventKind;
+use fb_types::event_ports::{kind_named, ports_of};
+use fb_types::items::Items;
+use fb_types::library::{BlockType, EventPort, Instance, Library, Ports, Variable};
+use fb_types::name::Name;
+use std::alloc::{AllocError, Global};
+
+const KINDS: [EventKind; 14] = [
+    EventKind::Restart,
+    EventKind::Split,
+    EventKind::Merge,
+    EventKind::Rendezvous,
+    EventKind::Permit,
+    EventKind::Select,
+    EventKind::Switch,
+    EventKind::Delay,
+    EventKind::Cycle,
+    EventKind::SetReset,
+    EventKind::DataLatch,
+    EventKind::RisingEdge,
+    EventKind::FallingEdge,
+    EventKind::CountUp,
+];
+
+/// A sort of ports, each with a direction.
+#[derive(Clone, Copy)]
+pub enum Sort {
+    EventInput,
+    EventOutput,
+    Input,
+    Output,
+}
+
+/// The block types of a declaration, and the ports of the event blocks in the order of their kinds.
+#[derive(Drop)]
+pub struct Types<'a> {
+    pub library: &'a Library,
+    event_ports: Items<Ports>,
+    ghost of_kinds: { ArePortsOfKinds event_ports },
+}
+
+fn kind_place(kind: EventKind) -> usize
+    ensures { result ≡ kind_place kind }
+{
+    kind as usize
+}
+
+/// The ports of all event blocks.
+fn event_ports(alloc: Global) -> Result<Items<Ports>, AllocError>
+    ensures { IfOk result ArePortsOfKinds }
+{
+    let mut all = Items::new(alloc);
+    for kind in &KINDS {
+        all.push(ports_of(alloc, *kind)?)?;
+    }
+    Ok(all)
+}
+
+/// The ports of a block type of the declaration.
+pub fn block_ports(block: &BlockType) -> &Ports
+    ensures { result.now ≡ ports_of_block block.now }
+{
+    match block {
+        BlockType::Basic(basic) => &basic.ports,
+        BlockType::Composite(composite) => &composite.ports,
+    }
+}
+
+/// The name of a block type of the declaration.
+pub fn block_name(block: &BlockType) -> &Name
+    ensures { result.now ≡ spec.type_name block.now }
+{
+    match block {
+        BlockType::Basic(basic) => &basic.name,
+        BlockType::Composite(composite) => &composite.name,
+    }
+}
+
+/// The block type that has the name.
+fn block_named<'a>(blocks: &'a [BlockType], name: &Name) -> Option<&'a BlockType>
+    ensures { option_copied result ≡ find (λ b. same_name (spec.type_name b) name.now) blocks.now }
+{
+    blocks.iter().find(|block| block_name(block).is(name))
+}
+
+/// The instance that has the name.
+pub fn instance_named<'a>(instances: &'a [Instance], name: &Name) -> Option<&'a Instance>
+    ensures { option_copied result ≡ find (λ i. same_name i.name name.now) instances.now }
+{
+    instances.iter().find(|instance| instance.name.is(name))
+}
+
+fn has_event(events: &[EventPort], name: &Name) -> bool
+    ensures { result ≡ list_any (λ e. same_name name.now e.name) events.now }
+{
+    events.iter().any(|event| name.is(&event.name))
+}
+
+fn has_variable(variables: &[Variable], name: &Name) -> bool
+    ensures { result ≡ list_any (λ v. same_name name.now v.name) variables.now }
+{
+    variables.iter().any(|variable| name.is(&variable.name))
+}
+
+/// Whether an interface has a port of the sort by the name.
+pub fn has_port(ports: &Ports, sort: Sort, name: &Name) -> bool
+    ensures { result ≡ among (names_of_sort sort ports.now) name.now }
+{
+    match sort {
+        Sort::EventInput => has_event(ports.event_inputs.as_slice(), name),
+        Sort::EventOutput => has_event(ports.event_outputs.as_slice(), name),
+        Sort::Input => has_variable(ports.inputs.as_slice(), name),
+        Sort::Output => has_variable(ports.outputs.as_slice(), name),
+    }
+}
+
+impl<'a> Types<'a> {
+    pub fn new(alloc: Global, library: &'a Library) -> Result<Types<'a>, AllocError>
+        ensures { IfOk result (λ t. t.library.now ≡ library.now) }
+    {
+        Ok(Types {
+            library,
+            event_ports: event_ports(alloc)?,
+        })
+    }
+
+    /// The ports of the type that a name stands for.
+    pub fn ports_named(&self, name: &Name) -> Option<&Ports>
+        ensures { option_copied result ≡ option_map ports_of (spec.type_named self.now.library.now name.now) }
+    {
+        match kind_named(name.as_bytes()) {
+            Some(kind) => self.event_ports.get(kind_place(kind)),
+            None => {
+                let block = block_named(self.library.blocks.as_slice(), name)?;
+                Some(block_ports(block))
+            }
+        }
+    }
+
+    /// Whether a name stands for a type.
+    pub fn is_type(&self, name: &Name) -> bool
+        ensures { result ≡ among (block_type_names self.now.library.now) name.now }
+    {
+        self.ports_named(name).is_some()
+    }
+}

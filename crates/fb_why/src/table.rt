@@ -1,0 +1,232 @@
+//! What each refusal means, with examples of it and what to look at.
+
+/// What is told of a refusal, or of a file that can't be read.
+#[derive(Clone, Copy)]
+pub struct Explanation {
+    /// How it is called in the line of the fault.
+    pub name: &'static str,
+    pub meaning: &'static str,
+    pub examples: [&'static str; 2],
+    /// What to look at.
+    pub look: &'static str,
+}
+
+/// All explanations, in the order of their numbers. docs/FORMATS.md shows them; `tools/explained.py` compares the two.
+pub const EXPLANATIONS: [Explanation; 24] = [
+    Explanation {
+        name: "E01",
+        meaning: "A byte of the declaration is none that may stand outside comments.",
+        examples: [
+            "A letter with an accent in the name of an instance.",
+            "A form feed between two lines.",
+        ],
+        look: "The first such byte of the text. Only tab, line feed, carriage return and the printed ASCII characters may stand there; in a comment any byte may.",
+    },
+    Explanation {
+        name: "E02",
+        meaning: "No token of the declaration begins in this way.",
+        examples: [
+            "`T#1.5s`: a time literal has whole parts; write `T#1s500ms`.",
+            "A comment `(*` that is not closed.",
+        ],
+        look: "The first such place of the text: a literal, a comment, or a character that stands for nothing.",
+    },
+    Explanation {
+        name: "E03",
+        meaning: "The tokens of the declaration are no library. The line is that of the first token that can't stand there.",
+        examples: [
+            "`S : E_RESTART` with no `;` behind it: the line is that of the next token.",
+            "`VAR_OUTPUT` before `VAR_INPUT`: the sections have one order.",
+        ],
+        look: "That line, and what ends the line before it. The grammar is above.",
+    },
+    Explanation {
+        name: "E04",
+        meaning: "The declaration has more than 1,048,576 bytes.",
+        examples: [
+            "A text that a tool wrote with long comments.",
+            "A file of another sort, given by mistake.",
+        ],
+        look: "The size of the file. Comments, blanks and a byte order mark count.",
+    },
+    Explanation {
+        name: "E05",
+        meaning: "An expression or a statement nests more than 64 deep.",
+        examples: [
+            "A sum of 65 terms: each `+` holds all that stands before it.",
+            "65 statements IF, one inside the other.",
+        ],
+        look: "Long chains of one operator: give a part of it to a variable of its own. The branches of one IF or CASE nest no deeper than one of them.",
+    },
+    Explanation {
+        name: "E10",
+        meaning: "The deployment is no TOML.",
+        examples: [
+            "`name = R1`: a text has quotes, `name = \"R1\"`.",
+            "The same key twice in one table.",
+        ],
+        look: "Quotes, brackets and commas. The text is UTF-8, and integers have 64 bits.",
+    },
+    Explanation {
+        name: "E11",
+        meaning: "A table of the deployment lacks a key, has another one, or has a value of another sort; or a link leads from a resource to itself.",
+        examples: [
+            "`[[resource]]` with no `device`.",
+            "`latency = \"2\"`: a latency is an integer.",
+        ],
+        look: "Each `resource` has `device`, `name` and `instances`, each `link` has `from`, `to`, and `latency` or `latencies`, and no other keys. There is at least one `resource`. All texts are names, and a keyword is none.",
+    },
+    Explanation {
+        name: "E12",
+        meaning: "A latency is not within 1 to 1,000,000 ticks.",
+        examples: [
+            "`latency = 0`: a message takes one tick at least.",
+            "`latency = 3600000`, an hour.",
+        ],
+        look: "The latencies of all links. A tick is one millisecond.",
+    },
+    Explanation {
+        name: "E13",
+        meaning: "A row of the stimuli has the wrong shape.",
+        examples: [
+            "A first line other than `tick,event,values`.",
+            "`5,D.STOP` with two fields: the third one may be empty, but its comma stands.",
+        ],
+        look: "Each row has a tick, INSTANCE.EVENT, and words NAME=VALUE that are parted by spaces, not by commas.",
+    },
+    Explanation {
+        name: "E14",
+        meaning: "A tick or a value of the stimuli is no whole number and no truth value.",
+        examples: [
+            "`DT=T#4ms`: a time is given in ticks, `DT=4`.",
+            "`1.5,D.START,`: a tick is a whole number.",
+        ],
+        look: "A tick is decimal digits. A value is TRUE, FALSE, or decimal digits with or without `-`.",
+    },
+    Explanation {
+        name: "E15",
+        meaning: "A deployment or stimuli are over a limit.",
+        examples: [
+            "A stimulus at a tick over 1,000,000,000,000.",
+            "257 resources.",
+        ],
+        look: "The limits are in the table above: of bytes, resources, links, entries of a table of latencies, stimuli and their ticks.",
+    },
+    Explanation {
+        name: "E16",
+        meaning: "A table of latencies is empty, does not begin at tick 0, does not rise, or has a tick over 1,000,000,000,000.",
+        examples: [
+            "`latencies = [[10, 1]]`: the first entry holds from tick 0 on.",
+            "`latencies = [[0, 5], [10, 1], [10, 2]]`: the ticks rise strictly.",
+        ],
+        look: "The first number of each entry. The second one is the latency.",
+    },
+    Explanation {
+        name: "E20",
+        meaning: "A name, an event connection or a link is given twice.",
+        examples: [
+            "`Ab : E_MERGE; AB : E_MERGE;`: letter case makes no difference.",
+            "A block type called `E_CYCLE`, as one of the event blocks.",
+        ],
+        look: "The names of block types, of ports and variables of a type, of its states, of its algorithms, of instances, in a WITH, of an instance's parameters, and of resources.",
+    },
+    Explanation {
+        name: "E21",
+        meaning: "A name stands for nothing of the wanted sort in its place.",
+        examples: [
+            "`F.EO TO W.EJ;` where `W` is an E_SWITCH: it has no event input `EJ`.",
+            "`S.COLD TO C;` in an application: only composites have ports that are named without an instance.",
+        ],
+        look: "Slips of the pen; an input where an output is wanted, or the other way round; an event among the data connections; an instance that a resource lists and the application does not have.",
+    },
+    Explanation {
+        name: "E22",
+        meaning: "An expression, a statement or a value has the wrong kind.",
+        examples: [
+            "`X := X + B;` where `B` is a BOOL.",
+            "`C : E_CYCLE(DT := TRUE);`: `DT` is a TIME.",
+        ],
+        look: "Operands, conditions, selectors and assigned values; the numbers of arguments; inputs that are assigned; EXIT outside of loops; initial values and parameters that their types do not hold.",
+    },
+    Explanation {
+        name: "E23",
+        meaning: "A data connection leads to a type that does not hold all values of its source.",
+        examples: [
+            "From a DINT to an INT.",
+            "From an INT to a UINT: it may be negative.",
+        ],
+        look: "The types at the two ends. A range goes into one that has it within, BOOL goes to BOOL alone.",
+    },
+    Explanation {
+        name: "E24",
+        meaning: "Two data connections lead to one port.",
+        examples: [
+            "`A.Q TO W.G; B.Q TO W.G;`: the input has one source at most.",
+            "The same data connection twice.",
+        ],
+        look: "What stands behind TO in the data connections of one network.",
+    },
+    Explanation {
+        name: "E25",
+        meaning: "A composite type holds itself, or composites nest more than 16 deep.",
+        examples: [
+            "`FUNCTION_BLOCK F FBS X : F; END_FBS END_FUNCTION_BLOCK`.",
+            "A type that has an instance of a type that has an instance of the first one.",
+        ],
+        look: "The types of the instances in FBS, from type to type. Types that no instance uses count too.",
+    },
+    Explanation {
+        name: "E26",
+        meaning: "An instance of the application lies in no resource, or in two.",
+        examples: [
+            "A new instance that no `instances` of the deployment lists.",
+            "The same instance in the lists of `R1` and `R2`.",
+        ],
+        look: "The lists `instances` of all resources together: each instance of the application stands in them once. Components of composites do not stand there.",
+    },
+    Explanation {
+        name: "E27",
+        meaning: "A connection between two resources has no link.",
+        examples: [
+            "`F.EO TO W.EI;` with `F` in `R1`, `W` in `R2`, and no link from `R1` to `R2`.",
+            "A link from `R2` to `R1` alone: a link goes one way.",
+        ],
+        look: "For each connection of the application, of events and of data, the resources of its two ends.",
+    },
+    Explanation {
+        name: "E28",
+        meaning: "A data connection between two resources has no event that brings its value.",
+        examples: [
+            "`F.Q TO W.G;` over a link, with no event connection from `F` to the resource of `W`.",
+            "An event connection of an output event that does not have the variable in its WITH.",
+        ],
+        look: "Values go over a link with events only: some output event WITH the variable has to lead from the same block to that resource, to whatever block there.",
+    },
+    Explanation {
+        name: "E29",
+        meaning: "A stimulus does not fit its event input.",
+        examples: [
+            "`5,D.STOP,DT=4`: `DT` is not WITH the event `STOP`.",
+            "A value for an input that a data connection feeds.",
+        ],
+        look: "The instance is one of the application, the event one of its event inputs, and each variable is WITH that event, not connected, given once, and of a type that holds the value.",
+    },
+    Explanation {
+        name: "E30",
+        meaning: "The application has more than 4,096 instances, or there are more than 100,000 stimuli in a list.",
+        examples: [
+            "A composite of 100 instances, used 41 times.",
+            "4,097 event blocks.",
+        ],
+        look: "Instances inside composites count each time that the composite is used, and the composites themselves count too.",
+    },
+    Explanation {
+        name: "file fault",
+        meaning: "A file can't be read.",
+        examples: [
+            "A name that no file has, or a folder in place of a file.",
+            "`-` for two files: standard input is read once.",
+        ],
+        look: "The names in the call. The declaration is read first, then the deployment, then the stimuli.",
+    },
+];

@@ -1,0 +1,115 @@
+//! Texts that are put together of words and names.
+
+use crate::lookup::Sort;
+use fb_types::library::{Algorithm, EventPort, Ports, State, Variable};
+use fb_types::name::Name;
+use std::alloc::{AllocError, Global};
+
+/// A text that grows.
+#[derive(Drop)]
+pub struct Text {
+    all: String,
+}
+
+impl Text {
+    pub fn new(alloc: Global) -> Text {
+        Text {
+            all: String::new(alloc),
+        }
+    }
+
+    pub fn into_string(self) -> String {
+        let Text { all } = self;
+        all
+    }
+
+    pub fn words(&mut self, words: &str) -> Result<(), AllocError> {
+        self.all.push_str(words)
+    }
+
+    pub fn name(&mut self, name: &Name) -> Result<(), AllocError> {
+        for byte in name.as_bytes() {
+            self.all.push(char::from(*byte))?;
+        }
+        Ok(())
+    }
+
+    /// Words, and a name behind them.
+    pub fn named(&mut self, words: &str, name: &Name) -> Result<(), AllocError> {
+        self.words(words)?;
+        self.name(name)
+    }
+
+    /// What there is in place of what was wanted.
+    pub fn list(&mut self, names: &[&Name]) -> Result<(), AllocError> {
+        self.words(" (it has ")?;
+        for (place, name) in names.iter().enumerate() {
+            self.named(if place == 0 { "" } else { ", " }, name)?;
+        }
+        self.words(if names.is_empty() { "none)" } else { ")" })
+    }
+
+    /// What has no port of the sort by the name, and which ports it has.
+    pub fn lacks(
+        &mut self,
+        owner: &Name,
+        sort: Sort,
+        wanted: &Name,
+        names: &[&Name],
+    ) -> Result<(), AllocError> {
+        self.named(": ", owner)?;
+        self.named(words_for(sort), wanted)?;
+        self.list(names)
+    }
+}
+
+fn words_for(sort: Sort) -> &'static str {
+    match sort {
+        Sort::EventInput => " has no event input ",
+        Sort::EventOutput => " has no event output ",
+        Sort::Input => " has no data input ",
+        Sort::Output => " has no data output ",
+    }
+}
+
+/// The names of the ports of a sort.
+pub fn port_names(alloc: Global, ports: &Ports, sort: Sort) -> Result<Vec<&Name>, AllocError> {
+    match sort {
+        Sort::EventInput => event_names(alloc, ports.event_inputs.as_slice()),
+        Sort::EventOutput => event_names(alloc, ports.event_outputs.as_slice()),
+        Sort::Input => variable_names(alloc, ports.inputs.as_slice()),
+        Sort::Output => variable_names(alloc, ports.outputs.as_slice()),
+    }
+}
+
+fn event_names(alloc: Global, events: &[EventPort]) -> Result<Vec<&Name>, AllocError> {
+    let mut names = Vec::new(alloc);
+    for event in events {
+        names.push(&event.name)?;
+    }
+    Ok(names)
+}
+
+fn variable_names(alloc: Global, variables: &[Variable]) -> Result<Vec<&Name>, AllocError> {
+    let mut names = Vec::new(alloc);
+    for variable in variables {
+        names.push(&variable.name)?;
+    }
+    Ok(names)
+}
+
+pub fn state_names(alloc: Global, states: &[State]) -> Result<Vec<&Name>, AllocError> {
+    let mut names = Vec::new(alloc);
+    for state in states {
+        names.push(&state.name)?;
+    }
+    Ok(names)
+}
+
+pub fn algorithm_names(alloc: Global, algorithms: &[Algorithm]) -> Result<Vec<&Name>, AllocError> {
+    let mut names = Vec::new(alloc);
+    for algorithm in algorithms {
+        names.push(&algorithm.name)?;
+    }
+    Ok(names)
+}
