@@ -2,12 +2,11 @@
 """./gate [--jobs N] [CRATE..]: the test command and merge gate of this repository.
 
 Without a crate it is the whole gate: the examples are those of the tests, and docs/FORMATS.md shows the explanations of the
-refusals; then, from nothing, every crate and its
-tests are proved, every wrong body in crates/*/must-fail is shown to be refused, tests and programs are run, and the
-program is called at least once for each status (tools/calls.py), as docs/FIRST_APPLICATION.md has it
-(tools/first_application.py), on texts that are cut or changed in one byte (tools/hostile.py), and with each of its requests
-for memory refused (tools/refuse.py). Then it tells the processor seconds of each crate. The last line is 'N passed, M
-failed', and the status 0 where none failed.
+refusals; then, from nothing, every crate and its tests are proved, every wrong body in crates/*/must-fail is shown to be
+refused, tests and programs are run, and the program is called at least once for each status (tools/calls.py), as
+docs/FIRST_APPLICATION.md has it (tools/first_application.py), on texts that are cut or changed in one byte
+(tools/hostile.py), and with each of its requests for memory refused (tools/refuse.py). Then it tells the processor seconds
+of each crate. The last line is 'N passed, M failed', and the status 0 where none failed.
 
 With crates it does the same for these alone, over the libraries below them as they are built in out/.
 --jobs N uses N processors, and not all.
@@ -149,7 +148,7 @@ def keep_to(names):
 
 def call_after_each_run():
     """Has the gate make the calls of calls.py each time it has run the program, as each compiler builds it, and with the first of the two
-    what is made of texts and of memory."""
+    what is made of texts and of memory. What is made of memory is done to tests too, when they have passed."""
     run = rt.run
 
     def tries(made):
@@ -162,6 +161,8 @@ def call_after_each_run():
         if is_well and not tests and crate.name == calls.PROGRAM:
             made = f"{crate.folder}/out/{crate.name}{ending}"
             return calls.make_all(made) and (bool(ending) or all([*tries(made)]))
+        if is_well and tests and not ending:
+            return refuse.try_tests(crate.name, f"{crate.folder}/out/{crate.name}_tests")
         return is_well
 
     rt.run = run_and_call

@@ -12,7 +12,7 @@ known and memory is wanted, the output ends where a round ends.
 
 ./gate does this when it has run the program, for the runs in RUNS by --serial, one worker and two; without ./gate and without words
 it is done to the program as ./simulate built it. A test that the kit built is a program too: its name is the word, and its status
-for want of memory is 101 where it answers that as a failure:
+for want of memory is 101 where it answers that as a failure. ./gate does this to the tests in TESTS, for calls by themselves; by hand:
 
     (cd crates/fb_resource_tests && ../../tools/rt test)
     tools/refuse.py --memory 101 crates/fb_resource_tests/out/fb_resource_tests_tests tests::messages::messages_come_after_a_want_of_memory
@@ -31,6 +31,10 @@ from program import Room, side_by_side
 HERE = os.path.dirname(os.path.realpath(__file__))
 PROGRAM = "fbsim"
 WANT_OF_MEMORY = 4
+# The status of a test that answers a failure.
+FAILED_TEST = 101
+# The tests that are written for this, by their crates: each makes its calls once more where one of them wanted memory.
+TESTS = {"fb_resource_tests": ["tests::messages::messages_come_after_a_want_of_memory"]}
 # How many requests are refused side by side before it is looked at whether there were so many.
 AT_ONCE = 64
 WAYS = [["--serial"], ["--workers", "1"], ["--workers", "2"]]
@@ -199,6 +203,11 @@ def try_alone(program, words, memory):
         refusals = Refusals(room, words, memory)
         status, output, _ = refusals.run(0)
         return tell(" ".join([os.path.basename(program), *words]), *refusals.faults(status, output))
+
+
+def try_tests(crate, program):
+    """Refuses each request of those of a crate's tests that are written for it."""
+    return all([try_alone(program, [test], FAILED_TEST) for test in TESTS.get(crate, [])])
 
 
 def main(words):
