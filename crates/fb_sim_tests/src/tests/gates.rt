@@ -85,3 +85,43 @@ fn workers_meet(rt: HostRuntime) -> Result<(), Fail> {
     }
     Ok(())
 }
+
+/// It looks whether the first numbers that pass are those of the jobs of the first round, in their order.
+#[derive(Drop)]
+struct InOrder {
+    passed: AtomicU64,
+    differs: AtomicBool,
+}
+
+impl InOrder {
+    /// There is a job for each of the three resources.
+    const JOBS: u64 = 3;
+}
+
+impl Gate for InOrder {
+    fn at<R: Wait>(&self, _rt: &R, number: usize) {
+        let place = self.passed.fetch_add(1, SeqCst);
+        if place < Self::JOBS && number as u64 != place {
+            self.differs.store(true, SeqCst);
+        }
+    }
+}
+
+#[test]
+fn one_worker_passes_the_gate_in_the_order_of_the_jobs(rt: HostRuntime) -> Result<(), Fail> {
+    let alloc = rt.alloc();
+    let inputs = inputs_of(BETWEEN.declaration, BETWEEN.deploy, BETWEEN.stimuli);
+    let gate = InOrder {
+        passed: AtomicU64::new(0),
+        differs: AtomicBool::new(false),
+    };
+    let mut out = Vec::new(alloc);
+    let options = to(BETWEEN.horizon, BETWEEN.steps, Form::One);
+    run(&rt, alloc, &inputs, options, &mut out, &gate)?;
+    assert!(rt;
+        gate.passed.load(SeqCst) >= InOrder::JOBS,
+        "a job passed no gate"
+    );
+    assert!(rt; !gate.differs.load(SeqCst), "another number passed");
+    Ok(())
+}
