@@ -33,8 +33,11 @@ PROGRAM = "fbsim"
 WANT_OF_MEMORY = 4
 # The status of a test that answers a failure.
 FAILED_TEST = 101
-# The tests that are written for this, by their crates: each makes its calls once more where one of them wanted memory.
-TESTS = {"fb_resource_tests": ["tests::messages::messages_come_after_a_want_of_memory"]}
+# The tests that are written for this, by their crates: each looks, where a call wanted memory, at what the calls behind it do.
+TESTS = {
+    "fb_resource_tests": ["tests::messages::messages_come_after_a_want_of_memory"],
+    "fb_sim_tests": ["tests::advances::after_a_want_of_memory_nothing_is_written"],
+}
 # How many requests are refused side by side before it is looked at whether there were so many.
 AT_ONCE = 64
 WAYS = [["--serial"], ["--workers", "1"], ["--workers", "2"]]
