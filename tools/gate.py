@@ -1,8 +1,8 @@
 #!/usr/bin/env python3
 """./gate [--jobs N] [CRATE..]: the test command and merge gate of this repository.
 
-Without a crate it is the whole gate: the examples are those of the tests, and docs/FORMATS.md shows the explanations of the
-refusals; then, from nothing, every crate and its tests are proved, every wrong body in crates/*/must-fail is shown to be
+Without a crate it is the whole gate: the examples are those of the tests, docs/FORMATS.md shows the explanations of the
+refusals, and what the documents name is there (tools/documents.py); then, from nothing, every crate and its tests are proved, every wrong body in crates/*/must-fail is shown to be
 refused, tests and programs are run, and the program is called at least once for each status (tools/calls.py), as
 docs/FIRST_APPLICATION.md has it (tools/first_application.py), on texts that are cut or changed in one byte
 (tools/hostile.py), and with each of its requests for memory refused (tools/refuse.py). Then it tells the processor seconds
@@ -23,6 +23,7 @@ import tempfile
 import time
 
 import calls
+import documents
 import explained
 import first_application
 import hostile
@@ -190,7 +191,7 @@ def main(words):
     if any(it.startswith("-") for it in words):
         print(__doc__, file=sys.stderr)
         return 2
-    if subprocess.run(["examples/check"]).returncode or explained.main([]):
+    if subprocess.run(["examples/check"]).returncode or explained.main([]) or documents.main():
         print("0 passed, 1 failed")
         return 1
     with tempfile.TemporaryDirectory(prefix="gate-") as room:

@@ -1,0 +1,123 @@
+#!/usr/bin/env python3
+"""tools/documents.py: says whether the documents speak of what there is.
+
+docs/ARCHITECTURE.md has each crate of crates.txt in one table row, with all its modules; docs/PROOFS.md each but those of tests, with
+functions, clauses and definitions that there are; the blocks of docs/READING.md stand word for word in the file that is named before
+each; and a function as `fb_sim::run::run` or a file as `docs/FORMATS.md`, wherever a page names one, is there. Where something is not
+so, this says it and ends with status 1. ./gate does it."""
+
+import glob
+import os
+import re
+import sys
+
+from kit import TOP
+
+ROW = re.compile(r"\| `(fb\w+)` \|.*\|")
+TEXTS = re.compile(r"`([^`\n]+)`")
+# A file or a folder of the repository, as a page names it.
+PLACE = re.compile(r"(?:docs|crates|tools|examples|bench)/[\w./+]*\w")
+
+
+def text_of(place):
+    with open(f"{TOP}/{place}", encoding="utf-8") as it:
+        return it.read()
+
+
+def sources(crate, kind):
+    """Returns the texts of a crate's files of a kind, `src/*.rt` or `specs/*.antt`, one behind the other."""
+    folder, ending = {"src": ("src", "rt"), "specs": ("specs", "antt")}[kind]
+    found = glob.glob(f"{TOP}/crates/{crate}/{folder}/**/*.{ending}", recursive=True)
+    return "\n".join([os.path.basename(it).removesuffix(f".{ending}") + "\n" + text_of(os.path.relpath(it, TOP)) for it in sorted(found)])
+
+
+def crates():
+    return [line.split(":")[0].split()[0] for line in text_of("crates.txt").splitlines() if ":" in line]
+
+
+def rows(page):
+    """Returns the rows of a page's tables that begin with a crate, as the crate and the cells behind it."""
+    lines = [it for it in text_of(page).splitlines() if ROW.fullmatch(it)]
+    return [(ROW.fullmatch(it)[1], it.strip("| ").split(" | ")[1:]) for it in lines]
+
+
+def has_all(page, wanted):
+    """What is to be said of a page that is to have each of these crates in one row."""
+    named = [crate for crate, _ in rows(page)]
+    return [f"{page}: {it} stands in {named.count(it)} rows" for it in sorted({*wanted, *named}) if named.count(it) != (it in wanted)]
+
+
+def modules_told():
+    """What is to be said of the modules that docs/ARCHITECTURE.md names for each crate, in the last of three cells."""
+    page, faults = "docs/ARCHITECTURE.md", []
+    for crate, cells in rows(page):
+        found = {os.path.basename(it)[:-3] for it in glob.glob(f"{TOP}/crates/{crate}/src/*.rt")} - {"lib", "tests"}
+        # (a definition's file is named with its folder)
+        told = {it for it in TEXTS.findall(cells[-1]) if "/" not in it} if len(cells) == 3 else found
+        faults += [f"{page}: {crate}: {it} is told and not there, or there and not told" for it in sorted(found ^ told)]
+    return faults
+
+
+def is_item(crate, path):
+    """Whether a crate has what the last part of a path names: a function, a type or a module."""
+    name = re.escape(path.split("::")[-1].split("(")[0])
+    items = rf"\b(fn|struct|enum|trait|type|const|mod) {name}\b"
+    return bool(re.search(items, sources(crate, "src")))
+
+
+def proofs_told():
+    """What is to be said of the functions, clauses and definitions that docs/PROOFS.md names."""
+    page, faults = "docs/PROOFS.md", []
+    for crate, cells in rows(page):
+        code, specs = sources(crate, "src"), sources(crate, "specs") + sources("fb_types", "specs") + sources("fb_names", "specs")
+        for it in TEXTS.findall(cells[-1]):
+            name = it.split("::")[-1]
+            if it.startswith("fb_") or "/" in it or it.endswith(".."):
+                continue
+            there = re.search(rf"\b{name}\b", specs) if name[0].isupper() else is_item(crate, it)
+            faults += [] if there else [f"{page}: {crate} has no {it}"]
+        for inside in re.findall(r"\(([^()]*)\)", cells[-1]):
+            words = inside.split(";")[0].split(",")
+            clauses = [it.strip() for it in words if re.fullmatch(r"\s*[a-z_]+\s*", it)]
+            faults += [f"{page}: {crate} has no clause {it}" for it in clauses if not re.search(rf"ensures {it} ", code + specs) and not re.search(rf"\bpub {it} :", specs)]
+    return faults
+
+
+def names_told(page):
+    """What is to be said of the functions and files that a page names."""
+    faults = []
+    for it in TEXTS.findall(text_of(page)):
+        found = re.fullmatch(r"(fb\w+)((?:::\w+)+)(\(.*\))?", it)
+        if found and (not os.path.isdir(f"{TOP}/crates/{found[1]}") or not is_item(found[1], found[2])):
+            faults.append(f"{page}: there is no {it}")
+    places = [it for it in PLACE.findall(re.sub(r"```.*?```", "", text_of(page), flags=re.S)) if "*" not in it]
+    faults += [f"{page}: there is no {it}" for it in places if not os.path.exists(f"{TOP}/{it}") and not glob.glob(f"{TOP}/crates/{it}*")]
+    return faults
+
+
+def blocks_stand():
+    """What is to be said of the blocks of docs/READING.md, each of which stands in the file of crates/ that was named last."""
+    page, named, faults = "docs/READING.md", None, []
+    for place, part in enumerate(text_of(page).split("```\n")):
+        if place % 2 == 0:
+            named = ([it for it in TEXTS.findall(part) if it.startswith("crates/")] or [named])[-1]
+        elif not named or part not in text_of(named):
+            faults.append(f"{page}: {named} has no such text:\n{part}")
+    return faults
+
+
+def main():
+    """Looks at the documents and returns the status."""
+    pages = ["README.md", *[f"docs/{it}" for it in sorted(os.listdir(f"{TOP}/docs"))], "bench/README.md", "examples/README.md"]
+    faults = has_all("docs/ARCHITECTURE.md", crates()) + has_all("docs/PROOFS.md", [it for it in crates() if it.startswith("fb_") and not it.endswith("_tests")])
+    faults += modules_told() + proofs_told() + blocks_stand()
+    for page in pages:
+        faults += names_told(page)
+    for it in faults:
+        print(it, file=sys.stderr)
+    print(f"documents: {len(faults)} faults" if faults else "documents: all that they name is there")
+    return 1 if faults else 0
+
+
+if __name__ == "__main__":
+    sys.exit(main())
