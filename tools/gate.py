@@ -2,11 +2,12 @@
 """./gate [--jobs N] [CRATE..]: the test command and merge gate of this repository.
 
 Without a crate it is the whole gate: the examples are those of the tests, docs/FORMATS.md shows the explanations of the
-refusals, and what the documents name is there (tools/documents.py); then, from nothing, every crate and its tests are proved, every wrong body in crates/*/must-fail is shown to be
-refused, tests and programs are run, and the program is called at least once for each status (tools/calls.py), as
-docs/FIRST_APPLICATION.md has it (tools/first_application.py), on texts that are cut or changed in one byte
-(tools/hostile.py), and with each of its requests for memory refused (tools/refuse.py). Then it tells the processor seconds
-of each crate. The last line is 'N passed, M failed', and the status 0 where none failed.
+refusals, and what the documents name is there (tools/documents.py); then, from nothing, every crate and its tests are
+proved, every wrong body in crates/*/must-fail is shown to be refused, tests and programs are run, and the program is
+called at least once for each status (tools/calls.py), as docs/FIRST_APPLICATION.md has it (tools/first_application.py),
+on texts that are cut or changed in one byte (tools/hostile.py), and with each of its requests for memory refused
+(tools/refuse.py). Then it tells the processor seconds of each crate. The last line is 'N passed, M failed', and the
+status 0 where none failed.
 
 With crates it does the same for these alone, over the libraries below them as they are built in out/.
 --jobs N uses N processors, and not all.
