@@ -2,9 +2,9 @@
 """tools/documents.py: says whether the documents speak of what there is.
 
 docs/ARCHITECTURE.md has each crate of crates.txt in one table row, with all its modules; docs/PROOFS.md each but those of tests, with
-functions, clauses and definitions that there are; the blocks of docs/READING.md stand word for word in the file that is named before
-each; and a function as `fb_sim::run::run` or a file as `docs/FORMATS.md`, wherever a page names one, is there. Where something is not
-so, this says it and ends with status 1. ./gate does it."""
+functions, clauses and definitions that there are; the blocks of docs/READING.md stand word for word in the file that is named
+before each; docs/DEFINITIONS.md has every file of definitions; and a function as `fb_sim::run::run` or a file as `docs/FORMATS.md`,
+wherever a page names one, is there. Where something is not so, this says it and ends with status 1. ./gate does it."""
 
 import glob
 import os
@@ -83,6 +83,23 @@ def proofs_told():
     return faults
 
 
+def definitions_told():
+    """What is to be said of docs/DEFINITIONS.md, which is to name each file of definitions beside its crate, or the crate's folder alone."""
+    page, faults = "docs/DEFINITIONS.md", []
+    whole, words = text_of(page), set(re.findall(r"\w+", text_of(page)))
+    for crate in crates():
+        told = re.findall(rf"^\| `{crate}/specs(?:/(\w+))?`([^|]*)\|", whole, re.M)
+        names = {it for first, rest in told for it in [first, *TEXTS.findall(rest)]}
+        for it in sorted(glob.glob(f"{TOP}/crates/{crate}/specs/*.antt")):
+            name = os.path.basename(it).removesuffix(".antt")
+            # (those of the model and of the text stand in tables of their own)
+            known = words if crate in ("fb_types", "fb_read") else names
+            if name not in ("Lib", "formers") and "" not in names and name not in known:
+                faults.append(f"{page}: {crate}/specs/{name} is not told")
+        faults += [f"{page}: there is no {crate}/specs/{it}" for it in sorted(names - {""}) if not os.path.exists(f"{TOP}/crates/{crate}/specs/{it}.antt")]
+    return faults
+
+
 def names_told(page):
     """What is to be said of the functions and files that a page names."""
     faults = []
@@ -110,7 +127,7 @@ def main():
     """Looks at the documents and returns the status."""
     pages = ["README.md", *[f"docs/{it}" for it in sorted(os.listdir(f"{TOP}/docs"))], "bench/README.md", "examples/README.md"]
     faults = has_all("docs/ARCHITECTURE.md", crates()) + has_all("docs/PROOFS.md", [it for it in crates() if it.startswith("fb_") and not it.endswith("_tests")])
-    faults += modules_told() + proofs_told() + blocks_stand()
+    faults += modules_told() + proofs_told() + definitions_told() + blocks_stand()
     for page in pages:
         faults += names_told(page)
     for it in faults:
