@@ -1,4 +1,5 @@
 pub mod Flows
 pub mod Frames
 pub mod Functions
+pub mod Wanted
 pub mod Known

@@ -49,7 +49,7 @@ fn magnitude(number: i128) -> Result<Value, Reason>
     ensures { result ≡ judged (absolute number) }
 {
     if number < 0 {
-        negated(number)
+        Ok(Value::Whole(negated(number)?))
     } else {
         Ok(Value::Whole(number))
     }

@@ -1,9 +1,10 @@
 //! Operators (IEC 61131-3, 7.3.2). Whole numbers are exact: a result outside 128 bits is a reason.
 
-ghost use Rattle.std.specs.Prelude.{◌≡◌, ◌+ℤ◌, ◌-ℤ◌, ◌*ℤ◌, neg_ℤ};
-ghost use Rattle.fb_types.specs.Values.{judged, whole, truth, binary_value, unary_value, same_value, quotient, modulus};
+ghost use Rattle.std.specs.Prelude.{◌≡◌, false, ◌+ℤ◌, ◌-ℤ◌, ◌*ℤ◌, neg_ℤ};
+ghost use Rattle.fb_types.specs.Values.{judged, told, whole, truth, binary_value, same_value, quotient, modulus};
+ghost use Rattle.fb_st.specs.Wanted.{wholes, gives_number};
 
-use fb_types::text::{BinaryOperator, UnaryOperator};
+use fb_types::text::BinaryOperator;
 use fb_types::value::{Reason, Value};
 
 /// The whole number that a value is. A truth value, which no accepted text has here, counts as 0.
@@ -26,71 +27,71 @@ pub fn truth_value(value: Value) -> bool
     }
 }
 
-fn sum(x: i128, y: i128) -> Result<Value, Reason>
-    ensures { result ≡ judged (x +ℤ y) }
+fn sum(x: i128, y: i128) -> Result<i128, Reason>
+    ensures { result ≡ wholes (judged (x +ℤ y)) }
 {
     match x.checked_add(y) {
-        Some(z) => Ok(Value::Whole(z)),
+        Some(z) => Ok(z),
         None => Err(Reason::Range),
     }
 }
 
-fn difference(x: i128, y: i128) -> Result<Value, Reason>
-    ensures { result ≡ judged (x -ℤ y) }
+fn difference(x: i128, y: i128) -> Result<i128, Reason>
+    ensures { result ≡ wholes (judged (x -ℤ y)) }
 {
     match x.checked_sub(y) {
-        Some(z) => Ok(Value::Whole(z)),
+        Some(z) => Ok(z),
         None => Err(Reason::Range),
     }
 }
 
-fn product(x: i128, y: i128) -> Result<Value, Reason>
-    ensures { result ≡ judged (x *ℤ y) }
+fn product(x: i128, y: i128) -> Result<i128, Reason>
+    ensures { result ≡ wholes (judged (x *ℤ y)) }
 {
     match x.checked_mul(y) {
-        Some(z) => Ok(Value::Whole(z)),
+        Some(z) => Ok(z),
         None => Err(Reason::Range),
     }
 }
 
 /// `/`, which cuts toward zero.
-fn divided(x: i128, y: i128) -> Result<Value, Reason>
-    ensures { result ≡ quotient x y }
+fn divided(x: i128, y: i128) -> Result<i128, Reason>
+    ensures { result ≡ wholes (quotient x y) }
 {
     if y == 0 {
         return Err(Reason::Divide);
     }
     match x.checked_div(y) {
-        Some(z) => Ok(Value::Whole(z)),
+        Some(z) => Ok(z),
         None => Err(Reason::Range),
     }
 }
 
 /// MOD, which is 0 where the divisor is 0.
-fn remainder(x: i128, y: i128) -> Result<Value, Reason>
-    ensures { result ≡ modulus x y }
+fn remainder(x: i128, y: i128) -> Result<i128, Reason>
+    ensures { result ≡ wholes (modulus x y) }
 {
     if y == 0 {
-        return Ok(Value::Whole(0));
+        return Ok(0);
     }
     match x.checked_rem(y) {
-        Some(z) => Ok(Value::Whole(z)),
+        Some(z) => Ok(z),
         // -2^127 MOD -1: the quotient is out of range, and the remainder is not
-        None => Ok(Value::Whole(0)),
+        None => Ok(0),
     }
 }
 
 /// Unary minus.
-pub fn negated(x: i128) -> Result<Value, Reason>
-    ensures { result ≡ judged (neg_ℤ x) }
+pub fn negated(x: i128) -> Result<i128, Reason>
+    ensures { result ≡ wholes (judged (neg_ℤ x)) }
 {
     match x.checked_neg() {
-        Some(z) => Ok(Value::Whole(z)),
+        Some(z) => Ok(z),
         None => Err(Reason::Range),
     }
 }
 
-fn are_same(left: Value, right: Value) -> bool
+pub fn are_same(left: Value, right: Value) -> bool
     ensures { result ≡ same_value left right }
 {
     match (left, right) {
@@ -100,34 +101,50 @@ fn are_same(left: Value, right: Value) -> bool
     }
 }
 
-/// A unary operator at the value of its operand.
-pub fn apply_unary(operator: UnaryOperator, value: Value) -> Result<Value, Reason>
-    ensures { result ≡ unary_value operator value }
+/// The whole number that an operator gives at two. One that gives a truth value counts as 0.
+pub fn number_of_two(operator: BinaryOperator, x: i128, y: i128) -> Result<i128, Reason>
+    ensures { result ≡ wholes (binary_value operator (Value.Whole x) (Value.Whole y)) }
 {
     match operator {
-        UnaryOperator::Negate => negated(whole_of(value)),
-        UnaryOperator::Not => Ok(Value::Bool(!truth_value(value))),
+        BinaryOperator::Add => sum(x, y),
+        BinaryOperator::Subtract => difference(x, y),
+        BinaryOperator::Multiply => product(x, y),
+        BinaryOperator::Divide => divided(x, y),
+        BinaryOperator::Modulo => remainder(x, y),
+        _ => Ok(0),
     }
 }
 
-/// A binary operator at the values of its operands.
-pub fn apply_binary(operator: BinaryOperator, left: Value, right: Value) -> Result<Value, Reason>
-    ensures { result ≡ binary_value operator left right }
+/// The truth value that an operator gives at two numbers, where it does not give a number.
+pub fn is_told(operator: BinaryOperator, x: i128, y: i128) -> bool
+    ensures { gives_number operator ≡ false → binary_value operator (Value.Whole x) (Value.Whole y) ≡ told result }
 {
     match operator {
-        BinaryOperator::Or => Ok(Value::Bool(truth_value(left) || truth_value(right))),
-        BinaryOperator::Xor => Ok(Value::Bool(truth_value(left) != truth_value(right))),
-        BinaryOperator::And => Ok(Value::Bool(truth_value(left) && truth_value(right))),
-        BinaryOperator::Equal => Ok(Value::Bool(are_same(left, right))),
-        BinaryOperator::NotEqual => Ok(Value::Bool(!are_same(left, right))),
-        BinaryOperator::Less => Ok(Value::Bool(whole_of(left) < whole_of(right))),
-        BinaryOperator::Greater => Ok(Value::Bool(whole_of(right) < whole_of(left))),
-        BinaryOperator::LessOrEqual => Ok(Value::Bool(whole_of(left) <= whole_of(right))),
-        BinaryOperator::GreaterOrEqual => Ok(Value::Bool(whole_of(right) <= whole_of(left))),
-        BinaryOperator::Add => sum(whole_of(left), whole_of(right)),
-        BinaryOperator::Subtract => difference(whole_of(left), whole_of(right)),
-        BinaryOperator::Multiply => product(whole_of(left), whole_of(right)),
-        BinaryOperator::Divide => divided(whole_of(left), whole_of(right)),
-        BinaryOperator::Modulo => remainder(whole_of(left), whole_of(right)),
+        BinaryOperator::Or | BinaryOperator::Xor | BinaryOperator::And => false,
+        BinaryOperator::Equal => x == y,
+        BinaryOperator::NotEqual => x != y,
+        BinaryOperator::Less => x < y,
+        BinaryOperator::Greater => y < x,
+        BinaryOperator::LessOrEqual => x <= y,
+        BinaryOperator::GreaterOrEqual => y <= x,
+        BinaryOperator::Add
+        | BinaryOperator::Subtract
+        | BinaryOperator::Multiply
+        | BinaryOperator::Divide
+        | BinaryOperator::Modulo => false,
     }
+}
+
+/// Whether an operator gives a number.
+pub fn is_arithmetic(operator: BinaryOperator) -> bool
+    ensures { result ≡ gives_number operator }
+{
+    matches!(
+        operator,
+        BinaryOperator::Add
+            | BinaryOperator::Subtract
+            | BinaryOperator::Multiply
+            | BinaryOperator::Divide
+            | BinaryOperator::Modulo
+    )
 }

@@ -1,7 +1,39 @@
-use Rattle.std.proofs.Common.{◌++◌, ◌∷◌, [], length-append, arith, sym, ◌∙◌}
+use Rattle.std.proofs.Common.{◌≡◌, ◌++◌, ◌∷◌, [], length-append, arith, sym, ap, ◌∙◌, rules}
+use Rattle.fb_types.specs.Syntax.{Binary, expr_of}
 use Rattle.fb_st.specs.Frames.{values_of}
+use Rattle.fb_st.specs.Wanted.{truths}
 use Rattle.fb_st.proofs.Arguments.{argument_done}
+use Rattle.fb_st.proofs.Wanted.{binary_is, gives_of, number_of, truth_of, number_at}
 use Rattle.fb_st.proofs.eval.+eval.Goals as goal
+
+pub eval-returns-in_ok-number-in-Binary : goal.eval-returns-in_ok-number-in-Binary
+eval-returns-in_ok-number-in-Binary t c =
+    let is : expr_of c.args.expr.now ≡ Binary c.in-Binary.operator (expr_of c.in-Binary.field-1) (expr_of c.in-Binary.field-2) = binary_is _ _ _ _ c.in-Binary.is in
+    let known = number_of (expr_of c.args.expr.now) c.in-Binary.operator _ _ is (values_of c.args.frame.now) c.in_ok-number-in-Binary.field-0
+    (sym c.is_arithmetic.ensures ∙ c.if-is_arithmetic.true) (sym c.number-in-Binary.ensures ∙ c.in_ok-number-in-Binary.was) in
+    rw known (search rules)
+
+pub eval-returns-in_ok-truth-in-Binary-2 : goal.eval-returns-in_ok-truth-in-Binary-2
+eval-returns-in_ok-truth-in-Binary-2 t c =
+    let is : expr_of c.args.expr.now ≡ Binary c.in-Binary.operator (expr_of c.in-Binary.field-1) (expr_of c.in-Binary.field-2) = binary_is _ _ _ _ c.in-Binary.is in
+    let known = truth_of (expr_of c.args.expr.now) c.in-Binary.operator _ _ is (values_of c.args.frame.now) c.in_ok-truth-in-Binary-2.field-0
+    (sym c.is_arithmetic.ensures ∙ c.if-is_arithmetic.false) (sym c.truth-in-Binary-2.ensures ∙ c.in_ok-truth-in-Binary-2.was) in
+    rw known (search rules)
+
+pub number-returns-in_ok-number-in-Binary : goal.number-returns-in_ok-number-in-Binary
+number-returns-in_ok-number-in-Binary t c =
+    let is : expr_of c.args.expr.now ≡ Binary c.in-Binary.operator (expr_of c.get-in-Binary.result.now) (expr_of c.get-in-Binary-2.result.now) =
+    rw c.get-in-Binary.ensures (rw c.get-in-Binary-2.ensures (binary_is _ _ _ _ c.in-Binary.is)) in
+    let known = number_at (expr_of c.args.expr.now) c.in-Binary.operator _ _ is (values_of c.args.frame.now) c.in_ok-x-in-Binary.x c.in_ok-number-in-Binary.field-0
+    (sym c.number-in-Binary.ensures ∙ c.in_ok-x-in-Binary.was) (sym c.number-in-Binary-2.ensures ∙ c.in_ok-number-in-Binary.was) in
+    rw known (search rules)
+
+pub truth-returns-in_ok-number-in-Add : goal.truth-returns-in_ok-number-in-Add
+truth-returns-in_ok-number-in-Add t c =
+    let is : expr_of c.args.expr.now ≡ Binary c.in-Binary.operator (expr_of c.in-Binary.left) (expr_of c.in-Binary.right) = binary_is _ _ _ _ c.in-Binary.is in
+    let known = number_of (expr_of c.args.expr.now) c.in-Binary.operator _ _ is (values_of c.args.frame.now) c.in_ok-number-in-Add.field-0
+    (gives_of _ c.in-Add.is) (sym c.number-in-Add.ensures ∙ c.in_ok-number-in-Add.was) in
+    rw known (search rules)
 
 pub call-loop-argument-preserved : goal.call-loop-argument-preserved
 call-loop-argument-preserved t c =

@@ -1,0 +1,165 @@
+-- A number handed on as a number, and a truth value as a truth value, say what the values would.
+use Rattle.std.proofs.Common.{◌≡◌, ℤ, pos, ◌+ℤ◌, ◌-ℤ◌, ◌*ℤ◌, Bool, true, false, Result, Ok, Err, ◌⊎◌, ⊎_elim, refl, ap, ◌∙◌}
+use Rattle.std.specs.Prelude.{if◌then◌else◌, int_div, int_lt, int_le, not, ◌&&◌, ◌||◌}
+use Rattle.fb_types.specs.Values.{and_then, binary_value, unary_value, whole, truth, told, judged, quotient, modulus, same_whole, same_value, same_truth, within_signed}
+use Rattle.fb_types.specs.declared.text.BinaryOperator.{BinaryOperator}
+use Rattle.fb_types.specs.declared.text.BinaryOperator.TheVariants.{Or, Xor, And, Equal, NotEqual, Less, Greater, LessOrEqual, GreaterOrEqual, Add, Subtract, Multiply, Divide, Modulo}
+use Rattle.fb_types.specs.declared.value.Value.{Value}
+use Rattle.fb_types.specs.declared.value.Value.TheVariants as value
+use Rattle.fb_types.specs.declared.value.Reason.{Reason}
+use Rattle.fb_types.specs.declared.value.Reason.TheVariants as reason
+use Rattle.fb_types.specs.Values.{Values, value_of}
+use Rattle.fb_types.specs.Syntax.{Expr, Binary, expr_of}
+use Rattle.fb_types.specs.declared.text.Expr as read
+use Rattle.fb_types.specs.declared.text.Expr.TheVariants as variant
+use Rattle.fb_st.specs.Wanted.{wholes, truths, gives_number, takes_numbers}
+
+-- an operator looks at its operands as numbers, where a number is asked of it
+by_wholes : (o : BinaryOperator) (v w : Value) → wholes (binary_value o v w) ≡ wholes (binary_value o (value.Whole (whole v)) (value.Whole (whole w)))
+by_wholes Or v w = refl
+by_wholes Xor v w = refl
+by_wholes And v w = refl
+by_wholes Equal v w = refl
+by_wholes NotEqual v w = refl
+by_wholes Less v w = refl
+by_wholes Greater v w = refl
+by_wholes LessOrEqual v w = refl
+by_wholes GreaterOrEqual v w = refl
+by_wholes Add v w = refl
+by_wholes Subtract v w = refl
+by_wholes Multiply v w = refl
+by_wholes Divide v w = refl
+by_wholes Modulo v w = refl
+
+-- the number of two operands whose numbers are known
+pub number_known : (o : BinaryOperator) (r s : Result Value Reason) (x y : ℤ) → wholes r ≡ Ok x → wholes s ≡ Ok y
+    → wholes (and_then r (λ v. and_then s (λ w. binary_value o v w))) ≡ wholes (binary_value o (value.Whole x) (value.Whole y))
+number_known o (Ok v) (Ok w) x y e f =
+    let a : whole v ≡ x = cc in
+    let b : whole w ≡ y = cc in
+    by_wholes o v w ∙ ap (λ n. wholes (binary_value o (value.Whole n) (value.Whole (whole w)))) a ∙ ap (λ n. wholes (binary_value o (value.Whole x) (value.Whole n))) b
+number_known o (Ok v) (Err s) x y e f = absurd cc
+number_known o (Err r) s x y e f = absurd cc
+
+-- what is a number as a whole is the value
+chosen : (b : Bool) (z : ℤ) (r : Reason) (x : ℤ) → wholes (if b then Ok (value.Whole z) else Err r) ≡ Ok x → (if b then Ok (value.Whole z) else Err r) ≡ Ok (value.Whole x)
+chosen true z r x e = let same : z ≡ x = cc in ap (λ n. Ok (value.Whole n)) same
+chosen false z r x e = absurd cc
+
+judged_number : (z x : ℤ) → wholes (judged z) ≡ Ok x → judged z ≡ Ok (value.Whole x)
+judged_number z x e = chosen (within_signed 127 z) z reason.Range x e
+
+either : (a : Bool) (r s : Result Value Reason) (x : ℤ) → (wholes r ≡ Ok x → r ≡ Ok (value.Whole x)) → (wholes s ≡ Ok x → s ≡ Ok (value.Whole x))
+    → wholes (if a then r else s) ≡ Ok x → (if a then r else s) ≡ Ok (value.Whole x)
+either true r s x f g e = f e
+either false r s x f g e = g e
+
+quotient_number : (y z x : ℤ) → wholes (quotient y z) ≡ Ok x → quotient y z ≡ Ok (value.Whole x)
+quotient_number y z x e = either (same_whole z (pos 0)) (Err reason.Divide) (judged (int_div y z)) x (λ f. absurd cc) (judged_number (int_div y z) x) e
+
+modulus_number : (y z x : ℤ) → wholes (modulus y z) ≡ Ok x → modulus y z ≡ Ok (value.Whole x)
+modulus_number y z x e =
+    either (same_whole z (pos 0)) (judged (pos 0)) (judged (y -ℤ (int_div y z *ℤ z))) x (judged_number (pos 0) x) (judged_number (y -ℤ (int_div y z *ℤ z)) x) e
+
+told_is : (a b : Bool) → truths (told a) ≡ Ok b → told a ≡ Ok (value.Bool b)
+told_is a b e = let same : a ≡ b = cc in ap told same
+
+truth_by_wholes : (o : BinaryOperator) (v w : Value) → takes_numbers o ≡ true → truths (binary_value o v w) ≡ truths (binary_value o (value.Whole (whole v)) (value.Whole (whole w)))
+truth_by_wholes Or v w g = absurd cc
+truth_by_wholes Xor v w g = absurd cc
+truth_by_wholes And v w g = absurd cc
+truth_by_wholes Equal v w g = absurd cc
+truth_by_wholes NotEqual v w g = absurd cc
+truth_by_wholes Less v w g = refl
+truth_by_wholes Greater v w g = refl
+truth_by_wholes LessOrEqual v w g = refl
+truth_by_wholes GreaterOrEqual v w g = refl
+truth_by_wholes Add v w g = refl
+truth_by_wholes Subtract v w g = refl
+truth_by_wholes Multiply v w g = refl
+truth_by_wholes Divide v w g = refl
+truth_by_wholes Modulo v w g = refl
+
+number_of_both : (o : BinaryOperator) (v w : Value) (x : ℤ) → gives_number o ≡ true → wholes (binary_value o v w) ≡ Ok x → binary_value o v w ≡ Ok (value.Whole x)
+number_of_both Or v w x g e = absurd cc
+number_of_both Xor v w x g e = absurd cc
+number_of_both And v w x g e = absurd cc
+number_of_both Equal v w x g e = absurd cc
+number_of_both NotEqual v w x g e = absurd cc
+number_of_both Less v w x g e = absurd cc
+number_of_both Greater v w x g e = absurd cc
+number_of_both LessOrEqual v w x g e = absurd cc
+number_of_both GreaterOrEqual v w x g e = absurd cc
+number_of_both Add v w x g e = judged_number (whole v +ℤ whole w) x e
+number_of_both Subtract v w x g e = judged_number (whole v -ℤ whole w) x e
+number_of_both Multiply v w x g e = judged_number (whole v *ℤ whole w) x e
+number_of_both Divide v w x g e = quotient_number (whole v) (whole w) x e
+number_of_both Modulo v w x g e = modulus_number (whole v) (whole w) x e
+
+-- an operator that gives a number: the number is the value
+pub number_is_value : (o : BinaryOperator) (r s : Result Value Reason) (x : ℤ) → gives_number o ≡ true
+    → wholes (and_then r (λ v. and_then s (λ w. binary_value o v w))) ≡ Ok x → and_then r (λ v. and_then s (λ w. binary_value o v w)) ≡ Ok (value.Whole x)
+number_is_value o (Ok v) (Ok w) x g e = number_of_both o v w x g e
+number_is_value o (Ok v) (Err s) x g e = absurd cc
+number_is_value o (Err r) s x g e = absurd cc
+
+truth_of_both : (o : BinaryOperator) (v w : Value) (b : Bool) → gives_number o ≡ false → truths (binary_value o v w) ≡ Ok b → binary_value o v w ≡ Ok (value.Bool b)
+truth_of_both Or v w b g e = told_is (truth v || truth w) b e
+truth_of_both Xor v w b g e = told_is (not (same_truth (truth v) (truth w))) b e
+truth_of_both And v w b g e = told_is (truth v && truth w) b e
+truth_of_both Equal v w b g e = told_is (same_value v w) b e
+truth_of_both NotEqual v w b g e = told_is (not (same_value v w)) b e
+truth_of_both Less v w b g e = told_is (int_lt (whole v) (whole w)) b e
+truth_of_both Greater v w b g e = told_is (int_lt (whole w) (whole v)) b e
+truth_of_both LessOrEqual v w b g e = told_is (int_le (whole v) (whole w)) b e
+truth_of_both GreaterOrEqual v w b g e = told_is (int_le (whole w) (whole v)) b e
+truth_of_both Add v w b g e = absurd cc
+truth_of_both Subtract v w b g e = absurd cc
+truth_of_both Multiply v w b g e = absurd cc
+truth_of_both Divide v w b g e = absurd cc
+truth_of_both Modulo v w b g e = absurd cc
+
+-- any other: the truth value is the value
+pub truth_is_value : (o : BinaryOperator) (r s : Result Value Reason) (b : Bool) → gives_number o ≡ false
+    → truths (and_then r (λ v. and_then s (λ w. binary_value o v w))) ≡ Ok b → and_then r (λ v. and_then s (λ w. binary_value o v w)) ≡ Ok (value.Bool b)
+truth_is_value o (Ok v) (Ok w) b g e = truth_of_both o v w b g e
+truth_is_value o (Ok v) (Err s) b g e = absurd cc
+truth_is_value o (Err r) s b g e = absurd cc
+
+-- the truth value of two operands whose numbers are known, where the operator does not join truth values
+pub truth_known : (o : BinaryOperator) (r s : Result Value Reason) (x y : ℤ) → takes_numbers o ≡ true → wholes r ≡ Ok x → wholes s ≡ Ok y
+    → truths (and_then r (λ v. and_then s (λ w. binary_value o v w))) ≡ truths (binary_value o (value.Whole x) (value.Whole y))
+truth_known o (Ok v) (Ok w) x y g e f =
+    let a : whole v ≡ x = cc in
+    let b : whole w ≡ y = cc in
+    truth_by_wholes o v w g ∙ ap (λ n. truths (binary_value o (value.Whole n) (value.Whole (whole w)))) a ∙ ap (λ n. truths (binary_value o (value.Whole x) (value.Whole n))) b
+truth_known o (Ok v) (Err s) x y g e f = absurd cc
+truth_known o (Err r) s x y g e f = absurd cc
+
+-- what an operator at two expressions says that was read
+pub binary_is : (d : read.Expr) (o : BinaryOperator) (l r : read.Expr) → d ≡ variant.Binary o l r → expr_of d ≡ Binary o (expr_of l) (expr_of r)
+binary_is d o l r is = rw is (simp read.the_lemmas refl)
+
+-- The same, said of an expression that is an operator at two others.
+module _ (x : Expr) (o : BinaryOperator) (e f : Expr) (is : x ≡ Binary o e f) (vars : Values) where
+  pub number_of : (z : ℤ) → gives_number o ≡ true → wholes (value_of x vars) ≡ Ok z → value_of x vars ≡ Ok (value.Whole z)
+  number_of z = rw is (number_is_value o (value_of e vars) (value_of f vars) z)
+
+  pub truth_of : (b : Bool) → gives_number o ≡ false → truths (value_of x vars) ≡ Ok b → value_of x vars ≡ Ok (value.Bool b)
+  truth_of b = rw is (truth_is_value o (value_of e vars) (value_of f vars) b)
+
+  pub number_at : (y z : ℤ) → wholes (value_of e vars) ≡ Ok y → wholes (value_of f vars) ≡ Ok z
+      → wholes (value_of x vars) ≡ wholes (binary_value o (value.Whole y) (value.Whole z))
+  number_at y z = rw is (number_known o (value_of e vars) (value_of f vars) y z)
+
+  pub truth_at : (y z : ℤ) → takes_numbers o ≡ true → wholes (value_of e vars) ≡ Ok y → wholes (value_of f vars) ≡ Ok z
+      → truths (value_of x vars) ≡ truths (binary_value o (value.Whole y) (value.Whole z))
+  truth_at y z = rw is (truth_known o (value_of e vars) (value_of f vars) y z)
+
+-- each of these gives a number
+pub gives_of : (o : BinaryOperator) → (o ≡ Add) ⊎ (o ≡ Subtract) ⊎ (o ≡ Multiply) ⊎ (o ≡ Divide) ⊎ (o ≡ Modulo) → gives_number o ≡ true
+gives_of o h =
+    ⊎_elim (λ (e : o ≡ Add). rw e refl)
+    (λ k. ⊎_elim (λ (e : o ≡ Subtract). rw e refl)
+    (λ l. ⊎_elim (λ (e : o ≡ Multiply). rw e refl)
+    (λ m. ⊎_elim (λ (e : o ≡ Divide). rw e refl) (λ (e : o ≡ Modulo). rw e refl) m) l) k) h
