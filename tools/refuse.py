@@ -185,8 +185,8 @@ def tell(name, faults, made):
 def try_run(program, it, way):
     """Refuses each request of this run, and returns whether all was as it should be."""
     name, wanted = f"{PROGRAM}, {it.name}, {' '.join(way)}", "".join(it.rounds).encode()
-    # (the one-thread run writes as it goes, and has no rounds)
-    ends = ends_of(it.rounds) if it.is_known_by_rounds and way != ["--serial"] else None
+    # (the run on one thread writes when it has ended, so after want of memory there is nothing)
+    ends = {0} if way == ["--serial"] else ends_of(it.rounds) if it.is_known_by_rounds else None
     with Room(program, {name: text.encode() for name, text in it.texts.items()}) as room:
         refusals = Refusals(room, ["run", "d.iec", *it.words, *way], WANT_OF_MEMORY, ends)
         status, output, _ = refusals.run(0)
