@@ -12,8 +12,8 @@ status 0 where none failed.
 With crates it does the same for these alone, over the libraries below them as they are built in out/.
 --jobs N uses N processors, and not all.
 
-It runs the kit's own `rt ci`, so it proves and judges as that does. Only how wrong bodies are tried is another way:
-several of them, in different functions of a crate, stand in one check. See tools/wrong_bodies.py."""
+It runs the kit's own `rt ci`, so it proves and judges as that does. Only how wrong bodies are tried is another way: all of a
+crate stand in one check, each in a function of its own. See tools/wrong_bodies.py."""
 
 import os
 import re

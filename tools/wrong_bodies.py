@@ -1,272 +1,253 @@
-"""Tries a crate's wrong bodies, the edits of its folder must-fail/, several in one check.
+"""Tries a crate's wrong bodies, the edits of its folder must-fail/, many in one check.
 
-Each check loads the libraries below the crate, which takes most of its time. So edits of different functions stand in one
-check of these alone, in which antt goes on past what it refuses, and each must be refused at a line of its own. What such a
-check does not settle, as an edit that another one hides, goes on to the next check, and at last alone, and is then judged
-as the kit's own `rt must-fail` does. An edit that is not refused there is tried once more, from nothing.
+Each check loads the libraries below the crate, which takes most of its time. So all edits stand in one check, in which antt goes
+on past what it refuses. Each has a function of its own: of several edits of one function the first stands in the function itself,
+and each other in a twin of it, with its contract and a copy of its proof under another name. The proof of every function that is
+not edited is a hole, which antt takes by its statement: that they are proved is shown apart, and a body is refused by what it
+calls states, not by how that is proved.
 
-In such a check the proof of every other function is a hole, which antt takes by its statement: that they are proved is shown
-apart, and a body is refused by what it calls states, not by how that is proved. What the lemmas of the crate need is kept in
-a folder of this call for the next check. So no check is over what an older run kept."""
+An edit is refused where one of its own function's goals is. Another function's goal does not count, in the same cycle of calls or
+not, nor does a name that is no longer there, nor a hole. Where anything else is refused over holes, the check is made once more with
+the other proofs whole; where a text cannot be read, each half of the edits is tried. What is not refused so is tried alone, and
+judged as the kit's own `rt must-fail` does. No check is over what an older one kept."""
 
 import copy
-import itertools
 import os
 import re
 import shutil
 import tempfile
 
+from functions import CYCLE, Sources, without_body
 from kit import rt, rtlib
 
-FUNCTION = re.compile(r"^(\s*)(?:pub(?:\([a-z]+\))? )?(?:const )?fn (\w+)")
-TYPE = re.compile(r"^(?:pub(?:\([a-z]+\))? )?(?:struct|enum) (\w+)", re.M)
-# A path's last word, and the first type that its brackets hold.
-PATH = re.compile(r"(?:\w+::)*(\w+)(?:<(?:\w+::)*(\w+))?")
 # A proof that antt takes by its statement.
-HOLE = """use Rattle.{path}.Statement as stated
+HOLE = """use Rattle.{crate}.{path}.Statement as stated
 
 pub {name}_spec : {{M : Type 1}} → stated.statement M
 {name}_spec = ?
 """
+# What antt says at a place: whether that is a note or an error, the file and line, and the goal or other declaration at fault.
+SAID = re.compile(
+    r"(?P<note>note: )?(?:\./)?(?P<file>(?:src|specs|proofs)/\S+?):(?P<line>\d+):\d+: (?P<error>error: )?(?P<text>(?:`(?P<name>[^`]+)`: )?.*)"
+)
 # What antt says of text that names something which is no longer there: that tells nothing of a contract.
 NAMES_WHAT_IS_GONE = re.compile(r"has no field|is not in scope|has no `|was not admitted")
+# What it says of an answer whose goal has another name now. It may be for want of this answer that a goal of its kind is not proved.
+LOST_ITS_GOAL = re.compile(r"\.Goals` has no `")
 
 
-class Function:
-    """A function of a source file: its name, the impl that it stands in, as rattle names that, and three lines, from 1: its first,
-    that of its name, and its last."""
+class Edit:
+    """An edit's file, what it changes as (old, new), and the one function in which it does, None where it changes anything else."""
 
-    def __init__(self, path, impl, name, lines, of_trait):
-        self.path, self.impl, self.name, self.of_trait = path, impl, name, of_trait
-        self.first, self.named, self.last = lines
-        self.module = module_of(path)
-
-    def has(self, path, line):
-        return path == self.path and self.first <= line <= self.last
-
-    def has_goal(self, proof):
-        """Says whether the proof file has the goals of this function's contract: proofs/MODULE/../FUNCTION/Answers.antt."""
-        return proof.startswith(f"proofs/{self.module}/") and re.search(rf"/{self.name}/(\+\w+/)?Answers\.antt$", proof)
-
-    def path_in_crate(self):
-        """Returns the names of the modules and of the type that the function stands in, and its own."""
-        modules = [] if self.module in ("lib", "main") else self.module.split("/")
-        return [*modules, *([self.impl] if self.impl else []), self.name]
-
-    def below_the_crate(self):
-        """Returns the function's path below its crate, as rattle prints it."""
-        return "::".join(self.path_in_crate())
-
-    def verdict(self, crate, lines):
-        """Returns the line by which the prover says that the function is not proved, or None."""
-        refused = re.compile(rf"fn {crate}::{re.escape(self.below_the_crate())}: (no proof|not proved)")
-        return next((it for it in lines if refused.match(it)), None)
-
-
-def module_of(path):
-    return path[len("src/") : -len(".rt")].removesuffix("/mod")
-
-
-def impl_of(line):
-    """Returns how rattle names the impl that a line begins: `Type`, or `TypeTrait` with the type in the trait's brackets."""
-    head = line.removeprefix("impl").replace("->", "").partition("{")[0]
-    if head.startswith("<"):
-        depths = itertools.accumulate({"<": 1, ">": -1}.get(it, 0) for it in head)
-        head = head[[*depths].index(0) + 1 :]
-    trait, _, name = head.strip().rpartition(" for ")
-    of_trait = PATH.match(trait)
-    return PATH.match(name)[1] + (of_trait[1] + (of_trait[2] or "") if of_trait else "")
-
-
-def functions(path, text):
-    """Returns the functions of a formatted source text: from the attributes and comments above to a brace below their first word."""
-    lines, found, impl, of_trait = text.split("\n"), [], "", False
-    for at, line in enumerate(lines):
-        start = FUNCTION.match(line)
-        if re.match(r"(impl|(pub )?trait)\b.*{", line):
-            impl, of_trait = impl_of(line), not re.match(r"impl\b(?!.* for )", line)
-        if start:
-            ends = (i for i in range(at, len(lines)) if lines[i] in (start[1] + "}", start[1] + "{}") or i == at and line.endswith("}"))
-            last, first = next(ends, None), at
-            while first and lines[first - 1].strip() and not lines[first - 1].endswith(("{", "}", ";")):
-                first -= 1
-            if last is not None:
-                found.append(Function(path, impl if start[1] else "", start[2], (first + 1, at + 1, last + 1), of_trait and bool(start[1])))
-    return found
-
-
-def functions_in(crate, path, text):
-    """Returns the functions of a text of the crate. Methods are named by the module of their type, also where the impl stands in another."""
-    modules = {}
-    for file in rtlib.files_of(crate.folder):
-        if file.endswith(".rt"):
-            other = os.path.relpath(file, crate.folder)
-            for name in TYPE.findall(rtlib.text_of(file)):
-                modules.setdefault(name, set()).add(module_of(other))
-    found = functions(path, text)
-    for it in found:
-        of_type = modules.get(it.impl, {it.module})
-        it.module = it.module if it.module in of_type else min(of_type)
-    return found
-
-
-def changes_of(edit):
-    """Returns the (file, old, new) of an edit."""
-    path, old, found = "", None, []
-    with open(edit, encoding="utf-8") as it:
-        for line in it.read().split("\n"):
+    def __init__(self, crate, sources, file):
+        self.file, self.label = file, f"must-fail {crate.name}/{os.path.basename(file)}"
+        self.changes, self.home = [], None
+        if rt.read_edit(file, crate.folder)[1]:
+            return
+        path, old, homes = "", "", set()
+        for line in rtlib.text_of(file).split("\n"):
             if line.startswith("file: "):
                 path = line[len("file: ") :].strip()
             elif line.startswith("old: "):
                 old = line[len("old: ") :]
-            elif line.startswith("new:") and old is not None:
-                found.append((path, old, line[len("new:") :].removeprefix(" ")))
-                old = None
-    return found
+            elif line.startswith("new:"):
+                self.changes.append((old, line[len("new:") :].removeprefix(" ")))
+                homes.add(home_of(sources, path, old))
+        self.home = homes.pop() if len(homes) == 1 else None
+
+    def made_in(self, text):
+        """Returns the text with its changes made."""
+        for old, new in self.changes:
+            text = text.replace(old, new)
+        return text
 
 
-def home_of(crate, edit):
-    """Returns the one function that an edit changes, as (file, number among its functions), or None where it changes anything else."""
-    homes = set()
-    if rt.read_edit(edit, crate.folder)[1]:
-        return None
-    for path, old, _ in changes_of(edit):
-        text = rtlib.text_of(f"{crate.folder}/{path}")
-        line = text.count("\n", 0, text.index(old)) + 1
-        around = [n for n, it in enumerate(functions(path, text)) if it.has(path, line)]
-        homes.add((path, around[-1]) if around and path.startswith("src/") else None)
-    return homes.pop() if len(homes) == 1 else None
+def home_of(sources, path, old):
+    """Returns the function of which the old text is a part, or None."""
+    text = sources.texts.get(path, "")
+    line = text.count("\n", 0, max(text.find(old), 0)) + 1
+    return next((it for it in sources.functions.get(path, []) if it.has(path, line)), None)
 
 
-def all_changed(crate, edits):
-    """Returns the texts of the files that the edits change, by path, with all of them made."""
-    texts = {}
-    for edit in edits:
-        for path, old, new in changes_of(edit):
-            texts[path] = texts.get(path, rtlib.text_of(f"{crate.folder}/{path}")).replace(old, new)
-    return texts
+class Twin:
+    """A function under a further name, for a further edit of it."""
+
+    def __init__(self, crate, function, number):
+        self.function, self.name = function, f"{function.name}_again_{number}"
+        self.folder = "/".join([os.path.dirname(function.proof()), self.name])
+        above = "".join(rf"{re.escape(it)}\." for it in function.above())
+        self.cited = re.compile(rf"(Rattle\.{crate.name}\.(?:proofs|specs\.contracts)\.{above}(?:fn\.)?){function.name}(?=\.)")
+
+    def source(self, text):
+        """Returns the function's source text under this name."""
+        return re.sub(rf"\bfn {self.function.name}\b", f"fn {self.name}", text, count=1)
+
+    def write_proof(self, room):
+        """Writes the function's proof under this name into a copy of the crate."""
+        folder = f"{room}/{self.function.proof()}"
+        if os.path.isdir(folder):
+            shutil.copytree(folder, f"{room}/{self.folder}")
+            for at, _, names in os.walk(f"{room}/{self.folder}"):
+                for file in (f"{at}/{name}" for name in names):
+                    write_text(file, self.cited.sub(rf"\g<1>{self.name}", rtlib.text_of(file)))
 
 
-def refusal(crate, lines, function, texts):
-    """Returns the line by which the prover refuses the function's own body, or None."""
-    verdict = function.verdict(crate, lines)
-    if not verdict:
-        return None
-    for line in lines:
-        at = re.match(r"(?:note: )?(?:\./)?((?:src|proofs)/\S+?):(\d+):\d+: (.*)", line)
-        if not at or NAMES_WHAT_IS_GONE.search(at[3]):
-            continue
-        if at[1] in texts and function.has(at[1], int(at[2])):
-            return line
-        if ": error" in line and function.has_goal(at[1]):
-            return line
-    # (else it may only call a function that is refused)
-    return verdict if "`search` did not prove" in verdict else None
-
-
-def may_be_a_hole(crate, function):
-    """Says whether a function's whole proof can be a file of its own: it is of no trait, and none beside it calls itself, as a
-    folder proofs/../+NAME would say."""
-    if function.of_trait:
+def may_have_twins(crate, function):
+    """Says whether a function can stand twice in the crate, and its proof too: it is of no trait, in no cycle of calls, and no
+    other proof cites its goals, which a twin has under another name."""
+    is_in_cycle = function.cycle or function.cycle_proof and os.path.isdir(f"{crate.folder}/{function.cycle_proof}")
+    if function.kind not in ("free", "own") or is_in_cycle or function.name == "main":
         return False
-    proofs = f"{crate.folder}/proofs/{function.module}"
-    return not any(name.startswith("+") for _, folders, _ in os.walk(proofs) for name in folders)
+    own = f"{crate.folder}/{function.proof()}/"
+    others = (it for it in rtlib.files_of(crate.folder) if it.endswith(".antt") and not it.startswith(own))
+    cited = re.escape(".".join(["Rattle", crate.name, *function.proof().split("/")]))
+    return not any(re.search(rf"{cited}\.(?!Met\b)", rtlib.text_of(it)) for it in others)
 
 
-def without_body(lines, function):
-    """Returns the lines, as many as before, with no body in this function, or None where it has no contract."""
-    indent = FUNCTION.match(lines[function.named - 1])[1]
-    begin = next((n for n in range(function.named, function.last - 1) if lines[n - 1] == indent + "{"), None)
-    gone = ["unreachable!()", *[""] * (function.last - begin - 2)] if begin else []
-    return [*lines[:begin], *gone, *lines[function.last - 1 :]] if begin else None
+class Trial:
+    """The edits of one check, the source texts with them made, and of each the name of the function in which it stands, and the
+    function itself, where the text has it."""
 
+    def __init__(self, crate, sources, edits):
+        self.crate, self.twins, self.names, texts, of_home = crate, [], {}, dict(sources.texts), {}
+        for edit in edits:
+            if edit.home not in of_home or may_have_twins(crate, edit.home):
+                of_home.setdefault(edit.home, []).append(edit)
+        # (from the end of each text, so that the lines above keep their places)
+        for home in sorted(of_home, key=lambda it: -it.first):
+            lines, bodies = texts[home.path].split("\n"), []
+            text = "\n".join(lines[home.first - 1 : home.last])
+            for number, edit in enumerate(of_home[home], 1):
+                twin = Twin(crate, home, number) if number > 1 else None
+                self.twins += [twin] if twin else []
+                bodies.append(twin.source(edit.made_in(text)) if twin else edit.made_in(text))
+                self.names[edit] = "::".join([*home.above(), twin.name if twin else home.name])
+            texts[home.path] = "\n".join([*lines[: home.first - 1], "\n\n".join(bodies), *lines[home.last :]])
+        self.sources = Sources(crate, texts)
+        named = {it.path_in_crate(): it for it in self.sources.all()}
+        self.functions = {edit: named[name] for edit, name in self.names.items() if name in named}
 
-def with_holes(crate, edited, texts, room):
-    """Returns the crate as a copy in the room, in which every other function with a contract has a hole for its proof and no body,
-    and the source texts that say so."""
-    copied, own = copy.copy(crate), {it.below_the_crate() for it in edited}
-    copied.folder = room
-    for part in rtlib.PARTS:
-        if os.path.isdir(f"{crate.folder}/{part}"):
-            shutil.copytree(f"{crate.folder}/{part}", f"{room}/{part}")
-    changed = {}
-    for file in rtlib.files_of(room):
-        path = os.path.relpath(file, room)
-        text = texts.get(path, rtlib.text_of(file))
-        lines = text.split("\n")
-        if not path.startswith("src/") or "#[test]" in text:
-            continue
-        for it in functions_in(crate, path, text):
-            short = without_body(lines, it)
-            if not short or it.below_the_crate() in own or not may_be_a_hole(crate, it):
+    def write(self, room, has_holes):
+        """Writes the crate with these edits into a folder, and returns it."""
+        texts, holes = self.with_holes() if has_holes else (self.sources.texts, [])
+        for part in rtlib.PARTS:
+            if os.path.isdir(f"{self.crate.folder}/{part}"):
+                shutil.copytree(f"{self.crate.folder}/{part}", f"{room}/{part}")
+        for path, text in texts.items():
+            write_text(f"{room}/{path}", text)
+        for twin in self.twins:
+            twin.write_proof(room)
+        for it in holes:
+            for gone in filter(None, (it.proof(), it.cycle_proof)):
+                shutil.rmtree(f"{room}/{gone}", ignore_errors=True)
+            os.makedirs(f"{room}/{it.proof()}")
+            write_text(f"{room}/{it.proof()}/Proof.antt", HOLE.format(crate=self.crate.name, path=it.proof().replace("/", "."), name=it.name))
+        copied = copy.copy(self.crate)
+        copied.folder = room
+        return copied
+
+    def with_holes(self):
+        """Returns the texts with no body in the functions that can have a hole for a proof, and these functions: all but the
+        edited ones, those in a cycle of calls with them, and those of which rattle proves one for each of several types."""
+        texts, holes = dict(self.sources.texts), []
+        edited = {it.path_in_crate() for it in self.functions.values()}
+        cycles = {it.cycle_proof for it in self.functions.values() if it.cycle}
+        for path, found in self.sources.functions.items():
+            if "#[test]" in texts[path]:
                 continue
-            lines, folder = short, "/".join([room, "proofs", *it.path_in_crate()])
-            shutil.rmtree(folder, ignore_errors=True)
-            os.makedirs(folder)
-            with open(f"{folder}/Proof.antt", "w", encoding="utf-8") as proof:
-                proof.write(HOLE.format(path=".".join([crate.name, "proofs", *it.path_in_crate()]), name=it.name))
-        changed[path] = "\n".join(lines)
-    return copied, {**texts, **changed}
+            lines = texts[path].split("\n")
+            for it in found:
+                is_whole = it.path_in_crate() in edited or it.kind == "any" or it.cycle and it.cycle_proof in cycles
+                short = None if is_whole else without_body(lines, it)
+                lines = short or lines
+                holes += [it] if short else []
+            texts[path] = "\n".join(lines)
+        return texts, holes
+
+    def check(self, has_holes):
+        """Checks the edited functions, and returns the lines that the check says, or None where it settles nothing."""
+        only = [word for it in self.functions.values() for word in ("--only", it.path_in_crate())]
+        with tempfile.TemporaryDirectory(prefix="gate-edits-") as room:
+            ran = rt.checked(self.write(room, has_holes), {}, ["--jobs", "1", "--allow-holes", *only], None)
+        lines = ran.stdout.rstrip("\n").split("\n")
+        has_ended = ran.returncode == 1 and lines[-1].startswith("only=") and not rtlib.STALE.search(ran.stdout)
+        why = next((it for it in lines if rt.unread(it, self.sources.texts)), "" if has_ended else lines[-1])
+        # (what else is refused over holes may be refused for them, and so may what rests on it)
+        why = why or next((it for it in lines if has_holes and self.is_of_another(it)), "")
+        if why:
+            rt.say(f"note: {self.crate.name}: a check of {len(self.functions)} edits settles none of them: {why[:200]}")
+        return None if why else lines
+
+    def is_of_another(self, line):
+        """Says whether this line tells of an error that stands in the proof of no edited function."""
+        said = SAID.match(line)
+        return bool(said and said["error"] and not any(it.has_proof(said["file"]) for it in self.functions.values()))
+
+    def refused(self, lines):
+        """Returns the line by which each edit is refused, for those that are."""
+        found = {edit: refusal(self.crate.name, it, lines) for edit, it in self.functions.items()}
+        return {edit: line for edit, line in found.items() if line}
 
 
-def is_judged(ran, texts):
-    """Says whether a check reached the prover and read the texts."""
-    lines = ran.stdout.rstrip("\n").split("\n")
-    ended = ran.returncode == 1 and re.match("only=|holes=", lines[-1]) and not rtlib.STALE.search(ran.stdout)
-    return ended and not any(rt.unread(it, texts) for it in lines)
+def write_text(file, text):
+    with open(file, "w", encoding="utf-8") as it:
+        it.write(text)
 
 
-def check_of(crate, edited, texts, kept):
-    """Checks the edited functions with these texts: over holes, or else over whole proofs, or else with the whole crate."""
-    only = [word for it in edited for word in ("--only", it.below_the_crate())]
-    flags = ["--jobs", "1", "--allow-holes"]
-    with tempfile.TemporaryDirectory(prefix="gate-holes-") as room:
-        copied, with_fewer = with_holes(crate, edited, texts, room)
-        ran = rt.checked(copied, with_fewer, [*flags, *only], kept)
-    if not is_judged(ran, texts):
-        ran = rt.checked(crate, texts, [*flags, *only], kept)
-    if ran.returncode == 2:
-        # (a name that rattle writes in another way than here)
-        ran = rt.checked(crate, texts, flags, kept)
-    return ran
+def refusal(crate, function, lines):
+    """Returns the line by which the prover refuses one of the function's own goals, or None."""
+    starts = f"fn {crate}::{function.path_in_crate()}: "
+    verdict = next((it for it in lines if it.startswith((f"{starts}no proof", f"{starts}not proved"))), None)
+    said = [it for it in map(SAID.match, lines) if it]
+    errors = [it for it in said if it["error"]]
+    # (where what the goals are stated by, or a whole file of answers, cannot be read, it tells nothing that they are not proved)
+    if not verdict or any(function.has_proof(it["file"]) and (not it["name"] or "/Invariants." in it["file"]) for it in errors):
+        return None
+    answers = [it for it in errors if function.has_goal(it["file"], it["name"])]
+    wrong = next((it for it in answers if not NAMES_WHAT_IS_GONE.search(it["text"])), None)
+    if wrong:
+        return wrong.string
+    lost = {kind_of(it["name"]) for it in answers if LOST_ITS_GOAL.search(it["text"])}
+    for it in said:
+        is_note = it["note"] and it["text"].startswith("it is not proved that ") and function.has(it["file"], int(it["line"]))
+        goals = re.findall(r"\(`([^`]+)`\)", it["text"])
+        if is_note and not any(kind_of(goal) in lost for goal in goals):
+            return it.string
+    goals = re.findall(r"`([^`]+)`", verdict.partition("`search` did not prove ")[2].partition(";")[0])
+    return verdict if any(function.is_named_in(it) and kind_of(it) not in lost for it in goals) else None
 
 
-def try_together(crate, homes, kept):
-    """Tries edits, given with their homes, in one check, and returns what to say of each that is refused. Where an edit keeps the
-    check from reaching the prover, each half is tried."""
-    texts = all_changed(crate, homes)
-    edited = {edit: functions_in(crate, path, texts[path])[number] for edit, (path, number) in homes.items()}
-    ran = check_of(crate, edited.values(), texts, kept)
-    lines = ran.stdout.rstrip("\n").split("\n")
-    if not is_judged(ran, texts):
-        order = [*homes]
-        halves = [order[: len(order) // 2], order[len(order) // 2 :]] if len(order) > 1 else []
-        return {edit: said for half in halves for edit, said in try_together(crate, {it: homes[it] for it in half}, kept).items()}
-    found = {}
-    for edit, function in edited.items():
-        line = refusal(crate.name, lines, function, texts)
-        if line:
-            found[edit] = f"must-fail {crate.name}/{os.path.basename(edit)}: refused, as it must be: {line[:160]}"
-    return found
+def kind_of(goal):
+    """Returns what a goal is of, as the function's result or a call, and which clause it is, without the ways that lead there."""
+    return goal.split("-")[0], goal.split("-")[-1]
 
 
-def try_all(crate, edits, flags):
+def try_together(crate, sources, edits):
+    """Tries edits in one check. Returns the line by which each is refused, for those that are, and the edits that do not fit into
+    this check, since others of their functions stand there."""
+    trial = Trial(crate, sources, edits)
+    lines = trial.check(has_holes=True) or trial.check(has_holes=False)
+    tried, refused = [*trial.functions], trial.refused(lines or [])
+    if not lines and len(tried) > 1:
+        half = len(tried) // 2
+        for part in (tried[:half], tried[half:]):
+            refused.update(try_together(crate, sources, part)[0])
+    return refused, [it for it in edits if it not in trial.names]
+
+
+def try_alone(crate, edit, flags):
+    """Tries an edit as the kit does. Where it is refused by names alone that it took away, no contract was tried."""
+    is_refused, text = rt.must_fail(crate, edit.file, flags)
+    return is_refused and "this says little of the contract" not in text, text
+
+
+def try_all(crate, files, flags):
     """Stands in for the kit's must_fail_all: returns for each edit whether it is refused, and what to say."""
-    said, left, alone = {}, {}, []
-    for edit in edits:
-        home = home_of(crate, edit)
-        left.update({edit: home} if home else {})
-        alone += [] if home else [edit]
-    with tempfile.TemporaryDirectory(prefix="gate-edits-") as kept:
-        while left:
-            # (of each function one edit)
-            group = {edit: home for home, edit in {home: edit for edit, home in reversed([*left.items()])}.items()}
-            refused = try_together(crate, group, kept)
-            said.update({edit: (True, text) for edit, text in refused.items()})
-            settled = refused or group
-            alone += [] if refused else [*group]
-            left = {edit: home for edit, home in left.items() if edit not in settled}
-        for edit in alone:
-            over_kept = rt.must_fail(crate, edit, flags, kept)
-            said[edit] = over_kept if over_kept[0] else rt.must_fail(crate, edit, flags)
-    return [said[it] for it in edits]
+    sources = Sources(crate)
+    edits, refused = [Edit(crate, sources, it) for it in files], {}
+    left = [it for it in edits if it.home]
+    while left:
+        found, left = try_together(crate, sources, left)
+        refused.update(found)
+    said = {it: (True, f"{it.label}: refused, as it must be: {line[:160]}") for it, line in refused.items()}
+    return [said.get(it) or try_alone(crate, it, flags) for it in edits]
