@@ -72,6 +72,27 @@ fn judge_limits(alloc: Global, case: &Case, resolved: &Resolved) -> Result<(), R
     Ok(())
 }
 
+/// The checks behind E21, by the places and the numbers of the names.
+fn judge_by_numbers(
+    alloc: Global,
+    case: &Case,
+    catalog: &Catalog,
+    resolved: &Resolved,
+) -> Result<(), Refusal>
+    requires catalog { IsCatalog case.now.library.now case.now.plan.now catalog.now }
+    requires resolved { IsResolved case.now.library.now case.now.plan.now resolved.now }
+    ensures accepted { IfOk result (λ _. AreAccepted case.now) }
+    ensures refused { IfErr result (IsRightly case.now) }
+{
+    judge_kinds(case, catalog, resolved)?;
+    judge_ranges(case, resolved)?;
+    judge_sources(alloc, case)?;
+    judge_heights(alloc, case, resolved)?;
+    judge_mapping(alloc, case, resolved)?;
+    judge_stimuli(alloc, case, catalog)?;
+    judge_limits(alloc, case, resolved)
+}
+
 /// The names and numbers of inputs that are accepted. Else the error is as with `judge`.
 pub fn judged<'a>(alloc: Global, case: &Case<'a>) -> Result<Judged<'a>, Refusal>
     ensures accepted { IfOk result (λ _. AreAccepted case.now) }
@@ -81,13 +102,7 @@ pub fn judged<'a>(alloc: Global, case: &Case<'a>) -> Result<Judged<'a>, Refusal>
 {
     let catalog = catalog(alloc, case)?;
     let resolved = numbers(alloc, case, &catalog)?;
-    judge_kinds(case, &catalog, &resolved)?;
-    judge_ranges(case, &resolved)?;
-    judge_sources(alloc, case)?;
-    judge_heights(alloc, case, &resolved)?;
-    judge_mapping(alloc, case, &resolved)?;
-    judge_stimuli(alloc, case, &catalog)?;
-    judge_limits(alloc, case, &resolved)?;
+    judge_by_numbers(alloc, case, &catalog, &resolved)?;
     Ok(Judged {
         catalog,
         numbers: resolved,

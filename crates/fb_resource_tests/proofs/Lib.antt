@@ -1,3 +1,5 @@
 mod Again
 mod Handed
+mod HandIs
 mod Unheard
+mod Zips

@@ -9,7 +9,7 @@ use crate::options::Options;
 use crate::outcome::RunError;
 use crate::progress::Round;
 use crate::round::counted_round;
-use crate::tally::Plan;
+use crate::tally::{LONGEST_WINDOW, Plan};
 use fb_phase::Gate;
 use fb_system::system::System;
 use fb_types::run::StopMark;
@@ -40,7 +40,7 @@ fn later(written: u128, error: RunError) -> RunError
 
 /// Runs a core by rounds to the horizon, or to a stop, and writes all lines, but no last line. The count is that of the
 /// bytes that were written. The first round has all workers, and each other one as many as what the round before it did
-/// is worth. There are no more rounds than ticks.
+/// is worth. There is at most one round more than there are ticks below the horizon.
 pub(crate) fn run_on<R: Threads + Wait + Sync, W: Write, P: Gate>(
     rt: &R,
     alloc: Global,
@@ -59,17 +59,20 @@ pub(crate) fn run_on<R: Threads + Wait + Sync, W: Write, P: Gate>(
     let mut written: u128 = 0;
     let mut workers = options.workers;
     let mut turns = 0;
+    let mut ticks = LONGEST_WINDOW;
     // Each round that the run goes on after has left a tick behind: none is left after as many.
     for _ in 0..options.horizon + 1 {
         let plan = Plan {
             options: Options { workers, ..options },
             turns,
+            ticks,
         };
         match counted_round(rt, alloc, system, core, plan, out, gate) {
             Ok((round, tally)) => {
                 written = written.saturating_add(tally.bytes);
                 workers = tally.workers(options.workers);
                 turns = tally.turns();
+                ticks = tally.ticks(ticks);
                 match round {
                     Round::Going(next) => core = next,
                     Round::Ended(last) => return Ok((Finish::AtEnd(last), written)),

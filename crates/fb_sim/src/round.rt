@@ -20,7 +20,7 @@ ghost use Rattle.fb_sim.specs.declared.outcome.RunError.TheVariants.{Memory};
 use crate::options::Options;
 use crate::outcome::RunError;
 use crate::progress::Round;
-use crate::tally::{Plan, Tally};
+use crate::tally::{LONGEST_WINDOW, Plan, Tally};
 use crate::work::Windows;
 use fb_phase::{Gate, run_all};
 use fb_resource::resource::WindowDone;
@@ -33,9 +33,6 @@ use std::alloc::{AllocError, Global};
 use std::io::Write;
 use std::sync::Wait;
 use std::thread::Threads;
-
-/// How many ticks past the least event a bound may lie, so that a round does not gather lines without end.
-const CAP: u64 = 1024;
 
 /// How many of the jobs have something to do.
 fn busy_in(jobs: &[Job]) -> usize {
@@ -114,24 +111,26 @@ fn walked(alloc: Global, system: &System, core: Core, plan: Plan) -> Result<Core
     Ok(core.walk(alloc, system, plan.options.horizon, plan.turns)?)
 }
 
-/// Runs each resource to its bound, by the workers, and puts all back together. It tells how many resources had
-/// something to do, and how many lines they gave.
+/// Runs each resource to its bound, by the workers, and puts all back together. A bound may lie so many ticks past the
+/// least event. It tells how many resources had something to do, and how many lines they gave.
 fn window<R: Threads + Wait + Sync, P: Gate>(
     rt: &R,
     alloc: Global,
     system: &System,
     core: Core,
     options: Options,
+    ticks: u64,
     gate: &P,
 ) -> Result<(Settled, usize, usize), RunError>
     requires options { AreWithin options }
+    requires ticks { 1 ≤ ticks }
     requires come { (ls : List model.Line) × IsOnItsWay system.now options.steps options.horizon core ls }
     ensures home { (ls : List model.Line) (way : IsOnItsWay system.now options.steps options.horizon core ls)
         → IfOk result (λ r. IsHomeAgain system.now options.steps options.horizon (core_of system.now options.steps way.steps) ls r.0) }
     ensures memory { IfErr result (λ e. e ≡ Memory) }
 {
     system.facts();
-    let bounds = core.bounds(options.horizon, CAP);
+    let bounds = core.bounds(options.horizon, ticks);
     let (away, jobs) = core.jobs(alloc, system, bounds)?;
     let busy = busy_in(jobs.as_slice());
     let workers = workers_for(busy, options.workers);
@@ -193,20 +192,22 @@ pub(crate) fn counted_round<R: Threads + Wait + Sync, W: Write, P: Gate>(
     gate: &P,
 ) -> Result<(Round, Tally), RunError>
     requires options { AreWithin plan.options }
+    requires ticks { 1 ≤ plan.ticks }
     requires come { (ls : List model.Line) × HasCome system.now plan.options.steps plan.options.horizon core ls }
     ensures { (ls : List model.Line) (come : HasCome system.now plan.options.steps plan.options.horizon core ls)
         → CountedRounds system.now plan.options (core_of system.now plan.options.steps come.steps) ls (W.contents out.old) (W.contents out.new) result }
 {
     system.facts();
     let core = walked(alloc, system, core, plan)?;
-    let (settled, busy, lines) = window(rt, alloc, system, core, plan.options, gate)?;
+    let (settled, busy, lines) = window(rt, alloc, system, core, plan.options, plan.ticks, gate)?;
     let bytes = hand_out(out, system, plan.options.form, lines_of(&settled))?;
     Ok((round_of(settled), Tally { bytes, busy, lines }))
 }
 
 /// Runs each resource to its bound, exchanges their messages, and writes the lines that have become final, but no last
 /// line. What a chain of rounds from the opening has written is the text of the final lines. While a run goes on the
-/// least tick of all events rises in each round, and is below the horizon: so there are no more rounds than ticks.
+/// least tick of all events rises in each round, and is below the horizon: so there is at most one round more than there
+/// are ticks below the horizon.
 ///
 /// It waits for its workers, and for the gate where that waits.
 ///
@@ -226,7 +227,11 @@ pub fn round<R: Threads + Wait + Sync, W: Write, P: Gate>(
     ensures { (ls : List model.Line) (come : HasCome system.now options.steps options.horizon core ls)
         → Rounds system.now options (core_of system.now options.steps come.steps) ls (W.contents out.old) (W.contents out.new) result }
 {
-    let plan = Plan { options, turns: 0 };
+    let plan = Plan {
+        options,
+        turns: 0,
+        ticks: LONGEST_WINDOW,
+    };
     let (round, _) = counted_round(rt, alloc, system, core, plan, out, gate)?;
     Ok(round)
 }

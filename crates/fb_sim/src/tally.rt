@@ -12,6 +12,18 @@ const MANY_LINES: usize = 64;
 /// give wait for that window.
 const TURNS: u64 = 256;
 
+/// A window is to give about as many lines: they are all in memory at once, and are moved and written soonest while a
+/// processor's cache holds them.
+const FULL: usize = 65_536;
+
+/// How many ticks past the least event a bound may lie at most, so that a round does not gather lines without end. The
+/// first window is as long, since nobody knows yet how many lines a tick gives.
+pub(crate) const LONGEST_WINDOW: u64 = 1024;
+
+/// How many at most in the round behind one whose window gave too many lines. From there on a window grows or shrinks by
+/// twos.
+const SHORT_WINDOW: u64 = 32;
+
 /// What a round has done.
 #[derive(Clone, Copy)]
 pub(crate) struct Tally {
@@ -30,6 +42,8 @@ pub(crate) struct Plan {
     pub options: Options,
     /// How many turns of single resources go before its window, at most.
     pub turns: u64,
+    /// How many ticks past the least event a bound of its window may lie.
+    pub ticks: u64,
 }
 
 impl Tally {
@@ -53,5 +67,21 @@ impl Tally {
         ensures few { result ≤ 256 }
     {
         if self.is_thin() { TURNS } else { 0 }
+    }
+
+    /// How many ticks past the least event a bound of the next round may lie, where it was so many in this one.
+    pub(crate) fn ticks(&self, last: u64) -> u64
+        requires some { 1 ≤ last }
+        requires few { last ≤ 1024 }
+        ensures some { 1 ≤ result }
+        ensures few { result ≤ 1024 }
+    {
+        if self.lines > FULL {
+            (last / 2).max(1).min(SHORT_WINDOW)
+        } else if self.lines < FULL / 4 {
+            (last * 2).min(LONGEST_WINDOW)
+        } else {
+            last
+        }
     }
 }

@@ -9,3 +9,4 @@ pub mod Texts
 pub mod Sorting
 pub mod Together
 pub mod Merged
+pub mod Taking

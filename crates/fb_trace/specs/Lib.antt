@@ -2,3 +2,4 @@ pub mod Page
 pub mod Progress
 pub mod End
 pub mod Merging
+pub mod Fronts

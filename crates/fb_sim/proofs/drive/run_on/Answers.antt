@@ -7,6 +7,8 @@ pub loop-init : goal.loop-init
 loop-init g c = record {
   some = c.requires.options.workers_least;
   few = c.requires.options.workers_most;
+  some_ticks = omega arith;
+  few_ticks = omega arith;
   early = omega arith;
   came = λ ls h. came_first c.args.system.now c.args.options ls c.args.first _ h;
 }
@@ -33,6 +35,8 @@ pub loop-preserved : goal.loop-preserved
 loop-preserved g c = record {
   some = c.workers-workers.ensures.some;
   few = c.workers-workers.ensures.few;
+  some_ticks = c.ticks-ticks.ensures.some;
+  few_ticks = c.ticks-ticks.ensures.few;
   early =
       let came = c.loop.invariant.came c.requires.come.0 c.requires.come.1 in
       let early = came_early c.args.system.now c.args.options c.requires.come.0 c.loop.core _ _ _ c.loop.written c.loop.counter came c.in-Going.next c.in-Ok.tally (rw c.in-Going.is at c.in-Ok.ensures _ came.come) in

@@ -8,6 +8,8 @@ abbrev pub invariant-loop : goal.invariant-loop
 invariant-loop g l = record {
   some : 1 ≤ l.workers;
   few : l.workers ≤ 64;
+  some_ticks : 1 ≤ l.ticks;
+  few_ticks : l.ticks ≤ 1024;
   early : l.counter ≤ l.options.horizon;
   came : (ls : List Line) → HasCome l.system l.options.steps l.options.horizon l.fn.first ls
       → Came l.system l.options ls l.core (g.W.Write.contents l.initial.out) (g.W.Write.contents l.out) l.written l.counter;

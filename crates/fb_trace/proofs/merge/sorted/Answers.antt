@@ -3,7 +3,7 @@ use Rattle.std.proofs.lemmas.List.Sorted.{answers_always, IsNonDecreasingBy-from
 use Rattle.fb_trace.specs.Merging.{tick_of}
 use Rattle.fb_trace.proofs.Sorting.{rises_of, tie}
 use Rattle.fb_trace.proofs.Together.{merged}
-use Rattle.fb_trace.proofs.merge.merge.Goals as goal
+use Rattle.fb_trace.proofs.merge.sorted.Goals as goal
 
 pub returns-clause-merged : goal.returns-clause-merged
 returns-clause-merged c =
