@@ -1,4 +1,9 @@
 //! The agenda of a run: the events that wait, of all classes and of any number of resources, under their keys.
+//!
+//! What is promised above: the event under the least key is taken; an instance has one timer at most; messages are put
+//! there all, or, where memory is wanting, none.
+//!
+//! To be read in this order: `agenda`; `rising`, the local events; `arrivals`, messages.
 #![tactic(auto)]
 
 pub mod agenda;

@@ -1,4 +1,10 @@
 //! What the parts of block types name (E21) and which kinds they have (E22), apart from networks.
+//!
+//! What is promised above: `parts::are_parts_known` and `parts::has_wrong_part` say of every declaration whether each
+//! of the two applies.
+//!
+//! To be read in this order: `parts`, the entry; `interface` and `scope`, what names stand for; `charts` and
+//! `mentions`, names; `sorts`, `function`, `values` and `bodies`, kinds.
 #![tactic(auto)]
 
 mod bodies;

@@ -1,4 +1,12 @@
 //! The reader of declaration texts.
+//!
+//! What is promised above is the contract of `read::read_library`: the library that the text declares by the grammar,
+//! or the fault for which it is refused, and where it is refused but for memory, the text declares none. A text
+//! declares one library at most (`laws`).
+//!
+//! To be read in this order: `read`, the entry, and `error`; `token`, `tokens` and `front`, from bytes to tokens, with
+//! `blank`, `word`, `keyword`, `number` and `time`; `cursor`, `rule` and `fault`, how a rule reads; `block`, `ports`,
+//! `network`, `chart`, `operator`, `expression` and `statement`, the rules; `laws`.
 #![tactic(auto)]
 
 mod blank;

@@ -1,4 +1,11 @@
-//! Runs of a simulation.
+//! Runs of a simulation, from the bytes of its inputs to those of its trace.
+//!
+//! What is promised above is the headline: `run::run`, by workers, and `serial::run_serial`, on one thread, write the
+//! trace of the one-thread simulation of accepted inputs, and so does a `simulation::Simulation` that its caller
+//! advances. There is no rule about simulation here.
+//!
+//! To be read in this order: `options` and `outcome`; `reading`, what comes before a run; `serial`; `run`, `drive` and
+//! `round`, with `progress`, `tally` and `work`; `simulation` and `state`.
 #![tactic(auto)]
 
 mod drive;

@@ -1,4 +1,11 @@
 //! Structured Text (IEC 61131-3, 7.3): values of expressions and runs of statements.
+//!
+//! What is promised above: `eval::eval` gives the value of an expression, or the reason for which it has none;
+//! `exec::exec` runs an algorithm as the definitions say, steps counted; a `frame::Frame` keeps variables within their
+//! types.
+//!
+//! To be read in this order: `frame`, the variables; `eval` with `operator`, `function` and `range`; `meter`, the
+//! steps; `exec` with `assign`; `known`.
 #![tactic(auto)]
 
 mod assign;

@@ -1,4 +1,10 @@
 //! The text of a trace, written line by line.
+//!
+//! What is promised above: the lines of several resources become one list in the order of the trace; the writer gets
+//! exactly their text, or, where it fails, a beginning of it, and the fault tells how many bytes.
+//!
+//! To be read in this order: `merge`; `trace`, `lines` and `last`, what is written; `pieces`, `names` and `number`;
+//! `page` and `fault`.
 #![tactic(auto)]
 
 pub mod fault;

@@ -1,4 +1,12 @@
 //! The data that the crates of the simulator share, and the model that all their contracts cite.
+//!
+//! What is promised above: a `Deploy` and a `Latency` keep their limits in their types, keys are ordered as the
+//! definitions say, and a container is seen as what it contains. Of the definitions: a system has one simulation at
+//! most, and the worked examples have the traces that were worked out by hand.
+//!
+//! To be read in this order: `library`, `text`, `value` and `name`, what is read; `deploy` and `latency`; `event_kind`
+//! and `event_ports`, the event blocks; `key` and `run`, what a simulation gives; `items`, `boxed` and `reference`;
+//! `laws`. The definitions stand in `specs/`.
 #![tactic(auto)]
 
 pub mod boxed;

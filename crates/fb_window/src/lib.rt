@@ -4,6 +4,9 @@
 //! jobs (`leave`), which workers may do in any order (`job`). When all are done it is put together again, messages are
 //! exchanged, and the lines that have become final are handed out (`settle`). What the rounds come to is told by the
 //! law of schedules (`laws`), which knows nothing of this code.
+//!
+//! To be read in this order: `laws`; `cores` and `open`, what a core is; `bounds`; `leave` and `job`; `settle`, with
+//! `home`, `post`, `frontier`, `cut` and `ends`; `walk`.
 #![tactic(auto)]
 
 pub mod bounds;
