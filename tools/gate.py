@@ -2,7 +2,8 @@
 """./gate [--jobs N] [CRATE..]: the test command and merge gate of this repository.
 
 Without a crate it is the whole gate: the examples are those of the tests, docs/FORMATS.md shows the explanations of the
-refusals, and what the documents name is there (tools/documents.py); then, from nothing, every crate and its tests are
+refusals, what the documents name is there (tools/documents.py), and what tries wrong bodies tells them from right ones
+(tools/wrong_bodies_test.py); then, from nothing, every crate and its tests are
 proved, every wrong body in crates/*/must-fail is shown to be refused, tests and programs are run, and the program is
 called at least once for each status (tools/calls.py), as docs/FIRST_APPLICATION.md has it (tools/first_application.py),
 on texts that are cut or changed in one byte (tools/hostile.py), and with each of its requests for memory refused
@@ -192,7 +193,8 @@ def main(words):
     if any(it.startswith("-") for it in words):
         print(__doc__, file=sys.stderr)
         return 2
-    if subprocess.run(["examples/check"]).returncode or explained.main([]) or documents.main():
+    looks = [["examples/check"], [sys.executable, "-B", "tools/wrong_bodies_test.py"]]
+    if any(subprocess.run(it).returncode for it in looks) or explained.main([]) or documents.main():
         print("0 passed, 1 failed")
         return 1
     with tempfile.TemporaryDirectory(prefix="gate-") as room:

@@ -145,7 +145,7 @@ def main():
     failed = test_on_what_is_said() + test_on_a_crate()
     for it in failed:
         print(f"FAILED: {it}")
-    print(f"{len(CASES) + len(EDITS) - len(failed)} passed, {len(failed)} failed")
+    print(f"wrong bodies: {len(CASES) + len(EDITS) - len(failed)} of {len(CASES) + len(EDITS)} are judged as they must be")
     return 1 if failed else 0
 
 
