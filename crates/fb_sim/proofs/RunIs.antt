@@ -139,6 +139,12 @@ module _ (given : Given) (o : Options) (within : AreWithin o) (old : Option (Lis
   pub fails_wanting : FailsRun given o old old Memory
   fails_wanting = inl (within, refl)
 
+-- a run that was stopped, was so by one of its resources
+pub stop_counted : (i : Inputs) (o : Options) (finish : Finish) (n : ℕ) (old mid : Option (List ℕ)) → RunsOn i o [] old mid (Ok (finish, n)) → (mark : StopMark)
+    → finish ≡ AtMark mark → mark.resource < count_of (system_of i)
+stop_counted i o finish n old mid ran mark is =
+    let r = subst (λ (f : Finish). RunsOn i o [] old mid (Ok (f, n))) is ran in r.1.0
+
 module _ (given : Given) (o : Options) (i : Inputs) (within : AreWithin o) (declares : Declares given i) where
   -- all lines, and then the last line
   pub trace_of : (out : List Line) (end : Ending) → AreAll i o.steps o.horizon out end → AreTrace given o (text_of i o.form out ++ last_line (system_of i) end) end
@@ -225,9 +231,6 @@ module _ (given : Given) (o : Options) (i : Inputs) (within : AreWithin o) (decl
 
     at_mark : (mark : StopMark) → finish ≡ AtMark mark → RunsOn i o [] old mid (Ok (AtMark mark, n))
     at_mark mark is = subst (λ (f : Finish). RunsOn i o [] old mid (Ok (f, n))) is ran
-
-    pub stop_counted : (mark : StopMark) → finish ≡ AtMark mark → mark.resource < count_of (system_of i)
-    stop_counted mark is = let r = at_mark mark is in r.1.0
 
     -- with the last line behind it
     pub ended : (core : Core) → finish ≡ AtEnd core → Appends mid new (last_line (system_of i) (AtHorizon o.horizon)) → Writes given o old new (AtHorizon o.horizon)

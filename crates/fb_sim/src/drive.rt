@@ -9,7 +9,7 @@ use crate::options::Options;
 use crate::outcome::RunError;
 use crate::progress::Round;
 use crate::round::counted_round;
-use crate::tally::{LONGEST_WINDOW, Plan};
+use crate::tally::{Plan, first_window};
 use fb_phase::Gate;
 use fb_system::system::System;
 use fb_types::run::StopMark;
@@ -59,7 +59,7 @@ pub(crate) fn run_on<R: Threads + Wait + Sync, W: Write, P: Gate>(
     let mut written: u128 = 0;
     let mut workers = options.workers;
     let mut turns = 0;
-    let mut ticks = LONGEST_WINDOW;
+    let mut ticks = first_window(system.count());
     // Each round that the run goes on after has left a tick behind: none is left after as many.
     for _ in 0..options.horizon + 1 {
         let plan = Plan {

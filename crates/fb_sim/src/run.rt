@@ -6,7 +6,8 @@ ghost use Rattle.fb_types.specs.Headline.{system_of};
 ghost use Rattle.fb_types.specs.Text.{last_line};
 ghost use Rattle.fb_trace.specs.End as trace;
 ghost use Rattle.fb_trace.specs.End.{EndsIn};
-ghost use Rattle.fb_sim.specs.Serial.{Writes, ending_of};
+ghost use Rattle.fb_sim.specs.Given.{Given};
+ghost use Rattle.fb_sim.specs.Serial.{AreWithin, Declares, Writes, ending_of};
 ghost use Rattle.fb_sim.specs.Rounds.{FailsRun, HasCome, IsShort};
 
 use crate::drive::{Finish, run_on};
@@ -50,6 +51,33 @@ pub(crate) fn close<W: Write>(
     }
 }
 
+/// Runs an accepted system by workers, and writes its trace.
+fn run_system<R: Threads + Wait + Sync, W: Write, P: Gate>(
+    rt: &R,
+    alloc: Global,
+    system: &System,
+    options: Options,
+    out: &mut W,
+    gate: &P,
+) -> Result<Outcome, RunError>
+    requires { AreWithin options }
+    ensures trace { (given : Given) → Declares given system.now → IfOk result (λ o. Writes given options (W.contents out.old) (W.contents out.new) (ending_of o)) }
+    ensures failed { (given : Given) → Declares given system.now → IfErr result (FailsRun given options (W.contents out.old) (W.contents out.new)) }
+{
+    let core = open_core(alloc, system, options.steps)?;
+    let (finish, written) = run_on(rt, alloc, system, core, options, out, gate)?;
+    match finish {
+        Finish::AtEnd(_) => {
+            close(out, system, End::Horizon(options.horizon), written)?;
+            Ok(Outcome::End(options.horizon))
+        }
+        Finish::AtMark(mark) => {
+            close(out, system, End::Stop(mark), written)?;
+            Ok(Outcome::Stop(mark))
+        }
+    }
+}
+
 /// Runs the application of the inputs by workers, and writes its trace, which is that of a run on one thread.
 ///
 /// Each round runs every resource as far as no message can reach it any more, then exchanges the messages, and then
@@ -75,16 +103,5 @@ pub fn run<R: Threads + Wait + Sync, W: Write, P: Gate>(
         return Err(RunError::BadOption);
     }
     let system = open(alloc, inputs)?;
-    let core = open_core(alloc, &system, options.steps)?;
-    let (finish, written) = run_on(rt, alloc, &system, core, options, out, gate)?;
-    match finish {
-        Finish::AtEnd(_) => {
-            close(out, &system, End::Horizon(options.horizon), written)?;
-            Ok(Outcome::End(options.horizon))
-        }
-        Finish::AtMark(mark) => {
-            close(out, &system, End::Stop(mark), written)?;
-            Ok(Outcome::Stop(mark))
-        }
-    }
+    run_system(rt, alloc, &system, options, out, gate)
 }

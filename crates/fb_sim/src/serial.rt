@@ -3,12 +3,14 @@
 ghost use Rattle.std.specs.Prelude.{◌≡◌, IfOk, IfErr, OnOk, Option};
 ghost use Rattle.fb_machine.specs.Completions.{ending_at};
 ghost use Rattle.fb_trace.specs.End as trace;
-ghost use Rattle.fb_sim.specs.Serial.{IsDeclared, IsRefusal, Writes, Fails, ending_of};
+ghost use Rattle.fb_sim.specs.Given.{Given};
+ghost use Rattle.fb_sim.specs.Serial.{AreWithin, Declares, IsDeclared, IsRefusal, Writes, Fails, ending_of};
 
 use crate::options::{Inputs, Options};
 use crate::outcome::{Outcome, RunError};
 use crate::reading::{judge_inputs, open};
 use fb_machine::run::run;
+use fb_system::system::System;
 use fb_trace::last::End;
 use fb_trace::trace::write_trace;
 use fb_types::run::StopMark;
@@ -46,6 +48,26 @@ fn outcome_of(end: End) -> Outcome
     }
 }
 
+/// Runs an accepted system on one thread, and writes its trace.
+fn run_system<W: Write>(
+    alloc: Global,
+    system: &System,
+    options: Options,
+    out: &mut W,
+) -> Result<Outcome, RunError>
+    requires { AreWithin options }
+    ensures trace { (given : Given) → Declares given system.now → IfOk result (λ o. Writes given options (W.contents out.old) (W.contents out.new) (ending_of o)) }
+    ensures failed { (given : Given) → Declares given system.now → IfErr result (Fails given options (W.contents out.old) (W.contents out.new)) }
+{
+    let mut lines = Vec::new(alloc);
+    let stop = run(alloc, system, options.horizon, options.steps, &mut lines)?;
+    let end = end_of(options.horizon, stop);
+    match write_trace(out, system, options.form, lines.as_slice(), end) {
+        Ok(()) => Ok(outcome_of(end)),
+        Err(fault) => Err(RunError::Write(fault.written)),
+    }
+}
+
 /// Runs the application of the inputs on one thread and writes its trace: the events below the horizon, the
 /// least key first, up to the first stop. The lines are gathered, and written when the run has ended.
 ///
@@ -64,11 +86,5 @@ pub fn run_serial<W: Write>(
         return Err(RunError::BadOption);
     }
     let system = open(alloc, inputs)?;
-    let mut lines = Vec::new(alloc);
-    let stop = run(alloc, &system, options.horizon, options.steps, &mut lines)?;
-    let end = end_of(options.horizon, stop);
-    match write_trace(out, &system, options.form, lines.as_slice(), end) {
-        Ok(()) => Ok(outcome_of(end)),
-        Err(fault) => Err(RunError::Write(fault.written)),
-    }
+    run_system(alloc, &system, options, out)
 }

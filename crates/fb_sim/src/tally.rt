@@ -12,17 +12,26 @@ const MANY_LINES: usize = 64;
 /// give wait for that window.
 const TURNS: u64 = 256;
 
-/// A window is to give about as many lines: they are all in memory at once, and are moved and written soonest while a
+/// A window is to give no more lines: they are all in memory at once, and are moved and written soonest while a
 /// processor's cache holds them.
-const FULL: usize = 65_536;
+const FULL: usize = 32_768;
 
-/// How many ticks past the least event a bound may lie at most, so that a round does not gather lines without end. The
-/// first window is as long, since nobody knows yet how many lines a tick gives.
+/// How many ticks past the least event a bound may lie at most, so that a round does not gather lines without end.
 pub(crate) const LONGEST_WINDOW: u64 = 1024;
 
 /// How many at most in the round behind one whose window gave too many lines. From there on a window grows or shrinks by
 /// twos.
-const SHORT_WINDOW: u64 = 32;
+const SHORT_WINDOW: u64 = 16;
+
+/// How many ticks past the least event a bound of the first round may lie. Nobody knows yet how many lines a tick gives:
+/// these are few enough where each instance gives one.
+pub(crate) fn first_window(instances: usize) -> u64
+    ensures some { 1 ≤ result }
+    ensures few { result ≤ 1024 }
+{
+    let ticks = (FULL / instances.max(1)) as u64;
+    ticks.max(SHORT_WINDOW).min(LONGEST_WINDOW)
+}
 
 /// What a round has done.
 #[derive(Clone, Copy)]

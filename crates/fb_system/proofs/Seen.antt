@@ -1,5 +1,5 @@
 -- What the tables say of the inputs as which a system is seen.
-use Rattle.std.proofs.Common.{◌≡◌, ℕ, ◌<◌, ◌≤◌, ◌+◌, List, [], length, get_or, Option, Some, None, refl, sym, ◌∙◌, ap, subst, inl, inr}
+use Rattle.std.proofs.Common.{◌≡◌, ℕ, ◌<◌, ◌≤◌, ◌+◌, List, [], length, get_or, Option, Some, None, Ok, refl, sym, ◌∙◌, ap, subst, inl, inr}
 use Rattle.std.specs.Prelude.{IfOk, IfSome, Result, option_map, slice_get}
 use Rattle.std.proofs.lemmas.Bool.{cases_lt}
 use Rattle.std.proofs.lemmas.List.{length-map}
@@ -221,22 +221,27 @@ abbrev whole_of : Plan → List Stimulus → Library → Linked → List Ports �
 whole_of plan stimuli lib links blocks interfaces rows =
     record { deploy = plan; stimuli = stimuli; fabric = lib; links = links; event_blocks = blocks; interfaces = interfaces; rows = rows }
 
-pub view_made : (lib f : Library) (plan : Plan) (stimuli xs : List Stimulus) → f ≡ lib → xs ≡ stimuli → inputs f plan xs ≡ inputs lib plan stimuli
-view_made lib f plan stimuli xs library same = λ j. inputs (library j) plan (same j)
+-- what a result that is Ok promised
+pub ok_read : {A E : Type 0} (r : Result A E) (P : A → Type 0) (a : A) → IfOk r P → r ≡ Ok a → P a
+ok_read {A} {E} r P a h e = subst (λ (r : Result A E). IfOk r P) e h
+
+pub view_made :
+    (lib f : Library) (plan p : Plan) (stimuli xs : List Stimulus) → f ≡ lib → p ≡ plan → xs ≡ stimuli → inputs f p xs ≡ inputs lib plan stimuli
+view_made lib f plan p stimuli xs library deploy same = λ j. inputs (library j) (deploy j) (same j)
 
 pub ok_seen : {A E : Type 0} (r : Result A E) (a b : A) → a ≡ b → IfOk r (λ s. s ≡ a) → IfOk r (λ s. s ≡ b)
 ok_seen {A} r a b e h = subst (λ (x : A). IfOk r (λ s. s ≡ x)) e h
 
 pub made :
-    (lib : Library) (plan p : Plan) (stimuli xs : List Stimulus) (f : Library) (links : Linked) (blocks : List Ports) (interfaces : Interfaces) (rows : List StimulusRow)
-    → AreAccepted (inputs lib plan stimuli) → p ≡ plan → IsLinked lib p links → f ≡ lib → xs ≡ stimuli → ArePortsOfKinds blocks → AreInterfaces lib interfaces
-    → AreRows lib stimuli rows → StandFor (whole_of plan xs f links blocks interfaces rows)
-made lib plan p stimuli xs f links blocks interfaces rows accepted read linked library same of_kinds of_types by_number =
-    let view = view_made lib f plan stimuli xs library same in
+    (lib f : Library) (plan p q : Plan) (stimuli xs : List Stimulus) (links : Linked) (blocks : List Ports) (interfaces its : Interfaces) (rows rs : List StimulusRow)
+    → AreAccepted (inputs lib plan stimuli) → AreInterfaces lib interfaces → AreRows lib stimuli rows → q ≡ plan → IsLinked lib q links → ArePortsOfKinds blocks
+    → f ≡ lib → p ≡ plan → xs ≡ stimuli → its ≡ interfaces → rs ≡ rows → StandFor (whole_of p xs f links blocks its rs)
+made lib f plan p q stimuli xs links blocks interfaces its rows rs accepted of_types by_number read linked of_kinds library deploy same types numbers =
+    let view = view_made lib f plan p stimuli xs library deploy same in
     record {
       accepted = subst (λ (i : Inputs). AreAccepted i) (sym view) accepted;
-      links = subst (λ (l : Library). IsLinked l plan links) (sym library) (subst (λ (p : Plan). IsLinked lib p links) read linked);
+      links = subst (λ (i : Inputs). IsLinked i.library i.plan links) (sym view) (subst (λ (p : Plan). IsLinked lib p links) read linked);
       event_blocks = of_kinds;
-      interfaces = subst (λ (l : Library). AreInterfaces l interfaces) (sym library) of_types;
-      rows = subst (λ (l : Library). AreRows l xs rows) (sym library) (subst (λ (ss : List Stimulus). AreRows lib ss rows) (sym same) by_number);
+      interfaces = subst (λ (l : Library). AreInterfaces l its) (sym library) (subst (λ (t : Interfaces). AreInterfaces lib t) (sym types) of_types);
+      rows = subst (λ (i : Inputs). AreRows i.library i.stimuli rs) (sym view) (subst (λ (s : List StimulusRow). AreRows lib stimuli s) (sym numbers) by_number);
     }

@@ -19,7 +19,7 @@ ghost use Rattle.fb_system.specs.Systems.{inputs_of, StandFor};
 use crate::event_blocks::event_blocks;
 use crate::stimulus::StimulusAt;
 use crate::types::{ports_of_type, with_places_of_type};
-use crate::whole::{Whole, row_at};
+use crate::whole::{Whole, beside, row_at};
 use fb_fabric::fabric::{Fabric, Place};
 use fb_initial::values::{input_values, output_values};
 use fb_interfaces::interfaces::Interfaces;
@@ -80,9 +80,16 @@ impl System {
         requires rows { AreRows library stimuli.items rows }
         ensures { IfOk result (λ s. s ≡ inputs library deploy stimuli.items) }
     {
-        let links = Links::of(alloc, &library, deploy.plan(), &numbers)?;
-        let fabric = Fabric::of(alloc, library, numbers)?;
-        let event_blocks = event_blocks(alloc)?;
+        let links = Links::of(alloc, &library, deploy.plan(), &numbers);
+        let fabric = Fabric::of(alloc, library, numbers);
+        let given = (deploy, stimuli, interfaces, rows);
+        let (given, links, fabric, event_blocks) = beside(
+            given,
+            links,
+            fabric,
+            event_blocks(alloc),
+        )?;
+        let (deploy, stimuli, interfaces, rows) = given;
         let tables = Whole {
             deploy,
             stimuli: Items::from_vec(stimuli),

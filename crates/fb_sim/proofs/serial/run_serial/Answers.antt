@@ -1,31 +1,7 @@
-use Rattle.std.proofs.Common.{rules, sym, subst, map}
-use Rattle.fb_types.specs.Headline.{system_of}
-use Rattle.fb_types.specs.Numbers.{line_of}
-use Rattle.fb_types.specs.Text.{trace_text}
-use Rattle.fb_trace.specs.End as trace
-use Rattle.fb_sim.specs.Serial.{Writes}
-use Rattle.fb_sim.proofs.SerialIs.{trace_is}
 use Rattle.fb_sim.proofs.serial.run_serial.Goals as goal
 
-pub returns-in-Ok-clause-trace : goal.returns-in-Ok-clause-trace
-returns-in-Ok-clause-trace g c =
-    let sys = system_of c.in_ok-system.system in
-    let end = c.end_of-end.result in
-    let lines = c.run.new.lines.items in
-    subst (λ e. Writes c.args.inputs.now c.args.options (g.W.Write.contents c.args.out.now) (g.W.Write.contents c.write_trace.new.out) e) (sym c.outcome_of.ensures) (record {
-      bytes = trace_text c.args.options.form sys (map (line_of sys) lines) (trace.ending_of end);
-      got = rw c.as_slice.ensures.value at c.in-Ok.ensures.whole;
-      trace = trace_is c.args.inputs.now c.args.options c.in_ok-system.system c.new-lines.result.items lines c.in_ok-stop.stop end (c.are_within.ensures.0 (search rules)) c.in_ok-system.ensures.system c.new-lines.ensures.items c.in_ok-stop.ensures.completes c.end_of-end.ensures;
-    })
+pub returns-clause-trace : goal.returns-clause-trace
+returns-clause-trace g c = c.run_system.ensures.trace c.args.inputs.now c.in_ok-system.ensures.system
 
 pub returns-clause-failed : goal.returns-clause-failed
-returns-clause-failed g c =
-    let sys = system_of c.in_ok-system.system in
-    let end = c.end_of-end.result in
-    let lines = c.run.new.lines.items in
-    record {
-      bytes = trace_text c.args.options.form sys (map (line_of sys) lines) (trace.ending_of end);
-      end = trace.ending_of end;
-      got = rw c.as_slice.ensures.value at c.in-Err.ensures.part;
-      trace = trace_is c.args.inputs.now c.args.options c.in_ok-system.system c.new-lines.result.items lines c.in_ok-stop.stop end (c.are_within.ensures.0 (search rules)) c.in_ok-system.ensures.system c.new-lines.ensures.items c.in_ok-stop.ensures.completes c.end_of-end.ensures;
-    }
+returns-clause-failed g c = c.run_system.ensures.failed c.args.inputs.now c.in_ok-system.ensures.system

@@ -1,31 +1,42 @@
-use Rattle.std.proofs.Common.{subst, sym}
+use Rattle.std.proofs.Common.{◌≡◌, ◌∙◌, subst, sym}
 use Rattle.fb_types.specs.declared.deploy.Plan.{Plan}
+use Rattle.fb_types.specs.declared.library.Library.{Library}
 use Rattle.fb_types.specs.Mapped.{NotMapped}
 use Rattle.fb_types.specs.Repeated.{NameTwice}
-use Rattle.fb_system.proofs.Seen.{few_of, low_of, made, mapped_of, ok_seen, once_of, view_made}
+use Rattle.fb_links.specs.Linking.{IsLinked}
+use Rattle.fb_resolve.specs.Types.{ArePortsOfKinds}
+use Rattle.fb_system.proofs.Seen.{few_of, low_of, made, mapped_of, ok_read, ok_seen, once_of, view_made}
 use Rattle.fb_system.proofs.system.System.of.Goals as goal
 
-pub of-requires-clause-once : goal.of-requires-clause-once
-of-requires-clause-once c =
+pub of-links-requires-clause-once : goal.of-links-requires-clause-once
+of-links-requires-clause-once c =
     subst (λ (p : Plan). ¬ (NameTwice c.args.library p)) (sym c.plan.ensures.value) (once_of _ c.requires.accepted)
 
-pub of-requires-clause-mapped : goal.of-requires-clause-mapped
-of-requires-clause-mapped c =
+pub of-links-requires-clause-mapped : goal.of-links-requires-clause-mapped
+of-links-requires-clause-mapped c =
     subst (λ (p : Plan). ¬ (NotMapped c.args.library p)) (sym c.plan.ensures.value) (mapped_of _ c.requires.accepted)
 
-pub of-requires-2-clause-resolved : goal.of-requires-2-clause-resolved
-of-requires-2-clause-resolved c = (_, once_of _ c.requires.accepted, c.requires.numbers)
+pub of-fabric-requires-clause-resolved : goal.of-fabric-requires-clause-resolved
+of-fabric-requires-clause-resolved c = (_, once_of _ c.requires.accepted, c.requires.numbers)
 
-pub of-requires-2-clause-height : goal.of-requires-2-clause-height
-of-requires-2-clause-height c = low_of _ c.requires.accepted
+pub of-fabric-requires-clause-height : goal.of-fabric-requires-clause-height
+of-fabric-requires-clause-height c = low_of _ c.requires.accepted
 
-pub of-requires-2-clause-few : goal.of-requires-2-clause-few
-of-requires-2-clause-few c = few_of _ c.requires.accepted
+pub of-fabric-requires-clause-few : goal.of-fabric-requires-clause-few
+of-fabric-requires-clause-few c = few_of _ c.requires.accepted
 
 pub of_tables-requires : goal.of_tables-requires
 of_tables-requires c =
-    made _ _ _ _ _ _ _ _ _ _ c.requires.accepted c.plan.ensures.value c.in_ok-links.ensures c.in_ok-fabric.ensures c.from_vec.ensures c.in_ok-event_blocks.ensures c.requires.interfaces
-    c.requires.rows
+    let all = c.in_ok-given.ensures in
+    made _ _ _ _ _ _ _ _ _ _ _ _ _ c.requires.accepted c.requires.interfaces c.requires.rows c.plan.ensures.value
+    (ok_read _ (IsLinked c.args.library _) _ c.of-links.ensures all.first) (ok_read _ ArePortsOfKinds _ c.event_blocks.ensures all.third)
+    (ok_read _ (λ (f : Library). f ≡ c.args.library) _ c.of-fabric.ensures all.second) (λ j. (all.given j).0) (c.from_vec.ensures ∙ (λ j. (all.given j).1.items))
+    (λ j. (all.given j).2) (λ j. (all.given j).3)
 
 pub returns : goal.returns
-returns c = ok_seen _ _ _ (view_made _ _ _ _ _ c.in_ok-fabric.ensures c.from_vec.ensures) c.of_tables.ensures
+returns c =
+    let all = c.in_ok-given.ensures in
+    ok_seen _ _ _
+    (view_made _ _ _ _ _ _ (ok_read _ (λ (f : Library). f ≡ c.args.library) _ c.of-fabric.ensures all.second) (λ j. (all.given j).0)
+    (c.from_vec.ensures ∙ (λ j. (all.given j).1.items)))
+    c.of_tables.ensures
