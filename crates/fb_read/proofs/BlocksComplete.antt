@@ -14,7 +14,7 @@ use Rattle.fb_read.specs.declared.token.Token.TheVariants as token
 use Rattle.fb_read.specs.Nodes.{basic_of, composite_of, library_of}
 use Rattle.fb_read.specs.Tokens.{Tokens}
 use Rattle.fb_read.specs.Parser.{same_mark, sees, name, expect, run_after}
-use Rattle.fb_read.specs.Blocks.{basic, composite, body, block, library}
+use Rattle.fb_read.specs.Blocks.{basic, composite, body, inside, block, library}
 use Rattle.fb_read.specs.Fits.{fits_transition, fits_algorithm, fits_block, fits_library}
 use Rattle.fb_read.specs.Grammar.{is_mark, is_name, AreAll}
 use Rattle.fb_read.specs.NetworkGrammar.{IsNetwork}
@@ -71,7 +71,7 @@ body-shorter (of_basic l) = basic-shorter l
 body-shorter (of_composite l) = network-shorter l
 
 block-complete : IsComplete block IsBlock Anything fits_block
-unfolding block name expect same_mark
+unfolding block inside name expect same_mark
 block-complete x ts rest (is_block {n = n} {p = p} {b = b} {c = c} is_mark is_name l r is_mark) before =
     rw (ports-complete p b c l (body-starts r), body-complete n p x c rest r) (pass-picked (fits_block x) x (token.Mark mark.EndFunctionBlock ∷ rest) _ x rest refl)
 

@@ -10,7 +10,7 @@ use Rattle.fb_read.specs.Parser.{sees, name, expect, run_after}
 use Rattle.fb_read.specs.Network.{network, application}
 use Rattle.fb_read.specs.Ports.{variables, ports}
 use Rattle.fb_read.specs.Charts.{states, transitions, algorithms}
-use Rattle.fb_read.specs.Blocks.{basic, composite, body, block, library}
+use Rattle.fb_read.specs.Blocks.{basic, composite, body, inside, block, library}
 use Rattle.fb_read.specs.Grammar.{AreAll}
 use Rattle.fb_read.specs.BlocksGrammar.{is_basic, IsBody, of_basic, of_composite, IsBlock, is_block, IsLibrary, is_library}
 use Rattle.fb_read.proofs.Steps.{both_ok, chosen, made, expected, named}
@@ -44,15 +44,15 @@ body-sound n p ts x rest h =
     ]
 
 block-sound : IsSound block IsBlock
-unfolding block
+unfolding block inside
 block-sound ts x rest h =
     let a = both_ok (expect mark.FunctionBlock ts) _ (x, rest) h in
-    let b = both_ok (name a.1) _ (x, rest) a.3 in
-    let c = both_ok (ports b.1) _ (x, rest) b.3 in
-    let d = both_ok (body b.0 c.0 c.1) _ (x, rest) c.3 in
+    let d = both_ok (inside a.1) _ (x, rest) a.3 in
+    let b = both_ok (name a.1) _ (d.0, d.1) d.2 in
+    let c = both_ok (ports b.1) _ (d.0, d.1) b.3 in
     let e = both_ok (expect mark.EndFunctionBlock d.1) _ (x, rest) d.3 in
     made IsBlock d.0 x ts e.1 rest e.3
-    (is_block (expected mark.FunctionBlock ts a.1 a.2) (named a.1 b.0 b.1 b.2) (ports-sound b.1 c.0 c.1 c.2) (body-sound b.0 c.0 c.1 d.0 d.1 d.2) (expected mark.EndFunctionBlock d.1 e.1 e.2))
+    (is_block (expected mark.FunctionBlock ts a.1 a.2) (named a.1 b.0 b.1 b.2) (ports-sound b.1 c.0 c.1 c.2) (body-sound b.0 c.0 c.1 d.0 d.1 c.3) (expected mark.EndFunctionBlock d.1 e.1 e.2))
 
 pub library-sound : IsSound library IsLibrary
 unfolding library

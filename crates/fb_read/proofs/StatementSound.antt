@@ -8,6 +8,7 @@ use Rattle.fb_types.specs.declared.text.Stmt.TheVariants as s
 use Rattle.fb_types.specs.declared.text.Choice.{Choice}
 use Rattle.fb_types.specs.declared.text.Branch.{Branch}
 use Rattle.fb_types.specs.declared.text.Body.{Body}
+use Rattle.fb_types.specs.declared.text.Label.{Label}
 use Rattle.fb_read.specs.declared.token.Mark.TheVariants as mark
 use Rattle.fb_read.specs.Tokens.{Tokens}
 use Rattle.fb_read.specs.Parser.{Parser, Outcome, and_then, pure, sees, after, expect, name, whole, separated}
@@ -48,6 +49,61 @@ label-sound ts x rest h =
       | inr w ↦ made IsLabel (label_of a.0 a.0) x ts a.1 rest w.1 (is_single (bound-sound ts a.0 a.1 a.2))
     ]
 
+-- ---- how deep a statement nests, by what is in it
+
+assign-fits : (below : ℕ) (n : Name) (x : Expr) → statement_nesting (s.Assign n x) ≤ suc below
+assign-fits below n x = omega (arith, nesting-Assign n x)
+
+assign-inside : (n : Name) (x : Expr) → nesting x ≤ most_nesting → expression_nesting (s.Assign n x) ≤ most_nesting
+assign-inside n x h = omega (arith, inside-Assign n x)
+
+if-fits : (below : ℕ) (c : Choice) (cs : List Choice) (others : List Stmt) → choice_nesting c ≤ below → deepest (map choice_nesting cs) ≤ below
+    → deepest (map statement_nesting others) ≤ below → statement_nesting (s.If (c ∷ cs) others) ≤ suc below
+if-fits below c cs others a b h = omega (arith, nesting-If (c ∷ cs) others)
+
+if-inside : (c : Choice) (cs : List Choice) (others : List Stmt) → choice_expression_nesting c ≤ most_nesting → deepest (map choice_expression_nesting cs) ≤ most_nesting
+    → deepest (map expression_nesting others) ≤ most_nesting → expression_nesting (s.If (c ∷ cs) others) ≤ most_nesting
+if-inside c cs others a b h = omega (arith, inside-If (c ∷ cs) others)
+
+case-fits : (below : ℕ) (x : Expr) (b : Branch) (bs : List Branch) (others : List Stmt) → branch_nesting b ≤ below → deepest (map branch_nesting bs) ≤ below
+    → deepest (map statement_nesting others) ≤ below → statement_nesting (s.Case x (b ∷ bs) others) ≤ suc below
+case-fits below x b bs others a c h = omega (arith, nesting-Case x (b ∷ bs) others)
+
+case-inside : (x : Expr) (b : Branch) (bs : List Branch) (others : List Stmt) → nesting x ≤ most_nesting → branch_expression_nesting b ≤ most_nesting
+    → deepest (map branch_expression_nesting bs) ≤ most_nesting → deepest (map expression_nesting others) ≤ most_nesting → expression_nesting (s.Case x (b ∷ bs) others) ≤ most_nesting
+case-inside x b bs others e a c h = omega (arith, inside-Case x (b ∷ bs) others)
+
+for-fits : (below : ℕ) (n : Name) (x y : Expr) (z : Option Expr) (xs : List Stmt) → deepest (map statement_nesting xs) ≤ below → statement_nesting (s.For n x y z xs) ≤ suc below
+for-fits below n x y z xs h = omega (arith, nesting-For n x y z xs)
+
+for-inside : (n : Name) (x y : Expr) (z : Option Expr) (xs : List Stmt) → nesting x ≤ most_nesting → nesting y ≤ most_nesting → by_nesting z ≤ most_nesting
+    → deepest (map expression_nesting xs) ≤ most_nesting → expression_nesting (s.For n x y z xs) ≤ most_nesting
+for-inside n x y z xs a b c d = omega (arith, inside-For n x y z xs)
+
+while-fits : (below : ℕ) (x : Expr) (xs : List Stmt) → deepest (map statement_nesting xs) ≤ below → statement_nesting (s.While x xs) ≤ suc below
+while-fits below x xs h = omega (arith, nesting-While x xs)
+
+while-inside : (x : Expr) (xs : List Stmt) → nesting x ≤ most_nesting → deepest (map expression_nesting xs) ≤ most_nesting → expression_nesting (s.While x xs) ≤ most_nesting
+while-inside x xs a b = omega (arith, inside-While x xs)
+
+repeat-fits : (below : ℕ) (xs : List Stmt) (x : Expr) → deepest (map statement_nesting xs) ≤ below → statement_nesting (s.Repeat xs x) ≤ suc below
+repeat-fits below xs x h = omega (arith, nesting-Repeat xs x)
+
+repeat-inside : (xs : List Stmt) (x : Expr) → deepest (map expression_nesting xs) ≤ most_nesting → nesting x ≤ most_nesting → expression_nesting (s.Repeat xs x) ≤ most_nesting
+repeat-inside xs x a b = omega (arith, inside-Repeat xs x)
+
+choice-fits : (below : ℕ) (x : Expr) (xs : List Stmt) → deepest (map statement_nesting xs) ≤ below → choice_nesting (choice_of x xs) ≤ below
+choice-fits below x xs h = omega (arith, nesting-choice x xs)
+
+choice-inside : (x : Expr) (xs : List Stmt) → nesting x ≤ most_nesting → deepest (map expression_nesting xs) ≤ most_nesting → choice_expression_nesting (choice_of x xs) ≤ most_nesting
+choice-inside x xs a b = omega (arith, inside-choice x xs)
+
+branch-fits : (below : ℕ) (ls : List Label) (xs : List Stmt) → deepest (map statement_nesting xs) ≤ below → branch_nesting (branch_of ls xs) ≤ below
+branch-fits below ls xs h = omega (arith, nesting-branch ls xs)
+
+branch-inside : (ls : List Label) (xs : List Stmt) → deepest (map expression_nesting xs) ≤ most_nesting → branch_expression_nesting (branch_of ls xs) ≤ most_nesting
+branch-inside ls xs a = omega (arith, inside-branch ls xs)
+
 -- ---- statements that hold no others
 
 -- a statement that is derived and keeps both limits
@@ -64,8 +120,8 @@ assignment-right below ts x rest h =
     let r = expression-right b.1 c.0 c.1 c.2 in
     made (StatementRight (suc below)) (s.Assign a.0 c.0) x ts d.1 rest d.3 (record {
       derived = is_assignment (named ts a.0 a.1 a.2) (expected mark.Assign a.1 b.1 b.2) r.derived (expected mark.Semicolon c.1 d.1 d.2);
-      fits = omega (arith, nesting-Assign a.0 c.0);
-      inside = omega (arith, inside-Assign a.0 c.0, r.fits);
+      fits = assign-fits below a.0 c.0;
+      inside = assign-inside a.0 c.0 r.fits;
     })
 
 simple-right : (below : ℕ) → IsSound simple (StatementRight (suc below))
@@ -106,13 +162,6 @@ step-right ts x rest h =
     ]
 
 -- ---- statements that hold others
-
-for-fits : (below : ℕ) (n : Name) (x y : Expr) (z : Option Expr) (xs : List Stmt) → deepest (map statement_nesting xs) ≤ below → statement_nesting (s.For n x y z xs) ≤ suc below
-for-fits below n x y z xs h = omega (arith, nesting-For n x y z xs)
-
-for-inside : (n : Name) (x y : Expr) (z : Option Expr) (xs : List Stmt) → nesting x ≤ most_nesting → nesting y ≤ most_nesting → by_nesting z ≤ most_nesting
-    → deepest (map expression_nesting xs) ≤ most_nesting → expression_nesting (s.For n x y z xs) ≤ most_nesting
-for-inside n x y z xs a b c d = omega (arith, inside-For n x y z xs)
 
 abbrev pub BlockRight : ℕ → List Stmt → Tokens → Tokens → Type 0
 BlockRight = ListRight AreStatements statement_nesting expression_nesting
@@ -163,8 +212,8 @@ module _ (below : ℕ) (inner : Parser Stmt) (i : IsSound inner (StatementRight 
       let l = block-right b.1 c.0 c.1 c.2 in
       made (ChoiceRight below) (choice_of a.0 c.0) x ts c.1 rest c.3 (record {
         derived = is_choice r.derived (expected mark.Then a.1 b.1 b.2) l.derived;
-        fits = omega (arith, nesting-choice a.0 c.0, l.fits);
-        inside = omega (arith, inside-choice a.0 c.0, r.fits, l.inside);
+        fits = choice-fits below a.0 c.0 l.fits;
+        inside = choice-inside a.0 c.0 r.fits l.inside;
       })
 
   elsif-right : IsSound (elsif inner) (ElsifRight below)
@@ -197,8 +246,8 @@ module _ (below : ℕ) (inner : Parser Stmt) (i : IsSound inner (StatementRight 
       let l = block-right b.1 c.0 c.1 c.2 in
       made (BranchRight below) (branch_of a.0 c.0) x ts c.1 rest c.3 (record {
         derived = is_branch (separated-sound label IsLabel label-sound ts a.0 a.1 a.2) (expected mark.Colon a.1 b.1 b.2) l.derived;
-        fits = omega (arith, nesting-branch a.0 c.0, l.fits);
-        inside = omega (arith, inside-branch a.0 c.0, l.inside);
+        fits = branch-fits below a.0 c.0 l.fits;
+        inside = branch-inside a.0 c.0 l.inside;
       })
 
   branches-right : IsSound (branches inner) (BranchesRight below)
@@ -238,8 +287,8 @@ module _ (below : ℕ) (inner : Parser Stmt) (i : IsSound inner (StatementRight 
       let same : s.If all b.0 ≡ s.If a.0 b.0 = ap (λ (xs : List Choice). s.If xs b.0) (sym r.all_is) in
       made (StatementRight (suc below)) (s.If a.0 b.0) x start d.1 rest d.3 (subst (λ (y : Stmt). StatementRight (suc below) y start d.1) same (record {
         derived = is_if k r.one.derived r.others.derived o.derived (expected mark.EndIf b.1 c.1 c.2) (expected mark.Semicolon c.1 d.1 d.2);
-        fits = omega (arith, nesting-If all b.0, r.one.fits, r.others.fits, o.fits);
-        inside = omega (arith, inside-If all b.0, r.one.inside, r.others.inside, o.inside);
+        fits = if-fits below r.first r.more b.0 r.one.fits r.others.fits o.fits;
+        inside = if-inside r.first r.more b.0 r.one.inside r.others.inside o.inside;
       }))
 
   case-right : (start ts : Tokens) (x : Stmt) (rest : Tokens) → IsMark mark.Case start ts → case_statement inner ts ≡ Ok (x, rest) → StatementRight (suc below) x start rest
@@ -260,8 +309,8 @@ module _ (below : ℕ) (inner : Parser Stmt) (i : IsSound inner (StatementRight 
       let same : s.Case p.0 all b.0 ≡ s.Case p.0 a.0 b.0 = ap (λ (xs : List Branch). s.Case p.0 xs b.0) (sym r.all_is) in
       made (StatementRight (suc below)) (s.Case p.0 a.0 b.0) x start d.1 rest end (subst (λ (y : Stmt). StatementRight (suc below) y start d.1) same (record {
         derived = is_case k e.derived (expected mark.Of p.1 q.1 q.2) r.one.derived r.others.derived o.derived (expected mark.EndCase b.1 c.1 c.2) (expected mark.Semicolon c.1 d.1 d.2);
-        fits = omega (arith, nesting-Case p.0 all b.0, r.one.fits, r.others.fits, o.fits);
-        inside = omega (arith, inside-Case p.0 all b.0, e.fits, r.one.inside, r.others.inside, o.inside);
+        fits = case-fits below p.0 r.first r.more b.0 r.one.fits r.others.fits o.fits;
+        inside = case-inside p.0 r.first r.more b.0 e.fits r.one.inside r.others.inside o.inside;
       }))
 
   for-right : (start ts : Tokens) (x : Stmt) (rest : Tokens) → IsMark mark.For start ts → for_statement inner ts ≡ Ok (x, rest) → StatementRight (suc below) x start rest
@@ -306,8 +355,8 @@ module _ (below : ℕ) (inner : Parser Stmt) (i : IsSound inner (StatementRight 
       let l = block-right u.1 b.0 b.1 b.2 in
       made (StatementRight (suc below)) (s.While p.0 b.0) x start d.1 rest same (record {
         derived = is_while k e.derived (expected mark.Do p.1 u.1 u.2) l.derived (expected mark.EndWhile b.1 c.1 c.2) (expected mark.Semicolon c.1 d.1 d.2);
-        fits = omega (arith, nesting-While p.0 b.0, l.fits);
-        inside = omega (arith, inside-While p.0 b.0, e.fits, l.inside);
+        fits = while-fits below p.0 b.0 l.fits;
+        inside = while-inside p.0 b.0 e.fits l.inside;
       })
 
   repeat-right : (start ts : Tokens) (x : Stmt) (rest : Tokens) → IsMark mark.Repeat start ts → repeat_statement inner ts ≡ Ok (x, rest) → StatementRight (suc below) x start rest
@@ -322,8 +371,8 @@ module _ (below : ℕ) (inner : Parser Stmt) (i : IsSound inner (StatementRight 
       let l = block-right ts b.0 b.1 b.2 in
       made (StatementRight (suc below)) (s.Repeat b.0 p.0) x start d.1 rest d.3 (record {
         derived = is_repeat k l.derived (expected mark.Until b.1 u.1 u.2) e.derived (expected mark.EndRepeat p.1 c.1 c.2) (expected mark.Semicolon c.1 d.1 d.2);
-        fits = omega (arith, nesting-Repeat b.0 p.0, l.fits);
-        inside = omega (arith, inside-Repeat b.0 p.0, e.fits, l.inside);
+        fits = repeat-fits below b.0 p.0 l.fits;
+        inside = repeat-inside b.0 p.0 l.inside e.fits;
       })
 
   statement-right : IsSound (statement inner) (StatementRight (suc below))

@@ -31,12 +31,17 @@ composite n p = do
 unfoldable pub body : Name → Ports → Parser BlockType
 body n p = λ ts. if sees mark.Fbs ts then composite n p ts else basic n p ts
 
+-- what stands between the marks of a type
+unfoldable pub inside : Parser BlockType
+inside = do
+  first ← name
+  interface ← ports
+  body first interface
+
 unfoldable pub block : Parser BlockType
 block = do
   expect mark.FunctionBlock
-  first ← name
-  interface ← ports
-  found ← body first interface
+  found ← inside
   expect mark.EndFunctionBlock
   pure found
 

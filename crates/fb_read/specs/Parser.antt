@@ -130,6 +130,19 @@ literal (token.Whole n ∷ ts) = Ok (pos n, ts)
 literal (token.Time ticks ∷ ts) = Ok (ticks, ts)
 literal (_ ∷ ts) = Err syntax
 
+-- what was found, and this mark behind it
+abbrev pub ended : {A : Type 0} → Mark → A → Parser A
+ended end found = do
+  expect end
+  pure found
+
+-- what was found, and this mark and a semicolon behind it
+abbrev pub finished : {A : Type 0} → Mark → A → Parser A
+finished end found = do
+  expect end
+  expect mark.Semicolon
+  pure found
+
 -- the items up to a mark, and the mark; by the number of turns that are left and the items so far
 unfoldable pub many_from : {A : Type 0} → Parser A → Mark → ℕ → List A → Parser (List A)
 many_from item end zero found = refuse

@@ -7,7 +7,7 @@ use crate::chart::{algorithms, states, transitions};
 use crate::cursor::Cursor;
 use crate::fault::ParseFault;
 use crate::ports::variables;
-use crate::rule::{Rule, run_after};
+use crate::rule::{Rule, ended, run_after};
 use crate::token::Mark;
 use fb_types::items::Items;
 use fb_types::library::{
@@ -75,17 +75,24 @@ fn body(
     }
 }
 
+/// What stands between the marks of a type: its name, its ports, and the rest.
+#[tactic(auto, unfolding(crate::specs::Blocks::inside))]
+fn inside(alloc: Global, cursor: &mut Cursor<'_>) -> Result<BlockType, ParseFault>
+    ensures { Reads (spec.inside cursor.old) result cursor.new }
+{
+    let name = cursor.name(alloc)?;
+    let ports = Ports::read(alloc, cursor)?;
+    body(alloc, cursor, name, ports)
+}
+
 impl Rule for BlockType {
     ghost parser = { spec.block };
 
     #[tactic(auto, unfolding(crate::specs::Blocks::block))]
     fn read(alloc: Global, cursor: &mut Cursor<'_>) -> Result<BlockType, ParseFault> {
         cursor.expect(Mark::FunctionBlock)?;
-        let name = cursor.name(alloc)?;
-        let ports = Ports::read(alloc, cursor)?;
-        let found = body(alloc, cursor, name, ports)?;
-        cursor.expect(Mark::EndFunctionBlock)?;
-        Ok(found)
+        let found = inside(alloc, cursor)?;
+        ended(cursor, Mark::EndFunctionBlock, found)
     }
 }
 

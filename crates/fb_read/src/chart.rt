@@ -6,7 +6,7 @@ ghost use Rattle.fb_read.specs.Charts as spec;
 use crate::cursor::Cursor;
 use crate::expression::expression;
 use crate::fault::ParseFault;
-use crate::rule::{Rule, many_after, run_after, section, separated};
+use crate::rule::{Rule, ended, many_after, run_after, section, separated};
 use crate::statement::body;
 use crate::token::Mark;
 use fb_types::items::Items;
@@ -55,8 +55,7 @@ impl Rule for State {
     fn read(alloc: Global, cursor: &mut Cursor<'_>) -> Result<State, ParseFault> {
         let name = cursor.name(alloc)?;
         let actions = actions(alloc, cursor)?;
-        cursor.expect(Mark::Semicolon)?;
-        Ok(State { name, actions })
+        ended(cursor, Mark::Semicolon, State { name, actions })
     }
 }
 
@@ -78,7 +77,7 @@ fn guard(alloc: Global, cursor: &mut Cursor<'_>) -> Result<Option<Expr>, ParseFa
 {
     if cursor.eat(Mark::OpenSquare) {
         let test = expression(alloc, cursor)?;
-        cursor.expect(Mark::CloseSquare)?;
+        let test = ended(cursor, Mark::CloseSquare, test)?;
         Ok(Some(test))
     } else {
         Ok(None)
@@ -107,12 +106,12 @@ impl Rule for Transition {
         let to = cursor.name(alloc)?;
         cursor.expect(Mark::Assign)?;
         let condition = condition(alloc, cursor)?;
-        cursor.expect(Mark::Semicolon)?;
-        Ok(Transition {
+        let found = Transition {
             from,
             to,
             condition,
-        })
+        };
+        ended(cursor, Mark::Semicolon, found)
     }
 }
 

@@ -7,6 +7,7 @@ ghost use Rattle.fb_read.specs.Nests.{Nests};
 
 use crate::cursor::Cursor;
 use crate::fault::ParseFault;
+use crate::rule::ended;
 use crate::token::Mark;
 use fb_types::boxed::Boxed;
 use fb_types::items::Items;
@@ -93,7 +94,7 @@ impl<F: Fn(Global, &mut Cursor<'_>, u32, u8) -> Result<Nested, ParseFault>> Rule
         ensures { Reads (spec.group self.now.below (spec.nested_expression self.now.below) cursor.old) result cursor.new }
     {
         let x = self.part(cursor, LOOSEST)?;
-        cursor.expect(Mark::Close)?;
+        let x = ended(cursor, Mark::Close, x)?;
         around(self.below, x.nesting, group_of(self.alloc, x.expr)?, cursor)
     }
 
@@ -143,8 +144,8 @@ impl<F: Fn(Global, &mut Cursor<'_>, u32, u8) -> Result<Nested, ParseFault>> Rule
         if cursor.eat(Mark::Close) {
             return Ok(leaf(Expr::Call(function, Items::new(self.alloc))));
         }
-        let (found, depth) = self.arguments(cursor)?;
-        cursor.expect(Mark::Close)?;
+        let found = self.arguments(cursor)?;
+        let (found, depth) = ended(cursor, Mark::Close, found)?;
         around(self.below, depth, Expr::Call(function, found), cursor)
     }
 

@@ -6,7 +6,7 @@ ghost use Rattle.fb_read.specs.Network as spec;
 
 use crate::cursor::Cursor;
 use crate::fault::ParseFault;
-use crate::rule::{Rule, many, section, separated};
+use crate::rule::{Rule, ended, many, section, separated};
 use crate::token::Mark;
 use fb_types::items::Items;
 use fb_types::library::{Application, Connection, Instance, Network, Parameter, PortName};
@@ -42,8 +42,7 @@ impl Rule for Connection {
         let from = PortName::read(alloc, cursor)?;
         cursor.expect(Mark::To)?;
         let to = PortName::read(alloc, cursor)?;
-        cursor.expect(Mark::Semicolon)?;
-        Ok(Connection { from, to })
+        ended(cursor, Mark::Semicolon, Connection { from, to })
     }
 }
 
@@ -81,8 +80,7 @@ fn parameters(alloc: Global, cursor: &mut Cursor<'_>) -> Result<Items<Parameter>
 {
     if cursor.eat(Mark::Open) {
         let found = separated::<Parameter>(alloc, cursor)?;
-        cursor.expect(Mark::Close)?;
-        Ok(found)
+        ended(cursor, Mark::Close, found)
     } else {
         Ok(Items::new(alloc))
     }
@@ -97,12 +95,12 @@ impl Rule for Instance {
         cursor.expect(Mark::Colon)?;
         let block_type = cursor.name(alloc)?;
         let parameters = parameters(alloc, cursor)?;
-        cursor.expect(Mark::Semicolon)?;
-        Ok(Instance {
+        let found = Instance {
             name,
             block_type,
             parameters,
-        })
+        };
+        ended(cursor, Mark::Semicolon, found)
     }
 }
 
@@ -141,7 +139,6 @@ impl Rule for Application {
         cursor.expect(Mark::Application)?;
         let name = cursor.name(alloc)?;
         let network = Network::read(alloc, cursor)?;
-        cursor.expect(Mark::EndApplication)?;
-        Ok(Application { name, network })
+        ended(cursor, Mark::EndApplication, Application { name, network })
     }
 }

@@ -9,7 +9,7 @@ ghost use Rattle.fb_read.specs.Ports as spec;
 use crate::cursor::Cursor;
 use crate::fault::ParseFault;
 use crate::network::constant;
-use crate::rule::{Rule, section, separated};
+use crate::rule::{Rule, ended, section, separated};
 use crate::token::Mark;
 use fb_types::items::Items;
 use fb_types::library::{EventPort, Ports, Variable};
@@ -51,8 +51,7 @@ impl Rule for EventPort {
     fn read(alloc: Global, cursor: &mut Cursor<'_>) -> Result<EventPort, ParseFault> {
         let name = cursor.name(alloc)?;
         let with = with_names(alloc, cursor)?;
-        cursor.expect(Mark::Semicolon)?;
-        Ok(EventPort { name, with })
+        ended(cursor, Mark::Semicolon, EventPort { name, with })
     }
 }
 
@@ -76,8 +75,7 @@ impl Rule for Declaration {
         cursor.expect(Mark::Colon)?;
         let ty = cursor.ty()?;
         let initial = initial(cursor)?;
-        cursor.expect(Mark::Semicolon)?;
-        Ok(Declaration { names, ty, initial })
+        ended(cursor, Mark::Semicolon, Declaration { names, ty, initial })
     }
 }
 

@@ -18,6 +18,23 @@ pub trait Rule: Drop {
         ensures { Reads (parser cursor.old) result cursor.new };
 }
 
+/// What was found, where this mark stands behind it.
+#[tactic(auto, unfolding(crate::specs::Parser::expect))]
+pub fn ended<T: Drop>(cursor: &mut Cursor<'_>, end: Mark, found: T) -> Result<T, ParseFault>
+    ensures { Reads (spec.ended end found cursor.old) result cursor.new }
+{
+    cursor.expect(end)?;
+    Ok(found)
+}
+
+/// What was found, where this mark and a semicolon stand behind it.
+pub fn finished<T: Drop>(cursor: &mut Cursor<'_>, end: Mark, found: T) -> Result<T, ParseFault>
+    ensures { Reads (spec.finished end found cursor.old) result cursor.new }
+{
+    let found = ended(cursor, end, found)?;
+    ended(cursor, Mark::Semicolon, found)
+}
+
 /// What the rule reads up to a mark, behind the items that were found, and that mark. Each turn takes a
 /// token, so there are enough turns.
 pub fn many_after<T: Rule>(

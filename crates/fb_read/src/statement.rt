@@ -8,7 +8,7 @@ ghost use Rattle.fb_read.specs.StatementNests.{StatementNests};
 use crate::cursor::Cursor;
 use crate::expression::expression;
 use crate::fault::ParseFault;
-use crate::rule::{Rule, separated};
+use crate::rule::{Rule, ended, finished, separated};
 use crate::token::Mark;
 use fb_types::items::Items;
 use fb_types::reference::Reference;
@@ -52,8 +52,8 @@ fn assignment(alloc: Global, cursor: &mut Cursor<'_>) -> Result<Stmt, ParseFault
     let target = cursor.name(alloc)?;
     cursor.expect(Mark::Assign)?;
     let value = expression(alloc, cursor)?;
-    cursor.expect(Mark::Semicolon)?;
-    Ok(Stmt::Assign(Reference::new(target), value))
+    let found = Stmt::Assign(Reference::new(target), value);
+    ended(cursor, Mark::Semicolon, found)
 }
 
 /// The step of a FOR, where it has one.
@@ -208,9 +208,7 @@ impl<F: Fn(Global, &mut Cursor<'_>, u32) -> Result<Stmt, ParseFault>> Rules<F> {
     {
         let choices = self.choices(cursor)?;
         let others = self.others(cursor)?;
-        cursor.expect(Mark::EndIf)?;
-        cursor.expect(Mark::Semicolon)?;
-        Ok(Stmt::If(choices, others))
+        finished(cursor, Mark::EndIf, Stmt::If(choices, others))
     }
 
     /// The branches of a CASE and what is done else, from OF on.
@@ -222,9 +220,7 @@ impl<F: Fn(Global, &mut Cursor<'_>, u32) -> Result<Stmt, ParseFault>> Rules<F> {
         cursor.expect(Mark::Of)?;
         let branches = self.branches(cursor)?;
         let others = self.others(cursor)?;
-        cursor.expect(Mark::EndCase)?;
-        cursor.expect(Mark::Semicolon)?;
-        Ok((branches, others))
+        finished(cursor, Mark::EndCase, (branches, others))
     }
 
     /// What stands behind CASE.
@@ -246,9 +242,7 @@ impl<F: Fn(Global, &mut Cursor<'_>, u32) -> Result<Stmt, ParseFault>> Rules<F> {
     {
         cursor.expect(Mark::Do)?;
         let body = self.block(cursor)?;
-        cursor.expect(end)?;
-        cursor.expect(Mark::Semicolon)?;
-        Ok(body)
+        finished(cursor, end, body)
     }
 
     /// A FOR from its TO on.
@@ -299,9 +293,7 @@ impl<F: Fn(Global, &mut Cursor<'_>, u32) -> Result<Stmt, ParseFault>> Rules<F> {
         let body = self.block(cursor)?;
         cursor.expect(Mark::Until)?;
         let condition = expression(self.alloc, cursor)?;
-        cursor.expect(Mark::EndRepeat)?;
-        cursor.expect(Mark::Semicolon)?;
-        Ok(Stmt::Repeat(body, condition))
+        finished(cursor, Mark::EndRepeat, Stmt::Repeat(body, condition))
     }
 
     #[tactic(auto, unfolding(crate::specs::Statements::statement))]
@@ -352,6 +344,5 @@ pub fn body(alloc: Global, cursor: &mut Cursor<'_>) -> Result<Body, ParseFault>
         inner: nested_statement,
     };
     let statements = rules.block(cursor)?;
-    cursor.expect(Mark::EndAlgorithm)?;
-    Ok(Body { statements })
+    ended(cursor, Mark::EndAlgorithm, Body { statements })
 }
