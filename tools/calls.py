@@ -63,6 +63,7 @@ FILES = {
     "cycle": CYCLE,
     "ring": RING,
     "twice": b"APPLICATION A FBS S : E_MERGE; S : E_MERGE; END_FBS END_APPLICATION\n",
+    "slip": b"APPLICATION A FBS F : E_SR; W : E_SWITCH; END_FBS EVENT_CONNECTIONS F.EO TO W.EJ; END_CONNECTIONS END_APPLICATION\n",
     "longest": CYCLE.ljust(MOST_OF_A_TEXT),
     "too_long": CYCLE.ljust(MOST_OF_A_TEXT + 1),
     "far_too_long": CYCLE.ljust(2 * MOST_OF_A_TEXT),
@@ -75,17 +76,24 @@ FILES = {
     "last_stimuli": HEADING.ljust(MOST_OF_STIMULI - len(FED), b"\n") + FED,
     "too_long_stimuli": HEADING.ljust(MOST_OF_STIMULI + 1, b"\n"),
 }
+# What is told of the slip, behind its fault.
+AT_THE_SLIP = b"application A: event connection F.EO TO W.EJ: E_SWITCH has no event input EJ (it has EI)\n"
 # Named pipes, and what is written into each before it ends.
 PIPES = {"pipe": CYCLE, "cut_pipe": CYCLE[:40], "empty_pipe": b"", "long_pipe": FILES["longest"]}
 
 # What the help has of a run and of a check: each argument's name and words of its sentence, with the range, and an example.
-HELP_OF_FILES = ("DECL", "declaration of the types", "--deploy", "in TOML", "at most 1 MiB", "--stim", "in CSV", "at most 16 MiB")
+HELP_OF_FILES = (
+    "DECL", "declaration of the types", "--deploy", "in TOML", "at most 1 MiB", "--stim", "in CSV", "at most 16 MiB", "--why", "tells its place",
+)
 HELP_OF_RUN = (
     *HELP_OF_FILES, "--horizon", "in milliseconds, at which the run ends, 1 to 1000000000000", "--steps", "most steps", "1 to 10000000",
     "--workers", "How many workers", "1 to 64", "--serial", "on one thread", "--trace", "form of the trace", "Example: fbsim run ",
 )
 HELP_OF_CHECK = (*HELP_OF_FILES, "Example: fbsim check ")
-HELP_OF_ALL = ("run", "writes the trace", "check", "which fault comes first", "a millisecond", "Example: fbsim run ")
+HELP_OF_EXPLAIN = ("NAME", "name of the refusal", "E01 to E30", "Example: fbsim explain E21")
+HELP_OF_ALL = (
+    "run", "writes the trace", "check", "which fault comes first", "explain", "what a refusal means", "a millisecond", "Example: fbsim run ",
+)
 
 # The ways to run an example.
 WAYS = [["--serial"], *(["--workers", count] for count in ("1", "2", "7", "64"))]
@@ -119,6 +127,11 @@ CALLS = [
     Call(["help"], 0, out=None, has=HELP_OF_ALL),
     Call(["check", "-h"], 0, out=None, has=HELP_OF_CHECK),
     Call(["run", "--help"], 0, out=None, has=HELP_OF_RUN),
+    Call(["explain", "--help"], 0, out=None, has=HELP_OF_EXPLAIN),
+    Call(["explain", "E21"], 0, out=None, has=("E21: A name stands for nothing", "For example:", "Look at: ")),
+    Call(["explain", "file fault"], 0, out=None, has=("file fault: A file can't be read.", "For example:", "Look at: ")),
+    Call(["explain", "E06"], 5, err=b"error: no refusal is called E06\n"),
+    Call(["explain"], 5, err=None),
     Call(["check", "cycle"], 0, out=b"accepted\n"),
     Call(["check", "-"], 0, out=b"accepted\n", given=CYCLE),
     Call(["run", "cycle", "--horizon", "8"], 0, out=TO_8),
@@ -129,6 +142,17 @@ CALLS = [
     Call(["run", "ring", "--horizon", "1", "--steps", "3", "--workers", "2"], 1, out=STOPPED),
     Call(["run", "ring", "--horizon", "1", "--steps", "3", "--serial"], 1, out=STOPPED),
     Call(["check", "twice"], 2, err=b"refused E20\n"),
+    Call(["check", "twice", "--why"], 2, err=b"refused E20\n"),
+    Call(["check", "slip"], 2, err=b"refused E21\n"),
+    Call(["check", "slip", "--why"], 2, err=b"refused E21\n" + AT_THE_SLIP),
+    Call(["run", "-", "--horizon", "8", "--why"], 2, err=b"refused E21\n" + AT_THE_SLIP, given=FILES["slip"]),
+    Call(["check", "cycle", "--why"], 0, out=b"accepted\n"),
+    Call(["check", "nowhere", "--why"], 3, err=b"file fault\ndeclaration nowhere: no file of this name can be read\n"),
+    Call(["check", "cycle", "--stim", ".", "--why"], 3, err=b"file fault\nstimuli .: no file of this name can be read\n"),
+    Call(
+        ["check", "-", "--deploy", "-", "--why"], 3,
+        err=b"file fault\ndeployment -: standard input can't be read, or was read before\n", given=CYCLE,
+    ),
     Call(["check", "longest"], 0, out=b"accepted\n"),
     Call(["check", "too_long"], 2, err=b"refused E04\n"),
     Call(["check", "-"], 0, out=b"accepted\n", given=FILES["longest"]),
@@ -180,6 +204,8 @@ CALLS = [
     *(Call(["check", "twice"], 2, err=b"refused E20\n", to=it) for it in OUTPUTS),
     *(Call(["check", "nowhere"], 3, err=b"file fault\n", to=it) for it in OUTPUTS),
     *(Call(["run", "cycle", "--horizon", "8"], 0, out=TO_8, tells=it) for it in OUTPUTS[:3]),
+    Call(["explain", "E21"], 3, err=b"write fault after 0 bytes\n", to="full"),
+    *(Call(["check", "slip", "--why"], 2, tells=it) for it in OUTPUTS[:3]),
     *(Call(["check", "twice"], 2, tells=it) for it in OUTPUTS[:3]),
     *(Call(["check", "nowhere"], 3, tells=it) for it in OUTPUTS[:3]),
     *(Call(["walk"], 5, tells=it) for it in OUTPUTS[:3]),

@@ -1,5 +1,5 @@
 -- Commands that are made argument by argument, none of them global.
-use Rattle.std.proofs.Common.{◌≡◌, ◌||◌, Bool, Result, Ok, Err, false, ap, ap₂, ◌∙◌}
+use Rattle.std.proofs.Common.{◌≡◌, ◌||◌, Bool, Result, Ok, Err, false, ap, ap₂, subst, ◌∙◌}
 use Rattle.std.specs.Prelude.{IfOk}
 use Rattle.clap.specs.Words.{App, Rule, AddsArg, AddsSubcommand, app_of, rule_of, with_rule, with_subcommand}
 use Rattle.clap.specs.declared.builder.arg.Arg.{Arg}
@@ -41,3 +41,7 @@ pub joined_well : {E : Type 0} (old : Command) (made : Result Command E) (sub : 
     → app_of old ≡ a → app_of sub ≡ b → IfOk made (λ c. app_of c ≡ with_subcommand a b.top)
 joined_well old (Err e) sub a b adds local is of = tt
 joined_well old (Ok new) sub a b adds local is of = joined old new sub a b adds local is of
+
+-- what holds of all that may be made holds of what was made
+pub made_so : {M E : Type 0} (r : Result M E) (x : M) (P : M → Type 0) → IfOk r P → r ≡ Ok x → P x
+made_so {M} {E} r x P holds is = subst (λ (s : Result M E). IfOk s P) is holds

@@ -8,12 +8,14 @@ use Rattle.clap.specs.declared.error.kind.ErrorKind.TheVariants.{DisplayHelp, Ou
 use Rattle.fb_types.specs.declared.run.Form.{Form}
 use Rattle.fb_types.specs.declared.run.Form.TheVariants.{One, Two}
 use Rattle.clap.specs.declared.builder.value_parser.ValueParser.{ValueParser}
-use Rattle.fb_call.specs.Line.{AreCall, AreNoCall, AskHelp, IsTaken, NameNoCall, IsForm, IsNumber, IsOrder, IsCall, IsCallOf, IsFault, IsFlag, command_name, AreForms, simulator, simulator_with}
+use Rattle.fb_call.specs.Line.{AreRequest, AreNoCall, AskHelp, IsTaken, NameNoCall, IsForm, IsNumber, IsOrder, IsCall, IsRequest, IsRequestOf, IsFault, IsFlag, command_name, request_name, AreForms, simulator, simulator_with}
 use Rattle.fb_call.proofs.FormLaws.{same_fault, same_subcommand, same_takes}
 use Rattle.fb_call.specs.declared.line.LineFault.{LineFault}
 use Rattle.fb_call.specs.declared.line.Call.{Call}
 use Rattle.fb_call.specs.declared.line.Order.{Order}
 use Rattle.fb_call.specs.declared.line.Order.TheVariants.{Check, Run}
+use Rattle.fb_call.specs.declared.line.Request.{Request}
+use Rattle.fb_call.specs.declared.line.Request.TheVariants as request
 
 pub if_none : {T : Type 0} (r : Option T) (P : Type 0) → P → IfNone r P
 if_none (Some x) P p = tt
@@ -69,6 +71,21 @@ flag_none rows id none = (λ t. absurd (let f : false ≡ true = t in cc), λ is
 pub no_declaration : (rows : List Row) (name : Text) → first_of (codes "DECL") rows ≡ None → (c : Call) → name ≡ command_name c.order → IsCall rows c → ⊥
 no_declaration rows name none c named is = let given = is.declaration in absurd cc
 
+-- ---- A command by its name
+
+not_explain : (o : Order) → codes "explain" ≡ command_name o → ⊥
+not_explain Check same = cc
+not_explain (Run horizon steps workers serial form) same = cc
+
+pub no_name : (rows : List Row) (name : Text) → name ≡ codes "explain" → first_of (codes "NAME") rows ≡ None → (r : Request) → name ≡ request_name r → IsRequest rows r → ⊥
+no_name rows name is none (request.Explain word) named given = let bad : None ≡ Some word.now = sym none ∙ given in cc
+no_name rows name is none (request.Call c) named given = not_explain c.order (sym is ∙ named)
+
+pub no_request : (rows : List Row) (name : Text) → (name ≡ codes "explain" → ⊥) → ((c : Call) → name ≡ command_name c.order → IsCall rows c → ⊥)
+    → (r : Request) → name ≡ request_name r → IsRequest rows r → ⊥
+no_request rows name other none (request.Explain word) named given = other named
+no_request rows name other none (request.Call c) named given = none c named given
+
 -- ---- The words, by what the parser says of them
 
 module _ (values : ValueParser) (are : AreForms values) (a : App) (words : List Text) (is : a ≡ simulator_with values) where
@@ -103,17 +120,17 @@ module _ (values : ValueParser) (are : AreForms values) (a : App) (words : List 
     found_is : found ≡ subcommand_of simulator words
     found_is = (subst (λ (x : App). is_simple x ≡ true → (rows ≡ matches_of x words) × (found ≡ subcommand_of x words)) is matches refl).1 ∙ same_subcommand values are words
 
-    pub make_call : (r : Result Call LineFault) → IfOk r (IsCallOf found) → IfOk r (AreCall words)
+    pub make_call : (r : Result Request LineFault) → IfOk r (IsRequestOf found) → IfOk r (AreRequest words)
     make_call (Err e) named = tt
-    make_call (Ok c) named = subst (λ (x : Option (Text × List Row)). IsCallOf x c) found_is named
+    make_call (Ok c) named = subst (λ (x : Option (Text × List Row)). IsRequestOf x c) found_is named
 
-    pub make_no_call : (r : Result Call LineFault) → IsTaken words → IfErr r (λ e. IsFault e → (c : Call) → IsCallOf found c → ⊥) → IfErr r (λ e. IsFault e → AreNoCall words)
+    pub make_no_call : (r : Result Request LineFault) → IsTaken words → IfErr r (λ e. IsFault e → (c : Request) → IsRequestOf found c → ⊥) → IfErr r (λ e. IsFault e → AreNoCall words)
     make_no_call (Ok x) taken none = tt
     make_no_call (Err e) taken none = λ fault. record { cause = inr (taken, no_call fault); none = λ takes. no_call fault }
       where
         no_call : IsFault e → NameNoCall words
-        no_call fault c named = none fault c (subst (λ (x : Option (Text × List Row)). IsCallOf x c) (sym found_is) named)
+        no_call fault c named = none fault c (subst (λ (x : Option (Text × List Row)). IsRequestOf x c) (sym found_is) named)
 
-pub on_ok : (r : Result Call LineFault) (P : Type 0) → P → OnOk r P
+pub on_ok : (r : Result Request LineFault) (P : Type 0) → P → OnOk r P
 on_ok (Ok x) P p = p
 on_ok (Err e) P p = tt

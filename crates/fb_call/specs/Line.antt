@@ -1,4 +1,4 @@
--- The command line (this project's own): the program's commands, and the call that a parse of the words stands for.
+-- The command line (this project's own): the program's commands, and what a parse of the words asks for.
 use Rattle.std.specs.Prelude.{◌≡◌, ◌≢◌, ◌⊎◌, ◌<◌, ◌^◌, ◌↔◌, ℕ, Bool, true, IsTrue, List, [], ◌∷◌, Option, Some, map, option_map, codes}
 use Rattle.std.specs.Borrow.{Bor}
 use Rattle.std.specs.Str.Parse.{IsNumeral, digits_value, without_leading_plus}
@@ -13,6 +13,8 @@ use Rattle.fb_types.specs.declared.run.Form.TheVariants.{One, Two}
 use Rattle.fb_call.specs.declared.line.Order.{Order}
 use Rattle.fb_call.specs.declared.line.Order.TheVariants.{Check, Run}
 use Rattle.fb_call.specs.declared.line.Call.{Call}
+use Rattle.fb_call.specs.declared.line.Request.{Request}
+use Rattle.fb_call.specs.declared.line.Request.TheVariants as request
 use Rattle.fb_call.specs.declared.line.LineFault.{LineFault}
 use Rattle.fb_call.specs.declared.line.LineFault.TheVariants.{Memory, Help, Fault}
 
@@ -54,13 +56,14 @@ file id = record (new_rule id) { long = Some id }
 abbrev pub flag : Text → Rule
 flag id = record (new_rule id) { long = Some id; action = Some SetTrue }
 
--- a command with the names of its files
+-- a command with the names of its files, and whether a refusal is told with its place
 abbrev pub files : Text → App
 files name =
-    with_rule (with_rule (with_rule (new_app name)
+    with_rule (with_rule (with_rule (with_rule (new_app name)
     (record (new_rule (codes "DECL")) { required = true }))
     (file (codes "deploy")))
-    (file (codes "stim"))
+    (file (codes "stim")))
+    (flag (codes "why"))
 
 -- how far a run goes, and by how many workers
 abbrev pub with_numbers : App → App
@@ -75,21 +78,30 @@ with_run_options values a = with_rule (with_rule (with_numbers a)
     (flag (codes "serial")))
     (record (limited (codes "trace") values) { defaults = word_of One ∷ [] })
 
+-- a command with the name of a refusal
+abbrev pub explain : App
+explain = with_rule (new_app (codes "explain")) (record (new_rule (codes "NAME")) { required = true })
+
 -- the program's command, with this parser for the form of the trace
 abbrev pub simulator_with : ValueParser → App
-simulator_with values = with_subcommand (with_subcommand
+simulator_with values = with_subcommand (with_subcommand (with_subcommand
     (record { top = record (new_app (codes "fbsim")).top { subcommand_required = true }; subs = [] })
     (with_run_options values (files (codes "run"))).top)
-    (files (codes "check")).top
+    (files (codes "check")).top)
+    explain.top
 
 abbrev pub simulator : App
 simulator = simulator_with forms
 
--- ---- The call
+-- ---- What is asked for
 
 abbrev pub command_name : Order → Text
 command_name Check = codes "check"
 command_name (Run horizon steps workers serial form) = codes "run"
+
+abbrev pub request_name : Request → Text
+request_name (request.Explain name) = codes "explain"
+request_name (request.Call c) = command_name c.order
 
 -- the option has one text, a decimal numeral that may begin with a plus, and this is its number
 pub record IsNumber (rows : List Row) (id : Text) (n : ℕ) : Type 0 where
@@ -123,17 +135,22 @@ pub record IsCall (rows : List Row) (c : Call) : Type 0 where
   pub declaration : first_of (codes "DECL") rows ≡ Some c.declaration.now
   pub deploy : first_of (codes "deploy") rows ≡ option_map (λ n. n.now) c.deploy
   pub stimuli : first_of (codes "stim") rows ≡ option_map (λ n. n.now) c.stimuli
+  pub why : IsFlag rows (codes "why") c.why
   pub order : IsOrder rows c.order
 
--- a command's name and its rows make this call
-pub record IsCallOf (found : Option (Text × List Row)) (c : Call) : Type 0 where
-  pub rows : List Row
-  pub is : found ≡ Some (command_name c.order, rows)
-  pub call : IsCall rows c
+abbrev pub IsRequest : List Row → Request → Type 0
+IsRequest rows (request.Explain name) = first_of (codes "NAME") rows ≡ Some name.now
+IsRequest rows (request.Call c) = IsCall rows c
 
--- the words name this call
-abbrev pub AreCall : List Text → Call → Type 0
-AreCall words = IsCallOf (subcommand_of simulator words)
+-- a command's name and its rows ask for this
+pub record IsRequestOf (found : Option (Text × List Row)) (r : Request) : Type 0 where
+  pub rows : List Row
+  pub is : found ≡ Some (request_name r, rows)
+  pub request : IsRequest rows r
+
+-- the words ask for this
+abbrev pub AreRequest : List Text → Request → Type 0
+AreRequest words = IsRequestOf (subcommand_of simulator words)
 
 -- the parser finds no fault in the words: each value is one that its option takes, and what is required is there
 abbrev pub IsTaken : List Text → Type 0
@@ -161,7 +178,7 @@ pub record IsRefused (words : List Text) (kind : ErrorKind) : Type 0 where
   pub no_help : kind ≢ DisplayHelp
 
 abbrev pub NameNoCall : List Text → Type 0
-NameNoCall words = (c : Call) → AreCall words c → ⊥
+NameNoCall words = (r : Request) → AreRequest words r → ⊥
 
 -- the parser refuses these words, and not with the help, or they name no call
 pub record AreNoCall (words : List Text) : Type 0 where

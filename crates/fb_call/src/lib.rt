@@ -1,6 +1,6 @@
-//! The command line: the call of the program that its words name.
+//! The command line: what its words ask the program for.
 //!
-//! What is promised above: `line::parse` gives the call that the parser's matches of the words stand for, defaults
+//! What is promised above: `line::parse` gives the request that the parser's matches of the words stand for, defaults
 //! included.
 //!
 //! There is one module, `line`.

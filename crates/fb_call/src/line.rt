@@ -1,11 +1,12 @@
 //! The command line.
 
-ghost use Rattle.std.specs.Prelude.{◌≡◌, ◌≢◌, ℕ, IfOk, IfErr, IfSome, IfNone, OnOk, map, false};
+ghost use Rattle.std.specs.Prelude.{◌≡◌, ◌≢◌, ℕ, Ok, IfOk, IfErr, IfSome, IfNone, OnOk, map, false};
 ghost use Rattle.fb_call.specs.Line as spec;
-ghost use Rattle.fb_call.specs.Line.{AreCall, AreNoCall, AskHelp, AreForms, IsCall, IsCallOf, IsFault, IsFlag, IsForm, IsHelp, IsNumber, IsOrder, IsTaken, command_name};
+ghost use Rattle.fb_call.specs.Line.{AreRequest, AreNoCall, AskHelp, AreForms, IsCall, IsFault, IsFlag, IsForm, IsHelp, IsNumber, IsOrder, IsRequest, IsRequestOf, IsTaken, command_name, request_name};
 ghost use Rattle.fb_call.specs.declared.line.LineFault.TheVariants.{Memory};
 ghost use Rattle.fb_call.specs.declared.line.Call.{Call};
 ghost use Rattle.fb_call.specs.declared.line.Order.{Order};
+ghost use Rattle.fb_call.specs.declared.line.Request.{Request};
 ghost use Rattle.fb_types.specs.declared.run.Form.{Form};
 ghost use Rattle.clap.specs.Words.{app_of, rows_of, found_of, rule_of, kind_of, subcommand_rows_of};
 ghost use Rattle.clap.specs.declared.builder.command.Command.TheViews.{out-Command as fields_of};
@@ -15,6 +16,14 @@ use clap::error::ErrorKind;
 use clap::{Arg, ArgAction, ArgMatches, Command, Error};
 use fb_types::run::Form;
 use std::alloc::{AllocError, Global};
+
+/// What the words ask for.
+#[derive(Clone, Copy)]
+pub enum Request<'a> {
+    /// What the refusal of this name means, as `E21`.
+    Explain(&'a str),
+    Call(Call<'a>),
+}
 
 /// What is asked for, and of which files.
 #[derive(Clone, Copy)]
@@ -26,9 +35,11 @@ pub struct Call<'a> {
     pub deploy: Option<&'a str>,
     /// The name of the file with the stimuli, where one is given.
     pub stimuli: Option<&'a str>,
+    /// Whether a refusal is told with its place, where that is known.
+    pub why: bool,
 }
 
-/// What is asked for.
+/// What is asked for of files.
 #[derive(Clone, Copy)]
 pub enum Order {
     /// Whether the inputs are accepted.
@@ -83,7 +94,16 @@ const RUN_EXAMPLE: &str =
 
 const CHECK_ABOUT: &str = "Says whether a run would take these files, or which fault comes first.";
 
-const CHECK_EXAMPLE: &str = "Example: fbsim check cell.iec --deploy cell.toml --stim cell.csv";
+const CHECK_EXAMPLE: &str =
+    "Example: fbsim check cell.iec --deploy cell.toml --stim cell.csv --why";
+
+const EXPLAIN_ABOUT: &str =
+    "Says what a refusal means, with two examples of it and what to look at.";
+
+const EXPLAIN_EXAMPLE: &str = "Example: fbsim explain E21";
+
+const NAME_HELP: &str =
+    "The name of the refusal in its line, E01 to E30; or \"file fault\", as one word.";
 
 const DECLARATION_HELP: &str =
     "The file with the declaration of the types and the application, at most 1 MiB; `-` is standard input, here and below.";
@@ -107,6 +127,9 @@ const SERIAL_HELP: &str =
 
 const TRACE_HELP: &str =
     "The form of the trace; with 2 each line but the last begins with its event's class, a and b.";
+
+const WHY_HELP: &str =
+    "After the line of a refusal or of a file fault, tells its place in a line more, where that is known.";
 
 /// What the forms of the trace are called.
 const FORM_WORDS: &[&str] = &["1", "2"];
@@ -132,14 +155,13 @@ fn files<'a>(
     let declaration = Arg::new(alloc, "DECL")
         .required(true)
         .help(DECLARATION_HELP);
-    let deploy = file(alloc, "deploy", DEPLOY_HELP);
-    let stimuli = file(alloc, "stim", STIMULI_HELP);
     Command::new(alloc, name)
         .about(about)
         .after_help(example)
         .arg(declaration)?
-        .arg(deploy)?
-        .arg(stimuli)
+        .arg(file(alloc, "deploy", DEPLOY_HELP))?
+        .arg(file(alloc, "stim", STIMULI_HELP))?
+        .arg(flag(alloc, "why", WHY_HELP))
 }
 
 /// An option that takes a value of this kind.
@@ -181,10 +203,10 @@ fn with_numbers<'a>(alloc: Global, command: Command<'a>) -> Result<Command<'a>, 
     ensures app { IfOk result (λ c. app_of c ≡ spec.with_numbers (app_of command.entry)) }
     ensures globals { IfOk result (λ c. (fields_of c).has_globals ≡ false) }
 {
-    let horizon = limited(alloc, "horizon", up_to(1_000_000_000_000), HORIZON_HELP).required(true);
-    let steps = limited(alloc, "steps", up_to(10_000_000), STEPS_HELP).default_value("10000");
-    let workers = limited(alloc, "workers", up_to(64), WORKERS_HELP).default_value("1");
-    command.arg(horizon)?.arg(steps)?.arg(workers)
+    command
+        .arg(limited(alloc, "horizon", up_to(1_000_000_000_000), HORIZON_HELP).required(true))?
+        .arg(limited(alloc, "steps", up_to(10_000_000), STEPS_HELP).default_value("10000"))?
+        .arg(limited(alloc, "workers", up_to(64), WORKERS_HELP).default_value("1"))
 }
 
 /// The command with the options that say how far a run goes, how it is made, and what its trace is like.
@@ -197,22 +219,45 @@ fn with_run_options<'a>(
     ensures app { IfOk result (λ c. app_of c ≡ spec.with_run_options forms.entry (app_of command.entry)) }
     ensures globals { IfOk result (λ c. (fields_of c).has_globals ≡ false) }
 {
-    let serial = flag(alloc, "serial", SERIAL_HELP);
-    let trace = limited(alloc, "trace", forms, TRACE_HELP).default_value("1");
-    with_numbers(alloc, command)?.arg(serial)?.arg(trace)
+    with_numbers(alloc, command)?
+        .arg(flag(alloc, "serial", SERIAL_HELP))?
+        .arg(limited(alloc, "trace", forms, TRACE_HELP).default_value("1"))
+}
+
+/// The command that explains a refusal.
+fn explain<'a>(alloc: Global) -> Result<Command<'a>, AllocError>
+    ensures app { IfOk result (λ c. app_of c ≡ spec.explain) }
+    ensures globals { IfOk result (λ c. (fields_of c).has_globals ≡ false) }
+{
+    let name = Arg::new(alloc, "NAME").required(true).help(NAME_HELP);
+    Command::new(alloc, "explain")
+        .about(EXPLAIN_ABOUT)
+        .after_help(EXPLAIN_EXAMPLE)
+        .arg(name)
+}
+
+/// What there is already, beside what was made after it. It is for values of any types, since a value that is let go
+/// where a command can't be made is proved to be dropped part by part, and one of a type parameter in one step.
+fn beside<K: Drop, M: Drop>(kept: K, made: Result<M, AllocError>) -> Result<(K, M), AllocError>
+    ensures kept { IfOk result (λ both. both.0 ≡ kept) }
+    ensures made { IfOk result (λ both. made ≡ Ok both.1) }
+{
+    Ok((kept, made?))
 }
 
 fn simulator<'a>(alloc: Global, forms: ValueParser<'a>) -> Result<Command<'a>, AllocError>
     ensures { IfOk result (λ c. app_of c ≡ spec.simulator_with forms.entry) }
 {
     let run = with_run_options(alloc, files(alloc, "run", RUN_ABOUT, RUN_EXAMPLE)?, forms)?;
-    let check = files(alloc, "check", CHECK_ABOUT, CHECK_EXAMPLE)?;
-    Command::new(alloc, "fbsim")
+    let command = Command::new(alloc, "fbsim")
         .about(ABOUT)
         .after_help(EXAMPLE)
         .subcommand_required(true)
-        .subcommand(run)?
-        .subcommand(check)
+        .subcommand(run)?;
+    let (command, check) = beside(command, files(alloc, "check", CHECK_ABOUT, CHECK_EXAMPLE))?;
+    let command = command.subcommand(check)?;
+    let (command, explain) = beside(command, explain(alloc))?;
+    command.subcommand(explain)
 }
 
 fn number(found: &ArgMatches<'_>, id: &str) -> Option<u64>
@@ -272,13 +317,26 @@ fn call_of<'a>(name: &str, found: &ArgMatches<'a>) -> Option<Call<'a>>
     let declaration = found.get_str("DECL")?;
     let deploy = found.get_str("deploy");
     let stimuli = found.get_str("stim");
+    let why = has_flag(found, "why");
     let order = order_of(name, found)?;
     Some(Call {
         order,
         declaration,
         deploy,
         stimuli,
+        why,
     })
+}
+
+fn request_of<'a>(name: &str, found: &ArgMatches<'a>) -> Option<Request<'a>>
+    ensures name { IfSome result (λ r. name.now ≡ request_name r) }
+    ensures rows { IfSome result (λ r. IsRequest (rows_of (found_of found.now)) r) }
+    ensures none { IfNone result ((r : Request) → name.now ≡ request_name r → IsRequest (rows_of (found_of found.now)) r → ⊥) }
+{
+    if name == "explain" {
+        return Some(Request::Explain(found.get_str("NAME")?));
+    }
+    Some(Request::Call(call_of(name, found)?))
 }
 
 fn fault(alloc: Global, error: &Error) -> LineFault
@@ -297,33 +355,33 @@ fn fault(alloc: Global, error: &Error) -> LineFault
     }
 }
 
-/// The call that the matches of the words make.
-fn call_in<'a>(alloc: Global, matches: &ArgMatches<'a>) -> Result<Call<'a>, LineFault>
-    ensures call { IfOk result (IsCallOf (subcommand_rows_of matches.now)) }
-    ensures none { IfErr result (λ e. IsFault e → (c : Call) → IsCallOf (subcommand_rows_of matches.now) c → ⊥) }
+/// What the matches of the words ask for.
+fn request_in<'a>(alloc: Global, matches: &ArgMatches<'a>) -> Result<Request<'a>, LineFault>
+    ensures request { IfOk result (IsRequestOf (subcommand_rows_of matches.now)) }
+    ensures none { IfErr result (λ e. IsFault e → (r : Request) → IsRequestOf (subcommand_rows_of matches.now) r → ⊥) }
     ensures help { IfErr result (λ e. ¬ (IsHelp e)) }
 {
     if let Some((name, found)) = matches.subcommand() {
-        if let Some(call) = call_of(name, found) {
-            return Ok(call);
+        if let Some(request) = request_of(name, found) {
+            return Ok(request);
         }
     }
     Err(LineFault::Fault(String::from_str(alloc, NO_CALL)?))
 }
 
-/// The call that the words name, the program's own name first.
+/// What the words ask for, the program's own name first.
 ///
 /// # Errors
 /// `Help` where help is asked for, `Fault` where the words are no call, and `Memory`.
-pub fn parse<'a>(alloc: Global, words: &'a [&'a str]) -> Result<Call<'a>, LineFault>
-    ensures call { IfOk result (AreCall (map (λ w. w.now) words.entry.now)) }
+pub fn parse<'a>(alloc: Global, words: &'a [&'a str]) -> Result<Request<'a>, LineFault>
+    ensures request { IfOk result (AreRequest (map (λ w. w.now) words.entry.now)) }
     ensures taken { OnOk result (IsTaken (map (λ w. w.now) words.entry.now)) }
     ensures help { IfErr result (λ e. IsHelp e → AskHelp (map (λ w. w.now) words.entry.now)) }
     ensures none { IfErr result (λ e. IsFault e → AreNoCall (map (λ w. w.now) words.entry.now)) }
 {
     let command = simulator(alloc, forms())?;
     match command.try_get_matches_from(words) {
-        Ok(matches) => call_in(alloc, &matches),
+        Ok(matches) => request_in(alloc, &matches),
         Err(error) => Err(fault(alloc, &error)),
     }
 }

@@ -1,5 +1,5 @@
 -- How failures are told, and the status of each end (this project's own).
-use Rattle.std.specs.Prelude.{◌/◌, ◌%◌, ◌<◌, ℕ, List, ◌++◌, length, take, Option, Some, None, Result, Ok, Err, codes, decimal, string_bytes}
+use Rattle.std.specs.Prelude.{◌/◌, ◌%◌, ◌<◌, ℕ, List, [], ◌++◌, length, take, Option, Some, None, Result, Ok, Err, codes, decimal, string_bytes}
 use Rattle.std.specs.Io.KnownBytes.{Appends}
 use Rattle.fb_read.specs.declared.error.ReadError.{ReadError}
 use Rattle.fb_read.specs.declared.error.ReadError.TheVariants as read
@@ -17,7 +17,7 @@ use Rattle.fb_command.specs.declared.failure.Refusal.TheVariants.{Numbered, Synt
 use Rattle.fb_command.specs.declared.source.SourceFault.{SourceFault}
 use Rattle.fb_command.specs.declared.source.SourceFault.TheVariants as source
 use Rattle.fb_command.specs.declared.status.Done.{Done}
-use Rattle.fb_command.specs.declared.status.Done.TheVariants.{Helped, Accepted, Ended, Stopped}
+use Rattle.fb_command.specs.declared.status.Done.TheVariants.{Helped, Explained, Accepted, Ended, Stopped}
 
 -- ---- Failures
 
@@ -73,10 +73,29 @@ abbrev pub told : Failure → List ℕ
 told (Line text) = string_bytes text
 told failure = failure_text failure ++ codes "\n"
 
+-- what standard error is told of how a call ends: the failure, and behind it the line of the note, where there is one
+abbrev pub told_of : Result Done Failure → Option (List ℕ) → List ℕ
+told_of (Ok d) text = []
+told_of (Err failure) None = told failure
+told_of (Err failure) (Some text) = told failure ++ text ++ codes "\n"
+
+-- ---- Explanations
+
+-- what a refusal means, with two examples of it, and what to look at
+abbrev pub explained_text : (name meaning first second look : List ℕ) → List ℕ
+explained_text name meaning first second look =
+    name
+    ++ (codes ": " ++ (meaning ++ (codes "\nFor example:\n- " ++ (first ++ (codes "\n- " ++ (second ++ (codes "\nLook at: " ++ (look ++ codes "\n"))))))))
+
+-- the words ask for a refusal that there is not
+abbrev pub no_refusal : (name : List ℕ) → List ℕ
+no_refusal name = codes "error: no refusal is called " ++ name ++ codes "\n"
+
 -- ---- The statuses
 
 abbrev pub status_of : Result Done Failure → ℕ
 status_of (Ok Helped) = 0
+status_of (Ok Explained) = 0
 status_of (Ok Accepted) = 0
 status_of (Ok Ended) = 0
 status_of (Ok Stopped) = 1

@@ -1,4 +1,6 @@
 pub mod Failures
 pub mod Files
 pub mod Texts
+pub mod Reading
+pub mod Notes
 pub mod Command

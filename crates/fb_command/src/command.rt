@@ -1,60 +1,33 @@
 //! One call of the program, over any files and any outputs.
 
 ghost use Rattle.std.specs.Io.KnownBytes.{Appends};
-ghost use Rattle.std.specs.Prelude.{◌≡◌, map, option_map, Result, IfOk, IfErr, OnOk};
-ghost use Rattle.fb_command.specs.Command.{AreRead, Checks, Does, IsDoneOf, IsUnread, MayRead, Meets, Performs, Runs};
-ghost use Rattle.fb_command.specs.Texts.{contents_of, given_of};
-ghost use Rattle.fb_command.specs.Failures.{status_of, told};
+ghost use Rattle.std.specs.Prelude.{◌≡◌, ℕ, List, Option, None, map, option_map, Result, IfOk, IfErr, IsTrue, OnOk, string_bytes};
+ghost use Rattle.fb_command.specs.Command.{Checks, Does, ExplainsRefusal, IsDoneOf, Meets, NotesOf, Performs, Runs};
+ghost use Rattle.fb_command.specs.Texts.{given_of};
+ghost use Rattle.fb_command.specs.Failures.{WritesPart, explained_text, status_of, told, told_of};
 ghost use Rattle.fb_command.specs.declared.failure.Failure.{Failure};
 ghost use Rattle.fb_command.specs.declared.status.Done.{Done};
+ghost use Rattle.fb_command.specs.declared.status.Done.TheVariants.{Helped};
 
 use crate::failure::Failure;
+use crate::notes::{note_of, note_of_file};
 use crate::output::write_text;
-use crate::source::{Source, SourceFault};
-use crate::status::{Done, status};
-use fb_call::line::{Call, LineFault, Order, parse};
+use crate::source::Source;
+use crate::status::{Done, Exit, status};
+use crate::texts::{Texts, read_files};
+use fb_call::line::{Call, LineFault, Order, Request, parse};
 use fb_phase::OpenGate;
 use fb_sim::options::{Inputs, Options};
 use fb_sim::outcome::Outcome;
 use fb_sim::run::run;
 use fb_sim::serial::{check, run_serial};
-use std::alloc::Global;
+use fb_why::explain::explain;
+use fb_why::table::Explanation;
+use std::alloc::{AllocError, Global};
 use std::io;
 use std::io::Write;
 use std::sync::Wait;
 use std::thread::Threads;
-
-/// One byte more than a declaration or a deployment may have, so that one that is too long shows.
-const TEXT_BYTES: usize = 1_048_577;
-
-/// One byte more than stimuli may have.
-const STIMULI_BYTES: usize = 16_777_217;
-
-/// The files of a call, as they were read.
-#[derive(Drop)]
-struct Texts {
-    declaration: Vec<u8>,
-    deploy: Option<Vec<u8>>,
-    stimuli: Option<Vec<u8>>,
-}
-
-impl Texts {
-    fn inputs(&self) -> Inputs<'_>
-        ensures { result ≡ given_of self.now }
-    {
-        Inputs {
-            declaration: self.declaration.as_slice(),
-            deploy: match &self.deploy {
-                Some(bytes) => Some(bytes.as_slice()),
-                None => None,
-            },
-            stimuli: match &self.stimuli {
-                Some(bytes) => Some(bytes.as_slice()),
-                None => None,
-            },
-        }
-    }
-}
 
 /// Says whether the inputs are accepted.
 fn check_inputs<W: Write>(alloc: Global, inputs: &Inputs<'_>, out: &mut W) -> Result<Done, Failure>
@@ -91,38 +64,12 @@ fn run_inputs<R: Threads + Wait + Sync, W: Write>(
     Ok(done_of(run(rt, alloc, inputs, options, out, &OpenGate)?))
 }
 
-/// Reads a file that a call may name.
-fn read_named<S: Source>(
-    alloc: Global,
-    name: Option<&str>,
-    most: usize,
-    source: &mut S,
-) -> Result<Option<Vec<u8>>, SourceFault>
-    ensures { MayRead S.gives (option_map (λ n. n.now) name.entry) most source.old (contents_of result) source.new }
-{
-    match name {
-        Some(name) => Ok(Some(source.read(alloc, name, most)?)),
-        None => Ok(None),
-    }
-}
-
-/// Reads the files of a call: the declaration, the deployment and the stimuli, in this order.
-fn read_files<S: Source>(
-    alloc: Global,
-    call: &Call<'_>,
-    source: &mut S,
-) -> Result<Texts, SourceFault>
-    ensures read { IfOk result (λ texts. AreRead S.gives call.now source.old source.new (given_of texts)) }
-    ensures unread { IfErr result (λ fault. IsUnread S.gives call.now source.old source.new fault) }
-{
-    let declaration = source.read(alloc, call.declaration, TEXT_BYTES)?;
-    let deploy = read_named(alloc, call.deploy, TEXT_BYTES, source)?;
-    let stimuli = read_named(alloc, call.stimuli, STIMULI_BYTES, source)?;
-    Ok(Texts {
-        declaration,
-        deploy,
-        stimuli,
-    })
+/// What came of a call.
+#[derive(Drop)]
+struct Answer {
+    end: Result<Done, Failure>,
+    /// What is told behind the line of the failure.
+    note: Option<String>,
 }
 
 /// Does with the files what a call asks for.
@@ -156,6 +103,16 @@ fn meet<R: Threads + Wait + Sync, W: Write>(
     }
 }
 
+/// The note to a call that ends so, where one is asked for.
+fn note_to(alloc: Global, why: bool, end: &Result<Done, Failure>, texts: &Texts) -> Option<String>
+    ensures { NotesOf (given_of texts.now) why end.now (option_map string_bytes result) }
+{
+    match end {
+        Ok(_) => None,
+        Err(failure) => note_of(alloc, why, failure, texts),
+    }
+}
+
 /// Does what a call asks for.
 fn perform<R: Threads + Wait + Sync, S: Source, W: Write>(
     rt: &R,
@@ -163,11 +120,64 @@ fn perform<R: Threads + Wait + Sync, S: Source, W: Write>(
     call: &Call<'_>,
     source: &mut S,
     out: &mut W,
-) -> Result<Done, Failure>
-    ensures { Performs S.gives source.old source.new call.now (W.contents out.old) (W.contents out.new) result }
+) -> Answer
+    ensures { Performs S.gives source.old source.new call.now (W.contents out.old) (W.contents out.new) result.end (option_map string_bytes result.note) }
 {
-    let texts = read_files(alloc, call, source)?;
-    meet(rt, alloc, call.order, &texts, out)
+    match read_files(alloc, call, source) {
+        Ok(texts) => {
+            let end = meet(rt, alloc, call.order, &texts, out);
+            let note = note_to(alloc, call.why, &end, &texts);
+            Answer { end, note }
+        }
+        Err(unread) => Answer {
+            end: Err(Failure::from(unread.fault)),
+            note: note_of_file(alloc, call, unread),
+        },
+    }
+}
+
+/// The lines of an explanation: what the refusal of this name means, two examples of it, and what to look at.
+fn explained(
+    alloc: Global,
+    name: &str,
+    meaning: &str,
+    first: &str,
+    second: &str,
+    look: &str,
+) -> Result<String, AllocError>
+    ensures { IfOk result (λ text. string_bytes text ≡ explained_text name.now meaning.now first.now second.now look.now) }
+{
+    Ok(format!(in alloc;
+        "{name}: {meaning}\nFor example:\n- {first}\n- {second}\nLook at: {look}\n"
+    )?)
+}
+
+/// Writes what the refusal of this name means.
+fn explain_to<W: Write>(alloc: Global, name: &str, out: &mut W) -> Result<Done, Failure>
+    ensures { ExplainsRefusal name.now (W.contents out.old) (W.contents out.new) result }
+{
+    let Some(explanation) = explain(name) else {
+        let line = format!(in alloc; "error: no refusal is called {name}\n")?;
+        return Err(Failure::Line(line));
+    };
+    let Explanation {
+        name,
+        meaning,
+        examples: [first, second],
+        look,
+    } = explanation;
+    let text = explained(alloc, name, meaning, first, second, look)?;
+    write_text(out, text.as_bytes())?;
+    Ok(Done::Explained)
+}
+
+/// Writes the help.
+fn help_to<W: Write>(help: &str, out: &mut W) -> Result<Done, Failure>
+    ensures whole { IfOk result (λ d. (d ≡ Helped) × Appends (W.contents out.old) (W.contents out.new) help.now) }
+    ensures part { IfErr result (WritesPart (W.contents out.old) (W.contents out.new) help.now) }
+{
+    write_text(out, help.as_bytes())?;
+    Ok(Done::Helped)
 }
 
 /// Does what the words ask for.
@@ -177,17 +187,27 @@ fn obey<'w, R: Threads + Wait + Sync, S: Source, W: Write>(
     words: &'w [&'w str],
     source: &mut S,
     out: &mut W,
-) -> Result<Done, Failure>
-    ensures { Does S.gives source.old source.new (map (λ w. w.now) words.entry.now) (W.contents out.old) (W.contents out.new) result }
+) -> Answer
+    ensures { Does S.gives source.old source.new (map (λ w. w.now) words.entry.now) (W.contents out.old) (W.contents out.new) result.end (option_map string_bytes result.note) }
 {
     match parse(alloc, words) {
-        Ok(call) => perform(rt, alloc, &call, source, out),
-        Err(LineFault::Help(text)) => {
-            write_text(out, text.as_bytes())?;
-            Ok(Done::Helped)
-        }
-        Err(LineFault::Fault(text)) => Err(Failure::Line(text)),
-        Err(LineFault::Memory) => Err(Failure::Memory),
+        Ok(Request::Call(call)) => perform(rt, alloc, &call, source, out),
+        Ok(Request::Explain(name)) => Answer {
+            end: explain_to(alloc, name, out),
+            note: None,
+        },
+        Err(LineFault::Help(text)) => Answer {
+            end: help_to(text.as_str(), out),
+            note: None,
+        },
+        Err(LineFault::Fault(text)) => Answer {
+            end: Err(Failure::Line(text)),
+            note: None,
+        },
+        Err(LineFault::Memory) => Answer {
+            end: Err(Failure::Memory),
+            note: None,
+        },
     }
 }
 
@@ -204,6 +224,24 @@ fn tell<E: Write>(err: &mut E, failure: &Failure) -> io::Result<()>
     }
 }
 
+/// Tells how a call ends, if it failed: the line of its failure, and the note behind it. It says whether standard
+/// error took it all.
+fn tell_end<E: Write>(err: &mut E, end: &Result<Done, Failure>, note: &Option<String>) -> bool
+    ensures told { IsTrue result → Appends (E.contents err.old) (E.contents err.new) (told_of end.now (option_map string_bytes note.now)) }
+    ensures quiet { OnOk end.now (E.contents err.new ≡ E.contents err.old) }
+{
+    let Err(failure) = end else {
+        return true;
+    };
+    if tell(err, failure).is_err() {
+        return false;
+    }
+    match note {
+        Some(note) => writeln!(err, "{note}").is_ok(),
+        None => true,
+    }
+}
+
 /// Does what the words ask for, the program's own name first, and answers the status of the program. What is asked
 /// for goes to `out`, and a failure is told to `err`. A run with workers waits for them.
 pub fn command<'w, R: Threads + Wait + Sync, S: Source, W: Write, E: Write>(
@@ -213,15 +251,17 @@ pub fn command<'w, R: Threads + Wait + Sync, S: Source, W: Write, E: Write>(
     source: &mut S,
     out: &mut W,
     err: &mut E,
-) -> u8
-    ensures { (end : Result Done Failure) × (result ≡ status_of end)
-        × Does S.gives source.old source.new (map (λ w. w.now) words.entry.now) (W.contents out.old) (W.contents out.new) end
+) -> Exit
+    ensures { (end : Result Done Failure) × (note : Option (List ℕ)) × (result.status ≡ status_of end)
+        × Does S.gives source.old source.new (map (λ w. w.now) words.entry.now) (W.contents out.old) (W.contents out.new) end note
+        × (IsTrue result.is_told → Appends (E.contents err.old) (E.contents err.new) (told_of end note))
         × OnOk end (E.contents err.new ≡ E.contents err.old) }
 {
-    let end = obey(rt, alloc, words, source, out);
-    if let Err(failure) = &end {
-        // Where it can't be told, the status alone tells of it.
-        let _ = tell(err, failure);
+    let answer = obey(rt, alloc, words, source, out);
+    // Where it can't be told, the status alone tells of it.
+    let is_told = tell_end(err, &answer.end, &answer.note);
+    Exit {
+        status: status(&answer.end),
+        is_told,
     }
-    status(&end)
 }

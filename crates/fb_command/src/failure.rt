@@ -2,12 +2,14 @@
 
 ghost use Rattle.std.specs.Prelude.{◌≡◌};
 ghost use Rattle.fb_command.specs.Failures.{failure_of, failure_of_read, failure_of_input, failure_of_refusal, failure_of_source};
+ghost use Rattle.fb_command.specs.declared.failure.Failure.TheVariants.{Memory};
 
 use crate::source::SourceFault;
 use fb_inputs::error::InputError;
 use fb_read::error::ReadError;
 use fb_sim::outcome;
 use fb_sim::outcome::RunError;
+use std::alloc::AllocError;
 use std::fmt;
 
 /// Why the inputs are refused.
@@ -32,6 +34,14 @@ pub enum Failure {
     Line(String),
     /// A number of the call is out of its range.
     BadOption,
+}
+
+impl From<AllocError> for Failure {
+    ghost from_gives = { λ error failure. failure ≡ Memory };
+
+    fn from(_error: AllocError) -> Failure {
+        Failure::Memory
+    }
 }
 
 impl From<ReadError> for Failure {

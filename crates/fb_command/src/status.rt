@@ -10,6 +10,8 @@ use crate::failure::Failure;
 pub enum Done {
     /// The help is written.
     Helped,
+    /// What a refusal means is written.
+    Explained,
     /// The declaration is accepted.
     Accepted,
     /// The run came to its horizon.
@@ -18,13 +20,22 @@ pub enum Done {
     Stopped,
 }
 
+/// What the program ends with.
+#[derive(Clone, Copy)]
+pub struct Exit {
+    /// The status of the program.
+    pub status: u8,
+    /// Whether standard error took all that was told.
+    pub is_told: bool,
+}
+
 /// The status of the program: 0 where all went well, 1 where the run stopped, 2 where the inputs are refused,
 /// 3 where a file or the output failed, 4 where memory was wanting, and 5 where the words name no call.
 pub fn status(end: &Result<Done, Failure>) -> u8
     ensures { result ≡ status_of end.now }
 {
     match end {
-        Ok(Done::Helped | Done::Accepted | Done::Ended) => 0,
+        Ok(Done::Helped | Done::Explained | Done::Accepted | Done::Ended) => 0,
         Ok(Done::Stopped) => 1,
         Err(Failure::Refused(_)) => 2,
         Err(Failure::File | Failure::Write(_)) => 3,

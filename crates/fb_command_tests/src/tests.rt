@@ -1,8 +1,10 @@
 //! Calls of the program over files and outputs in memory. What is expected was worked out by hand.
 
 mod examples;
+mod explanations;
 mod files;
 mod lines;
+mod notes;
 mod outputs;
 mod readers;
 mod refusals;
@@ -61,14 +63,14 @@ fn expect<R: Abort + Threads + Wait + Sync>(
         let mut source = Folder { files };
         let mut out = Vec::new(alloc);
         let mut err = Vec::new(alloc);
-        let status = command(rt, alloc, words.as_slice(), &mut source, &mut out, &mut err);
-        let (said, other) = if status < 2 {
+        let exit = command(rt, alloc, words.as_slice(), &mut source, &mut out, &mut err);
+        let (said, other) = if exit.status < 2 {
             (&out, &err)
         } else {
             (&err, &out)
         };
         assert!(rt; said.as_slice() == *text && other.is_empty(), "{call}");
-        assert_eq!(rt; status, *wanted, "{call}");
+        assert_eq!(rt; exit.status, *wanted, "{call}");
     }
     Ok(())
 }

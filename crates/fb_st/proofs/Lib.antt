@@ -1,4 +1,5 @@
 pub mod Arguments
+pub mod Faults
 pub mod Wanted
 pub mod Once
 pub mod Places

@@ -1,7 +1,7 @@
 -- A number handed on as a number, and a truth value as a truth value, say what the values would.
 use Rattle.std.proofs.Common.{◌≡◌, ℤ, pos, ◌+ℤ◌, ◌-ℤ◌, ◌*ℤ◌, Bool, true, false, Result, Ok, Err, ◌⊎◌, ⊎_elim, refl, ap, ◌∙◌}
 use Rattle.std.specs.Prelude.{if◌then◌else◌, int_div, int_lt, int_le, not, ◌&&◌, ◌||◌}
-use Rattle.fb_types.specs.Values.{and_then, binary_value, unary_value, whole, truth, told, judged, quotient, modulus, same_whole, same_value, same_truth, within_signed}
+use Rattle.fb_types.specs.Values.{and_then, binary_value, whole, truth, told, judged, quotient, modulus, same_whole, same_value, same_truth, within_signed}
 use Rattle.fb_types.specs.declared.text.BinaryOperator.{BinaryOperator}
 use Rattle.fb_types.specs.declared.text.BinaryOperator.TheVariants.{Or, Xor, And, Equal, NotEqual, Less, Greater, LessOrEqual, GreaterOrEqual, Add, Subtract, Multiply, Divide, Modulo}
 use Rattle.fb_types.specs.declared.value.Value.{Value}
@@ -148,14 +148,6 @@ module _ (x : Expr) (o : BinaryOperator) (e f : Expr) (is : x ≡ Binary o e f) 
   pub truth_of : (b : Bool) → gives_number o ≡ false → truths (value_of x vars) ≡ Ok b → value_of x vars ≡ Ok (value.Bool b)
   truth_of b = rw is (truth_is_value o (value_of e vars) (value_of f vars) b)
 
-  pub number_at : (y z : ℤ) → wholes (value_of e vars) ≡ Ok y → wholes (value_of f vars) ≡ Ok z
-      → wholes (value_of x vars) ≡ wholes (binary_value o (value.Whole y) (value.Whole z))
-  number_at y z = rw is (number_known o (value_of e vars) (value_of f vars) y z)
-
-  pub truth_at : (y z : ℤ) → takes_numbers o ≡ true → wholes (value_of e vars) ≡ Ok y → wholes (value_of f vars) ≡ Ok z
-      → truths (value_of x vars) ≡ truths (binary_value o (value.Whole y) (value.Whole z))
-  truth_at y z = rw is (truth_known o (value_of e vars) (value_of f vars) y z)
-
 -- each of these gives a number
 pub gives_of : (o : BinaryOperator) → (o ≡ Add) ⊎ (o ≡ Subtract) ⊎ (o ≡ Multiply) ⊎ (o ≡ Divide) ⊎ (o ≡ Modulo) → gives_number o ≡ true
 gives_of o h =
@@ -163,3 +155,10 @@ gives_of o h =
     (λ k. ⊎_elim (λ (e : o ≡ Subtract). rw e refl)
     (λ l. ⊎_elim (λ (e : o ≡ Multiply). rw e refl)
     (λ m. ⊎_elim (λ (e : o ≡ Divide). rw e refl) (λ (e : o ≡ Modulo). rw e refl) m) l) k) h
+
+-- each of these looks at its operands as numbers, and gives no number
+pub compares_of : (o : BinaryOperator) → (o ≡ Less) ⊎ (o ≡ Greater) ⊎ (o ≡ LessOrEqual) ⊎ (o ≡ GreaterOrEqual) → (takes_numbers o ≡ true) × (gives_number o ≡ false)
+compares_of o h =
+    ⊎_elim (λ (e : o ≡ Less). rw e (refl, refl))
+    (λ k. ⊎_elim (λ (e : o ≡ Greater). rw e (refl, refl))
+    (λ l. ⊎_elim (λ (e : o ≡ LessOrEqual). rw e (refl, refl)) (λ (e : o ≡ GreaterOrEqual). rw e (refl, refl)) l) k) h

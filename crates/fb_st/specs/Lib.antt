@@ -1,3 +1,4 @@
+pub mod Faults
 pub mod Flows
 pub mod Frames
 pub mod Functions

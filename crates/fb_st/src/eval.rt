@@ -1,32 +1,46 @@
 //! Values of expressions (IEC 61131-3, 7.3.2). A number is handed on as a number and a truth value as a truth value: a
 //! value of either kind is put together only where both may come.
 
-ghost use Rattle.std.specs.Prelude.{◌≡◌, map, Ok};
+ghost use Rattle.std.specs.Prelude.{◌≡◌, map};
 ghost use Rattle.fb_types.specs.Syntax.{expr_of, exprs};
 ghost use Rattle.fb_types.specs.Values.{truth_of, value_of, values_of as values_of_all, and_then, value_if_known, function_named};
 ghost use Rattle.fb_st.specs.Frames.{values_of};
+ghost use Rattle.fb_st.specs.Faults.{after, met};
 ghost use Rattle.fb_st.specs.Wanted.{wholes, truths};
 
+use crate::fault::{compared, noted, noted_truth, noted_value};
 use crate::frame::Frame;
 use crate::function::{call_with_one, call_with_three, call_with_two, function_of};
-use crate::operator::{
-    are_same, is_arithmetic, is_told, negated, number_of_two, truth_value, whole_of,
-};
+use crate::operator::{are_same, is_arithmetic, negated, number_of_two, truth_value, whole_of};
 use fb_types::name::Name;
 use fb_types::text::{BinaryOperator, Expr, UnaryOperator};
 use fb_types::value::{Reason, Value};
 
 /// The value of an expression, or the first reason that is met. All operands and arguments are evaluated,
-/// from left to right.
+/// from left to right. What is computed is mostly a number, and goes to where it is wanted without a call between.
 #[cycle(eval)]
+#[inline(always)]
 pub fn eval(expr: &Expr, frame: &Frame) -> Result<Value, Reason>
+    ensures { result ≡ value_of (expr_of expr.now) (values_of frame.now) }
+{
+    match expr {
+        Expr::Binary(operator, _, _) if is_arithmetic(*operator) => {
+            Ok(Value::Whole(number(expr, frame)?))
+        }
+        _ => value(expr, frame),
+    }
+}
+
+/// The value of any expression.
+#[cycle(eval)]
+fn value(expr: &Expr, frame: &Frame) -> Result<Value, Reason>
     ensures { result ≡ value_of (expr_of expr.now) (values_of frame.now) }
 {
     match expr {
         Expr::Whole(number) => Ok(Value::Whole(*number)),
         Expr::Truth(truth) => Ok(Value::Bool(*truth)),
         Expr::Variable(variable) => Ok(frame.value(variable)),
-        Expr::Group(inner) => eval(inner.get(), frame),
+        Expr::Group(inner) => value(inner.get(), frame),
         Expr::Unary(UnaryOperator::Negate, _) => Ok(Value::Whole(number(expr, frame)?)),
         Expr::Unary(UnaryOperator::Not, _) => Ok(Value::Bool(truth(expr, frame)?)),
         Expr::Binary(operator, _, _) if is_arithmetic(*operator) => {
@@ -37,27 +51,58 @@ pub fn eval(expr: &Expr, frame: &Frame) -> Result<Value, Reason>
     }
 }
 
-/// The whole number that an expression comes to. A truth value, which no accepted text has where a number is wanted,
-/// counts as 0.
+/// The whole number that an expression comes to, or the first reason that is met. A truth value, which no accepted text
+/// has where a number is wanted, counts as 0.
 #[cycle(eval)]
+#[inline(always)]
 fn number(expr: &Expr, frame: &Frame) -> Result<i128, Reason>
     ensures { result ≡ wholes (value_of (expr_of expr.now) (values_of frame.now)) }
 {
+    let mut fault = None;
+    let number = counted(expr, frame, &mut fault);
+    match fault {
+        None => Ok(number),
+        Some(reason) => Err(reason),
+    }
+}
+
+/// The whole number that an expression comes to. The first reason that is met is kept in `fault`, so that a number is
+/// handed from call to call in registers; behind a reason it is of no use.
+#[cycle(eval)]
+fn counted(expr: &Expr, frame: &Frame, fault: &mut Option<Reason>) -> i128
+    ensures { met fault.new result ≡ after fault.old (wholes (value_of (expr_of expr.now) (values_of frame.now))) }
+{
     match expr {
-        Expr::Whole(number) => Ok(*number),
-        Expr::Truth(_) => Ok(0),
-        Expr::Variable(variable) => Ok(whole_of(frame.value(variable))),
-        Expr::Group(inner) => number(inner.get(), frame),
-        Expr::Unary(UnaryOperator::Negate, operand) => negated(number(operand.get(), frame)?),
-        Expr::Unary(UnaryOperator::Not, operand) => {
-            let _ = truth(operand.get(), frame)?;
-            Ok(0)
+        Expr::Whole(number) => *number,
+        Expr::Truth(_) => 0,
+        Expr::Variable(variable) => frame.whole(variable),
+        Expr::Group(inner) => counted(inner.get(), frame, fault),
+        Expr::Unary(UnaryOperator::Negate, operand) => {
+            let x = counted(operand.get(), frame, fault);
+            noted(negated(x), fault)
         }
+        Expr::Unary(UnaryOperator::Not, operand) => noted_truth(truth(operand.get(), frame), fault),
         Expr::Binary(operator, left, right) => {
-            let x = number(left.get(), frame)?;
-            number_of_two(*operator, x, number(right.get(), frame)?)
+            let x = operand(left.get(), frame, fault);
+            let y = operand(right.get(), frame, fault);
+            noted(number_of_two(*operator, x, y), fault)
         }
-        Expr::Call(name, arguments) => Ok(whole_of(call(name, arguments.as_slice(), frame)?)),
+        Expr::Call(name, arguments) => {
+            noted_value(call(name, arguments.as_slice(), frame), fault)
+        }
+    }
+}
+
+/// The same, for an operand: most are a number or a variable, which cost no call.
+#[cycle(eval)]
+#[inline(always)]
+fn operand(expr: &Expr, frame: &Frame, fault: &mut Option<Reason>) -> i128
+    ensures { met fault.new result ≡ after fault.old (wholes (value_of (expr_of expr.now) (values_of frame.now))) }
+{
+    match expr {
+        Expr::Whole(number) => *number,
+        Expr::Variable(variable) => frame.whole(variable),
+        _ => counted(expr, frame, fault),
     }
 }
 
@@ -105,8 +150,11 @@ fn truth(expr: &Expr, frame: &Frame) -> Result<bool, Reason>
             | BinaryOperator::Greater
             | BinaryOperator::LessOrEqual
             | BinaryOperator::GreaterOrEqual => {
-                let x = number(left.get(), frame)?;
-                Ok(is_told(*operator, x, number(right.get(), frame)?))
+                let mut before = None;
+                let x = operand(left.get(), frame, &mut before);
+                let mut fault = before;
+                let y = operand(right.get(), frame, &mut fault);
+                compared(*operator, x, y, fault)
             }
             BinaryOperator::Add
             | BinaryOperator::Subtract
@@ -123,6 +171,7 @@ fn truth(expr: &Expr, frame: &Frame) -> Result<bool, Reason>
 
 /// The function of this name at its arguments.
 #[cycle(eval)]
+#[inline(never)]
 fn call(name: &Name, arguments: &[Expr], frame: &Frame) -> Result<Value, Reason>
     ensures { result ≡ and_then (values_of_all (exprs (map expr_of arguments.now)) (values_of frame.now)) (value_if_known (function_named name.now)) }
 {

@@ -3,9 +3,10 @@
 ghost use Rattle.std.specs.Prelude.{◌≡◌, [], ◌∷◌, ◌++◌, true, false, not, if◌then◌else◌, IfOk, IfErr, OnOk, OnErr};
 ghost use Rattle.std.specs.List.{list_any};
 ghost use Rattle.fb_types.specs.Names.{same_name, with_value};
-ghost use Rattle.fb_types.specs.Values.{fits};
+ghost use Rattle.fb_types.specs.Values.{fits, whole};
 ghost use Rattle.fb_st.specs.Frames.{place_of, values_of, declared_in, is_declared, types_in};
 
+use crate::operator::whole_of;
 use crate::range::is_within;
 use fb_types::name::Name;
 use fb_types::reference::Reference;
@@ -70,7 +71,16 @@ impl Frame {
         Ok(true)
     }
 
+    /// The whole number that a variable holds.
+    #[inline(never)]
+    pub fn whole(&self, variable: &Reference) -> i128
+        ensures { result ≡ whole (values_of self.now variable.now) }
+    {
+        whole_of(self.value(variable))
+    }
+
     /// The value of a variable. One that the frame has not counts as 0.
+    #[inline(always)]
     pub fn value(&self, variable: &Reference) -> Value
         ensures { result ≡ values_of self.now variable.now }
     {
@@ -81,17 +91,20 @@ impl Frame {
     }
 
     /// The place of a variable: the one at which it is expected, or else the one at which it is found.
+    #[inline(always)]
     fn find(&self, variable: &Reference) -> Option<usize>
         ensures { result ≡ place_of variable.now self.now }
     {
         let expected = variable.place();
+        let name = variable.name().as_bytes();
         match self.slots.get(expected) {
-            Some(slot) if variable.name().is(&slot.name) => Some(expected),
+            Some(slot) if is_same(name, slot.name.as_bytes()) => Some(expected),
             _ => self.search(variable),
         }
     }
 
     /// Looks for a variable among all, and notes its place beside the name, so that it is found at once from then on.
+    #[inline(never)]
     fn search(&self, variable: &Reference) -> Option<usize>
         ensures { result ≡ place_of variable.now self.now }
     {
@@ -118,6 +131,7 @@ impl Frame {
     }
 
     /// Gives a variable a value, unless the value is outside the variable's type: then it keeps its own.
+    #[inline(always)]
     pub fn assign(&mut self, variable: &Reference, value: Value) -> Result<(), Reason>
         requires { is_declared (declared_in self.old) variable.now ≡ true }
         ensures ok { OnOk result ((fits (types_in (declared_in self.old) variable.now) value ≡ true) × (values_of self.new ≡ with_value variable.now value (values_of self.old))) }
@@ -135,6 +149,35 @@ impl Frame {
         slot.value = value;
         Ok(())
     }
+}
+
+/// Up to how many letters names are compared here: a call costs more.
+const SHORT: usize = 3;
+
+/// Whether two names are one.
+#[inline(always)]
+fn is_same(name: &[u8], other: &[u8]) -> bool
+    ensures { result ≡ same_name name.now other.now }
+{
+    if name.len() != other.len() {
+        return false;
+    }
+    if name.len() > SHORT {
+        return is_same_long(name, other);
+    }
+    for (place, byte) in name.iter().enumerate() {
+        if *byte != other[place] {
+            return false;
+        }
+    }
+    true
+}
+
+#[inline(never)]
+fn is_same_long(name: &[u8], other: &[u8]) -> bool
+    ensures { result ≡ same_name name.now other.now }
+{
+    name == other
 }
 
 fn has_name(slots: &[Slot], name: &Name) -> bool

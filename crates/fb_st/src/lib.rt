@@ -4,13 +4,14 @@
 //! `exec::exec` runs an algorithm as the definitions say, steps counted; a `frame::Frame` keeps variables within their
 //! types.
 //!
-//! To be read in this order: `frame`, the variables; `eval` with `operator`, `function` and `range`; `meter`, the
+//! To be read in this order: `frame`, the variables; `eval` with `operator`, `fault`, `function` and `range`; `meter`, the
 //! steps; `exec` with `assign`; `known`.
 #![tactic(auto)]
 
 mod assign;
 pub mod eval;
 pub mod exec;
+mod fault;
 pub mod frame;
 mod function;
 pub mod known;

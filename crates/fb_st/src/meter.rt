@@ -23,6 +23,7 @@ pub struct Meter {
 
 impl Meter {
     /// Begins a step. With none left the run stops.
+    #[inline(always)]
     pub fn step(&mut self) -> Result<(), Reason>
         ensures ok { OnOk result (self.old.left ≡ suc self.new.left) }
         ensures err { IfErr result (λ r. (r ≡ Reason.Steps) × (self.old.left ≡ 0) × (self.new.left ≡ 0)) }

@@ -8,6 +8,7 @@ use fb_types::text::BinaryOperator;
 use fb_types::value::{Reason, Value};
 
 /// The whole number that a value is. A truth value, which no accepted text has here, counts as 0.
+#[inline(always)]
 pub fn whole_of(value: Value) -> i128
     ensures { result ≡ whole value }
 {
@@ -18,6 +19,7 @@ pub fn whole_of(value: Value) -> i128
 }
 
 /// The truth value that a value is. A whole number, which no accepted text has here, counts as FALSE.
+#[inline(always)]
 pub fn truth_value(value: Value) -> bool
     ensures { result ≡ truth value }
 {
@@ -27,6 +29,7 @@ pub fn truth_value(value: Value) -> bool
     }
 }
 
+#[inline(always)]
 fn sum(x: i128, y: i128) -> Result<i128, Reason>
     ensures { result ≡ wholes (judged (x +ℤ y)) }
 {
@@ -36,6 +39,7 @@ fn sum(x: i128, y: i128) -> Result<i128, Reason>
     }
 }
 
+#[inline(always)]
 fn difference(x: i128, y: i128) -> Result<i128, Reason>
     ensures { result ≡ wholes (judged (x -ℤ y)) }
 {
@@ -82,6 +86,7 @@ fn remainder(x: i128, y: i128) -> Result<i128, Reason>
 }
 
 /// Unary minus.
+#[inline(always)]
 pub fn negated(x: i128) -> Result<i128, Reason>
     ensures { result ≡ wholes (judged (neg_ℤ x)) }
 {
@@ -91,6 +96,7 @@ pub fn negated(x: i128) -> Result<i128, Reason>
     }
 }
 
+#[inline(always)]
 pub fn are_same(left: Value, right: Value) -> bool
     ensures { result ≡ same_value left right }
 {
@@ -102,6 +108,7 @@ pub fn are_same(left: Value, right: Value) -> bool
 }
 
 /// The whole number that an operator gives at two. One that gives a truth value counts as 0.
+#[inline(always)]
 pub fn number_of_two(operator: BinaryOperator, x: i128, y: i128) -> Result<i128, Reason>
     ensures { result ≡ wholes (binary_value operator (Value.Whole x) (Value.Whole y)) }
 {
@@ -116,6 +123,7 @@ pub fn number_of_two(operator: BinaryOperator, x: i128, y: i128) -> Result<i128,
 }
 
 /// The truth value that an operator gives at two numbers, where it does not give a number.
+#[inline(always)]
 pub fn is_told(operator: BinaryOperator, x: i128, y: i128) -> bool
     ensures { gives_number operator ≡ false → binary_value operator (Value.Whole x) (Value.Whole y) ≡ told result }
 {

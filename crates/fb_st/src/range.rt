@@ -6,6 +6,7 @@ ghost use Rattle.fb_types.specs.Values.{fits};
 use fb_types::value::{Ty, Value};
 
 /// Whether a value is one of the type.
+#[inline(always)]
 pub fn is_within(ty: Ty, value: Value) -> bool
     ensures { result ≡ fits ty value }
 {

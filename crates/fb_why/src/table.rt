@@ -12,7 +12,7 @@ pub struct Explanation {
 }
 
 /// All explanations, in the order of their numbers. docs/FORMATS.md shows them; `tools/explained.py` compares the two.
-pub const EXPLANATIONS: [Explanation; 24] = [
+pub static EXPLANATIONS: [Explanation; 24] = [
     Explanation {
         name: "E01",
         meaning: "A byte of the declaration is none that may stand outside comments.",

@@ -13,11 +13,11 @@ use fb_types::name::Name;
 use std::alloc::{AllocError, Global};
 
 /// The inputs of which something is told.
-#[derive(Drop)]
+#[derive(Clone, Copy)]
 struct Inputs<'a> {
     library: &'a Library,
     plan: &'a Plan,
-    types: Types<'a>,
+    types: &'a Types<'a>,
 }
 
 /// The line that tells the place: where it is, what stands there, and what was wanted.
@@ -27,34 +27,45 @@ pub fn tell(
     plan: &Plan,
     place: Place,
 ) -> Result<String, AllocError> {
+    let types = Types::new(alloc, library)?;
     let inputs = Inputs {
         library,
         plan,
-        types: Types::new(alloc, library)?,
+        types: &types,
     };
+    told(alloc, &inputs, place)
+}
+
+/// The text of the place. What it reads it borrows, and what it writes to has one owner above all that may fail.
+fn told(alloc: Global, inputs: &Inputs, place: Place) -> Result<String, AllocError> {
     let mut text = Text::new(alloc);
+    tell_place(alloc, &mut text, inputs, place)?;
+    Ok(text.into_string())
+}
+
+fn tell_place(
+    alloc: Global,
+    text: &mut Text,
+    inputs: &Inputs,
+    place: Place,
+) -> Result<(), AllocError> {
     match place {
-        Place::InstanceType { site, instance } => {
-            tell_type(&mut text, &inputs, site, instance)?;
-        }
+        Place::InstanceType { site, instance } => tell_type(text, inputs, site, instance),
         Place::Parameter {
             site,
             instance,
             parameter,
-        } => tell_parameter(alloc, &mut text, &inputs, site, (instance, parameter))?,
+        } => tell_parameter(alloc, text, inputs, site, (instance, parameter)),
         Place::End {
             site,
             flow,
             connection,
             side,
-        } => tell_end(alloc, &mut text, &inputs, site, (flow, connection, side))?,
-        Place::Mapped { resource, instance } => {
-            tell_mapped(&mut text, &inputs, resource, instance)?;
-        }
-        Place::LinkEnd { link, side } => tell_link(&mut text, &inputs, link, side)?,
-        _ => tell_in_block(alloc, &mut text, &inputs, place)?,
+        } => tell_end(alloc, text, inputs, site, (flow, connection, side)),
+        Place::Mapped { resource, instance } => tell_mapped(text, inputs, resource, instance),
+        Place::LinkEnd { link, side } => tell_link(text, inputs, link, side),
+        _ => tell_in_block(alloc, text, inputs, place),
     }
-    Ok(text.into_string())
 }
 
 /// The network of a site, with the composite type around it.

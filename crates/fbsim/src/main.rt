@@ -16,14 +16,17 @@ fn call<R: Threads + Wait + Sync>(rt: &R, host: &HostRuntime) -> io::Result<u8> 
     let words: Vec<String> = env::args(host)?.collect(alloc)?;
     let texts: Vec<&str> = words.iter().map(|word| word.as_str()).collect(alloc)?;
     let mut files = Files::new(host);
-    Ok(command(
-        rt,
-        alloc,
-        texts.as_slice(),
-        &mut files,
-        &mut host.stdout(),
-        &mut host.stderr(),
-    ))
+    Ok(
+        command(
+            rt,
+            alloc,
+            texts.as_slice(),
+            &mut files,
+            &mut host.stdout(),
+            &mut host.stderr(),
+        )
+        .status,
+    )
 }
 
 fn main(rt: HostRuntime) -> ExitCode {

@@ -1,14 +1,14 @@
 //! Command lines. What the parser says of a fault is not compared.
 
 use super::{File, Folder};
-use fb_call::line::{Call, Order, parse};
+use fb_call::line::{Call, Order, Request, parse};
 use fb_command::command::command;
 use fb_types::run::Form;
 
 const FILES: &[File<'static>] = &[("d", b"APPLICATION A FBS END_FBS END_APPLICATION")];
 
 /// Words that are no call.
-const FAULTS: [&[&str]; 39] = [
+const FAULTS: [&[&str]; 44] = [
     &["fbsim"],
     &["fbsim", "d"],
     &["fbsim", "walk", "d"],
@@ -56,6 +56,11 @@ const FAULTS: [&[&str]; 39] = [
         "--serial",
     ],
     &["fbsim", "check", "d", "--serial"],
+    &["fbsim", "run", "d", "--horizon", "1", "--why=1"],
+    &["fbsim", "check", "d", "--why", "--why"],
+    &["fbsim", "explain"],
+    &["fbsim", "explain", "E21", "E22"],
+    &["fbsim", "explain", "E21", "--why"],
     // These stand for no form of the trace.
     &["fbsim", "run", "d", "--horizon", "8", "--trace", "0"],
     &["fbsim", "run", "d", "--horizon", "8", "--trace", "3"],
@@ -76,7 +81,7 @@ fn words_that_are_no_call_are_a_fault(rt: HostRuntime) {
         let mut source = Folder { files: FILES };
         let mut out: Vec<u8> = Vec::new(alloc);
         let mut err: Vec<u8> = Vec::new(alloc);
-        let status = command(&rt, alloc, words, &mut source, &mut out, &mut err);
+        let status = command(&rt, alloc, words, &mut source, &mut out, &mut err).status;
         assert!(rt;
             status == 5 && out.is_empty() && err.ends_with(b"\n"),
             "{words:?}"
@@ -86,16 +91,25 @@ fn words_that_are_no_call_are_a_fault(rt: HostRuntime) {
 
 #[test]
 fn words_name_their_call(rt: HostRuntime) {
-    let words = ["fbsim", "check", "a.iec", "--stim", "-", "--deploy=a.toml"];
+    let words = [
+        "fbsim",
+        "check",
+        "a.iec",
+        "--stim",
+        "-",
+        "--deploy=a.toml",
+        "--why",
+    ];
     let found = parse(rt.alloc(), words.as_slice());
     let is_named = matches!(
         found,
-        Ok(Call {
+        Ok(Request::Call(Call {
             order: Order::Check,
             declaration: "a.iec",
             deploy: Some("a.toml"),
             stimuli: Some("-"),
-        })
+            why: true,
+        }))
     );
     assert!(rt; is_named);
 }
@@ -106,7 +120,7 @@ fn numbers_that_are_not_given_are_the_usual_ones(rt: HostRuntime) {
     let found = parse(rt.alloc(), words.as_slice());
     let is_named = matches!(
         found,
-        Ok(Call {
+        Ok(Request::Call(Call {
             order: Order::Run {
                 horizon: 8,
                 steps: 10_000,
@@ -117,7 +131,8 @@ fn numbers_that_are_not_given_are_the_usual_ones(rt: HostRuntime) {
             declaration: "-",
             deploy: None,
             stimuli: None,
-        })
+            why: false,
+        }))
     );
     assert!(rt; is_named);
 }
@@ -130,6 +145,7 @@ fn all_options_are_told_apart(rt: HostRuntime) {
         "--trace=2",
         "a.iec",
         "--serial",
+        "--why",
         "--steps=9",
         "--workers=64",
         "--horizon=8",
@@ -137,7 +153,7 @@ fn all_options_are_told_apart(rt: HostRuntime) {
     let found = parse(rt.alloc(), words.as_slice());
     let is_named = matches!(
         found,
-        Ok(Call {
+        Ok(Request::Call(Call {
             order: Order::Run {
                 horizon: 8,
                 steps: 9,
@@ -148,7 +164,15 @@ fn all_options_are_told_apart(rt: HostRuntime) {
             declaration: "a.iec",
             deploy: None,
             stimuli: None,
-        })
+            why: true,
+        }))
     );
     assert!(rt; is_named);
+}
+
+#[test]
+fn a_refusal_is_asked_for_by_its_name(rt: HostRuntime) {
+    let words = ["fbsim", "explain", "file fault"];
+    let found = parse(rt.alloc(), words.as_slice());
+    assert!(rt; matches!(found, Ok(Request::Explain("file fault"))));
 }

@@ -68,7 +68,7 @@ fn expect_text<R: Abort + Threads + Wait + Sync>(
             let mut source = Folder { files: FILES };
             let mut out = with_room(alloc, step, room);
             let mut err = Vec::new(alloc);
-            let status = command(rt, alloc, words, &mut source, &mut out, &mut err);
+            let status = command(rt, alloc, words, &mut source, &mut out, &mut err).status;
             assert_eq!(rt; status, if is_whole { 0 } else { 3 });
             assert!(rt; out.got.as_slice() == &text[..room], "{room}");
             assert!(rt;
@@ -134,7 +134,7 @@ fn a_failing_standard_error_changes_no_status(rt: HostRuntime) {
             };
             let mut out: Vec<u8> = Vec::new(alloc);
             let mut err = with_room(alloc, 2, room);
-            let status = command(&rt, alloc, words, &mut source, &mut out, &mut err);
+            let status = command(&rt, alloc, words, &mut source, &mut out, &mut err).status;
             assert!(rt; status == wanted && out.is_empty(), "{words:?}");
             assert_eq!(rt; err.got.len(), room);
         }

@@ -62,7 +62,7 @@ fn a_refusal_is_told_by_its_number(rt: HostRuntime) {
             };
             let mut out: Vec<u8> = Vec::new(alloc);
             let mut err: Vec<u8> = Vec::new(alloc);
-            let status = command(&rt, alloc, words, &mut source, &mut out, &mut err);
+            let status = command(&rt, alloc, words, &mut source, &mut out, &mut err).status;
             assert!(rt;
                 status == 2 && out.is_empty() && err.as_slice() == line,
                 "{words:?}"

@@ -112,7 +112,8 @@ fn there_are_10000_steps_where_none_are_given(rt: HostRuntime) {
         &mut source,
         &mut out,
         &mut err,
-    );
+    )
+    .status;
     assert_eq!(rt; status, 1);
     let mut lines = 0_u32;
     for byte in &out {

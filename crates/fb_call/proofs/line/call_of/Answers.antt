@@ -12,6 +12,7 @@ returns-clause-rows c =
       declaration = sym (first_value-rows m (codes "DECL")) ∙ given;
       deploy = sym (first_value-rows m (codes "deploy")) ∙ sym c.get_str-deploy.ensures;
       stimuli = sym (first_value-rows m (codes "stim")) ∙ sym c.get_str-stimuli.ensures;
+      why = c.has_flag-why.ensures;
       order = c.in_ok-order.ensures.options;
     }
 

@@ -7,7 +7,7 @@ use Rattle.fb_call.specs.Line as spec
 use Rattle.fb_call.proofs.BuildLaws.{Stands, grown, grown_well, app_well, local_well}
 use Rattle.fb_call.proofs.line.files.Goals as goal
 
-made : (c : goal.After-arg-3) → IfOk c.arg-3.result (λ r. Stands r (spec.files c.args.name.now))
+made : (c : goal.After-arg-4) → IfOk c.arg-4.result (λ r. Stands r (spec.files c.args.name.now))
 made c =
     let rule : rule_of c.help-declaration.result ≡ record (new_rule (codes "DECL")) { required = true } =
     ap rule_of c.help-declaration.ensures ∙ ap rule_of c.required.ensures ∙ ap (λ (r : Rule). record r { required = true }) c.new.ensures.rule in
@@ -19,8 +19,9 @@ made c =
       local = ap (λ f. f.has_globals) c.after_help.ensures ∙ ap (λ f. f.has_globals) c.about.ensures ∙ c.new-2.ensures.local;
     } in
     let declared = grown _ _ _ _ _ c.in_ok-arg.ensures local rule named in
-    let deployed = grown _ _ _ _ _ c.in_ok-arg-2.ensures c.file-deploy.ensures.local c.file-deploy.ensures.rule declared in
-    grown_well _ _ _ _ _ c.arg-3.ensures c.file-stimuli.ensures.local c.file-stimuli.ensures.rule deployed
+    let deployed = grown _ _ _ _ _ c.in_ok-arg-2.ensures c.file.ensures.local c.file.ensures.rule declared in
+    let fed = grown _ _ _ _ _ c.in_ok-arg-3.ensures c.file-2.ensures.local c.file-2.ensures.rule deployed in
+    grown_well _ _ _ _ _ c.arg-4.ensures c.flag.ensures.local c.flag.ensures.rule fed
 
 pub returns-clause-app : goal.returns-clause-app
 returns-clause-app c = app_well _ _ (made c)

@@ -13,6 +13,8 @@ returns-in-Some c =
     let s : Slot = c.in-Some.slot.now in
     let Reads : List Slot → Type 0 = λ l. (i < length l) × (s ≡ get_or l i s) in
     let read : Reads xs = subst Reads c.deref.ensures.value (c.in-Some.ensures.lookup.3.0, c.in-Some.ensures.lookup.1) in
-    let same : same_name c.args.variable.now s.name ≡ true = ap (λ n. same_name n s.name) (sym c.name.ensures) ∙ sym c.is.ensures ∙ c.if-is.true in
+    let same : same_name c.args.variable.now s.name ≡ true =
+    ap (λ n. same_name n s.name) (sym (c.as_bytes-name.ensures ∙ c.name.ensures))
+    ∙ ap (same_name c.as_bytes-name.result.now) (sym c.as_bytes.ensures) ∙ sym c.is_same.ensures ∙ c.if-is_same.true in
     sym (ap (place_of c.args.variable.now) (sym c.self.view_is)
     ∙ place_of_once (λ (t : Slot). t.name) c.args.variable.now xs i s c.self.invariant (slice_get_read xs (length xs) i s refl read.0 read.1) same)

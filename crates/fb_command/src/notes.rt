@@ -1,0 +1,89 @@
+//! What is told behind the line of a failure: where it is.
+
+ghost use Rattle.std.specs.Prelude.{◌≡◌, IfSome, option_map, string_bytes};
+ghost use Rattle.fb_command.specs.Notes.{IsFileNote, IsMatter, IsNote, IsNoteOfName, Notes, file_word, name_of};
+ghost use Rattle.fb_command.specs.Texts.{given_of};
+
+use crate::failure::{Failure, Refusal};
+use crate::source::SourceFault;
+use crate::texts::{Part, Texts, Unread};
+use fb_call::line::Call;
+use fb_reason::reason::reason_of;
+use std::alloc::Global;
+
+/// What a file is called.
+fn word_for(part: Part) -> &'static str
+    ensures { result.now ≡ file_word part }
+{
+    match part {
+        Part::Declaration => "declaration",
+        Part::Deployment => "deployment",
+        Part::Stimuli => "stimuli",
+    }
+}
+
+/// What is the matter with a file of this name.
+fn words_for(name: &str) -> &'static str
+    ensures { IsMatter name.now result.now }
+{
+    if name == "-" {
+        "standard input can't be read, or was read before"
+    } else {
+        "no file of this name can be read"
+    }
+}
+
+/// The name that a call gives to a file, where it gives one.
+fn name_of<'a>(call: &Call<'a>, part: Part) -> Option<&'a str>
+    ensures { option_map (λ n. n.now) result ≡ name_of call.now part }
+{
+    match part {
+        Part::Declaration => Some(call.declaration),
+        Part::Deployment => call.deploy,
+        Part::Stimuli => call.stimuli,
+    }
+}
+
+/// What is told of a file of this name. Without memory for it nothing is told.
+fn note_of_name(alloc: Global, part: Part, name: &str) -> Option<String>
+    ensures { IfSome result (λ note. IsNoteOfName part name.now (string_bytes note)) }
+{
+    let word = word_for(part);
+    let matter = words_for(name);
+    match format!(in alloc; "{word} {name}: {matter}") {
+        Ok(note) => Some(note),
+        Err(_) => None,
+    }
+}
+
+/// Which file is not read, where that is asked for.
+pub fn note_of_file(alloc: Global, call: &Call<'_>, unread: Unread) -> Option<String>
+    ensures { Notes call.now.why (IsFileNote call.now unread.part unread.fault) (option_map string_bytes result) }
+{
+    if !call.why {
+        return None;
+    }
+    if let SourceFault::Memory = unread.fault {
+        return None;
+    }
+    let name = name_of(call, unread.part)?;
+    Some(note_of_name(alloc, unread.part, name)?)
+}
+
+/// Where a failure applies, for those of which that is known, where it is asked for. Without memory for it nothing is
+/// told.
+pub fn note_of(alloc: Global, why: bool, failure: &Failure, texts: &Texts) -> Option<String>
+    ensures { Notes why (IsNote (given_of texts.now) failure.now) (option_map string_bytes result) }
+{
+    if !why {
+        return None;
+    }
+    let Failure::Refused(Refusal::Numbered(number)) = failure else {
+        return None;
+    };
+    let declaration = texts.declaration.as_slice();
+    match reason_of(alloc, *number, declaration, texts.deployment()) {
+        Ok(Some(reason)) => Some(reason.text),
+        Ok(None) | Err(_) => None,
+    }
+}

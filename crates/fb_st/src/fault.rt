@@ -1,0 +1,70 @@
+//! The first reason that is met while an expression is evaluated, kept aside from what it comes to.
+
+ghost use Rattle.std.specs.Prelude.{◌≡◌, Err, false};
+ghost use Rattle.fb_types.specs.Values.{binary_value};
+ghost use Rattle.fb_st.specs.Faults.{after, met, told_after, zero_if_told};
+ghost use Rattle.fb_st.specs.Wanted.{gives_number, wholes};
+
+use crate::operator::{is_told, whole_of};
+use fb_types::text::BinaryOperator;
+use fb_types::value::{Reason, Value};
+
+/// Keeps a reason, unless there is one. The number is of no use then.
+#[inline(never)]
+fn failed(reason: Reason, fault: &mut Option<Reason>) -> i128
+    ensures { met fault.new result ≡ after fault.old (Err reason) }
+{
+    if fault.is_none() {
+        *fault = Some(reason);
+    }
+    0
+}
+
+/// A number, or the reason why there is none.
+#[inline(always)]
+pub fn noted(number: Result<i128, Reason>, fault: &mut Option<Reason>) -> i128
+    ensures { met fault.new result ≡ after fault.old number }
+{
+    match number {
+        Ok(number) => number,
+        Err(reason) => failed(reason, fault),
+    }
+}
+
+/// The number that a value is, or the reason why there is none.
+#[inline(always)]
+pub fn noted_value(value: Result<Value, Reason>, fault: &mut Option<Reason>) -> i128
+    ensures { met fault.new result ≡ after fault.old (wholes value) }
+{
+    match value {
+        Ok(value) => whole_of(value),
+        Err(reason) => failed(reason, fault),
+    }
+}
+
+/// The number that a truth value is, which is 0, or the reason why there is none.
+#[inline(always)]
+pub fn noted_truth(truth: Result<bool, Reason>, fault: &mut Option<Reason>) -> i128
+    ensures { met fault.new result ≡ after fault.old (zero_if_told truth) }
+{
+    match truth {
+        Ok(_) => 0,
+        Err(reason) => failed(reason, fault),
+    }
+}
+
+/// Whether a comparison of two numbers is true, or the first reason that was met on the way to them.
+#[inline(always)]
+pub fn compared(
+    operator: BinaryOperator,
+    x: i128,
+    y: i128,
+    fault: Option<Reason>,
+) -> Result<bool, Reason>
+    ensures { gives_number operator ≡ false → result ≡ told_after fault (binary_value operator (Value.Whole x) (Value.Whole y)) }
+{
+    match fault {
+        None => Ok(is_told(operator, x, y)),
+        Some(reason) => Err(reason),
+    }
+}
