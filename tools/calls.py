@@ -32,6 +32,7 @@ CYCLE = b"""APPLICATION A FBS S : E_RESTART; C : E_CYCLE(DT := T#3ms); END_FBS
 EVENT_CONNECTIONS S.COLD TO C.START; END_CONNECTIONS END_APPLICATION
 """
 TO_8 = b"0 MAIN < S.COLD\n0 MAIN > C.START DT=3\n3 MAIN < C.EO\n6 MAIN < C.EO\nend 8\n"
+KEYED_TO_8 = b"1 0 0 0 MAIN < S.COLD\n3 0 0 0 MAIN > C.START DT=3\n1 1 0 3 MAIN < C.EO\n1 1 0 6 MAIN < C.EO\nend 8\n"
 RING = b"""APPLICATION A FBS S : E_RESTART; M : E_MERGE; END_FBS
 EVENT_CONNECTIONS S.COLD TO M.EI1; M.EO TO M.EI2; END_CONNECTIONS END_APPLICATION
 """
@@ -41,6 +42,46 @@ HEADING = b"tick,event,values\n"
 FED = b"0,C.START,DT=5\n"
 FED_TO_6 = b"0 MAIN > C.START DT=5\n0 MAIN < S.COLD\n0 MAIN > C.START DT=5\n5 MAIN < C.EO\nend 6\n"
 LINKS = 4000
+
+# A waveform of the cycle, as a value change dump: its signals, what they begin with, and what changes at each tick.
+SIGNALS = b"""$timescale 1 ms $end
+$scope module MAIN $end
+$scope module S $end
+$var event 1 e0 COLD $end
+$var reg 64 n0 COLD_count $end
+$var event 1 e1 WARM $end
+$var reg 64 n1 WARM_count $end
+$var event 1 e2 STOP $end
+$var reg 64 n2 STOP_count $end
+$upscope $end
+$scope module C $end
+$var event 1 e3 START $end
+$var reg 64 n3 START_count $end
+$var event 1 e4 STOP $end
+$var reg 64 n4 STOP_count $end
+$var event 1 e5 EO $end
+$var reg 64 n5 EO_count $end
+$var reg 64 v6 DT $end
+$upscope $end
+$upscope $end
+$enddefinitions $end
+#0
+$dumpvars
+b0 n0
+b0 n1
+b0 n2
+b0 n3
+b0 n4
+b0 n5
+bx v6
+$end
+"""
+WAVE_TO_8 = SIGNALS + b"1e0\nb1 n0\n1e3\nb1 n3\nb11 v6\n#3\n1e5\nb1 n5\n#6\n1e5\nb10 n5\n#8\n"
+WAVE_STOPPED = SIGNALS + b"1e0\nb1 n0\n$comment stop MAIN steps $end\n"
+# A trace of so many lines, and what changes in each of its ticks.
+BEATS = 20_000
+LONG_TRACE = b"".join(b"%d MAIN < C.EO\n" % (tick + 1) for tick in range(BEATS)) + b"end %d\n" % (BEATS + 1)
+LONG_WAVE = SIGNALS + b"".join(b"#%d\n1e5\nb%s n5\n" % (tick + 1, f"{tick + 1:b}".encode()) for tick in range(BEATS)) + b"#%d\n" % (BEATS + 1)
 
 
 def crowd(count):
@@ -76,10 +117,18 @@ FILES = {
     "last_stimuli": HEADING.ljust(MOST_OF_STIMULI - len(FED), b"\n") + FED,
     "too_long_stimuli": HEADING.ljust(MOST_OF_STIMULI + 1, b"\n"),
 }
+FILES |= {
+    "trace": TO_8,
+    "stopped_trace": b"0 MAIN < S.COLD\nstop 0 MAIN steps\n",
+    "cut_trace": TO_8[:-3],
+    "strange_trace": TO_8.replace(b"6 MAIN", b"6 NONE"),
+    "long_trace": LONG_TRACE,
+    "no_trace": b"",
+}
 # What is told of the slip, behind its fault.
 AT_THE_SLIP = b"application A: event connection F.EO TO W.EJ: E_SWITCH has no event input EJ (it has EI)\n"
 # Named pipes, and what is written into each before it ends.
-PIPES = {"pipe": CYCLE, "cut_pipe": CYCLE[:40], "empty_pipe": b"", "long_pipe": FILES["longest"]}
+PIPES = {"trace_pipe": LONG_TRACE, "pipe": CYCLE, "cut_pipe": CYCLE[:40], "empty_pipe": b"", "long_pipe": FILES["longest"]}
 
 # What the help has of a run and of a check: each argument's name and words of its sentence, with the range, and an example.
 HELP_OF_FILES = (
@@ -90,9 +139,12 @@ HELP_OF_RUN = (
     "--workers", "How many workers", "1 to 64", "--serial", "on one thread", "--trace", "form of the trace", "Example: fbsim run ",
 )
 HELP_OF_CHECK = (*HELP_OF_FILES, "Example: fbsim check ")
+HELP_OF_WAVE = (
+    "DECL", "declaration of the types", "TRACE", "file with the trace", "--deploy", "in TOML", "at most 1 MiB", "Example: fbsim wave ",
+)
 HELP_OF_EXPLAIN = ("NAME", "name of the refusal", "E01 to E30", "Example: fbsim explain E21")
 HELP_OF_ALL = (
-    "run", "writes the trace", "check", "which fault comes first", "explain", "what a refusal means", "a millisecond", "Example: fbsim run ",
+    "run", "writes the trace", "check", "which fault comes first", "wave", "value change dump", "explain", "what a refusal means", "a millisecond", "Example: fbsim run ",
 )
 
 # The ways to run an example.
@@ -132,6 +184,36 @@ CALLS = [
     Call(["explain", "file fault"], 0, out=None, has=("file fault: A file can't be read.", "For example:", "Look at: ")),
     Call(["explain", "E06"], 5, err=b"error: no refusal is called E06\n"),
     Call(["explain"], 5, err=None),
+    Call(["wave", "--help"], 0, out=None, has=HELP_OF_WAVE),
+    # A waveform, of both forms of a trace, from a file, a pipe and standard input.
+    Call(["wave", "cycle", "trace"], 0, out=WAVE_TO_8),
+    Call(["wave", "-", "trace"], 0, out=WAVE_TO_8, given=CYCLE),
+    Call(["wave", "cycle", "-"], 0, out=WAVE_TO_8, given=TO_8),
+    Call(["wave", "cycle", "-"], 0, out=WAVE_TO_8, given=KEYED_TO_8),
+    Call(["wave", "cycle", "stopped_trace"], 0, out=WAVE_STOPPED),
+    Call(["wave", "cycle", "long_trace"], 0, out=LONG_WAVE),
+    Call(["wave", "cycle", "trace_pipe"], 0, out=LONG_WAVE),
+    Call(["wave", "pipe", "-"], 0, out=LONG_WAVE, given=LONG_TRACE),
+    # What is no trace is refused by its line, and what it is of before it.
+    Call(["wave", "cycle", "cut_trace"], 2, err=b"refused trace line 5\n"),
+    Call(["wave", "cycle", "strange_trace"], 2, err=b"refused trace line 4\n"),
+    Call(["wave", "cycle", "no_trace"], 2, err=b"refused trace line 1\n"),
+    Call(["wave", "ring", "trace"], 2, err=b"refused trace line 2\n"),
+    Call(["wave", "cycle", "cycle"], 2, err=b"refused trace line 1\n"),
+    Call(["wave", "twice", "no_trace"], 2, err=b"refused E20\n"),
+    Call(["wave", "cycle", "--deploy", "cut_pipe", "trace"], 2, err=b"refused E10\n"),
+    # What is not there, or not to be read.
+    Call(["wave", "nowhere", "trace"], 3, err=b"file fault\n"),
+    Call(["wave", "twice", "nowhere"], 3, err=b"file fault\n"),
+    Call(["wave", "cycle", "."], 3, err=b"file fault\n"),
+    Call(["wave", "cycle", "locked"], 3, err=b"file fault\n"),
+    Call(["wave", "-", "-"], 3, err=b"file fault\n", given=CYCLE),
+    Call(["wave", "cycle", "-"], 3, err=b"file fault\n", closes_input=True),
+    Call(["wave", "cycle"], 5, err=None),
+    Call(["wave", "cycle", "trace", "--stim", "trace"], 5, err=None),
+    *(Call(["wave", "cycle", "trace"], 3, err=b"write fault after 0 bytes\n", to=it) for it in OUTPUTS[:3]),
+    Call(["wave", "cycle", "long_trace"], 3, out=SIGNALS[:ROOM], err=b"write fault after 10 bytes\n", to="short"),
+    *(Call(["wave", "cycle", "no_trace"], 2, tells=it) for it in OUTPUTS[:3]),
     Call(["check", "cycle"], 0, out=b"accepted\n"),
     Call(["check", "-"], 0, out=b"accepted\n", given=CYCLE),
     Call(["run", "cycle", "--horizon", "8"], 0, out=TO_8),

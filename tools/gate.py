@@ -6,6 +6,8 @@ refusals, what the documents name is there (tools/documents.py), and what tries 
 (tools/wrong_bodies_test.py); then, from nothing, every crate and its tests are
 proved, every wrong body in crates/*/must-fail is shown to be refused, tests and programs are run, and the program is
 called at least once for each status (tools/calls.py), as docs/FIRST_APPLICATION.md has it (tools/first_application.py),
+for the waveforms of the examples, which are compared with their traces (tools/waves.py), and of what is no trace
+(tools/traces.py),
 on texts that are cut or changed in one byte (tools/hostile.py), and with each of its requests for memory refused
 (tools/refuse.py). Then it tells the processor seconds of each crate. The last line is 'N passed, M failed', and the
 status 0 where none failed.
@@ -30,6 +32,8 @@ import explained
 import first_application
 import hostile
 import refuse
+import traces
+import waves
 from kit import TOP, rt, rtlib
 from wrong_bodies import try_all
 
@@ -156,6 +160,8 @@ def call_after_each_run():
 
     def tries(made):
         yield first_application.main(made) == 0
+        yield waves.make_all(made)
+        yield traces.try_all(made)
         yield hostile.try_all(made)
         yield refuse.try_all(made)
 

@@ -1,5 +1,5 @@
 -- Commands that are made argument by argument, none of them global.
-use Rattle.std.proofs.Common.{◌≡◌, ◌||◌, Bool, Result, Ok, Err, false, ap, ap₂, subst, ◌∙◌}
+use Rattle.std.proofs.Common.{◌≡◌, ◌||◌, Bool, Result, Ok, Err, false, sym, ap, ap₂, subst, ◌∙◌}
 use Rattle.std.specs.Prelude.{IfOk}
 use Rattle.clap.specs.Words.{App, Rule, AddsArg, AddsSubcommand, app_of, rule_of, with_rule, with_subcommand}
 use Rattle.clap.specs.declared.builder.arg.Arg.{Arg}
@@ -45,3 +45,49 @@ joined_well old (Ok new) sub a b adds local is of = joined old new sub a b adds 
 -- what holds of all that may be made holds of what was made
 pub made_so : {M E : Type 0} (r : Result M E) (x : M) (P : M → Type 0) → IfOk r P → r ≡ Ok x → P x
 made_so {M} {E} r x P holds is = subst (λ (s : Result M E). IfOk s P) is holds
+
+-- what a command that may not be there stands for, and that nothing in it is global
+pub stands_well :
+    {E : Type 0} (made : Result Command E) (a : App) → IfOk made (λ c. app_of c ≡ a) → IfOk made (λ c. (fields_of c).has_globals ≡ false) → IfOk made (λ c. Stands c a)
+stands_well (Err e) a app local = tt
+stands_well (Ok c) a app local = record { app = app; local = local }
+
+-- one more argument of a command that may not be there
+abbrev pub AddsArgTo : {E : Type 0} → Result Command E → Arg → Command → Type 0
+AddsArgTo before x new = (old : Command) × (before ≡ Ok old) × AddsArg old x new
+
+pub arg_added :
+    {E : Type 0} (before made : Result Command E) (old : Command) (x y : Arg) → before ≡ Ok old → ◌≡◌ {A = Result Arg E} (Ok x) (Ok y) → IfOk made (AddsArg old y)
+    → IfOk made (AddsArgTo before x)
+arg_added before (Err e) old x y is same adds = tt
+arg_added before (Ok new) old x y is same adds =
+    let one : x ≡ y = cc in
+    (old, is, subst (λ (z : Arg). AddsArg old z new) (sym one) adds)
+
+pub grown_on :
+    {E : Type 0} (before made : Result Command E) (x : Arg) (a : App) (r : Rule) → IfOk made (AddsArgTo before x) → x.global ≡ false → rule_of x ≡ r
+    → IfOk before (λ c. Stands c a) → IfOk made (λ c. Stands c (with_rule a r))
+grown_on before (Err e) x a r adds local is at = tt
+grown_on before (Ok new) x a r adds local is at = grown adds.0 new x a r adds.2 local is (made_so before adds.0 (λ c. Stands c a) at adds.1)
+
+-- one more subcommand, where both may not be there
+abbrev pub AddsSubcommandTo : {E : Type 0} → (before sub : Result Command E) → Command → Type 0
+AddsSubcommandTo before sub new = (old : Command) × (s : Command) × (before ≡ Ok old) × (sub ≡ Ok s) × AddsSubcommand old s new
+
+pub subcommand_added :
+    {E : Type 0} (before sub made : Result Command E) (old s : Command) → before ≡ Ok old → sub ≡ Ok s → IfOk made (AddsSubcommand old s)
+    → IfOk made (AddsSubcommandTo before sub)
+subcommand_added before sub (Err e) old s is of adds = tt
+subcommand_added before sub (Ok new) old s is of adds = (old, s, is, of, adds)
+
+pub joined_on :
+    {E : Type 0} (before sub made : Result Command E) (a b : App) → IfOk made (AddsSubcommandTo before sub) → IfOk before (λ c. app_of c ≡ a)
+    → IfOk sub (λ c. Stands c b) → IfOk made (λ c. app_of c ≡ with_subcommand a b.top)
+joined_on before sub (Err e) a b adds is of = tt
+joined_on before sub (Ok new) a b adds is of =
+    let joins : Stands adds.1 b = made_so sub adds.1 (λ c. Stands c b) of adds.3 in
+    joined adds.0 new adds.1 a b adds.4 joins.local (made_so before adds.0 (λ c. app_of c ≡ a) is adds.2) joins.app
+
+-- what a command that may not be there stands for, in other words
+pub app_on : {E : Type 0} (made : Result Command E) (f : App → App) (a b : App) → IfOk made (λ c. app_of c ≡ f a) → a ≡ b → IfOk made (λ c. app_of c ≡ f b)
+app_on made f a b at is = subst (λ x. IfOk made (λ c. app_of c ≡ f x)) is at

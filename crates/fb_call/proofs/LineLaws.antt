@@ -8,7 +8,7 @@ use Rattle.clap.specs.declared.error.kind.ErrorKind.TheVariants.{DisplayHelp, Ou
 use Rattle.fb_types.specs.declared.run.Form.{Form}
 use Rattle.fb_types.specs.declared.run.Form.TheVariants.{One, Two}
 use Rattle.clap.specs.declared.builder.value_parser.ValueParser.{ValueParser}
-use Rattle.fb_call.specs.Line.{AreRequest, AreNoCall, AskHelp, IsTaken, NameNoCall, IsForm, IsNumber, IsOrder, IsCall, IsRequest, IsRequestOf, IsFault, IsFlag, command_name, request_name, AreForms, simulator, simulator_with}
+use Rattle.fb_call.specs.Line.{AreRequest, AreNoCall, AskHelp, IsTaken, NameNoCall, IsForm, AsksWave, IsNumber, IsOrder, IsCall, IsRequest, IsRequestOf, IsFault, IsFlag, command_name, request_name, AreForms, simulator, simulator_with}
 use Rattle.fb_call.proofs.FormLaws.{same_fault, same_subcommand, same_takes}
 use Rattle.fb_call.specs.declared.line.LineFault.{LineFault}
 use Rattle.fb_call.specs.declared.line.Call.{Call}
@@ -16,6 +16,7 @@ use Rattle.fb_call.specs.declared.line.Order.{Order}
 use Rattle.fb_call.specs.declared.line.Order.TheVariants.{Check, Run}
 use Rattle.fb_call.specs.declared.line.Request.{Request}
 use Rattle.fb_call.specs.declared.line.Request.TheVariants as request
+use Rattle.fb_call.specs.declared.line.Wave.{Wave}
 
 pub if_none : {T : Type 0} (r : Option T) (P : Type 0) → P → IfNone r P
 if_none (Some x) P p = tt
@@ -80,11 +81,30 @@ not_explain (Run horizon steps workers serial form) same = cc
 pub no_name : (rows : List Row) (name : Text) → name ≡ codes "explain" → first_of (codes "NAME") rows ≡ None → (r : Request) → name ≡ request_name r → IsRequest rows r → ⊥
 no_name rows name is none (request.Explain word) named given = let bad : None ≡ Some word.now = sym none ∙ given in cc
 no_name rows name is none (request.Call c) named given = not_explain c.order (sym is ∙ named)
+no_name rows name is none (request.Wave w) named given = let bad : codes "explain" ≡ codes "wave" = sym is ∙ named in cc
 
-pub no_request : (rows : List Row) (name : Text) → (name ≡ codes "explain" → ⊥) → ((c : Call) → name ≡ command_name c.order → IsCall rows c → ⊥)
-    → (r : Request) → name ≡ request_name r → IsRequest rows r → ⊥
-no_request rows name other none (request.Explain word) named given = other named
-no_request rows name other none (request.Call c) named given = none c named given
+not_wave : (o : Order) → codes "wave" ≡ command_name o → ⊥
+not_wave Check same = cc
+not_wave (Run horizon steps workers serial form) same = cc
+
+pub no_wave : (rows : List Row) (name : Text) → name ≡ codes "wave" → ((w : Wave) → AsksWave rows w → ⊥) → (r : Request) → name ≡ request_name r → IsRequest rows r → ⊥
+no_wave rows name is none (request.Explain word) named given = let bad : codes "wave" ≡ codes "explain" = sym is ∙ named in cc
+no_wave rows name is none (request.Call c) named given = not_wave c.order (sym is ∙ named)
+no_wave rows name is none (request.Wave w) named given = none w given
+
+pub no_request : (rows : List Row) (name : Text) → (name ≡ codes "explain" → ⊥) → (name ≡ codes "wave" → ⊥)
+    → ((c : Call) → name ≡ command_name c.order → IsCall rows c → ⊥) → (r : Request) → name ≡ request_name r → IsRequest rows r → ⊥
+no_request rows name other no_wave none (request.Explain word) named given = other named
+no_request rows name other no_wave none (request.Call c) named given = none c named given
+no_request rows name other no_wave none (request.Wave w) named given = no_wave named
+
+-- ---- What a trace is shown of
+
+pub no_source : (rows : List Row) → first_of (codes "DECL") rows ≡ None → (w : Wave) → AsksWave rows w → ⊥
+no_source rows none w is = let given = is.declaration in absurd cc
+
+pub no_trace : (rows : List Row) → first_of (codes "TRACE") rows ≡ None → (w : Wave) → AsksWave rows w → ⊥
+no_trace rows none w is = let given = is.trace in absurd cc
 
 -- ---- The words, by what the parser says of them
 

@@ -15,6 +15,7 @@ use Rattle.fb_call.specs.declared.line.Order.TheVariants.{Check, Run}
 use Rattle.fb_call.specs.declared.line.Call.{Call}
 use Rattle.fb_call.specs.declared.line.Request.{Request}
 use Rattle.fb_call.specs.declared.line.Request.TheVariants as request
+use Rattle.fb_call.specs.declared.line.Wave.{Wave}
 use Rattle.fb_call.specs.declared.line.LineFault.{LineFault}
 use Rattle.fb_call.specs.declared.line.LineFault.TheVariants.{Memory, Help, Fault}
 
@@ -48,6 +49,10 @@ forms = parser.Names (placed (map placed form_words))
 abbrev pub limited : Text → ValueParser → Rule
 limited id values = record (new_rule id) { long = Some id; parser = Some values }
 
+-- an argument that has to be there, by its place
+abbrev pub required : Text → Rule
+required id = record (new_rule id) { required = true }
+
 -- an option that takes the name of a file
 abbrev pub file : Text → Rule
 file id = record (new_rule id) { long = Some id }
@@ -60,7 +65,7 @@ flag id = record (new_rule id) { long = Some id; action = Some SetTrue }
 abbrev pub files : Text → App
 files name =
     with_rule (with_rule (with_rule (with_rule (new_app name)
-    (record (new_rule (codes "DECL")) { required = true }))
+    (required (codes "DECL")))
     (file (codes "deploy")))
     (file (codes "stim")))
     (flag (codes "why"))
@@ -78,16 +83,25 @@ with_run_options values a = with_rule (with_rule (with_numbers a)
     (flag (codes "serial")))
     (record (limited (codes "trace") values) { defaults = word_of One ∷ [] })
 
+-- a command with the names of a declaration, of its deployment and of its trace
+abbrev pub wave : App
+wave =
+    with_rule (with_rule (with_rule (new_app (codes "wave"))
+    (required (codes "DECL")))
+    (file (codes "deploy")))
+    (required (codes "TRACE"))
+
 -- a command with the name of a refusal
 abbrev pub explain : App
-explain = with_rule (new_app (codes "explain")) (record (new_rule (codes "NAME")) { required = true })
+explain = with_rule (new_app (codes "explain")) (required (codes "NAME"))
 
 -- the program's command, with this parser for the form of the trace
 abbrev pub simulator_with : ValueParser → App
-simulator_with values = with_subcommand (with_subcommand (with_subcommand
+simulator_with values = with_subcommand (with_subcommand (with_subcommand (with_subcommand
     (record { top = record (new_app (codes "fbsim")).top { subcommand_required = true }; subs = [] })
     (with_run_options values (files (codes "run"))).top)
     (files (codes "check")).top)
+    wave.top)
     explain.top
 
 abbrev pub simulator : App
@@ -102,6 +116,7 @@ command_name (Run horizon steps workers serial form) = codes "run"
 abbrev pub request_name : Request → Text
 request_name (request.Explain name) = codes "explain"
 request_name (request.Call c) = command_name c.order
+request_name (request.Wave w) = codes "wave"
 
 -- the option has one text, a decimal numeral that may begin with a plus, and this is its number
 pub record IsNumber (rows : List Row) (id : Text) (n : ℕ) : Type 0 where
@@ -138,9 +153,16 @@ pub record IsCall (rows : List Row) (c : Call) : Type 0 where
   pub why : IsFlag rows (codes "why") c.why
   pub order : IsOrder rows c.order
 
+-- the waveforms of this trace are asked for
+pub record AsksWave (rows : List Row) (w : Wave) : Type 0 where
+  pub declaration : first_of (codes "DECL") rows ≡ Some w.declaration.now
+  pub deploy : first_of (codes "deploy") rows ≡ option_map (λ n. n.now) w.deploy
+  pub trace : first_of (codes "TRACE") rows ≡ Some w.trace.now
+
 abbrev pub IsRequest : List Row → Request → Type 0
 IsRequest rows (request.Explain name) = first_of (codes "NAME") rows ≡ Some name.now
 IsRequest rows (request.Call c) = IsCall rows c
+IsRequest rows (request.Wave w) = AsksWave rows w
 
 -- a command's name and its rows ask for this
 pub record IsRequestOf (found : Option (Text × List Row)) (r : Request) : Type 0 where

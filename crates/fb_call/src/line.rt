@@ -1,14 +1,16 @@
 //! The command line.
 
-ghost use Rattle.std.specs.Prelude.{◌≡◌, ◌≢◌, ℕ, Ok, IfOk, IfErr, IfSome, IfNone, OnOk, map, false};
+ghost use Rattle.std.specs.Prelude.{◌≡◌, ◌≢◌, ℕ, Ok, IfOk, IfErr, IfSome, IfNone, OnOk, map, codes, false};
 ghost use Rattle.fb_call.specs.Line as spec;
-ghost use Rattle.fb_call.specs.Line.{AreRequest, AreNoCall, AskHelp, AreForms, IsCall, IsFault, IsFlag, IsForm, IsHelp, IsNumber, IsOrder, IsRequest, IsRequestOf, IsTaken, command_name, request_name};
+ghost use Rattle.fb_call.specs.Line.{AreRequest, AreNoCall, AskHelp, AsksWave, AreForms, IsCall, IsFault, IsFlag, IsForm, IsHelp, IsNumber, IsOrder, IsRequest, IsRequestOf, IsTaken, command_name, request_name};
 ghost use Rattle.fb_call.specs.declared.line.LineFault.TheVariants.{Memory};
 ghost use Rattle.fb_call.specs.declared.line.Call.{Call};
 ghost use Rattle.fb_call.specs.declared.line.Order.{Order};
 ghost use Rattle.fb_call.specs.declared.line.Request.{Request};
+ghost use Rattle.fb_call.specs.declared.line.Wave.{Wave};
 ghost use Rattle.fb_types.specs.declared.run.Form.{Form};
-ghost use Rattle.clap.specs.Words.{app_of, rows_of, found_of, rule_of, kind_of, subcommand_rows_of};
+ghost use Rattle.clap.specs.Words.{AddsArg, AddsSubcommand, app_of, rows_of, found_of, rule_of, kind_of, subcommand_rows_of};
+ghost use Rattle.clap.specs.declared.builder.command.Command.{Command as Cmd};
 ghost use Rattle.clap.specs.declared.builder.command.Command.TheViews.{out-Command as fields_of};
 
 use clap::builder::ValueParser;
@@ -23,6 +25,18 @@ pub enum Request<'a> {
     /// What the refusal of this name means, as `E21`.
     Explain(&'a str),
     Call(Call<'a>),
+    Wave(Wave<'a>),
+}
+
+/// A trace that is to be shown as waveforms, and what it is a trace of.
+#[derive(Clone, Copy)]
+pub struct Wave<'a> {
+    /// The name of the declaration's file; `-` is standard input, here and below.
+    pub declaration: &'a str,
+    /// The name of the deployment's file, where one is given.
+    pub deploy: Option<&'a str>,
+    /// The name of the file with the trace.
+    pub trace: &'a str,
 }
 
 /// What is asked for, and of which files.
@@ -97,6 +111,11 @@ const CHECK_ABOUT: &str = "Says whether a run would take these files, or which f
 const CHECK_EXAMPLE: &str =
     "Example: fbsim check cell.iec --deploy cell.toml --stim cell.csv --why";
 
+const WAVE_ABOUT: &str =
+    "Writes a trace to standard output as a value change dump, which viewers of waveforms show.";
+
+const WAVE_EXAMPLE: &str = "Example: fbsim wave cell.iec --deploy cell.toml cell.trace";
+
 const EXPLAIN_ABOUT: &str =
     "Says what a refusal means, with two examples of it and what to look at.";
 
@@ -107,6 +126,9 @@ const NAME_HELP: &str =
 
 const DECLARATION_HELP: &str =
     "The file with the declaration of the types and the application, at most 1 MiB; `-` is standard input, here and below.";
+
+const TRACE_FILE_HELP: &str =
+    "The file with the trace, of any length and in either form, as run writes it of these files.";
 
 const DEPLOY_HELP: &str =
     "The file with the deployment, in TOML, at most 1 MiB; without it one resource MAIN has every instance.";
@@ -134,12 +156,31 @@ const WHY_HELP: &str =
 /// What the forms of the trace are called.
 const FORM_WORDS: &[&str] = &["1", "2"];
 
+/// An argument that has to be there, by its place among the words.
+fn required<'a>(alloc: Global, id: &'a str, help: &'a str) -> Arg<'a>
+    ensures rule { rule_of result ≡ spec.required id.entry.now }
+    ensures local { result.global ≡ false }
+{
+    Arg::new(alloc, id).required(true).help(help)
+}
+
 /// An option that takes the name of a file.
 fn file<'a>(alloc: Global, id: &'a str, help: &'a str) -> Arg<'a>
     ensures rule { rule_of result ≡ spec.file id.entry.now }
     ensures local { result.global ≡ false }
 {
     Arg::new(alloc, id).long(id).help(help)
+}
+
+/// The command with one more argument, where it could be made.
+fn with_arg<'a>(
+    command: Result<Command<'a>, AllocError>,
+    arg: Arg<'a>,
+) -> Result<Command<'a>, AllocError>
+    ensures { IfOk result (λ new. (old : Cmd) × (command.entry ≡ Ok old) × AddsArg old arg.entry new) }
+{
+    let (command, arg) = both(command, Ok(arg))?;
+    command.arg(arg)
 }
 
 /// A command with the names of its files, and what the help says of it.
@@ -152,16 +193,13 @@ fn files<'a>(
     ensures app { IfOk result (λ c. app_of c ≡ spec.files name.entry.now) }
     ensures globals { IfOk result (λ c. (fields_of c).has_globals ≡ false) }
 {
-    let declaration = Arg::new(alloc, "DECL")
-        .required(true)
-        .help(DECLARATION_HELP);
-    Command::new(alloc, name)
+    let command = Command::new(alloc, name)
         .about(about)
         .after_help(example)
-        .arg(declaration)?
-        .arg(file(alloc, "deploy", DEPLOY_HELP))?
-        .arg(file(alloc, "stim", STIMULI_HELP))?
-        .arg(flag(alloc, "why", WHY_HELP))
+        .arg(required(alloc, "DECL", DECLARATION_HELP));
+    let command = with_arg(command, file(alloc, "deploy", DEPLOY_HELP));
+    let command = with_arg(command, file(alloc, "stim", STIMULI_HELP));
+    with_arg(command, flag(alloc, "why", WHY_HELP))
 }
 
 /// An option that takes a value of this kind.
@@ -203,10 +241,12 @@ fn with_numbers<'a>(alloc: Global, command: Command<'a>) -> Result<Command<'a>, 
     ensures app { IfOk result (λ c. app_of c ≡ spec.with_numbers (app_of command.entry)) }
     ensures globals { IfOk result (λ c. (fields_of c).has_globals ≡ false) }
 {
-    command
-        .arg(limited(alloc, "horizon", up_to(1_000_000_000_000), HORIZON_HELP).required(true))?
-        .arg(limited(alloc, "steps", up_to(10_000_000), STEPS_HELP).default_value("10000"))?
-        .arg(limited(alloc, "workers", up_to(64), WORKERS_HELP).default_value("1"))
+    let horizon = limited(alloc, "horizon", up_to(1_000_000_000_000), HORIZON_HELP).required(true);
+    let command = command.arg(horizon);
+    let steps = limited(alloc, "steps", up_to(10_000_000), STEPS_HELP).default_value("10000");
+    let command = with_arg(command, steps);
+    let workers = limited(alloc, "workers", up_to(64), WORKERS_HELP).default_value("1");
+    with_arg(command, workers)
 }
 
 /// The command with the options that say how far a run goes, how it is made, and what its trace is like.
@@ -219,9 +259,23 @@ fn with_run_options<'a>(
     ensures app { IfOk result (λ c. app_of c ≡ spec.with_run_options forms.entry (app_of command.entry)) }
     ensures globals { IfOk result (λ c. (fields_of c).has_globals ≡ false) }
 {
-    with_numbers(alloc, command)?
-        .arg(flag(alloc, "serial", SERIAL_HELP))?
-        .arg(limited(alloc, "trace", forms, TRACE_HELP).default_value("1"))
+    let command = with_numbers(alloc, command);
+    let command = with_arg(command, flag(alloc, "serial", SERIAL_HELP));
+    let trace = limited(alloc, "trace", forms, TRACE_HELP).default_value("1");
+    with_arg(command, trace)
+}
+
+/// The command that shows a trace.
+fn wave_command<'a>(alloc: Global) -> Result<Command<'a>, AllocError>
+    ensures app { IfOk result (λ c. app_of c ≡ spec.wave) }
+    ensures globals { IfOk result (λ c. (fields_of c).has_globals ≡ false) }
+{
+    let command = Command::new(alloc, "wave")
+        .about(WAVE_ABOUT)
+        .after_help(WAVE_EXAMPLE)
+        .arg(required(alloc, "DECL", DECLARATION_HELP));
+    let command = with_arg(command, file(alloc, "deploy", DEPLOY_HELP));
+    with_arg(command, required(alloc, "TRACE", TRACE_FILE_HELP))
 }
 
 /// The command that explains a refusal.
@@ -229,35 +283,54 @@ fn explain<'a>(alloc: Global) -> Result<Command<'a>, AllocError>
     ensures app { IfOk result (λ c. app_of c ≡ spec.explain) }
     ensures globals { IfOk result (λ c. (fields_of c).has_globals ≡ false) }
 {
-    let name = Arg::new(alloc, "NAME").required(true).help(NAME_HELP);
     Command::new(alloc, "explain")
         .about(EXPLAIN_ABOUT)
         .after_help(EXPLAIN_EXAMPLE)
-        .arg(name)
+        .arg(required(alloc, "NAME", NAME_HELP))
 }
 
-/// What there is already, beside what was made after it. It is for values of any types, since a value that is let go
-/// where a command can't be made is proved to be dropped part by part, and one of a type parameter in one step.
-fn beside<K: Drop, M: Drop>(kept: K, made: Result<M, AllocError>) -> Result<(K, M), AllocError>
-    ensures kept { IfOk result (λ both. both.0 ≡ kept) }
-    ensures made { IfOk result (λ both. made ≡ Ok both.1) }
+/// The command that runs.
+fn run<'a>(alloc: Global, forms: ValueParser<'a>) -> Result<Command<'a>, AllocError>
+    ensures app { IfOk result (λ c. app_of c ≡ spec.with_run_options forms.entry (spec.files (codes "run"))) }
+    ensures globals { IfOk result (λ c. (fields_of c).has_globals ≡ false) }
 {
-    Ok((kept, made?))
+    with_run_options(alloc, files(alloc, "run", RUN_ABOUT, RUN_EXAMPLE)?, forms)
+}
+
+/// Both of two, where both could be made. It is for values of any types, since a value that is let go on the way is
+/// proved to be dropped part by part, and one of a type parameter in one step.
+fn both<F: Drop, S: Drop>(
+    first: Result<F, AllocError>,
+    second: Result<S, AllocError>,
+) -> Result<(F, S), AllocError>
+    ensures first { IfOk result (λ pair. first ≡ Ok pair.0) }
+    ensures second { IfOk result (λ pair. second ≡ Ok pair.1) }
+{
+    Ok((first?, second?))
+}
+
+/// The command with one more subcommand, where both could be made.
+fn with_subcommand<'a>(
+    command: Result<Command<'a>, AllocError>,
+    subcommand: Result<Command<'a>, AllocError>,
+) -> Result<Command<'a>, AllocError>
+    ensures { IfOk result (λ new. (old : Cmd) × (sub : Cmd) × (command.entry ≡ Ok old) × (subcommand.entry ≡ Ok sub) × AddsSubcommand old sub new) }
+{
+    let (command, subcommand) = both(command, subcommand)?;
+    command.subcommand(subcommand)
 }
 
 fn simulator<'a>(alloc: Global, forms: ValueParser<'a>) -> Result<Command<'a>, AllocError>
     ensures { IfOk result (λ c. app_of c ≡ spec.simulator_with forms.entry) }
 {
-    let run = with_run_options(alloc, files(alloc, "run", RUN_ABOUT, RUN_EXAMPLE)?, forms)?;
     let command = Command::new(alloc, "fbsim")
         .about(ABOUT)
         .after_help(EXAMPLE)
-        .subcommand_required(true)
-        .subcommand(run)?;
-    let (command, check) = beside(command, files(alloc, "check", CHECK_ABOUT, CHECK_EXAMPLE))?;
-    let command = command.subcommand(check)?;
-    let (command, explain) = beside(command, explain(alloc))?;
-    command.subcommand(explain)
+        .subcommand_required(true);
+    let command = with_subcommand(Ok(command), run(alloc, forms));
+    let command = with_subcommand(command, files(alloc, "check", CHECK_ABOUT, CHECK_EXAMPLE));
+    let command = with_subcommand(command, wave_command(alloc));
+    with_subcommand(command, explain(alloc))
 }
 
 fn number(found: &ArgMatches<'_>, id: &str) -> Option<u64>
@@ -328,6 +401,20 @@ fn call_of<'a>(name: &str, found: &ArgMatches<'a>) -> Option<Call<'a>>
     })
 }
 
+fn wave_of<'a>(found: &ArgMatches<'a>) -> Option<Wave<'a>>
+    ensures rows { IfSome result (λ w. AsksWave (rows_of (found_of found.now)) w) }
+    ensures none { IfNone result ((w : Wave) → AsksWave (rows_of (found_of found.now)) w → ⊥) }
+{
+    let declaration = found.get_str("DECL")?;
+    let deploy = found.get_str("deploy");
+    let trace = found.get_str("TRACE")?;
+    Some(Wave {
+        declaration,
+        deploy,
+        trace,
+    })
+}
+
 fn request_of<'a>(name: &str, found: &ArgMatches<'a>) -> Option<Request<'a>>
     ensures name { IfSome result (λ r. name.now ≡ request_name r) }
     ensures rows { IfSome result (λ r. IsRequest (rows_of (found_of found.now)) r) }
@@ -335,6 +422,9 @@ fn request_of<'a>(name: &str, found: &ArgMatches<'a>) -> Option<Request<'a>>
 {
     if name == "explain" {
         return Some(Request::Explain(found.get_str("NAME")?));
+    }
+    if name == "wave" {
+        return Some(Request::Wave(wave_of(found)?));
     }
     Some(Request::Call(call_of(name, found)?))
 }

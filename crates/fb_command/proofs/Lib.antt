@@ -1,1 +1,2 @@
 mod Explaining
+mod Showing

@@ -1,5 +1,5 @@
 -- What a call of the program does (this project's own).
-use Rattle.std.specs.Prelude.{◌≡◌, ◌⊎◌, ℕ, Bool, true, false, List, Option, None, Result, Ok, Err, codes, string_bytes}
+use Rattle.std.specs.Prelude.{◌≡◌, ◌⊎◌, ℕ, Bool, true, false, List, Option, None, Ok, Err, codes, string_bytes}
 use Rattle.std.specs.Borrow.{Bor}
 use Rattle.std.specs.List.{list_any}
 use Rattle.std.specs.Io.KnownBytes.{Appends}
@@ -10,42 +10,28 @@ use Rattle.fb_types.specs.declared.value.Reason.{Reason}
 use Rattle.fb_sim.specs.Given.{Given}
 use Rattle.fb_sim.specs.Rounds.{WritesFront}
 use Rattle.fb_sim.specs.Serial as sim
-use Rattle.fb_sim.specs.Serial.{AreWithin, IsDeclared, IsRefusal, Writes}
+use Rattle.fb_sim.specs.Serial.{AreWithin, IsDeclared, Writes}
 use Rattle.fb_sim.specs.declared.options.Options.{Options}
 use Rattle.fb_sim.specs.declared.outcome.Outcome.{Outcome}
 use Rattle.fb_sim.specs.declared.outcome.Outcome.TheVariants as sim_end
-use Rattle.fb_sim.specs.declared.outcome.RunError.{RunError}
 use Rattle.fb_why.specs.Explained.{explained}
 use Rattle.fb_why.specs.declared.table.Explanation.{Explanation}
 use Rattle.fb_call.specs.Line.{AreRequest, AreNoCall, AskHelp, IsTaken}
-use Rattle.fb_command.specs.Failures.{IsPartWritten, explained_text, failure_of, failure_of_source, no_refusal}
+use Rattle.fb_command.specs.Failures.{IsPartWritten, explained_text, failure_of_source, no_refusal}
 use Rattle.fb_command.specs.Notes.{IsFileNote, IsNote, Notes}
+use Rattle.fb_command.specs.Outcomes.{End, Held, IsRefused}
 use Rattle.fb_command.specs.Reading.{Reading, AreRead, IsUnread}
-use Rattle.fb_command.specs.declared.failure.Failure.{Failure}
+use Rattle.fb_command.specs.Showing.{Opening, Shows}
 use Rattle.fb_command.specs.declared.failure.Failure.TheVariants.{Refused, File, Write, Memory, Line, BadOption}
-use Rattle.fb_command.specs.declared.failure.Refusal.{Refusal}
 use Rattle.fb_call.specs.declared.line.Call.{Call}
 use Rattle.fb_call.specs.declared.line.Order.{Order}
 use Rattle.fb_call.specs.declared.line.Order.TheVariants.{Check, Run}
 use Rattle.fb_call.specs.declared.line.Request.TheVariants as request
+use Rattle.fb_call.specs.declared.line.Wave.{Wave}
 use Rattle.fb_command.specs.declared.source.SourceFault.{SourceFault}
 use Rattle.fb_command.specs.declared.status.Done.{Done}
-use Rattle.fb_command.specs.declared.status.Done.TheVariants.{Helped, Explained, Accepted, Ended, Stopped}
+use Rattle.fb_command.specs.declared.status.Done.TheVariants.{Helped, Explained, Accepted, Shown, Ended, Stopped}
 use Rattle.fb_command.specs.declared.texts.Part.{Part}
-
--- what a call came to
-abbrev pub End : Type 0
-End = Result Done Failure
-
--- what a writer holds, where that is known
-abbrev pub Held : Type 0
-Held = Option Text
-
--- the inputs are refused, for this reason
-pub record IsRefused (given : Given) (refusal : Refusal) : Type 0 where
-  pub error : RunError
-  pub refused : IsRefusal given error
-  pub told : failure_of error ≡ Refused refusal
 
 -- the inputs are checked
 abbrev pub Checks : Given → (old new : Held) → End → Type 0
@@ -53,6 +39,7 @@ Checks given old new (Ok Accepted) = IsDeclared given × Appends old new (codes 
 Checks given old new (Ok Helped) = ⊥
 Checks given old new (Ok Explained) = ⊥
 Checks given old new (Ok Ended) = ⊥
+Checks given old new (Ok Shown) = ⊥
 Checks given old new (Ok Stopped) = ⊥
 Checks given old new (Err (Refused refusal)) = IsRefused given refusal × (new ≡ old)
 Checks given old new (Err (Write n)) = IsDeclared given × IsPartWritten old new (codes "accepted\n") n
@@ -74,6 +61,7 @@ Wants false given o old new = (AreWithin o × (new ≡ old)) ⊎ WritesFront giv
 abbrev pub Runs : (serial : Bool) → Given → Options → (old new : Held) → End → Type 0
 Runs serial given o old new (Ok Ended) = (horizon : ℕ) × Writes given o old new (AtHorizon horizon)
 Runs serial given o old new (Ok Stopped) = (tick : ℕ) × (resource : ℕ) × (reason : Reason) × Writes given o old new (AtStop tick resource reason)
+Runs serial given o old new (Ok Shown) = ⊥
 Runs serial given o old new (Ok Helped) = ⊥
 Runs serial given o old new (Ok Explained) = ⊥
 Runs serial given o old new (Ok Accepted) = ⊥
@@ -123,6 +111,7 @@ ExplainsRefusal name old new (Ok Explained) =
 ExplainsRefusal name old new (Ok Helped) = ⊥
 ExplainsRefusal name old new (Ok Accepted) = ⊥
 ExplainsRefusal name old new (Ok Ended) = ⊥
+ExplainsRefusal name old new (Ok Shown) = ⊥
 ExplainsRefusal name old new (Ok Stopped) = ⊥
 ExplainsRefusal name old new (Err (Write n)) =
     (e : Explanation) × (first : Text) × (second : Text) × (e.name.now ≡ name) × IsPartWritten old new (explained_text name e.meaning.now first second e.look.now) n
@@ -139,6 +128,7 @@ Explains words old new (Ok Helped) = AskHelp words × ((help : Text) × Appends 
 Explains words old new (Ok Explained) = ⊥
 Explains words old new (Ok Accepted) = ⊥
 Explains words old new (Ok Ended) = ⊥
+Explains words old new (Ok Shown) = ⊥
 Explains words old new (Ok Stopped) = ⊥
 Explains words old new (Err (Write n)) = AskHelp words × ((help : Text) × IsPartWritten old new help n)
 Explains words old new (Err (Line message)) = AreNoCall words × (new ≡ old)
@@ -151,9 +141,10 @@ Explains words old new (Err BadOption) = ⊥
 abbrev pub TellsNoMore : {S : Type 0} → (from to : S) → (note : Option Text) → Type 0
 TellsNoMore from to note = (to ≡ from) × (note ≡ None)
 
--- The words are done as the call that they name, or a refusal is explained, or the words are.
-abbrev pub Does : {S : Type 0} → Reading S → (from to : S) → List Text → (old new : Held) → End → (note : Option Text) → Type 0
-Does reads from to words old new end note =
+-- The words are done as the call that they name, or a trace is shown, or a refusal is explained, or the words are.
+abbrev pub Does : {S : Type 0} → Reading S → Opening S → (from to : S) → List Text → (old new : Held) → End → (note : Option Text) → Type 0
+Does reads opens from to words old new end note =
     ((c : Call) × AreRequest words (request.Call c) × IsTaken words × Performs reads from to c old new end note)
+    ⊎ ((w : Wave) × AreRequest words (request.Wave w) × IsTaken words × Shows reads opens from to w old new end × (note ≡ None))
     ⊎ ((name : Bor Text) × AreRequest words (request.Explain name) × IsTaken words × ExplainsRefusal name.now old new end × TellsNoMore from to note)
     ⊎ (Explains words old new end × TellsNoMore from to note)

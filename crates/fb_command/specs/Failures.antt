@@ -10,14 +10,16 @@ use Rattle.fb_sim.specs.declared.outcome.Refusal as sim
 use Rattle.fb_sim.specs.declared.outcome.Refusal.TheVariants as of
 use Rattle.fb_sim.specs.declared.outcome.RunError.{RunError}
 use Rattle.fb_sim.specs.declared.outcome.RunError.TheVariants as run
+use Rattle.fb_wave.specs.declared.error.WaveError.{WaveError}
+use Rattle.fb_wave.specs.declared.error.WaveError.TheVariants as wave
 use Rattle.fb_command.specs.declared.failure.Failure.{Failure}
 use Rattle.fb_command.specs.declared.failure.Failure.TheVariants.{Refused, File, Write, Memory, Line, BadOption}
 use Rattle.fb_command.specs.declared.failure.Refusal.{Refusal}
-use Rattle.fb_command.specs.declared.failure.Refusal.TheVariants.{Numbered, Syntax}
+use Rattle.fb_command.specs.declared.failure.Refusal.TheVariants.{Numbered, Syntax, Trace}
 use Rattle.fb_command.specs.declared.source.SourceFault.{SourceFault}
 use Rattle.fb_command.specs.declared.source.SourceFault.TheVariants as source
 use Rattle.fb_command.specs.declared.status.Done.{Done}
-use Rattle.fb_command.specs.declared.status.Done.TheVariants.{Helped, Explained, Accepted, Ended, Stopped}
+use Rattle.fb_command.specs.declared.status.Done.TheVariants.{Helped, Explained, Accepted, Shown, Ended, Stopped}
 
 -- ---- Failures
 
@@ -50,6 +52,13 @@ failure_of (run.Write n) = Write n
 failure_of run.BadOption = BadOption
 failure_of run.Failed = Memory
 
+abbrev pub failure_of_wave : WaveError → Failure
+failure_of_wave (wave.Refused line) = Refused (Trace line)
+failure_of_wave wave.Memory = Memory
+failure_of_wave wave.Read = File
+failure_of_wave (wave.Write n) = Write n
+failure_of_wave wave.Names = Memory
+
 abbrev pub failure_of_source : SourceFault → Failure
 failure_of_source source.File = File
 failure_of_source source.Memory = Memory
@@ -59,6 +68,7 @@ failure_of_source source.Memory = Memory
 abbrev pub refusal_text : Refusal → List ℕ
 refusal_text (Numbered n) = codes "refused E" ++ decimal (n / 10) ++ decimal (n % 10)
 refusal_text (Syntax line) = codes "refused E03 line " ++ decimal line
+refusal_text (Trace line) = codes "refused trace line " ++ decimal line
 
 abbrev pub failure_text : Failure → List ℕ
 failure_text (Refused refusal) = refusal_text refusal
@@ -97,6 +107,7 @@ abbrev pub status_of : Result Done Failure → ℕ
 status_of (Ok Helped) = 0
 status_of (Ok Explained) = 0
 status_of (Ok Accepted) = 0
+status_of (Ok Shown) = 0
 status_of (Ok Ended) = 0
 status_of (Ok Stopped) = 1
 status_of (Err (Refused refusal)) = 2

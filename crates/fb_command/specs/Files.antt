@@ -4,7 +4,7 @@ use Rattle.fb_command.specs.declared.source.SourceFault.{SourceFault}
 use Rattle.fb_command.specs.declared.source.SourceFault.TheVariants.{File}
 
 -- Reading a file by its name takes standard input, or leaves it; a second time is a fault.
-pub record TakesInput (had has : Bool) (name : List ℕ) (result : Result (List ℕ) SourceFault) : Type 0 where
+pub record TakesInput {A : Type 0} (had has : Bool) (name : List ℕ) (result : Result A SourceFault) : Type 0 where
   pub input : name ≡ codes "-" → has ≡ true
   pub again : name ≡ codes "-" → had ≡ true → result ≡ Err File
   pub others : name ≢ codes "-" → has ≡ had

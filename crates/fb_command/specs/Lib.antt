@@ -3,4 +3,6 @@ pub mod Files
 pub mod Texts
 pub mod Reading
 pub mod Notes
+pub mod Outcomes
+pub mod Showing
 pub mod Command

@@ -15,6 +15,7 @@ use crate::output::write_text;
 use crate::source::Source;
 use crate::status::{Done, Exit, status};
 use crate::texts::{Texts, read_files};
+use crate::wave::show;
 use fb_call::line::{Call, LineFault, Order, Request, parse};
 use fb_phase::OpenGate;
 use fb_sim::options::{Inputs, Options};
@@ -188,12 +189,16 @@ fn obey<'w, R: Threads + Wait + Sync, S: Source, W: Write>(
     source: &mut S,
     out: &mut W,
 ) -> Answer
-    ensures { Does S.gives source.old source.new (map (λ w. w.now) words.entry.now) (W.contents out.old) (W.contents out.new) result.end (option_map string_bytes result.note) }
+    ensures { Does S.gives S.opens source.old source.new (map (λ w. w.now) words.entry.now) (W.contents out.old) (W.contents out.new) result.end (option_map string_bytes result.note) }
 {
     match parse(alloc, words) {
         Ok(Request::Call(call)) => perform(rt, alloc, &call, source, out),
         Ok(Request::Explain(name)) => Answer {
             end: explain_to(alloc, name, out),
+            note: None,
+        },
+        Ok(Request::Wave(wave)) => Answer {
+            end: show(alloc, &wave, source, out),
             note: None,
         },
         Err(LineFault::Help(text)) => Answer {
@@ -253,7 +258,7 @@ pub fn command<'w, R: Threads + Wait + Sync, S: Source, W: Write, E: Write>(
     err: &mut E,
 ) -> Exit
     ensures { (end : Result Done Failure) × (note : Option (List ℕ)) × (result.status ≡ status_of end)
-        × Does S.gives source.old source.new (map (λ w. w.now) words.entry.now) (W.contents out.old) (W.contents out.new) end note
+        × Does S.gives S.opens source.old source.new (map (λ w. w.now) words.entry.now) (W.contents out.old) (W.contents out.new) end note
         × (IsTrue result.is_told → Appends (E.contents err.old) (E.contents err.new) (told_of end note))
         × OnOk end (E.contents err.new ≡ E.contents err.old) }
 {

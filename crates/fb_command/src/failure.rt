@@ -1,7 +1,7 @@
 //! Why a call of the program does not do what is asked, and how that is told.
 
 ghost use Rattle.std.specs.Prelude.{◌≡◌};
-ghost use Rattle.fb_command.specs.Failures.{failure_of, failure_of_read, failure_of_input, failure_of_refusal, failure_of_source};
+ghost use Rattle.fb_command.specs.Failures.{failure_of, failure_of_read, failure_of_input, failure_of_refusal, failure_of_source, failure_of_wave};
 ghost use Rattle.fb_command.specs.declared.failure.Failure.TheVariants.{Memory};
 
 use crate::source::SourceFault;
@@ -9,6 +9,7 @@ use fb_inputs::error::InputError;
 use fb_read::error::ReadError;
 use fb_sim::outcome;
 use fb_sim::outcome::RunError;
+use fb_wave::error::WaveError;
 use std::alloc::AllocError;
 use std::fmt;
 
@@ -19,6 +20,8 @@ pub enum Refusal {
     Numbered(u8),
     /// A syntax fault in this line, counted from 1.
     Syntax(u32),
+    /// The trace is none, which shows first at this line, counted from 1.
+    Trace(u64),
 }
 
 /// Why a call of the program does not do what is asked.
@@ -98,6 +101,21 @@ impl From<RunError> for Failure {
     }
 }
 
+impl From<WaveError> for Failure {
+    ghost from_gives = { λ error failure. failure ≡ failure_of_wave error };
+
+    fn from(error: WaveError) -> Failure {
+        match error {
+            WaveError::Refused(line) => Failure::Refused(Refusal::Trace(line)),
+            WaveError::Memory => Failure::Memory,
+            WaveError::Read => Failure::File,
+            WaveError::Write(written) => Failure::Write(written),
+            // Only a declaration that no text gives has two ports that are written alike.
+            WaveError::Names => Failure::Memory,
+        }
+    }
+}
+
 impl From<SourceFault> for Failure {
     ghost from_gives = { λ fault failure. failure ≡ failure_of_source fault };
 
@@ -123,6 +141,7 @@ impl fmt::Display for Refusal {
                 write!(f, "refused E{tens}{ones}")
             }
             Refusal::Syntax(line) => write!(f, "refused E03 line {line}"),
+            Refusal::Trace(line) => write!(f, "refused trace line {line}"),
         }
     }
 }

@@ -1,9 +1,10 @@
 //! Where the program's inputs come from.
 
-ghost use Rattle.std.specs.Prelude.{ℕ, ◌≤◌, List, Result, Ok, Err, IfOk, MatchResult, vec_len};
+ghost use Rattle.std.specs.Prelude.{ℕ, ◌≤◌, List, Option, Result, Ok, Err, IfOk, MatchResult, vec_len};
 ghost use Rattle.fb_command.specs.declared.source.SourceFault.{SourceFault};
 
 use std::alloc::Global;
+use std::io::BufRead;
 
 /// Why a file is not read.
 #[derive(Clone, Copy)]
@@ -15,8 +16,14 @@ pub enum SourceFault {
 
 /// Where files come from.
 pub trait Source {
+    /// A file that is read piece by piece.
+    type Stream: BufRead + Drop;
+
     /// What reading the first bytes of a named file may give, from one state of the source to the next.
     ghost gives: { Self → List ℕ → ℕ → Result (List ℕ) SourceFault → Self → Type 0 };
+
+    /// What opening a named file may give, from one state of the source to the next: its bytes, where they are known.
+    ghost opens: { Self → List ℕ → Result (Option (List ℕ)) SourceFault → Self → Type 0 };
 
     /// The file of this name, but at most its first `most` bytes.
     ///
@@ -27,4 +34,13 @@ pub trait Source {
             (λ bytes. gives self.old name.now most (Ok bytes.items) self.new)
             (λ fault. gives self.old name.now most (Err fault) self.new) }
         ensures short { IfOk result (λ bytes. vec_len bytes ≤ most) };
+
+    /// The file of this name, of any length.
+    ///
+    /// # Errors
+    /// `File` where it is not there, and `Memory`.
+    fn open(&mut self, alloc: Global, name: &str) -> Result<Self::Stream, SourceFault>
+        ensures { MatchResult result
+            (λ stream. opens self.old name.now (Ok (Self.Stream.remaining stream)) self.new)
+            (λ fault. opens self.old name.now (Err fault) self.new) };
 }

@@ -14,6 +14,8 @@ pub enum Done {
     Explained,
     /// The declaration is accepted.
     Accepted,
+    /// The waveforms of a trace are written.
+    Shown,
     /// The run came to its horizon.
     Ended,
     /// A resource stopped before.
@@ -35,7 +37,7 @@ pub fn status(end: &Result<Done, Failure>) -> u8
     ensures { result ≡ status_of end.now }
 {
     match end {
-        Ok(Done::Helped | Done::Explained | Done::Accepted | Done::Ended) => 0,
+        Ok(Done::Helped | Done::Explained | Done::Accepted | Done::Shown | Done::Ended) => 0,
         Ok(Done::Stopped) => 1,
         Err(Failure::Refused(_)) => 2,
         Err(Failure::File | Failure::Write(_)) => 3,

@@ -10,6 +10,7 @@ mod readers;
 mod refusals;
 mod runs;
 mod systems;
+mod waves;
 
 use fb_command::command::command;
 use fb_command::source::{Source, SourceFault};
@@ -29,7 +30,11 @@ struct Folder<'a> {
 }
 
 impl<'a> Source for Folder<'a> {
+    type Stream = &'a [u8];
+
     ghost gives = { λ old name most result new. Unit {0} };
+
+    ghost opens = { λ old name result new. Unit {0} };
 
     fn read(&mut self, alloc: Global, name: &str, most: usize) -> Result<Vec<u8>, SourceFault> {
         if name == "full" {
@@ -42,6 +47,18 @@ impl<'a> Source for Folder<'a> {
                     Ok(bytes) => Ok(bytes),
                     Err(_) => Err(SourceFault::Memory),
                 };
+            }
+        }
+        Err(SourceFault::File)
+    }
+
+    fn open(&mut self, _alloc: Global, name: &str) -> Result<&'a [u8], SourceFault> {
+        if name == "full" {
+            return Err(SourceFault::Memory);
+        }
+        for (other, bytes) in self.files {
+            if *other == name {
+                return Ok(*bytes);
             }
         }
         Err(SourceFault::File)

@@ -1,17 +1,16 @@
 -- Instances as they are declared, and their parameters by number.
-use Rattle.std.proofs.Common.{◌≡◌, ℕ, ◌<◌, List, [], ◌∷◌, length, get_or, Bor, Option, Some, None, MatchOption, refl, sym, ◌∙◌, ap, subst, arith}
+use Rattle.std.proofs.Common.{◌≡◌, ℕ, ◌<◌, List, length, Bor, Option, Some, None, MatchOption, sym, ◌∙◌, ap, subst}
 use Rattle.std.specs.Prelude.{slice_get, option_and_then}
 use Rattle.std.specs.Option.{option_copied}
 use Rattle.std.proofs.lemmas.Option.{same_Some}
-use Rattle.fb_types.specs.Names.{Path}
-use Rattle.fb_types.specs.Flat.{instance_at, instance_in, kind_at, last_of, network_at, network_of, parent, paths_of}
+use Rattle.fb_types.specs.Flat.{instance_at, instance_in, last_of, network_at, network_of, paths_of}
 use Rattle.fb_types.specs.declared.library.Instance.{Instance}
 use Rattle.fb_types.specs.declared.library.Library.{Library}
 use Rattle.fb_types.specs.declared.library.Network.{Network}
 use Rattle.fb_names.proofs.Positions.{named_of_once}
 use Rattle.fb_resolve.specs.Numbers.{kind_of_number, parameter_numbers}
 use Rattle.fb_resolve.specs.declared.numbers.NetworkNumbers.{NetworkNumbers}
-use Rattle.fb_resolve.proofs.Each.{each-length, each_at}
+use Rattle.fb_resolve.proofs.Each.{each_at}
 use Rattle.fb_layout.specs.Layouts.{IsRow, path_of}
 use Rattle.fb_layout.specs.declared.layout.Layout.{Layout}
 use Rattle.fb_layout.specs.declared.layout.Row.{Row}

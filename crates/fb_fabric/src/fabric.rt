@@ -12,10 +12,10 @@ ghost use Rattle.fb_resolve.specs.Numbers.{IsResolved, kind_of_number, parameter
 ghost use Rattle.fb_layout.specs.Layouts.{AreComponents, AreNumbers, IsParent, path_of, route_to};
 ghost use Rattle.fb_fabric.specs.Fabrics.{IsPort, IsSource, IsTarget, IsVariable, port_of, variable_of};
 
+use crate::beside::beside;
 use crate::declared::{declared_at, parameters_at};
-use crate::making::{are_narrow, wirings_of};
+use crate::making::{narrow_layout, wirings_of};
 use crate::tables::{Tables, last_place, row_at, source_in, target_in};
-use fb_layout::layout::layout_of;
 use fb_resolve::numbers::{End, Resolved, TypeNumber};
 use fb_types::library::{Instance, Library};
 use fb_types::run::Target;
@@ -65,12 +65,10 @@ impl Fabric {
         requires few { length (paths_of library) ≤ 4096 }
         ensures { IfOk result (λ f. f ≡ library) }
     {
-        if !are_narrow(library.blocks.as_slice()) {
-            return Err(AllocError);
-        }
-        let layout = layout_of(alloc, &library, &numbers)?;
-        let application = Wiring::of(alloc, numbers.application)?;
-        let blocks = wirings_of(alloc, numbers.blocks)?;
+        let layout = narrow_layout(alloc, &library, &numbers);
+        let application = Wiring::of(alloc, numbers.application);
+        let blocks = wirings_of(alloc, numbers.blocks);
+        let (library, layout, application, blocks) = beside(library, layout, application, blocks)?;
         Ok(Fabric {
             tables: Tables {
                 library,

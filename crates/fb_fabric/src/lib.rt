@@ -3,9 +3,10 @@
 //!
 //! What is promised above: targets and sources are those of the flat system.
 //!
-//! To be read in this order: `fabric`, what is asked; `tables` and `declared`, how it is found; `making`.
+//! To be read in this order: `fabric`, what is asked; `tables` and `declared`, how it is found; `making`; `beside`.
 #![tactic(auto)]
 
+pub mod beside;
 mod declared;
 pub mod fabric;
 mod making;

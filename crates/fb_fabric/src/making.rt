@@ -1,13 +1,19 @@
 //! How the tables of a fabric are made.
 
-ghost use Rattle.std.specs.Prelude.{◌≡◌, ◌↔◌, IsTrue, IfOk};
+ghost use Rattle.std.specs.Prelude.{◌≡◌, ◌↔◌, ◌≤◌, length, IsTrue, IfOk};
 ghost use Rattle.fb_types.specs.Blocks.{ports_of};
-ghost use Rattle.fb_types.specs.Flat.{kind_of};
+ghost use Rattle.fb_types.specs.Flat.{kind_of, paths_of};
+ghost use Rattle.fb_types.specs.Joined.{TooHigh};
+ghost use Rattle.fb_types.specs.Repeated.{NameTwice};
+ghost use Rattle.fb_types.specs.declared.deploy.Plan.{Plan};
+ghost use Rattle.fb_resolve.specs.Numbers.{IsResolved};
+ghost use Rattle.fb_layout.specs.Layouts.{IsLayout};
 ghost use Rattle.fb_fabric.specs.Networks.{AreNarrow, IsNarrow};
 
-use fb_resolve::numbers::NetworkNumbers;
+use fb_layout::layout::{Layout, layout_of};
+use fb_resolve::numbers::{NetworkNumbers, Resolved};
 use fb_types::items::Items;
-use fb_types::library::{BlockType, Ports};
+use fb_types::library::{BlockType, Library, Ports};
 use fb_wiring::wiring::Wiring;
 use std::alloc::{AllocError, Global};
 
@@ -32,10 +38,29 @@ fn is_narrow_block(block: &BlockType) -> bool
 }
 
 /// Whether the places of the ports of all types are numbers of 32 bits.
-pub(crate) fn are_narrow(blocks: &[BlockType]) -> bool
+fn are_narrow(blocks: &[BlockType]) -> bool
     ensures { IsTrue result ↔ AreNarrow blocks.now }
 {
     blocks.iter().all(is_narrow_block)
+}
+
+/// The layout of a declaration, where the places of its ports are numbers of 32 bits. Else the error is that memory
+/// runs out.
+pub(crate) fn narrow_layout(
+    alloc: Global,
+    library: &Library,
+    numbers: &Resolved,
+) -> Result<Layout, AllocError>
+    requires resolved { (plan : Plan) × (¬ (NameTwice library.now plan)) × IsResolved library.now plan numbers.now }
+    requires height { ¬ (TooHigh library.now) }
+    requires few { length (paths_of library.now) ≤ 4096 }
+    ensures narrow { IfOk result (λ _. AreNarrow library.now.blocks) }
+    ensures layout { IfOk result (IsLayout library.now) }
+{
+    if !are_narrow(library.blocks.as_slice()) {
+        return Err(AllocError);
+    }
+    layout_of(alloc, library, numbers)
 }
 
 /// The wirings of the block types' networks.

@@ -1,6 +1,6 @@
 //! What a system keeps.
 
-ghost use Rattle.std.specs.Prelude.{◌≡◌, ◌<◌, Ok, Some, length, slice_get, IfOk};
+ghost use Rattle.std.specs.Prelude.{◌≡◌, ◌<◌, Some, length, slice_get};
 
 use fb_fabric::fabric::Fabric;
 use fb_interfaces::interfaces::Interfaces;
@@ -9,7 +9,6 @@ use fb_rows::rows::StimulusRow;
 use fb_types::deploy::{Deploy, Stimulus};
 use fb_types::items::Items;
 use fb_types::library::Ports;
-use std::alloc::AllocError;
 
 /// Accepted inputs, with the tables by which their numbers are looked up.
 #[derive(Drop)]
@@ -26,24 +25,6 @@ pub(crate) struct Whole {
     pub interfaces: Interfaces,
     /// The stimuli by number.
     pub rows: Items<StimulusRow>,
-}
-
-/// What is given, beside three tables, where each of them was made.
-///
-/// A value of a type parameter is dropped by one call. Where `?` stands beside owned values of other types, their drop
-/// is written out at each exit, and proved there.
-pub(crate) fn beside<G: Drop, A: Drop, B: Drop, C: Drop>(
-    given: G,
-    first: Result<A, AllocError>,
-    second: Result<B, AllocError>,
-    third: Result<C, AllocError>,
-) -> Result<(G, A, B, C), AllocError>
-    ensures given { IfOk result (λ all. all.0 ≡ given) }
-    ensures first { IfOk result (λ all. first ≡ Ok all.1) }
-    ensures second { IfOk result (λ all. second ≡ Ok all.2) }
-    ensures third { IfOk result (λ all. third ≡ Ok all.3) }
-{
-    Ok((given, first?, second?, third?))
 }
 
 /// The stimulus at a row.

@@ -1,6 +1,6 @@
 //! The type names and the interfaces of the event blocks.
 
-ghost use Rattle.std.specs.Prelude.{◌≡◌, [], ◌∷◌, IfOk, codes, option_map};
+ghost use Rattle.std.specs.Prelude.{◌≡◌, [], ◌∷◌, ◌++◌, IfOk, OnOk, codes, option_map};
 ghost use Rattle.fb_types.specs.Blocks as spec;
 ghost use Rattle.fb_types.specs.Names.{same_name};
 ghost use Rattle.fb_types.specs.declared.event_kind.EventKind.TheVariants.{Restart, Split, Merge, Rendezvous, Select, Switch, SetReset, DataLatch, CountUp};
@@ -64,48 +64,6 @@ fn remembering_kind_named(name: &[u8]) -> Option<EventKind>
     }
 }
 
-fn event(alloc: Global, name: &str) -> Result<EventPort, AllocError>
-    ensures { IfOk result (λ e. e ≡ spec.event name.now) }
-{
-    Ok(EventPort {
-        name: Name::from_text(alloc, name)?,
-        with: Items::new(alloc),
-    })
-}
-
-fn with_one(alloc: Global, name: &str, first: &str) -> Result<EventPort, AllocError>
-    ensures { IfOk result (λ e. e ≡ spec.event_with name.now (first.now ∷ [])) }
-{
-    let mut with = Items::new(alloc);
-    with.push(Name::from_text(alloc, first)?)?;
-    Ok(EventPort {
-        name: Name::from_text(alloc, name)?,
-        with,
-    })
-}
-
-fn with_two(alloc: Global, name: &str, first: &str, second: &str) -> Result<EventPort, AllocError>
-    ensures { IfOk result (λ e. e ≡ spec.event_with name.now (first.now ∷ second.now ∷ [])) }
-{
-    let mut with = Items::new(alloc);
-    with.push(Name::from_text(alloc, first)?)?;
-    with.push(Name::from_text(alloc, second)?)?;
-    Ok(EventPort {
-        name: Name::from_text(alloc, name)?,
-        with,
-    })
-}
-
-fn variable(alloc: Global, name: &str, ty: Ty) -> Result<Variable, AllocError>
-    ensures { IfOk result (λ v. v ≡ spec.variable name.now ty) }
-{
-    Ok(Variable {
-        name: Name::from_text(alloc, name)?,
-        ty,
-        initial: None,
-    })
-}
-
 fn one<T: Drop>(alloc: Global, first: T) -> Result<Items<T>, AllocError>
     ensures { IfOk result (λ l. l ≡ first ∷ []) }
 {
@@ -117,185 +75,220 @@ fn one<T: Drop>(alloc: Global, first: T) -> Result<Items<T>, AllocError>
 fn two<T: Drop>(alloc: Global, first: T, second: T) -> Result<Items<T>, AllocError>
     ensures { IfOk result (λ l. l ≡ first ∷ second ∷ []) }
 {
-    let mut list = Items::new(alloc);
-    list.push(first)?;
+    let mut list = one(alloc, first)?;
     list.push(second)?;
     Ok(list)
 }
 
-fn three<T: Drop>(alloc: Global, first: T, second: T, third: T) -> Result<Items<T>, AllocError>
-    ensures { IfOk result (λ l. l ≡ first ∷ second ∷ third ∷ []) }
+/// Adds an event that goes WITH these variables.
+fn add_port(
+    alloc: Global,
+    events: &mut Items<EventPort>,
+    name: &str,
+    with: Items<Name>,
+) -> Result<(), AllocError>
+    ensures { OnOk result (events.new ≡ events.old ++ spec.event_with name.now with ∷ []) }
 {
-    let mut list = Items::new(alloc);
-    list.push(first)?;
-    list.push(second)?;
-    list.push(third)?;
-    Ok(list)
+    let name = Name::from_text(alloc, name)?;
+    events.push(EventPort { name, with })
 }
 
-/// Events alone.
-fn events(alloc: Global, inputs: Items<EventPort>, outputs: Items<EventPort>) -> Ports
-    ensures { result ≡ spec.ports inputs outputs [] [] }
+fn add_event(alloc: Global, events: &mut Items<EventPort>, name: &str) -> Result<(), AllocError>
+    ensures { OnOk result (events.new ≡ events.old ++ spec.event name.now ∷ []) }
 {
-    Ports {
-        event_inputs: inputs,
-        event_outputs: outputs,
-        inputs: Items::new(alloc),
-        outputs: Items::new(alloc),
+    add_port(alloc, events, name, Items::new(alloc))
+}
+
+/// Adds an event that goes WITH one variable.
+fn add_event_with(
+    alloc: Global,
+    events: &mut Items<EventPort>,
+    name: &str,
+    first: &str,
+) -> Result<(), AllocError>
+    ensures { OnOk result (events.new ≡ events.old ++ spec.event_with name.now (first.now ∷ []) ∷ []) }
+{
+    let with = one(alloc, Name::from_text(alloc, first)?)?;
+    add_port(alloc, events, name, with)
+}
+
+/// Adds an event that goes WITH two variables.
+fn add_event_with_two(
+    alloc: Global,
+    events: &mut Items<EventPort>,
+    name: &str,
+    first: &str,
+    second: &str,
+) -> Result<(), AllocError>
+    ensures { OnOk result (events.new ≡ events.old ++ spec.event_with name.now (first.now ∷ second.now ∷ []) ∷ []) }
+{
+    let with = two(
+        alloc,
+        Name::from_text(alloc, first)?,
+        Name::from_text(alloc, second)?,
+    )?;
+    add_port(alloc, events, name, with)
+}
+
+fn add_variable(
+    alloc: Global,
+    variables: &mut Items<Variable>,
+    name: &str,
+    ty: Ty,
+) -> Result<(), AllocError>
+    ensures { OnOk result (variables.new ≡ variables.old ++ spec.variable name.now ty ∷ []) }
+{
+    let name = Name::from_text(alloc, name)?;
+    variables.push(Variable {
+        name,
+        ty,
+        initial: None,
+    })
+}
+
+// What follows adds the ports of one event block to none. The ports are lent, and not made and answered: so no exit has
+// lists to drop but that of `ports_of`.
+
+fn restart(alloc: Global, ports: &mut Ports) -> Result<(), AllocError>
+    requires { ports.old ≡ spec.ports [] [] [] [] }
+    ensures { OnOk result (ports.new ≡ spec.ports_of_event_block Restart) }
+{
+    add_event(alloc, &mut ports.event_outputs, "COLD")?;
+    add_event(alloc, &mut ports.event_outputs, "WARM")?;
+    add_event(alloc, &mut ports.event_outputs, "STOP")
+}
+
+fn split(alloc: Global, ports: &mut Ports) -> Result<(), AllocError>
+    requires { ports.old ≡ spec.ports [] [] [] [] }
+    ensures { OnOk result (ports.new ≡ spec.ports_of_event_block Split) }
+{
+    add_event(alloc, &mut ports.event_inputs, "EI")?;
+    add_event(alloc, &mut ports.event_outputs, "EO1")?;
+    add_event(alloc, &mut ports.event_outputs, "EO2")
+}
+
+fn merge(alloc: Global, ports: &mut Ports) -> Result<(), AllocError>
+    requires { ports.old ≡ spec.ports [] [] [] [] }
+    ensures { OnOk result (ports.new ≡ spec.ports_of_event_block Merge) }
+{
+    add_event(alloc, &mut ports.event_inputs, "EI1")?;
+    add_event(alloc, &mut ports.event_inputs, "EI2")?;
+    add_event(alloc, &mut ports.event_outputs, "EO")
+}
+
+fn rendezvous(alloc: Global, ports: &mut Ports) -> Result<(), AllocError>
+    requires { ports.old ≡ spec.ports [] [] [] [] }
+    ensures { OnOk result (ports.new ≡ spec.ports_of_event_block Rendezvous) }
+{
+    add_event(alloc, &mut ports.event_inputs, "EI1")?;
+    add_event(alloc, &mut ports.event_inputs, "EI2")?;
+    add_event(alloc, &mut ports.event_inputs, "R")?;
+    add_event(alloc, &mut ports.event_outputs, "EO")
+}
+
+/// The event input EI WITH one variable, and EO.
+fn sampling(alloc: Global, ports: &mut Ports, name: &str) -> Result<(), AllocError>
+    requires { ports.old ≡ spec.ports [] [] [] [] }
+    ensures { OnOk result (ports.new ≡ spec.ports (spec.event_with (codes "EI") (name.now ∷ []) ∷ []) (spec.event (codes "EO") ∷ []) (spec.variable name.now Bool ∷ []) []) }
+{
+    add_event_with(alloc, &mut ports.event_inputs, "EI", name)?;
+    add_event(alloc, &mut ports.event_outputs, "EO")?;
+    add_variable(alloc, &mut ports.inputs, name, Ty::Bool)
+}
+
+fn select(alloc: Global, ports: &mut Ports) -> Result<(), AllocError>
+    requires { ports.old ≡ spec.ports [] [] [] [] }
+    ensures { OnOk result (ports.new ≡ spec.ports_of_event_block Select) }
+{
+    add_event_with(alloc, &mut ports.event_inputs, "EI0", "G")?;
+    add_event_with(alloc, &mut ports.event_inputs, "EI1", "G")?;
+    add_event(alloc, &mut ports.event_outputs, "EO")?;
+    add_variable(alloc, &mut ports.inputs, "G", Ty::Bool)
+}
+
+fn switch(alloc: Global, ports: &mut Ports) -> Result<(), AllocError>
+    requires { ports.old ≡ spec.ports [] [] [] [] }
+    ensures { OnOk result (ports.new ≡ spec.ports_of_event_block Switch) }
+{
+    add_event_with(alloc, &mut ports.event_inputs, "EI", "G")?;
+    add_event(alloc, &mut ports.event_outputs, "EO0")?;
+    add_event(alloc, &mut ports.event_outputs, "EO1")?;
+    add_variable(alloc, &mut ports.inputs, "G", Ty::Bool)
+}
+
+fn timer(alloc: Global, ports: &mut Ports) -> Result<(), AllocError>
+    requires { ports.old ≡ spec.ports [] [] [] [] }
+    ensures { OnOk result (ports.new ≡ spec.timer_ports) }
+{
+    add_event_with(alloc, &mut ports.event_inputs, "START", "DT")?;
+    add_event(alloc, &mut ports.event_inputs, "STOP")?;
+    add_event(alloc, &mut ports.event_outputs, "EO")?;
+    add_variable(alloc, &mut ports.inputs, "DT", Ty::Time)
+}
+
+fn set_reset(alloc: Global, ports: &mut Ports) -> Result<(), AllocError>
+    requires { ports.old ≡ spec.ports [] [] [] [] }
+    ensures { OnOk result (ports.new ≡ spec.ports_of_event_block SetReset) }
+{
+    add_event(alloc, &mut ports.event_inputs, "S")?;
+    add_event(alloc, &mut ports.event_inputs, "R")?;
+    add_event_with(alloc, &mut ports.event_outputs, "EO", "Q")?;
+    add_variable(alloc, &mut ports.outputs, "Q", Ty::Bool)
+}
+
+fn data_latch(alloc: Global, ports: &mut Ports) -> Result<(), AllocError>
+    requires { ports.old ≡ spec.ports [] [] [] [] }
+    ensures { OnOk result (ports.new ≡ spec.ports_of_event_block DataLatch) }
+{
+    add_event_with(alloc, &mut ports.event_inputs, "CLK", "D")?;
+    add_event_with(alloc, &mut ports.event_outputs, "EO", "Q")?;
+    add_variable(alloc, &mut ports.inputs, "D", Ty::Bool)?;
+    add_variable(alloc, &mut ports.outputs, "Q", Ty::Bool)
+}
+
+fn count_up(alloc: Global, ports: &mut Ports) -> Result<(), AllocError>
+    requires { ports.old ≡ spec.ports [] [] [] [] }
+    ensures { OnOk result (ports.new ≡ spec.ports_of_event_block CountUp) }
+{
+    add_event_with(alloc, &mut ports.event_inputs, "CU", "PV")?;
+    add_event(alloc, &mut ports.event_inputs, "R")?;
+    add_event_with_two(alloc, &mut ports.event_outputs, "CUO", "Q", "CV")?;
+    add_event_with_two(alloc, &mut ports.event_outputs, "RO", "Q", "CV")?;
+    add_variable(alloc, &mut ports.inputs, "PV", Ty::Uint)?;
+    add_variable(alloc, &mut ports.outputs, "Q", Ty::Bool)?;
+    add_variable(alloc, &mut ports.outputs, "CV", Ty::Uint)
+}
+
+fn add_ports(alloc: Global, kind: EventKind, ports: &mut Ports) -> Result<(), AllocError>
+    requires { ports.old ≡ spec.ports [] [] [] [] }
+    ensures { OnOk result (ports.new ≡ spec.ports_of_event_block kind) }
+{
+    match kind {
+        EventKind::Restart => restart(alloc, ports),
+        EventKind::Split => split(alloc, ports),
+        EventKind::Merge => merge(alloc, ports),
+        EventKind::Rendezvous => rendezvous(alloc, ports),
+        EventKind::Permit => sampling(alloc, ports, "PERMIT"),
+        EventKind::Select => select(alloc, ports),
+        EventKind::Switch => switch(alloc, ports),
+        EventKind::Delay | EventKind::Cycle => timer(alloc, ports),
+        EventKind::SetReset => set_reset(alloc, ports),
+        EventKind::DataLatch => data_latch(alloc, ports),
+        EventKind::RisingEdge | EventKind::FallingEdge => sampling(alloc, ports, "QI"),
+        EventKind::CountUp => count_up(alloc, ports),
     }
-}
-
-fn restart(alloc: Global) -> Result<Ports, AllocError>
-    ensures { IfOk result (λ p. p ≡ spec.ports_of_event_block Restart) }
-{
-    let outputs = three(
-        alloc,
-        event(alloc, "COLD")?,
-        event(alloc, "WARM")?,
-        event(alloc, "STOP")?,
-    )?;
-    Ok(events(alloc, Items::new(alloc), outputs))
-}
-
-fn split(alloc: Global) -> Result<Ports, AllocError>
-    ensures { IfOk result (λ p. p ≡ spec.ports_of_event_block Split) }
-{
-    let inputs = one(alloc, event(alloc, "EI")?)?;
-    let outputs = two(alloc, event(alloc, "EO1")?, event(alloc, "EO2")?)?;
-    Ok(events(alloc, inputs, outputs))
-}
-
-fn merge(alloc: Global) -> Result<Ports, AllocError>
-    ensures { IfOk result (λ p. p ≡ spec.ports_of_event_block Merge) }
-{
-    let inputs = two(alloc, event(alloc, "EI1")?, event(alloc, "EI2")?)?;
-    let outputs = one(alloc, event(alloc, "EO")?)?;
-    Ok(events(alloc, inputs, outputs))
-}
-
-fn rendezvous(alloc: Global) -> Result<Ports, AllocError>
-    ensures { IfOk result (λ p. p ≡ spec.ports_of_event_block Rendezvous) }
-{
-    let inputs = three(
-        alloc,
-        event(alloc, "EI1")?,
-        event(alloc, "EI2")?,
-        event(alloc, "R")?,
-    )?;
-    let outputs = one(alloc, event(alloc, "EO")?)?;
-    Ok(events(alloc, inputs, outputs))
-}
-
-/// One event input WITH one variable, and EO.
-fn sampling(alloc: Global, input: &str, name: &str) -> Result<Ports, AllocError>
-    ensures { IfOk result (λ p. p ≡ spec.ports (spec.event_with input.now (name.now ∷ []) ∷ []) (spec.event (codes "EO") ∷ []) (spec.variable name.now Bool ∷ []) []) }
-{
-    Ok(Ports {
-        event_inputs: one(alloc, with_one(alloc, input, name)?)?,
-        event_outputs: one(alloc, event(alloc, "EO")?)?,
-        inputs: one(alloc, variable(alloc, name, Ty::Bool)?)?,
-        outputs: Items::new(alloc),
-    })
-}
-
-fn select(alloc: Global) -> Result<Ports, AllocError>
-    ensures { IfOk result (λ p. p ≡ spec.ports_of_event_block Select) }
-{
-    Ok(Ports {
-        event_inputs: two(
-            alloc,
-            with_one(alloc, "EI0", "G")?,
-            with_one(alloc, "EI1", "G")?,
-        )?,
-        event_outputs: one(alloc, event(alloc, "EO")?)?,
-        inputs: one(alloc, variable(alloc, "G", Ty::Bool)?)?,
-        outputs: Items::new(alloc),
-    })
-}
-
-fn switch(alloc: Global) -> Result<Ports, AllocError>
-    ensures { IfOk result (λ p. p ≡ spec.ports_of_event_block Switch) }
-{
-    Ok(Ports {
-        event_inputs: one(alloc, with_one(alloc, "EI", "G")?)?,
-        event_outputs: two(alloc, event(alloc, "EO0")?, event(alloc, "EO1")?)?,
-        inputs: one(alloc, variable(alloc, "G", Ty::Bool)?)?,
-        outputs: Items::new(alloc),
-    })
-}
-
-fn timer(alloc: Global) -> Result<Ports, AllocError>
-    ensures { IfOk result (λ p. p ≡ spec.timer_ports) }
-{
-    Ok(Ports {
-        event_inputs: two(
-            alloc,
-            with_one(alloc, "START", "DT")?,
-            event(alloc, "STOP")?,
-        )?,
-        event_outputs: one(alloc, event(alloc, "EO")?)?,
-        inputs: one(alloc, variable(alloc, "DT", Ty::Time)?)?,
-        outputs: Items::new(alloc),
-    })
-}
-
-fn set_reset(alloc: Global) -> Result<Ports, AllocError>
-    ensures { IfOk result (λ p. p ≡ spec.ports_of_event_block SetReset) }
-{
-    Ok(Ports {
-        event_inputs: two(alloc, event(alloc, "S")?, event(alloc, "R")?)?,
-        event_outputs: one(alloc, with_one(alloc, "EO", "Q")?)?,
-        inputs: Items::new(alloc),
-        outputs: one(alloc, variable(alloc, "Q", Ty::Bool)?)?,
-    })
-}
-
-fn data_latch(alloc: Global) -> Result<Ports, AllocError>
-    ensures { IfOk result (λ p. p ≡ spec.ports_of_event_block DataLatch) }
-{
-    Ok(Ports {
-        event_inputs: one(alloc, with_one(alloc, "CLK", "D")?)?,
-        event_outputs: one(alloc, with_one(alloc, "EO", "Q")?)?,
-        inputs: one(alloc, variable(alloc, "D", Ty::Bool)?)?,
-        outputs: one(alloc, variable(alloc, "Q", Ty::Bool)?)?,
-    })
-}
-
-fn count_up(alloc: Global) -> Result<Ports, AllocError>
-    ensures { IfOk result (λ p. p ≡ spec.ports_of_event_block CountUp) }
-{
-    Ok(Ports {
-        event_inputs: two(alloc, with_one(alloc, "CU", "PV")?, event(alloc, "R")?)?,
-        event_outputs: two(
-            alloc,
-            with_two(alloc, "CUO", "Q", "CV")?,
-            with_two(alloc, "RO", "Q", "CV")?,
-        )?,
-        inputs: one(alloc, variable(alloc, "PV", Ty::Uint)?)?,
-        outputs: two(
-            alloc,
-            variable(alloc, "Q", Ty::Bool)?,
-            variable(alloc, "CV", Ty::Uint)?,
-        )?,
-    })
 }
 
 /// The interface of an event block.
 pub fn ports_of(alloc: Global, kind: EventKind) -> Result<Ports, AllocError>
     ensures { IfOk result (λ p. p ≡ spec.ports_of_event_block kind) }
 {
-    match kind {
-        EventKind::Restart => restart(alloc),
-        EventKind::Split => split(alloc),
-        EventKind::Merge => merge(alloc),
-        EventKind::Rendezvous => rendezvous(alloc),
-        EventKind::Permit => sampling(alloc, "EI", "PERMIT"),
-        EventKind::Select => select(alloc),
-        EventKind::Switch => switch(alloc),
-        EventKind::Delay | EventKind::Cycle => timer(alloc),
-        EventKind::SetReset => set_reset(alloc),
-        EventKind::DataLatch => data_latch(alloc),
-        EventKind::RisingEdge | EventKind::FallingEdge => sampling(alloc, "EI", "QI"),
-        EventKind::CountUp => count_up(alloc),
-    }
+    let mut ports = Ports {
+        event_inputs: Items::new(alloc),
+        event_outputs: Items::new(alloc),
+        inputs: Items::new(alloc),
+        outputs: Items::new(alloc),
+    };
+    add_ports(alloc, kind, &mut ports)?;
+    Ok(ports)
 }

@@ -1,14 +1,14 @@
 //! Command lines. What the parser says of a fault is not compared.
 
 use super::{File, Folder};
-use fb_call::line::{Call, Order, Request, parse};
+use fb_call::line::{Call, Order, Request, Wave, parse};
 use fb_command::command::command;
 use fb_types::run::Form;
 
 const FILES: &[File<'static>] = &[("d", b"APPLICATION A FBS END_FBS END_APPLICATION")];
 
 /// Words that are no call.
-const FAULTS: [&[&str]; 44] = [
+const FAULTS: [&[&str]; 50] = [
     &["fbsim"],
     &["fbsim", "d"],
     &["fbsim", "walk", "d"],
@@ -61,6 +61,12 @@ const FAULTS: [&[&str]; 44] = [
     &["fbsim", "explain"],
     &["fbsim", "explain", "E21", "E22"],
     &["fbsim", "explain", "E21", "--why"],
+    &["fbsim", "wave"],
+    &["fbsim", "wave", "d"],
+    &["fbsim", "wave", "--deploy", "d", "d"],
+    &["fbsim", "wave", "d", "d", "d"],
+    &["fbsim", "wave", "d", "d", "--stim", "d"],
+    &["fbsim", "wave", "d", "d", "--horizon", "1"],
     // These stand for no form of the trace.
     &["fbsim", "run", "d", "--horizon", "8", "--trace", "0"],
     &["fbsim", "run", "d", "--horizon", "8", "--trace", "3"],
@@ -175,4 +181,19 @@ fn a_refusal_is_asked_for_by_its_name(rt: HostRuntime) {
     let words = ["fbsim", "explain", "file fault"];
     let found = parse(rt.alloc(), words.as_slice());
     assert!(rt; matches!(found, Ok(Request::Explain("file fault"))));
+}
+
+#[test]
+fn a_trace_is_named_behind_its_declaration(rt: HostRuntime) {
+    let words = ["fbsim", "wave", "a.iec", "-", "--deploy", "a.toml"];
+    let found = parse(rt.alloc(), words.as_slice());
+    let is_named = matches!(
+        found,
+        Ok(Request::Wave(Wave {
+            declaration: "a.iec",
+            deploy: Some("a.toml"),
+            trace: "-",
+        }))
+    );
+    assert!(rt; is_named);
 }

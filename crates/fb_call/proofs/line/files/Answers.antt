@@ -1,27 +1,22 @@
-use Rattle.std.proofs.Common.{◌≡◌, ◌∙◌, true, false, ap, codes}
+use Rattle.std.proofs.Common.{◌∙◌, ap}
 use Rattle.std.specs.Prelude.{IfOk}
 use Rattle.clap.specs.Simple.{app_of_fields}
-use Rattle.clap.specs.Words.{Rule, new_app, new_rule, rule_of}
-use Rattle.clap.specs.declared.builder.arg.Arg.{Arg}
+use Rattle.clap.specs.Words.{new_app}
 use Rattle.fb_call.specs.Line as spec
-use Rattle.fb_call.proofs.BuildLaws.{Stands, grown, grown_well, app_well, local_well}
+use Rattle.fb_call.proofs.BuildLaws.{Stands, grown_on, grown_well, app_well, local_well}
 use Rattle.fb_call.proofs.line.files.Goals as goal
 
-made : (c : goal.After-arg-4) → IfOk c.arg-4.result (λ r. Stands r (spec.files c.args.name.now))
+made : (c : goal.After-with_arg) → IfOk c.with_arg.result (λ r. Stands r (spec.files c.args.name.now))
 made c =
-    let rule : rule_of c.help-declaration.result ≡ record (new_rule (codes "DECL")) { required = true } =
-    ap rule_of c.help-declaration.ensures ∙ ap rule_of c.required.ensures ∙ ap (λ (r : Rule). record r { required = true }) c.new.ensures.rule in
-    let local : c.help-declaration.result.global ≡ false =
-    ap (λ (x : Arg). x.global) c.help-declaration.ensures ∙ ap (λ (x : Arg). x.global) c.required.ensures ∙ c.new.ensures.optional.1 in
     let named : Stands c.after_help.result (new_app c.args.name.now) =
     record {
-      app = ap app_of_fields c.after_help.ensures ∙ ap app_of_fields c.about.ensures ∙ c.new-2.ensures.app;
-      local = ap (λ f. f.has_globals) c.after_help.ensures ∙ ap (λ f. f.has_globals) c.about.ensures ∙ c.new-2.ensures.local;
+      app = ap app_of_fields c.after_help.ensures ∙ ap app_of_fields c.about.ensures ∙ c.new.ensures.app;
+      local = ap (λ f. f.has_globals) c.after_help.ensures ∙ ap (λ f. f.has_globals) c.about.ensures ∙ c.new.ensures.local;
     } in
-    let declared = grown _ _ _ _ _ c.in_ok-arg.ensures local rule named in
-    let deployed = grown _ _ _ _ _ c.in_ok-arg-2.ensures c.file.ensures.local c.file.ensures.rule declared in
-    let fed = grown _ _ _ _ _ c.in_ok-arg-3.ensures c.file-2.ensures.local c.file-2.ensures.rule deployed in
-    grown_well _ _ _ _ _ c.arg-4.ensures c.flag.ensures.local c.flag.ensures.rule fed
+    let declared = grown_well _ _ _ _ _ c.arg-command.ensures c.required.ensures.local c.required.ensures.rule named in
+    let deployed = grown_on _ _ _ _ _ c.with_arg-command.ensures c.file.ensures.local c.file.ensures.rule declared in
+    let fed = grown_on _ _ _ _ _ c.with_arg-command-2.ensures c.file-2.ensures.local c.file-2.ensures.rule deployed in
+    grown_on _ _ _ _ _ c.with_arg.ensures c.flag.ensures.local c.flag.ensures.rule fed
 
 pub returns-clause-app : goal.returns-clause-app
 returns-clause-app c = app_well _ _ (made c)

@@ -1,7 +1,7 @@
 use Rattle.std.proofs.Common.{rules, ◌≡◌, sym, ◌∙◌, codes, Some, None}
 use Rattle.clap.specs.Words.{found_of, first_value, rows_of}
 use Rattle.clap.proofs.WalkLemmas.{first_value-rows}
-use Rattle.fb_call.proofs.LineLaws.{if_none, no_name}
+use Rattle.fb_call.proofs.LineLaws.{if_none, no_name, no_wave}
 use Rattle.fb_call.proofs.line.request_of.Goals as goal
 
 pub returns-in_err-get_str-clause-none : goal.returns-in_err-get_str-clause-none
@@ -16,3 +16,8 @@ returns-then-eq-clause-rows c =
     let m = found_of c.args.found.now in
     let given : first_value m (codes "NAME") ≡ Some c.in_ok-get_str.field-0.now = search rules in
     sym (first_value-rows m (codes "NAME")) ∙ given
+
+pub returns-in_err-wave_of-clause-none : goal.returns-in_err-wave_of-clause-none
+returns-in_err-wave_of-clause-none c =
+    let named : c.args.name.now ≡ codes "wave" = search rules in
+    if_none _ _ (no_wave (rows_of (found_of c.args.found.now)) c.args.name.now named c.in_err-wave_of.ensures.none)

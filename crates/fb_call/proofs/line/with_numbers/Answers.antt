@@ -3,20 +3,21 @@ use Rattle.std.specs.Prelude.{IfOk}
 use Rattle.clap.specs.Words.{Rule, app_of, rule_of}
 use Rattle.clap.specs.declared.builder.arg.Arg.{Arg}
 use Rattle.fb_call.specs.Line as spec
-use Rattle.fb_call.proofs.BuildLaws.{Stands, grown, grown_well, app_well, local_well}
+use Rattle.fb_call.proofs.BuildLaws.{Stands, grown_on, grown_well, app_well, local_well}
 use Rattle.fb_call.proofs.line.with_numbers.Goals as goal
 
-made : (c : goal.After-arg-3) → IfOk c.arg-3.result (λ r. Stands r (spec.with_numbers (app_of c.args.command)))
+made : (c : goal.After-with_arg) → IfOk c.with_arg.result (λ r. Stands r (spec.with_numbers (app_of c.args.command)))
 made c =
-    let horizon : rule_of c.required.result ≡ record (spec.limited (codes "horizon") (spec.up_to 1000000000000)) { required = true } =
-    ap rule_of c.required.ensures ∙ ap (λ (r : Rule). record r { required = true }) (c.limited.ensures.rule ∙ ap (spec.limited (codes "horizon")) c.up_to.ensures) in
-    let steps : rule_of c.default_value.result ≡ record (spec.limited (codes "steps") (spec.up_to 10000000)) { defaults = codes "10000" ∷ [] } =
-    ap rule_of c.default_value.ensures ∙ ap (λ (r : Rule). record r { defaults = codes "10000" ∷ [] }) (c.limited-2.ensures.rule ∙ ap (spec.limited (codes "steps")) c.up_to-2.ensures) in
-    let workers : rule_of c.default_value-2.result ≡ record (spec.limited (codes "workers") (spec.up_to 64)) { defaults = codes "1" ∷ [] } =
-    ap rule_of c.default_value-2.ensures ∙ ap (λ (r : Rule). record r { defaults = codes "1" ∷ [] }) (c.limited-3.ensures.rule ∙ ap (spec.limited (codes "workers")) c.up_to-3.ensures) in
-    let far = grown _ _ _ _ _ c.in_ok-arg.ensures (ap (λ (x : Arg). x.global) c.required.ensures ∙ c.limited.ensures.local) horizon (record { app = refl; local = c.requires }) in
-    let long = grown _ _ _ _ _ c.in_ok-arg-2.ensures (ap (λ (x : Arg). x.global) c.default_value.ensures ∙ c.limited-2.ensures.local) steps far in
-    grown_well _ _ _ _ _ c.arg-3.ensures (ap (λ (x : Arg). x.global) c.default_value-2.ensures ∙ c.limited-3.ensures.local) workers long
+    let horizon : rule_of c.required-horizon.result ≡ record (spec.limited (codes "horizon") (spec.up_to 1000000000000)) { required = true } =
+    ap rule_of c.required-horizon.ensures ∙ ap (λ (r : Rule). record r { required = true }) (c.limited.ensures.rule ∙ ap (spec.limited (codes "horizon")) c.up_to.ensures) in
+    let steps : rule_of c.default_value-steps.result ≡ record (spec.limited (codes "steps") (spec.up_to 10000000)) { defaults = codes "10000" ∷ [] } =
+    ap rule_of c.default_value-steps.ensures ∙ ap (λ (r : Rule). record r { defaults = codes "10000" ∷ [] }) (c.limited-2.ensures.rule ∙ ap (spec.limited (codes "steps")) c.up_to-2.ensures) in
+    let workers : rule_of c.default_value-workers.result ≡ record (spec.limited (codes "workers") (spec.up_to 64)) { defaults = codes "1" ∷ [] } =
+    ap rule_of c.default_value-workers.ensures ∙ ap (λ (r : Rule). record r { defaults = codes "1" ∷ [] }) (c.limited-3.ensures.rule ∙ ap (spec.limited (codes "workers")) c.up_to-3.ensures) in
+    let far =
+    grown_well _ _ _ _ _ c.arg-command.ensures (ap (λ (x : Arg). x.global) c.required-horizon.ensures ∙ c.limited.ensures.local) horizon (record { app = refl; local = c.requires }) in
+    let long = grown_on _ _ _ _ _ c.with_arg-command.ensures (ap (λ (x : Arg). x.global) c.default_value-steps.ensures ∙ c.limited-2.ensures.local) steps far in
+    grown_on _ _ _ _ _ c.with_arg.ensures (ap (λ (x : Arg). x.global) c.default_value-workers.ensures ∙ c.limited-3.ensures.local) workers long
 
 pub returns-clause-app : goal.returns-clause-app
 returns-clause-app c = app_well _ _ (made c)

@@ -1,4 +1,4 @@
-use Rattle.std.proofs.Common.{ap, List, ℕ}
+use Rattle.std.proofs.Common.{ap}
 use Rattle.fb_resolve.specs.declared.numbers.NetworkNumbers.{NetworkNumbers}
 use Rattle.fb_fabric.proofs.Standing.{got, none_got, none_last, parameters_of_instance, parameters_there}
 use Rattle.fb_fabric.proofs.Wired.{parent_within}

@@ -1,7 +1,16 @@
-use Rattle.fb_fabric.proofs.Made.{tables_made}
+use Rattle.std.proofs.Common.{◌≡◌, List, Option}
+use Rattle.fb_layout.specs.Layouts.{IsLayout}
+use Rattle.fb_layout.specs.declared.layout.Layout.{Layout}
+use Rattle.fb_resolve.specs.declared.numbers.NetworkNumbers.{NetworkNumbers}
+use Rattle.fb_fabric.specs.Networks.{AreNarrow}
+use Rattle.fb_fabric.proofs.Made.{ok_read, tables_made}
 use Rattle.fb_fabric.proofs.fabric.Fabric.of.Goals as goal
 
 pub invariant_of-result : goal.invariant_of-result
 invariant_of-result c =
-    tables_made _ _ _ _ _ _ _ c.requires.resolved c.requires.few c.are_narrow.ensures c.as_slice.ensures c.if-not-are_narrow.false
-    c.in_ok-layout.ensures c.in_ok-application.ensures c.in_ok-blocks.ensures
+    let all = c.in_ok-library.ensures in
+    let layout = c.narrow_layout-layout.ensures in
+    tables_made c.args.library _ c.args.numbers _ _ _ c.requires.resolved c.requires.few
+    (ok_read _ (λ (l : Layout). AreNarrow c.args.library.blocks) _ layout.narrow all.first) (ok_read _ (IsLayout c.args.library) _ layout.layout all.first)
+    (ok_read _ (λ (n : NetworkNumbers). n ≡ c.args.numbers.application) _ c.of-application.ensures all.second)
+    (ok_read _ (λ (ns : List (Option NetworkNumbers)). ns ≡ c.args.numbers.blocks) _ c.wirings_of-blocks.ensures all.third) all.given

@@ -1,0 +1,3 @@
+pub mod Told
+pub mod Dumps
+pub mod Writing

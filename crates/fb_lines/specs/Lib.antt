@@ -1,0 +1,3 @@
+pub mod Ports
+pub mod Tables
+pub mod Lines

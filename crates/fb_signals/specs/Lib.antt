@@ -1,0 +1,4 @@
+pub mod Levels
+pub mod Changes
+pub mod Signals
+pub mod Scopes

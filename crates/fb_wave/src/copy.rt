@@ -1,0 +1,157 @@
+//! From the lines of a trace to its dump.
+
+ghost use Rattle.std.specs.Prelude.{◌≡◌, [], ◌++◌, IfErr, IfOk, IfSome, OnOk, IsTrue};
+ghost use Rattle.std.specs.Io.KnownBytes.{Consumes, IsAtEnd};
+ghost use Rattle.fb_types.specs.Headline.{system_of};
+ghost use Rattle.fb_lines.specs.Lines.{IsLast};
+ghost use Rattle.fb_lines.specs.Tables.{IsTable};
+ghost use Rattle.fb_dump.specs.Writing.{HasTold, IsDump};
+ghost use Rattle.fb_wave.specs.Copying.{IsAfter, IsFinished, IsTaken, IsUnfinished};
+ghost use Rattle.fb_wave.specs.Waves.{IsWave, WritesFront};
+
+use crate::error::WaveError;
+use crate::page::Page;
+use fb_dump::dump::Dump;
+use fb_lines::last::read_last;
+use fb_lines::line::read_line;
+use fb_lines::table::{Guess, Table};
+use fb_system::system::System;
+use fb_trace::last::End;
+use fb_types::run::Form;
+use std::alloc::{AllocError, Global};
+use std::io::{BufRead, Write};
+
+/// Reads the next line into a buffer, with its line feed. It is empty where there is none.
+fn next_line<R: BufRead>(input: &mut R, line: &mut Vec<u8>) -> Result<(), WaveError>
+    ensures read { OnOk result (Consumes (R.remaining input.old) (R.remaining input.new) line.new.items) }
+    ensures end { OnOk result (line.new.items ≡ [] → IsAtEnd (R.remaining input.old)) }
+    ensures fault { IfErr result (λ e. e ≡ WaveError.Read) }
+{
+    line.clear();
+    match input.read_until(b'\n', line) {
+        Ok(_) => Ok(()),
+        Err(_) => Err(WaveError::Read),
+    }
+}
+
+/// The form of the lines of a trace that begins with this one. In form two the second word is a number, and in form one
+/// it is a name.
+fn form_of(line: &[u8]) -> Form {
+    let mut words = line.split(|byte| *byte == b' ');
+    words.next();
+    match words.next() {
+        Some([first, ..]) if first.is_ascii_digit() => Form::Two,
+        _ => Form::One,
+    }
+}
+
+/// Whether a trace whose last line is of a tick can end so.
+fn can_end(tick: u64, end: End) -> bool
+    ensures { IsTrue result → IsAfter tick end }
+{
+    match end {
+        End::Horizon(horizon) => tick < horizon,
+        End::Stop(mark) => tick <= mark.tick,
+    }
+}
+
+/// Whether nothing is left to read.
+fn is_over<R: BufRead>(input: &mut R, line: &mut Vec<u8>) -> Result<bool, WaveError>
+    ensures { IfOk result (λ over. IsTrue over → IsAtEnd (R.remaining input.old)) }
+{
+    next_line(input, line)?;
+    Ok(line.is_empty())
+}
+
+/// A dump, as far as a trace was read.
+#[derive(Drop)]
+pub(crate) struct Progress {
+    pub(crate) dump: Dump,
+    pub(crate) page: Page,
+    pub(crate) guess: Guess,
+    /// The tick of the last line, or 0 before the first.
+    pub(crate) tick: u64,
+}
+
+impl Progress {
+    /// Tells of a line, and says whether a trace can go on with it.
+    fn take(
+        &mut self,
+        alloc: Global,
+        table: &Table,
+        form: Form,
+        line: &[u8],
+    ) -> Result<bool, AllocError>
+        requires table { IsTable table.now }
+        requires dump { IsDump (system_of table.now.system.now) self.old.dump }
+        ensures { IfOk result (λ goes. IsTrue goes → IsTaken (system_of table.now.system.now) form line.now self.old self.new) }
+    {
+        let Some(line) = read_line(alloc, table, &mut self.guess, form, line)? else {
+            return Ok(false);
+        };
+        if line.key.tick < self.tick {
+            return Ok(false);
+        }
+        self.dump.take(table.system, &line, &mut self.page.text)?;
+        self.tick = line.key.tick;
+        Ok(true)
+    }
+
+    /// Tells of the end, and writes all that waits, where nothing is left to read. This end is in a line of that number.
+    fn finish<R: BufRead, W: Write>(
+        &mut self,
+        system: &System,
+        end: End,
+        number: u64,
+        line: &mut Vec<u8>,
+        input: &mut R,
+        out: &mut W,
+    ) -> Result<(), WaveError>
+        requires dump { IsDump (system_of system.now) self.old.dump }
+        requires end { IsLast (system_of system.now) line.old.items end }
+        ensures whole { OnOk result (IsFinished (system_of system.now) end self.old (R.remaining input.old) (W.contents out.old) (W.contents out.new)) }
+        ensures part { IfErr result (λ _. IsUnfinished (system_of system.now) self.old (W.contents out.old) (W.contents out.new)) }
+    {
+        if !can_end(self.tick, end) {
+            return Err(WaveError::Refused(number));
+        }
+        self.dump.end(system, end, &mut self.page.text)?;
+        if !is_over(input, line)? {
+            return Err(WaveError::Refused(number.saturating_add(1)));
+        }
+        self.page.flush(out)?;
+        Ok(())
+    }
+
+    /// Reads a trace, and writes its dump.
+    pub(crate) fn copy<R: BufRead, W: Write>(
+        &mut self,
+        alloc: Global,
+        table: &Table,
+        input: &mut R,
+        out: &mut W,
+    ) -> Result<(), WaveError>
+        requires table { IsTable table.now }
+        requires dump { IsDump (system_of table.now.system.now) self.old.dump }
+        requires tick { self.old.tick ≡ 0 }
+        requires told { HasTold (system_of table.now.system.now) [] self.old.page.text.items self.old.dump }
+        ensures whole { OnOk result (IfSome (R.remaining input.old) (λ text. IsWave (system_of table.now.system.now) text (W.contents out.old) (W.contents out.new))) }
+        ensures part { IfErr result (λ _. WritesFront (system_of table.now.system.now) (W.contents out.old) (W.contents out.new)) }
+    {
+        let mut line = Vec::new(alloc);
+        next_line(input, &mut line)?;
+        let form = form_of(line.as_slice());
+        for number in 1..u64::MAX {
+            if let Some(end) = read_last(table.system, line.as_slice()) {
+                self.finish(table.system, end, number, &mut line, input, out)?;
+                return Ok(());
+            }
+            if !self.take(alloc, table, form, line.as_slice())? {
+                return Err(WaveError::Refused(number));
+            }
+            self.page.flush_much(out)?;
+            next_line(input, &mut line)?;
+        }
+        Err(WaveError::Read)
+    }
+}

@@ -1,0 +1,34 @@
+//! Why there is no dump, or no whole one.
+
+ghost use Rattle.std.specs.Prelude.{◌≡◌};
+ghost use Rattle.fb_wave.specs.declared.error.WaveError.TheVariants.{Memory};
+
+use std::alloc::AllocError;
+use thiserror::Error;
+
+/// Why a trace has no dump, or no whole one.
+#[derive(Debug, Drop, Error)]
+pub enum WaveError {
+    /// The line, from 1, at which it shows first that the text is no trace of the system.
+    #[error("refused trace line {0}")]
+    Refused(u64),
+    /// Two ports are written alike, so that lines do not tell them. No declaration that was read from a text has such names.
+    #[error("names of the declaration do not tell its ports")]
+    Names,
+    #[error("out of memory")]
+    Memory,
+    /// The reader of the trace gave an error.
+    #[error("file fault")]
+    Read,
+    /// The writer failed when it had taken so many bytes of the dump.
+    #[error("write fault after {0} bytes")]
+    Write(u128),
+}
+
+impl From<AllocError> for WaveError {
+    ghost from_gives = { λ _ e. e ≡ Memory };
+
+    fn from(_error: AllocError) -> WaveError {
+        WaveError::Memory
+    }
+}

@@ -1,0 +1,73 @@
+//! Text that waits to be written.
+
+ghost use Rattle.std.specs.Prelude.{◌≡◌, ◌≤◌, [], IfErr, OnOk, take, length};
+ghost use Rattle.std.specs.Io.KnownBytes.{Appends};
+ghost use Rattle.fb_wave.specs.Copying.{IsCut, IsFlushed};
+
+use crate::error::WaveError;
+use std::alloc::Global;
+use std::io::Write;
+
+/// So many bytes wait before some are written, to make few writes of many.
+const MANY: usize = 65_536;
+
+/// Whole lines that wait to be written, and how many bytes were written before them.
+#[derive(Drop)]
+pub(crate) struct Page {
+    pub(crate) text: Vec<u8>,
+    written: u128,
+}
+
+/// Writes as many of the bytes as the writer takes before it fails, and tells how many.
+fn write_out<W: Write>(out: &mut W, bytes: &[u8]) -> usize
+    ensures within { result ≤ length bytes.now }
+    ensures got { Appends (W.contents out.old) (W.contents out.new) (take result bytes.now) }
+{
+    let mut taken = 0;
+    while taken < bytes.len() {
+        match out.write(&bytes[taken..]) {
+            Ok(0) | Err(_) => return taken,
+            Ok(count) => taken += count,
+        }
+    }
+    taken
+}
+
+impl Page {
+    /// An empty page, before which nothing was written.
+    pub(crate) fn new(alloc: Global) -> Page
+        ensures { result.text.items ≡ [] }
+    {
+        Page {
+            text: Vec::new(alloc),
+            written: 0,
+        }
+    }
+
+    /// Writes all that waits.
+    pub(crate) fn flush<W: Write>(&mut self, out: &mut W) -> Result<(), WaveError>
+        ensures whole { OnOk result (Appends (W.contents out.old) (W.contents out.new) self.old.text.items) }
+        ensures empty { OnOk result (self.new.text.items ≡ []) }
+        ensures part { IfErr result (λ _. IsCut (W.contents out.old) (W.contents out.new) self.old.text.items) }
+    {
+        let taken = write_out(out, self.text.as_slice());
+        self.written = self.written.saturating_add(taken as u128);
+        if taken < self.text.len() {
+            return Err(WaveError::Write(self.written));
+        }
+        self.text.clear();
+        Ok(())
+    }
+
+    /// Writes all that waits, where it is much.
+    pub(crate) fn flush_much<W: Write>(&mut self, out: &mut W) -> Result<(), WaveError>
+        ensures whole { OnOk result (IsFlushed (W.contents out.old) (W.contents out.new) self.old.text.items self.new.text.items) }
+        ensures part { IfErr result (λ _. IsCut (W.contents out.old) (W.contents out.new) self.old.text.items) }
+    {
+        if self.text.len() < MANY {
+            return Ok(());
+        }
+        self.flush(out)?;
+        Ok(())
+    }
+}

@@ -1,0 +1,51 @@
+//! The dump of a trace.
+
+ghost use Rattle.std.specs.Prelude.{IfErr, IfSome, OnOk};
+ghost use Rattle.fb_types.specs.Headline.{system_of};
+ghost use Rattle.fb_wave.specs.Waves.{IsWave, WritesFront};
+
+use crate::copy::Progress;
+use crate::error::WaveError;
+use crate::page::Page;
+use fb_dump::dump::Dump;
+use fb_lines::ports::ports_of;
+use fb_lines::table::{Guess, Table, texts_of};
+use fb_system::system::System;
+use std::alloc::Global;
+use std::io::{BufRead, Write};
+
+/// Reads a trace of the system, in either form, and writes its value change dump.
+///
+/// A time of the dump is a tick, in milliseconds. In a tick each signal changes once, at most: an event port fires where it
+/// had an event, and the count beside it has 64 bits; a variable takes its last value. All memory is that of the signals,
+/// of a line, and of a page.
+///
+/// # Errors
+/// `Refused` with the first line at which it shows that the text is no trace of the system. What was written then is a
+/// beginning of a dump that ends at a line, as it is where the reader fails or memory wants. Where the writer fails it has
+/// as many bytes as the error says.
+pub fn write_wave<R: BufRead, W: Write>(
+    alloc: Global,
+    system: &System,
+    input: &mut R,
+    out: &mut W,
+) -> Result<(), WaveError>
+    ensures whole { OnOk result (IfSome (R.remaining input.old) (λ text. IsWave (system_of system.now) text (W.contents out.old) (W.contents out.new))) }
+    ensures part { IfErr result (λ _. WritesFront (system_of system.now) (W.contents out.old) (W.contents out.new)) }
+{
+    let ports = ports_of(alloc, system)?;
+    let texts = texts_of(alloc, system, ports.as_slice())?;
+    let Some(table) = Table::of(alloc, system, ports.as_slice(), texts.as_slice())? else {
+        return Err(WaveError::Names);
+    };
+    let guess = Guess::new(alloc, &table)?;
+    let mut page = Page::new(alloc);
+    let dump = Dump::begin(alloc, system, &mut page.text)?;
+    let mut progress = Progress {
+        dump,
+        page,
+        guess,
+        tick: 0,
+    };
+    progress.copy(alloc, &table, input, out)
+}

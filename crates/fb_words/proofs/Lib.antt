@@ -1,0 +1,3 @@
+pub mod Cutting
+pub mod Numerals
+pub mod Valued

@@ -1,0 +1,315 @@
+#!/usr/bin/env python3
+"""tools/waves.py [PROGRAM]: the dumps that `wave` makes, as GTKWave reads them, beside the traces that they are made of.
+
+Of each example, and of inputs of its own with a stop, with events of one port that come twice in a tick and with values at the
+ends of types, the program makes the value change dump of the trace, in both forms, which are to be the same bytes. The dump is
+read by tools/vcd.py, which knows the standard alone, and by GTKWave's own reader: vcd2fst makes GTKWave's database of it,
+and fst2vcd tells what the database has. Both are compared with what the trace says, which is computed here from the lines
+of the trace and from nothing else: in each tick the ports that had an event fire, and no others; the register beside a port counts
+its events; a variable has the last value that a line told, and is unknown before its first; the last time is that of the last
+line, and a stop has its comment.
+
+Where vcd2fst is missing, this installs the package gtkwave of the system by its name. Where that fails, for want of a network
+say, it says so, and the dumps are read by tools/vcd.py alone: status 0 says then that these comparisons came out, and the last
+line says that GTKWave's reader read nothing. ./gate installs nothing."""
+
+import glob
+import os
+import re
+import shutil
+import subprocess
+import sys
+import tempfile
+from typing import NamedTuple, Optional
+
+import calls
+import vcd
+from kit import TOP
+from program import Room
+
+PROGRAM = f"{TOP}/crates/fbsim/out/fbsim"
+READERS = ("vcd2fst", "fst2vcd")
+PACKAGE = "gtkwave"
+BITS = 64
+COUNT = "_count"
+
+# The worked example of docs/FORMATS.md, in both forms.
+SWITCH = b"""APPLICATION A FBS F : E_SR; W : E_SWITCH; END_FBS
+EVENT_CONNECTIONS F.EO TO W.EI; END_CONNECTIONS DATA_CONNECTIONS F.Q TO W.G; END_CONNECTIONS END_APPLICATION
+"""
+TWO_RESOURCES = b"""resource = [{ device = "CELL", name = "R1", instances = ["F"] }, { device = "CELL", name = "R2", instances = ["W"] }]
+link = [{ from = "R1", to = "R2", latency = 2 }]
+"""
+SWITCHED = b"""0 0 0 3 R1 > F.S
+0 0 0 3 R1 < F.EO Q=TRUE
+0 1 0 5 R2 > W.EI G=FALSE
+0 1 0 5 R2 < W.EO0
+2 0 0 5 R2 > W.EI G=TRUE
+2 0 0 5 R2 < W.EO1
+end 6
+"""
+# A block that takes values and does nothing, and values at the ends of their types.
+SINK = b"""FUNCTION_BLOCK SINK EVENT_INPUT GO WITH A, B, C, D, E; END_EVENT
+VAR_INPUT A : LINT; B : ULINT; C : SINT; D : BOOL; E : TIME; END_VAR
+EC_STATES IDLE; END_STATES END_FUNCTION_BLOCK
+APPLICATION A FBS P : SINK; END_FBS END_APPLICATION
+"""
+ENDS = b"""0 0 0 0 MAIN > P.GO A=9223372036854775807 B=18446744073709551615 C=127 D=TRUE E=-1
+0 1 0 1 MAIN > P.GO A=-9223372036854775808 B=0 C=-128 D=FALSE E=9223372036854775807
+0 2 0 1000000000 MAIN > P.GO A=-1 B=1 C=-1 D=FALSE E=0
+end 1000000000000
+"""
+
+
+class Case(NamedTuple):
+    """A declaration, a deployment where there is one, and a trace in both forms."""
+
+    name: str
+    declaration: bytes
+    deployment: Optional[bytes]
+    forms: tuple
+
+
+class Told(NamedTuple):
+    """What a trace says: when each event port fires, the values of each other signal with their times, and the end."""
+
+    fired: dict
+    values: dict
+    end: int
+    comments: list
+
+
+# ---- What a trace says
+
+
+def form_one(trace):
+    """A trace of form two in form one: its lines but the last have three words less."""
+    *lines, last = trace.splitlines(keepends=True)
+    return b"".join([it.split(b" ", 3)[3] for it in lines] + [last])
+
+
+def bits_of(word):
+    """A value of a trace as the bits of a signal."""
+    if word in ("TRUE", "FALSE"):
+        return "1" if word == "TRUE" else "0"
+    return format(int(word) % 2**BITS, f"0{BITS}b")
+
+
+def told_by(trace):
+    """Returns what a trace of form one says."""
+    fired, counts, values = {}, {}, {}
+    *lines, last = trace.decode().splitlines()
+    for line in lines:
+        tick, resource, _, port, *words = line.split(" ")
+        name, tick = f"{resource}.{port}", int(tick)
+        counts[name] = counts.get(name, 0) + 1
+        fired.setdefault(name, {})[tick] = True
+        values.setdefault(name + COUNT, {})[tick] = bits_of(counts[name])
+        for word in words:
+            variable, _, value = word.partition("=")
+            values.setdefault(f"{name.rpartition('.')[0]}.{variable}", {})[tick] = bits_of(value)
+    end, tick, *stop = last.split(" ")
+    comments = [(int(tick), " ".join([end, *stop]))] if end == "stop" else []
+    return Told({name: [*ticks] for name, ticks in fired.items()}, values, int(tick), comments)
+
+
+# ---- What a dump says beside it
+
+
+def begins(name, size):
+    """The bits with which a signal begins: a count with 0, a variable unknown."""
+    return ("0" if name.endswith(COUNT) else "x") * size
+
+
+def steps_of(values, name, size):
+    """The times at which a signal changes, with its bits from then on. The first is 0."""
+    found = [(0, begins(name, size))]
+    for tick, bits in sorted(values.items()):
+        if tick == 0:
+            found = []
+        if not found or found[-1][1] != bits:
+            found.append((tick, bits))
+    return found
+
+
+def kind_of(told, name):
+    """How a signal of which a trace tells is to be declared."""
+    if name in told.fired:
+        return vcd.Signal("event", 1)
+    size = len(next(iter(told.values[name].values())))
+    return vcd.Signal("wire" if size == 1 else "reg", size)
+
+
+def differences(told, dump):
+    """What a dump says otherwise than the trace, line by line."""
+    for name in sorted({*told.fired, *told.values} - {*dump.signals}):
+        yield f"{name} is no signal"
+    for name, signal in dump.signals.items():
+        if name in told.fired or name in told.values:
+            if signal != kind_of(told, name):
+                yield f"{name} is declared as {signal.kind} {signal.size}"
+        if signal.kind == "event":
+            seen, wanted = dump.fired.get(name, []), told.fired.get(name, [])
+        else:
+            seen, wanted = dump.values.get(name, []), steps_of(told.values.get(name, {}), name, signal.size)
+        if seen != wanted:
+            yield f"{name} has {seen[:9]} and not {wanted[:9]}"
+    if dump.end != told.end:
+        yield f"the last time is {dump.end} and not {told.end}"
+
+
+def faults_of_form(told, dump):
+    """What a dump as the program writes it has otherwise than docs/FORMATS.md says."""
+    if dump.scale != "1ms":
+        yield f"the time scale is {dump.scale}"
+    if dump.comments != told.comments:
+        yield f"the comments are {dump.comments} and not {told.comments}"
+    for name, signal in dump.signals.items():
+        if signal.kind != "event" and dump.begun.get(name) != begins(name, signal.size):
+            yield f"{name} begins with {dump.begun.get(name)}"
+        if signal.kind == "event" and (name in dump.begun or dump.signals.get(name + COUNT) != vcd.Signal("reg", BITS)):
+            yield f"{name} fires in $dumpvars, or has no count beside it"
+
+
+def by_gtkwave(dump):
+    """What GTKWave's database has of a dump, as the text of a dump."""
+    with tempfile.TemporaryDirectory(prefix="waves-") as room:
+        text, base = f"{room}/it.vcd", f"{room}/it.fst"
+        with open(text, "wb") as it:
+            it.write(dump)
+        made = subprocess.run(["vcd2fst", text, base], capture_output=True)
+        if made.returncode or not os.path.exists(base):
+            raise vcd.Fault(f"vcd2fst says {(made.stdout + made.stderr).decode(errors='replace').strip()}")
+        told = subprocess.run(["fst2vcd", base], check=True, capture_output=True).stdout.decode("ascii")
+    # (it closes $dumpvars at the next time, and so not where there is none)
+    return told if "$end" in told.partition("$dumpvars")[2] else told + "$end\n"
+
+
+def faults_by(text_of, told, look):
+    """What these looks find in a text, or that it is no dump."""
+    try:
+        read = vcd.read(text_of())
+        return [it for one in look for it in one(told, read)]
+    except (vcd.Fault, UnicodeDecodeError) as fault:
+        return [str(fault)]
+
+
+def faults(trace, dump, with_gtkwave):
+    """What is wrong with the dump of a trace of form one."""
+    told = told_by(trace)
+    found = faults_by(lambda: dump.decode("ascii"), told, [faults_of_form, differences])
+    if with_gtkwave:
+        found += [f"by GTKWave: {it}" for it in faults_by(lambda: by_gtkwave(dump), told, [differences])]
+    return found
+
+
+# ---- Cases
+
+
+def content(path):
+    with open(path, "rb") as it:
+        return it.read()
+
+
+def runs():
+    """The files of each example, and of a run that stops, with the words of the run. The trace is one of the files."""
+    yield "stop", {"stop.iec": calls.RING, "trace": calls.STOPPED}, ["run", "stop.iec", "--horizon", "1", "--steps", "3"]
+    for args in sorted(glob.glob(f"{TOP}/examples/*/args")):
+        folder = os.path.dirname(args)
+        name = os.path.basename(folder)
+        files = {os.path.basename(it): content(it) for it in glob.glob(f"{folder}/*") if os.path.isfile(it)}
+        yield name, files, content(args).decode().splitlines()
+
+
+def cases(room):
+    """All cases, and what is wrong with the traces of form two that the program writes of the runs."""
+    found, wrong = [], []
+    for name, files, words in runs():
+        for file, text in files.items():
+            with open(f"{room.folder}/{file}", "wb") as it:
+                it.write(text)
+        second = room.call([*words, "--trace", "2"]).stdout
+        if form_one(second) != files["trace"]:
+            wrong.append(f"{name}: the trace of form two tells of other lines")
+        found.append(Case(name, files[f"{name}.iec"], files.get("deploy.toml"), (files["trace"], second)))
+    own = [("switch", SWITCH, TWO_RESOURCES, SWITCHED), ("ends", SINK, None, ENDS)]
+    found += [Case(name, text, deployed, (form_one(trace), trace)) for name, text, deployed, trace in own]
+    return found, wrong
+
+
+def dump_of(room, case, trace):
+    """What the program makes of a trace, or what is to be said of its call."""
+    files = {"it.iec": case.declaration, "it.trace": trace}
+    words = ["wave", "it.iec"]
+    if case.deployment is not None:
+        files["it.toml"] = case.deployment
+        words += ["--deploy", "it.toml"]
+    for file, text in files.items():
+        with open(f"{room.folder}/{file}", "wb") as it:
+            it.write(text)
+    ran = room.call([*words, "it.trace"])
+    if ran.returncode or ran.stderr:
+        raise vcd.Fault(f"status {ran.returncode}: {ran.stderr.decode(errors='replace').strip()}")
+    return ran.stdout
+
+
+def faults_of(room, case, with_gtkwave):
+    """What is wrong with the dumps of a case."""
+    try:
+        first, *others = [dump_of(room, case, trace) for trace in case.forms]
+    except vcd.Fault as fault:
+        return [str(fault)]
+    found = ["the dumps of the two forms differ"] if any(it != first for it in others) else []
+    return found + faults(case.forms[0], first, with_gtkwave)
+
+
+def unseen(room, case, with_gtkwave):
+    """The changes of a dump that can go, or be put twice as far, without being seen here. There are to be none."""
+    lines = dump_of(room, case, case.forms[0]).splitlines(keepends=True)
+    for place in range(lines.index(b"$end\n") + 1, len(lines)):
+        if not faults(case.forms[0], b"".join(lines[:place] + lines[place + 1 :]), False):
+            yield f"that the line {lines[place].decode().strip()} is gone is not seen"
+    if with_gtkwave:
+        late = re.sub(rb"^#5$", b"#4", b"".join(lines), flags=re.M)
+        if not any(it.startswith("by GTKWave") for it in faults(case.forms[0], late, True)):
+            yield "that GTKWave reads another time is not seen"
+
+
+def have_readers():
+    return all(shutil.which(it) for it in READERS)
+
+
+def make_all(program, says=print):
+    """Compares the dumps of all cases, by GTKWave's reader too where it is on this machine. Returns whether all are as the traces say."""
+    with_gtkwave = have_readers()
+    with Room(program) as room:
+        made, wrong = cases(room)
+        for case in made:
+            wrong += [f"{case.name}: {it}" for it in faults_of(room, case, with_gtkwave)]
+        if not wrong:
+            wrong = [*unseen(room, next(it for it in made if it.name == "switch"), with_gtkwave)]
+    for it in wrong:
+        says(f"waves: {it}")
+    by = "read by GTKWave's vcd2fst and by tools/vcd.py" if with_gtkwave else "read by tools/vcd.py alone: GTKWave's vcd2fst is not here, and read nothing"
+    says(f"waves: {len(wrong)} faults in the dumps of {len(made)} traces, {by}", flush=True)
+    return not wrong
+
+
+def install():
+    """Installs GTKWave from the packages of the system."""
+    get = ["apt-get", "install", "-y", PACKAGE]
+    for words in (get, ["apt-get", "update"], get):
+        if have_readers() or not shutil.which("apt-get"):
+            return
+        subprocess.run(words, stdout=subprocess.DEVNULL, stderr=subprocess.DEVNULL, stdin=subprocess.DEVNULL)
+
+
+def main(program=PROGRAM):
+    if not os.path.exists(program):
+        sys.exit(f"{program} is not built: ./simulate builds it")
+    install()
+    return 0 if make_all(program) else 1
+
+
+if __name__ == "__main__":
+    sys.exit(main(*sys.argv[1:]))
