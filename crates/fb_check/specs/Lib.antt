@@ -1,1 +1,4 @@
 pub mod Refusals
+pub mod Faults
+pub mod Verdicts
+pub mod Directory

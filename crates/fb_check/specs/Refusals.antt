@@ -2,10 +2,10 @@
 use Rattle.std.specs.Prelude.{ℕ, Option, Some, None}
 use Rattle.fb_types.specs.Accepted.{IsLeastFault}
 use Rattle.fb_types.specs.Headline.{Inputs, inputs}
-use Rattle.fb_judge.specs.Faults as judge
-use Rattle.fb_judge.specs.declared.case.Case.{Case}
-use Rattle.fb_judge.specs.declared.fault.Refusal as judged
-use Rattle.fb_judge.specs.declared.fault.Refusal.TheVariants as refusal
+use Rattle.fb_check.specs.Faults as judge
+use Rattle.fb_check.specs.declared.case.Case.{Case}
+use Rattle.fb_check.specs.declared.fault.Refusal as judged
+use Rattle.fb_check.specs.declared.fault.Refusal.TheVariants as refusal
 use Rattle.fb_check.specs.declared.error.CheckError.{CheckError}
 use Rattle.fb_check.specs.declared.error.CheckError.TheVariants.{Memory, Refused}
 

@@ -2,17 +2,17 @@
 
 ghost use Rattle.std.specs.Prelude.{◌≡◌, IfOk, IfErr};
 ghost use Rattle.fb_types.specs.Headline.{AreAccepted, inputs};
-ghost use Rattle.fb_interfaces.specs.Tables.{AreInterfaces};
-ghost use Rattle.fb_resolve.specs.Numbers.{IsResolved};
-ghost use Rattle.fb_rows.specs.Rows.{AreRows};
+ghost use Rattle.fb_system.specs.Tables.{AreInterfaces};
+ghost use Rattle.fb_names.specs.Numbers.{IsResolved};
+ghost use Rattle.fb_system.specs.Rows.{AreRows};
 ghost use Rattle.fb_check.specs.Refusals.{IsRightly, inputs_in};
 
+use crate::case::{Case, Judged};
 use crate::error::CheckError;
-use fb_interfaces::interfaces::{Interfaces, interfaces_of};
-use fb_judge::case::{Case, Judged};
-use fb_judge::judge::judged;
-use fb_resolve::numbers::Resolved;
-use fb_rows::rows::{StimulusRow, rows_of};
+use crate::judge::judged;
+use fb_names::numbers::Resolved;
+use fb_system::interfaces::{Interfaces, interfaces_of};
+use fb_system::rows::{StimulusRow, rows_of};
 use fb_system::system::System;
 use fb_types::deploy::{Deploy, Stimulus};
 use fb_types::items::Items;

@@ -4,7 +4,7 @@ ghost use Rattle.std.specs.Prelude.{◌≡◌};
 ghost use Rattle.fb_check.specs.Refusals.{error_of, number_of};
 ghost use Rattle.fb_check.specs.declared.error.CheckError.TheVariants.{Memory};
 
-use fb_judge::fault::{Fault, Refusal};
+use crate::fault::{Fault, Refusal};
 use std::alloc::AllocError;
 use thiserror::Error;
 

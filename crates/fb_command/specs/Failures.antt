@@ -5,7 +5,7 @@ use Rattle.fb_read.specs.declared.error.ReadError.{ReadError}
 use Rattle.fb_read.specs.declared.error.ReadError.TheVariants as read
 use Rattle.fb_inputs.specs.Refusals as input
 use Rattle.fb_inputs.specs.declared.error.InputError.{InputError}
-use Rattle.fb_judge.specs.Faults as judge
+use Rattle.fb_check.specs.Faults as judge
 use Rattle.fb_sim.specs.declared.outcome.Refusal as sim
 use Rattle.fb_sim.specs.declared.outcome.Refusal.TheVariants as of
 use Rattle.fb_sim.specs.declared.outcome.RunError.{RunError}

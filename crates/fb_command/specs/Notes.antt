@@ -2,8 +2,8 @@
 use Rattle.std.specs.Prelude.{◌≡◌, ◌≢◌, ℕ, List, ◌++◌, Bool, IsTrue, Option, Some, None, option_map, codes, string_bytes}
 use Rattle.fb_call.specs.declared.line.Call.{Call}
 use Rattle.fb_sim.specs.Given.{Given}
-use Rattle.fb_reason.specs.Reasons.{Tells}
-use Rattle.fb_reason.specs.declared.reason.Reason.{Reason}
+use Rattle.fb_why.specs.Reasons.{Tells}
+use Rattle.fb_why.specs.declared.reason.Reason.{Reason}
 use Rattle.fb_command.specs.declared.failure.Failure.{Failure}
 use Rattle.fb_command.specs.declared.failure.Failure.TheVariants.{Refused}
 use Rattle.fb_command.specs.declared.failure.Refusal.TheVariants.{Numbered}

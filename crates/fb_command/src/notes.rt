@@ -8,7 +8,7 @@ use crate::failure::{Failure, Refusal};
 use crate::source::SourceFault;
 use crate::texts::{Part, Texts, Unread};
 use fb_call::line::Call;
-use fb_reason::reason::reason_of;
+use fb_why::reason::reason_of;
 use std::alloc::Global;
 
 /// What a file is called.

@@ -8,9 +8,9 @@ use Rattle.fb_types.specs.Systems.{System}
 use Rattle.fb_types.specs.Numbers.{path_at, ports_at}
 use Rattle.fb_types.specs.Text.{path_text}
 use Rattle.fb_types.specs.declared.library.Library.{Library}
-use Rattle.fb_layout.specs.Layouts.{route_to, place_at}
-use Rattle.fb_signals.specs.Scopes.{closed, opened, own_name, ports_declared, ports_begun, instances_declared, instances_begun, resources_declared}
-use Rattle.fb_signals.specs.Signals.{size_of, first_signal}
+use Rattle.fb_fabric.specs.Layouts.{route_to, place_at}
+use Rattle.fb_dump.specs.Scopes.{closed, opened, own_name, ports_declared, ports_begun, instances_declared, instances_begun, resources_declared}
+use Rattle.fb_dump.specs.Signals.{size_of, first_signal}
 use Rattle.fb_dump.proofs.Numbering.{first_signal-next, paths_from}
 
 -- ---- Names and heights of instances

@@ -4,3 +4,8 @@ pub mod Numbering
 pub mod Pairing
 pub mod Placing
 pub mod Telling
+pub mod Declaring
+pub mod Listing
+pub mod Noting
+pub mod Spelled
+pub mod Turning

@@ -8,10 +8,10 @@ use Rattle.fb_types.specs.Systems.{System}
 use Rattle.fb_types.specs.declared.library.Ports.{Ports}
 use Rattle.fb_types.specs.declared.run.Line.{Line}
 use Rattle.fb_types.specs.declared.value.Value.{Value}
-use Rattle.fb_signals.specs.Levels.{AreLevels}
-use Rattle.fb_signals.specs.declared.levels.Levels.{Levels}
-use Rattle.fb_interfaces.specs.Stands.{ArePlaces}
-use Rattle.fb_signals.specs.Signals.{first_signal}
+use Rattle.fb_dump.specs.Levels.{AreLevels}
+use Rattle.fb_dump.specs.declared.levels.Levels.{Levels}
+use Rattle.fb_system.specs.Stands.{ArePlaces}
+use Rattle.fb_dump.specs.Signals.{first_signal}
 use Rattle.fb_system.specs.Lines.{BelongsTo, line_variables}
 use Rattle.fb_dump.specs.Told.{fired, line_side, pairs, place_of, told, told_signals, touched}
 use Rattle.fb_dump.specs.Writing.{AreFirsts, AreMarks}

@@ -7,7 +7,7 @@ use Rattle.std.proofs.lemmas.List.{drop_more, get_or_append_left, get_or_default
 use Rattle.fb_types.specs.Names.{Path}
 use Rattle.fb_types.specs.Systems.{System}
 use Rattle.fb_types.specs.Numbers.{path_at, ports_at}
-use Rattle.fb_signals.specs.Signals.{size_of, sizes_of, first_signal}
+use Rattle.fb_dump.specs.Signals.{size_of, sizes_of, first_signal}
 use Rattle.fb_dump.specs.Writing.{AreFirsts}
 
 sizes_of-append : (sys : System) (ps qs : List Path) → sizes_of sys (ps ++ qs) ≡ sizes_of sys ps + sizes_of sys qs

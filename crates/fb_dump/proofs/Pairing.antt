@@ -2,8 +2,8 @@
 use Rattle.std.proofs.Common.{◌≡◌, ℕ, zero, suc, ◌+◌, ◌<◌, List, [], ◌∷◌, ◌++◌, length, map, take, get_or, min, sym, ap, subst, ◌∙◌, arith, append_assoc, append-nil, add-one}
 use Rattle.std.proofs.lemmas.List.{map-append}
 use Rattle.fb_types.specs.declared.value.Value.{Value}
-use Rattle.fb_signals.specs.Levels.{AreLevels}
-use Rattle.fb_signals.specs.declared.levels.Levels.{Levels}
+use Rattle.fb_dump.specs.Levels.{AreLevels}
+use Rattle.fb_dump.specs.declared.levels.Levels.{Levels}
 use Rattle.fb_dump.specs.Told.{pairs}
 
 -- the first pairs, and one more

@@ -5,13 +5,13 @@ use Rattle.std.proofs.lemmas.List.{map-append}
 use Rattle.fb_types.specs.Systems.{System}
 use Rattle.fb_types.specs.declared.run.Line.{Line}
 use Rattle.fb_types.specs.declared.value.Value.{Value}
-use Rattle.fb_signals.specs.Levels.{AreLevels}
-use Rattle.fb_signals.specs.declared.levels.Levels.{Levels}
+use Rattle.fb_dump.specs.Levels.{AreLevels}
+use Rattle.fb_dump.specs.declared.levels.Levels.{Levels}
 use Rattle.std.proofs.lemmas.Bool.{eq-eqb, ne_eqb}
 use Rattle.fb_types.specs.Simulation.{Ending}
-use Rattle.fb_signals.specs.Changes.{changes, time_text}
-use Rattle.fb_signals.specs.Scopes.{head_text}
-use Rattle.fb_signals.specs.Signals.{sizes_of}
+use Rattle.fb_dump.specs.Changes.{changes, time_text}
+use Rattle.fb_dump.specs.Scopes.{head_text}
+use Rattle.fb_dump.specs.Signals.{sizes_of}
 use Rattle.fb_dump.specs.Dumps.{dump_text, end_text, last_tick, tick_changes, ticks_text}
 use Rattle.fb_dump.specs.Told.{fired, told, touched, fires_of, tells_of, touches_of}
 use Rattle.fb_dump.specs.Writing.{Tells, Turns}

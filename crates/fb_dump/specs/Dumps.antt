@@ -6,8 +6,8 @@ use Rattle.fb_types.specs.Simulation.{Ending, AtHorizon, AtStop}
 use Rattle.fb_types.specs.Text.{reason_text}
 use Rattle.fb_types.specs.declared.run.Line.{Line}
 use Rattle.fb_types.specs.declared.value.Reason.{Reason}
-use Rattle.fb_signals.specs.Changes.{line, changes, time_text}
-use Rattle.fb_signals.specs.Scopes.{head_text}
+use Rattle.fb_dump.specs.Changes.{line, changes, time_text}
+use Rattle.fb_dump.specs.Scopes.{head_text}
 use Rattle.fb_dump.specs.Told.{fires_of, tells_of, touches_of}
 
 -- ---- Ticks

@@ -9,7 +9,7 @@ use Rattle.fb_types.specs.declared.library.Variable.{Variable}
 use Rattle.fb_types.specs.declared.run.Line.{Line}
 use Rattle.fb_types.specs.declared.value.Value.{Value}
 use Rattle.fb_system.specs.Lines.{line_variables}
-use Rattle.fb_signals.specs.Signals.{event_signal, first_variable}
+use Rattle.fb_dump.specs.Signals.{event_signal, first_variable}
 
 -- the variables among which those of a line are
 abbrev pub line_side : System → Line → List Variable

@@ -2,12 +2,12 @@
 use Rattle.std.specs.Prelude.{◌≡◌, ◌<◌, ◌≤◌, ℕ, ◌+◌, ◌^◌, List, [], ◌∷◌, ◌++◌, length, All, slice_index}
 use Rattle.fb_types.specs.Systems.{System}
 use Rattle.fb_types.specs.declared.run.Line.{Line}
-use Rattle.fb_interfaces.specs.Stands.{ArePlaces}
+use Rattle.fb_system.specs.Stands.{ArePlaces}
 use Rattle.fb_system.specs.Lines.{line_variables}
-use Rattle.fb_signals.specs.Levels.{AreLevels}
-use Rattle.fb_signals.specs.Signals.{first_signal, first_variable, sizes_of}
-use Rattle.fb_signals.specs.declared.levels.Levels.{Levels}
-use Rattle.fb_signals.specs.Scopes.{head_text}
+use Rattle.fb_dump.specs.Levels.{AreLevels}
+use Rattle.fb_dump.specs.Signals.{first_signal, first_variable, sizes_of}
+use Rattle.fb_dump.specs.declared.levels.Levels.{Levels}
+use Rattle.fb_dump.specs.Scopes.{head_text}
 use Rattle.fb_dump.specs.Dumps.{last_tick, ticks_text}
 use Rattle.fb_dump.specs.declared.dump.Dump.{Dump}
 use Rattle.fb_dump.specs.declared.dump.Marks.{Marks}

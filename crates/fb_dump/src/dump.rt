@@ -6,15 +6,15 @@ ghost use Rattle.fb_types.specs.Systems.{System as Flat};
 ghost use Rattle.fb_types.specs.Text.{reason_text};
 ghost use Rattle.fb_system.specs.Lines.{BelongsTo};
 ghost use Rattle.fb_trace.specs.End.{EndsIn, ending_of};
-ghost use Rattle.fb_signals.specs.Levels.{AreLevels};
+ghost use Rattle.fb_dump.specs.Levels.{AreLevels};
 ghost use Rattle.fb_dump.specs.Dumps.{dump_text, end_text, stop_comment};
 ghost use Rattle.fb_dump.specs.Told.{pairs};
 ghost use Rattle.fb_dump.specs.Writing.{AreFirsts, AreMarks, HasTold, IsDump, Tells, Turns};
 
+use crate::change::{put_changes, put_time};
 use crate::firsts::firsts_of;
 use crate::head::put_head;
-use fb_signals::change::{put_changes, put_time};
-use fb_signals::levels::Levels;
+use crate::levels::Levels;
 use fb_system::system::System;
 use fb_trace::last::End;
 use fb_types::run::Line;

@@ -2,7 +2,7 @@
 
 ghost use Rattle.std.specs.Prelude.{◌≡◌, ◌<◌, ◌+◌, ◌^◌, IfOk};
 ghost use Rattle.fb_types.specs.Headline.{system_of};
-ghost use Rattle.fb_signals.specs.Signals as spec;
+ghost use Rattle.fb_dump.specs.Signals as spec;
 ghost use Rattle.fb_dump.specs.Writing.{AreFirsts};
 
 use fb_system::system::System;

@@ -3,12 +3,12 @@
 ghost use Rattle.std.specs.Prelude.{◌≡◌, ◌<◌, ◌≤◌, ◌+◌, ◌-◌, ◌^◌, ◌++◌, IfOk, OnOk, drop, length};
 ghost use Rattle.fb_types.specs.Headline.{system_of};
 ghost use Rattle.fb_types.specs.Numbers.{path_at, ports_at};
-ghost use Rattle.fb_signals.specs.Scopes as spec;
-ghost use Rattle.fb_signals.specs.Signals.{size_of};
+ghost use Rattle.fb_dump.specs.Scopes as spec;
+ghost use Rattle.fb_dump.specs.Signals.{size_of};
 ghost use Rattle.fb_dump.specs.Writing.{AreFirsts};
 
-use fb_signals::scopes::{put_closed, put_opened};
-use fb_signals::{begun, declared};
+use crate::scopes::{put_closed, put_opened};
+use crate::{begun, declared};
 use fb_system::system::System;
 use std::alloc::AllocError;
 

@@ -9,12 +9,12 @@ use Rattle.fb_types.specs.Unknown.{event_ins, event_outs, data_ins, data_outs}
 use Rattle.fb_types.specs.declared.library.Library.{Library}
 use Rattle.fb_types.specs.declared.library.Ports.{Ports}
 use Rattle.fb_types.specs.declared.run.Target.{Target}
-use Rattle.fb_resolve.specs.declared.numbers.End.{End}
-use Rattle.fb_resolve.specs.declared.numbers.NetworkNumbers.{NetworkNumbers}
-use Rattle.fb_resolve.proofs.Elements.{element_of_place}
-use Rattle.fb_layout.specs.Layouts.{IsRow, path_of}
-use Rattle.fb_layout.specs.declared.layout.Layout.{Layout}
-use Rattle.fb_layout.specs.declared.layout.Row.{Row}
+use Rattle.fb_names.specs.declared.numbers.End.{End}
+use Rattle.fb_names.specs.declared.numbers.NetworkNumbers.{NetworkNumbers}
+use Rattle.fb_names.proofs.Elements.{element_of_place}
+use Rattle.fb_fabric.specs.Layouts.{IsRow, path_of}
+use Rattle.fb_fabric.specs.declared.layout.Layout.{Layout}
+use Rattle.fb_fabric.specs.declared.layout.Row.{Row}
 use Rattle.fb_fabric.specs.declared.fabric.Place.{Place}
 use Rattle.fb_fabric.specs.Fabrics.{IsPort, IsVariable, ports_here, port_of, variable_of, event_input, event_output, data_input, data_output}
 use Rattle.fb_fabric.specs.Networks.{AreTables, IsEndOf, IsThere, path_around, side, source_along, targets_along}

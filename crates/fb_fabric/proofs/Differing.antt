@@ -18,11 +18,11 @@ use Rattle.fb_types.specs.declared.event_kind.EventKind.TheVariants.{Restart, Sp
 use Rattle.fb_types.specs.declared.deploy.Plan.{Plan}
 use Rattle.fb_names.proofs.NameLemmas.{Contains-nil, Contains-cons_cases, Contains-there, Twice-append_left, any_from_contains}
 use Rattle.fb_names.proofs.TwiceIn.{Contains-map}
-use Rattle.fb_resolve.specs.declared.numbers.TypeNumber.{TypeNumber}
-use Rattle.fb_resolve.specs.declared.numbers.TypeNumber.TheVariants as number
-use Rattle.fb_resolve.specs.Numbers.{type_number, kind_of_number}
-use Rattle.fb_resolve.proofs.Elements.{element_of_place}
-use Rattle.fb_resolve.proofs.Lookups.{type_named-number}
+use Rattle.fb_names.specs.declared.numbers.TypeNumber.{TypeNumber}
+use Rattle.fb_names.specs.declared.numbers.TypeNumber.TheVariants as number
+use Rattle.fb_names.specs.Numbers.{type_number, kind_of_number}
+use Rattle.fb_names.proofs.Elements.{element_of_place}
+use Rattle.fb_names.proofs.Lookups.{type_named-number}
 
 -- ---- Parts of a list in which nothing stands twice
 

@@ -15,9 +15,9 @@ use Rattle.fb_types.specs.declared.library.PortName.{PortName}
 use Rattle.fb_types.specs.declared.library.Ports.{Ports}
 use Rattle.fb_types.proofs.PathLaws.{same_path_is, same_path_itself, same_name_is, same_name_itself}
 use Rattle.fb_names.proofs.Positions.{named-position, position_is, position_of_once}
-use Rattle.fb_resolve.specs.Numbers.{place_of, ports_at_place, end_at, end_number}
-use Rattle.fb_resolve.specs.declared.numbers.End.{End}
-use Rattle.fb_wiring.specs.Wirings.{same_component, same_end}
+use Rattle.fb_names.specs.Numbers.{place_of, ports_at_place, end_at, end_number}
+use Rattle.fb_names.specs.declared.numbers.End.{End}
+use Rattle.fb_fabric.specs.Wirings.{same_component, same_end}
 use Rattle.fb_fabric.specs.Networks.{IsThere, IsEndOf, side, composite_of}
 use Rattle.fb_fabric.proofs.Differing.{Differ}
 

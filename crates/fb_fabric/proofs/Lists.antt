@@ -3,8 +3,8 @@ use Rattle.std.proofs.Common.{◌≡◌, ℕ, zero, suc, Bool, true, false, cond
 use Rattle.std.specs.Prelude.{slice_get}
 use Rattle.std.specs.List.{filter}
 use Rattle.fb_types.specs.Flat.{first_of}
-use Rattle.fb_resolve.specs.Numbers.{each_or_none}
-use Rattle.fb_resolve.proofs.Each.{each_parts}
+use Rattle.fb_names.specs.Numbers.{each_or_none}
+use Rattle.fb_names.proofs.Each.{each_parts}
 
 -- each element of the one list goes with the one at its place in the other
 abbrev pub Pairwise : {A B : Type 0} → (A → B → Type 0) → List A → List B → Type 0

@@ -18,14 +18,14 @@ use Rattle.fb_types.specs.declared.library.Ports.{Ports}
 use Rattle.fb_types.specs.declared.event_kind.EventKind.{EventKind}
 use Rattle.fb_types.specs.declared.event_kind.EventKind.TheVariants.{Restart, Split, Merge, Rendezvous, Permit, Select, Switch, Delay, Cycle, SetReset, DataLatch, RisingEdge, FallingEdge, CountUp}
 use Rattle.fb_types.specs.declared.deploy.Plan.{Plan}
-use Rattle.fb_resolve.specs.declared.numbers.End.{End}
-use Rattle.fb_resolve.specs.declared.numbers.NetworkNumbers.{NetworkNumbers}
-use Rattle.fb_resolve.specs.declared.numbers.TypeNumber.{TypeNumber}
-use Rattle.fb_resolve.specs.declared.numbers.TypeNumber.TheVariants as number
-use Rattle.fb_resolve.specs.Numbers.{kind_of_number, type_number}
-use Rattle.fb_resolve.proofs.Lookups.{type_named-number}
-use Rattle.fb_wiring.specs.Wirings.{same_end, source_in, targets_in}
-use Rattle.fb_layout.specs.Layouts.{AreComponents, path_of}
+use Rattle.fb_names.specs.declared.numbers.End.{End}
+use Rattle.fb_names.specs.declared.numbers.NetworkNumbers.{NetworkNumbers}
+use Rattle.fb_names.specs.declared.numbers.TypeNumber.{TypeNumber}
+use Rattle.fb_names.specs.declared.numbers.TypeNumber.TheVariants as number
+use Rattle.fb_names.specs.Numbers.{kind_of_number, type_number}
+use Rattle.fb_names.proofs.Lookups.{type_named-number}
+use Rattle.fb_fabric.specs.Wirings.{same_end, source_in, targets_in}
+use Rattle.fb_fabric.specs.Layouts.{AreComponents, path_of}
 use Rattle.fb_fabric.specs.Fabrics.{IsCompositeHere, IsPort, IsVariable, ports_here, port_of, variable_of}
 use Rattle.fb_fabric.specs.Networks.{AreNarrow, IsEndOf, IsNarrow, IsThere, IsWired, side, source_along, targets_along}
 use Rattle.fb_fabric.proofs.Leading.{sources_there, targets_there}

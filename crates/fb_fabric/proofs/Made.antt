@@ -5,11 +5,11 @@ use Rattle.fb_types.specs.Flat.{paths_of}
 use Rattle.fb_types.specs.Repeated.{NameTwice}
 use Rattle.fb_types.specs.declared.library.Library.{Library}
 use Rattle.fb_types.specs.declared.deploy.Plan.{Plan}
-use Rattle.fb_resolve.specs.Numbers.{IsNetwork, IsResolved}
-use Rattle.fb_resolve.specs.declared.numbers.NetworkNumbers.{NetworkNumbers}
-use Rattle.fb_resolve.specs.declared.numbers.Resolved.{Resolved}
-use Rattle.fb_layout.specs.Layouts.{IsLayout}
-use Rattle.fb_layout.specs.declared.layout.Layout.{Layout}
+use Rattle.fb_names.specs.Numbers.{IsNetwork, IsResolved}
+use Rattle.fb_names.specs.declared.numbers.NetworkNumbers.{NetworkNumbers}
+use Rattle.fb_names.specs.declared.numbers.Resolved.{Resolved}
+use Rattle.fb_fabric.specs.Layouts.{IsLayout}
+use Rattle.fb_fabric.specs.declared.layout.Layout.{Layout}
 use Rattle.fb_fabric.specs.Networks.{AreNarrow, AreTables}
 
 -- what a result that is Ok promised

@@ -8,12 +8,12 @@ use Rattle.fb_types.specs.declared.library.Instance.{Instance}
 use Rattle.fb_types.specs.declared.library.Library.{Library}
 use Rattle.fb_types.specs.declared.library.Network.{Network}
 use Rattle.fb_names.proofs.Positions.{named_of_once}
-use Rattle.fb_resolve.specs.Numbers.{kind_of_number, parameter_numbers}
-use Rattle.fb_resolve.specs.declared.numbers.NetworkNumbers.{NetworkNumbers}
-use Rattle.fb_resolve.proofs.Each.{each_at}
-use Rattle.fb_layout.specs.Layouts.{IsRow, path_of}
-use Rattle.fb_layout.specs.declared.layout.Layout.{Layout}
-use Rattle.fb_layout.specs.declared.layout.Row.{Row}
+use Rattle.fb_names.specs.Numbers.{kind_of_number, parameter_numbers}
+use Rattle.fb_names.specs.declared.numbers.NetworkNumbers.{NetworkNumbers}
+use Rattle.fb_names.proofs.Each.{each_at}
+use Rattle.fb_fabric.specs.Layouts.{IsRow, path_of}
+use Rattle.fb_fabric.specs.declared.layout.Layout.{Layout}
+use Rattle.fb_fabric.specs.declared.layout.Row.{Row}
 use Rattle.fb_fabric.specs.Networks.{AreTables, IsWired, path_around}
 use Rattle.fb_fabric.proofs.Wired.{around_wired, last_of_route, network_by_kind, parent_around, parent_within}
 

@@ -3,9 +3,9 @@ use Rattle.std.proofs.Common.{◌≡◌, ℕ, ◌<◌, ◌≤◌, List, length, 
 use Rattle.fb_types.specs.Flat.{instance_at, kind_at, number_of, paths_of}
 use Rattle.fb_types.specs.declared.library.Instance.{Instance}
 use Rattle.fb_types.specs.declared.library.Library.{Library}
-use Rattle.fb_resolve.specs.Numbers.{kind_of_number, parameter_numbers}
-use Rattle.fb_layout.specs.Layouts.{AreComponents, IsRow, path_of}
-use Rattle.fb_layout.specs.declared.layout.Row.{Row}
+use Rattle.fb_names.specs.Numbers.{kind_of_number, parameter_numbers}
+use Rattle.fb_fabric.specs.Layouts.{AreComponents, IsRow, path_of}
+use Rattle.fb_fabric.specs.declared.layout.Row.{Row}
 use Rattle.fb_types.specs.declared.run.Target.{Target}
 use Rattle.fb_fabric.specs.declared.fabric.Place.{Place}
 use Rattle.fb_fabric.specs.Fabrics.{IsPort, IsVariable}

@@ -16,13 +16,13 @@ use Rattle.fb_types.specs.declared.library.Instance.{Instance}
 use Rattle.fb_types.specs.declared.library.Network.{Network}
 use Rattle.fb_types.specs.declared.event_kind.EventKind.{EventKind}
 use Rattle.fb_names.proofs.NameLemmas.{Contains-here, Contains-there}
-use Rattle.fb_resolve.specs.declared.numbers.NetworkNumbers.{NetworkNumbers}
-use Rattle.fb_resolve.specs.declared.numbers.TypeNumber.{TypeNumber}
-use Rattle.fb_resolve.specs.declared.numbers.TypeNumber.TheVariants as number
-use Rattle.fb_resolve.specs.Numbers.{IsNetwork, kind_of_number}
-use Rattle.fb_layout.specs.Layouts.{AreComponents, AreNumbers, IsParent, IsPlaced, IsRow, path_of, place_at, route_to}
-use Rattle.fb_layout.specs.declared.layout.Layout.{Layout}
-use Rattle.fb_layout.specs.declared.layout.Row.{Row}
+use Rattle.fb_names.specs.declared.numbers.NetworkNumbers.{NetworkNumbers}
+use Rattle.fb_names.specs.declared.numbers.TypeNumber.{TypeNumber}
+use Rattle.fb_names.specs.declared.numbers.TypeNumber.TheVariants as number
+use Rattle.fb_names.specs.Numbers.{IsNetwork, kind_of_number}
+use Rattle.fb_fabric.specs.Layouts.{AreComponents, AreNumbers, IsParent, IsPlaced, IsRow, path_of, place_at, route_to}
+use Rattle.fb_fabric.specs.declared.layout.Layout.{Layout}
+use Rattle.fb_fabric.specs.declared.layout.Row.{Row}
 use Rattle.fb_fabric.specs.Networks.{AreTables, IsAround, IsThere, IsWired, composite_of, path_around}
 use Rattle.fb_fabric.proofs.Differing.{instances_once}
 

@@ -11,7 +11,7 @@ use Rattle.fb_types.specs.declared.library.EventPort.{EventPort}
 use Rattle.fb_types.specs.declared.library.Variable.{Variable}
 use Rattle.fb_types.specs.declared.run.Target.{Target}
 use Rattle.std.specs.Prelude.{List}
-use Rattle.fb_layout.specs.Layouts.{path_of}
+use Rattle.fb_fabric.specs.Layouts.{path_of}
 use Rattle.fb_fabric.specs.declared.fabric.Place.{Place}
 
 -- the ports of an instance's type

@@ -13,12 +13,12 @@ use Rattle.fb_types.specs.declared.library.Instance.{Instance}
 use Rattle.fb_types.specs.declared.library.Network.{Network}
 use Rattle.fb_types.specs.declared.library.Ports.{Ports}
 use Rattle.fb_types.specs.declared.deploy.Plan.{Plan}
-use Rattle.fb_resolve.specs.Numbers.{IsNetwork}
-use Rattle.fb_resolve.specs.Unknown.{AreBlocks}
-use Rattle.fb_resolve.specs.declared.numbers.End.{End}
-use Rattle.fb_resolve.specs.declared.numbers.NetworkNumbers.{NetworkNumbers}
-use Rattle.fb_layout.specs.Layouts.{IsLayout, path_of}
-use Rattle.fb_layout.specs.declared.layout.Layout.{Layout}
+use Rattle.fb_names.specs.Numbers.{IsNetwork}
+use Rattle.fb_names.specs.Unknown.{AreBlocks}
+use Rattle.fb_names.specs.declared.numbers.End.{End}
+use Rattle.fb_names.specs.declared.numbers.NetworkNumbers.{NetworkNumbers}
+use Rattle.fb_fabric.specs.Layouts.{IsLayout, path_of}
+use Rattle.fb_fabric.specs.declared.layout.Layout.{Layout}
 use Rattle.fb_fabric.specs.declared.tables.Tables.{Tables}
 
 -- ---- What the tables are

@@ -4,12 +4,12 @@ ghost use Rattle.std.specs.Prelude.{◌≡◌, ◌<◌, Some, length, option_and
 ghost use Rattle.std.specs.Option.{option_copied};
 ghost use Rattle.fb_types.specs.Flat.{instance_at, network_at, network_of, paths_of};
 ghost use Rattle.fb_types.specs.declared.library.Instance.{Instance as Declared};
-ghost use Rattle.fb_resolve.specs.Numbers.{kind_of_number, parameter_numbers};
-ghost use Rattle.fb_layout.specs.Layouts.{path_of};
+ghost use Rattle.fb_names.specs.Numbers.{kind_of_number, parameter_numbers};
+ghost use Rattle.fb_fabric.specs.Layouts.{path_of};
 ghost use Rattle.fb_fabric.specs.Networks.{IsAround, IsFabric, path_around};
 
 use crate::tables::{Tables, last_place, row_at, wiring_in};
-use fb_resolve::numbers::TypeNumber;
+use fb_names::numbers::TypeNumber;
 use fb_types::library::{BlockType, Instance, Library, Network};
 
 /// The network inside the instances of a type, if it has one.

@@ -8,18 +8,18 @@ ghost use Rattle.fb_types.specs.Repeated.{NameTwice};
 ghost use Rattle.fb_types.specs.Text.{path_text};
 ghost use Rattle.fb_types.specs.declared.deploy.Plan.{Plan};
 ghost use Rattle.fb_types.specs.declared.library.Instance.{Instance as Declared};
-ghost use Rattle.fb_resolve.specs.Numbers.{IsResolved, kind_of_number, parameter_numbers};
-ghost use Rattle.fb_layout.specs.Layouts.{AreComponents, AreNumbers, IsParent, path_of, route_to};
+ghost use Rattle.fb_names.specs.Numbers.{IsResolved, kind_of_number, parameter_numbers};
+ghost use Rattle.fb_fabric.specs.Layouts.{AreComponents, AreNumbers, IsParent, path_of, route_to};
 ghost use Rattle.fb_fabric.specs.Fabrics.{IsPort, IsSource, IsTarget, IsVariable, port_of, variable_of};
 
 use crate::beside::beside;
 use crate::declared::{declared_at, parameters_at};
 use crate::making::{narrow_layout, wirings_of};
 use crate::tables::{Tables, last_place, row_at, source_in, target_in};
-use fb_resolve::numbers::{End, Resolved, TypeNumber};
+use crate::wiring::Wiring;
+use fb_names::numbers::{End, Resolved, TypeNumber};
 use fb_types::library::{Instance, Library};
 use fb_types::run::Target;
-use fb_wiring::wiring::Wiring;
 use std::alloc::{AllocError, Global};
 use std::marker::Model;
 

@@ -6,15 +6,15 @@ ghost use Rattle.fb_types.specs.Flat.{kind_of, paths_of};
 ghost use Rattle.fb_types.specs.Joined.{TooHigh};
 ghost use Rattle.fb_types.specs.Repeated.{NameTwice};
 ghost use Rattle.fb_types.specs.declared.deploy.Plan.{Plan};
-ghost use Rattle.fb_resolve.specs.Numbers.{IsResolved};
-ghost use Rattle.fb_layout.specs.Layouts.{IsLayout};
+ghost use Rattle.fb_names.specs.Numbers.{IsResolved};
+ghost use Rattle.fb_fabric.specs.Layouts.{IsLayout};
 ghost use Rattle.fb_fabric.specs.Networks.{AreNarrow, IsNarrow};
 
-use fb_layout::layout::{Layout, layout_of};
-use fb_resolve::numbers::{NetworkNumbers, Resolved};
+use crate::layout::{Layout, layout_of};
+use crate::wiring::Wiring;
+use fb_names::numbers::{NetworkNumbers, Resolved};
 use fb_types::items::Items;
 use fb_types::library::{BlockType, Library, Ports};
-use fb_wiring::wiring::Wiring;
 use std::alloc::{AllocError, Global};
 
 /// Whether each port's place is a number of 32 bits.

@@ -4,18 +4,18 @@ ghost use Rattle.std.specs.Prelude.{◌≡◌, ◌<◌, length, slice_get, [], o
 ghost use Rattle.fb_types.specs.Blocks.{ports_of};
 ghost use Rattle.fb_types.specs.Flat.{data_inside, events_inside, last_of, network_at, paths_of};
 ghost use Rattle.fb_types.specs.Names.{Path, Port};
-ghost use Rattle.fb_layout.specs.Layouts.{AreComponents, IsRow, path_of};
+ghost use Rattle.fb_fabric.specs.Layouts.{AreComponents, IsRow, path_of};
 ghost use Rattle.fb_types.specs.declared.library.Network.{Network};
 ghost use Rattle.fb_fabric.specs.Fabrics.{IsSource, IsTarget, port_of, variable_of};
 ghost use Rattle.fb_fabric.specs.Networks.{DataEnters, DataLeaves, EventEnters, EventLeaves, IsAround, IsFabric, IsThere, IsWired, path_around, source_along, targets_along};
 
 use crate::fabric::Place;
-use fb_layout::layout::{Layout, Row};
-use fb_resolve::numbers::{End, TypeNumber};
+use crate::layout::{Layout, Row};
+use crate::wiring::Wiring;
+use fb_names::numbers::{End, TypeNumber};
 use fb_types::items::Items;
 use fb_types::library::Library;
 use fb_types::run::Target;
-use fb_wiring::wiring::Wiring;
 
 /// The instances of a declaration and its networks.
 #[derive(Drop)]

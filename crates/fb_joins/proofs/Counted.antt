@@ -16,11 +16,11 @@ use Rattle.fb_types.specs.declared.library.CompositeType.{CompositeType}
 use Rattle.fb_types.specs.declared.library.Instance.{Instance}
 use Rattle.fb_types.specs.declared.library.Network.{Network}
 use Rattle.fb_types.specs.declared.deploy.Plan.{Plan}
-use Rattle.fb_resolve.specs.declared.numbers.TypeNumber.{TypeNumber}
-use Rattle.fb_resolve.specs.declared.numbers.TypeNumber.TheVariants as number
-use Rattle.fb_resolve.specs.declared.numbers.NetworkNumbers.{NetworkNumbers}
-use Rattle.fb_resolve.specs.declared.numbers.Resolved.{Resolved}
-use Rattle.fb_resolve.specs.Numbers.{IsNetwork, IsResolved, each_or_none, type_number, kind_of_number}
+use Rattle.fb_names.specs.declared.numbers.TypeNumber.{TypeNumber}
+use Rattle.fb_names.specs.declared.numbers.TypeNumber.TheVariants as number
+use Rattle.fb_names.specs.declared.numbers.NetworkNumbers.{NetworkNumbers}
+use Rattle.fb_names.specs.declared.numbers.Resolved.{Resolved}
+use Rattle.fb_names.specs.Numbers.{IsNetwork, IsResolved, each_or_none, type_number, kind_of_number}
 use Rattle.fb_joins.specs.Counts.{inside_count, count_of, count_inside, no_count, counts_after}
 use Rattle.fb_joins.proofs.Lists.{each_parts, past_both}
 use Rattle.fb_joins.proofs.Naming.{type_by_number}

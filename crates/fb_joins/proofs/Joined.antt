@@ -20,12 +20,12 @@ use Rattle.fb_types.specs.declared.library.Variable.{Variable}
 use Rattle.fb_types.specs.declared.deploy.Plan.{Plan}
 use Rattle.fb_names.proofs.NameLemmas.{Contains-cons_cases}
 use Rattle.fb_names.proofs.Positions.{named-position, position_is, slice_get-Contains}
-use Rattle.fb_resolve.specs.declared.numbers.TypeNumber.{TypeNumber}
-use Rattle.fb_resolve.specs.declared.numbers.End.{End}
-use Rattle.fb_resolve.specs.declared.numbers.Wire.{Wire}
-use Rattle.fb_resolve.specs.declared.numbers.NetworkNumbers.{NetworkNumbers}
-use Rattle.fb_resolve.specs.declared.numbers.Resolved.{Resolved}
-use Rattle.fb_resolve.specs.Numbers.{IsNetwork, IsResolved, place_of, type_number, kind_of_number, ports_at_place, end_at, end_number, both_ends, data_wire}
+use Rattle.fb_names.specs.declared.numbers.TypeNumber.{TypeNumber}
+use Rattle.fb_names.specs.declared.numbers.End.{End}
+use Rattle.fb_names.specs.declared.numbers.Wire.{Wire}
+use Rattle.fb_names.specs.declared.numbers.NetworkNumbers.{NetworkNumbers}
+use Rattle.fb_names.specs.declared.numbers.Resolved.{Resolved}
+use Rattle.fb_names.specs.Numbers.{IsNetwork, IsResolved, place_of, type_number, kind_of_number, ports_at_place, end_at, end_number, both_ends, data_wire}
 use Rattle.fb_joins.specs.Ranges.{is_within}
 use Rattle.fb_joins.specs.Variables.{type_at, source_type, target_type}
 use Rattle.fb_joins.specs.Networks.{boundary, network_passes}

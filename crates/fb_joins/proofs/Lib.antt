@@ -7,3 +7,13 @@ pub mod Valued
 pub mod Placing
 pub mod Naming
 pub mod Lists
+pub mod Unserved
+pub mod Withs
+pub mod Numbers
+pub mod Carried
+pub mod Unlinked
+pub mod EventInterfaces
+pub mod Sets
+pub mod Elements
+pub mod Mapped
+pub mod Listing

@@ -14,11 +14,11 @@ use Rattle.fb_types.specs.declared.library.BlockType.TheVariants as block
 use Rattle.fb_types.specs.declared.library.CompositeType.{CompositeType}
 use Rattle.fb_types.specs.declared.library.Instance.{Instance}
 use Rattle.fb_types.specs.declared.deploy.Plan.{Plan}
-use Rattle.fb_resolve.specs.declared.numbers.TypeNumber.{TypeNumber}
-use Rattle.fb_resolve.specs.declared.numbers.TypeNumber.TheVariants as number
-use Rattle.fb_resolve.specs.declared.numbers.NetworkNumbers.{NetworkNumbers}
-use Rattle.fb_resolve.specs.declared.numbers.Resolved.{Resolved}
-use Rattle.fb_resolve.specs.Numbers.{IsNetwork, IsResolved, type_number, kind_of_number}
+use Rattle.fb_names.specs.declared.numbers.TypeNumber.{TypeNumber}
+use Rattle.fb_names.specs.declared.numbers.TypeNumber.TheVariants as number
+use Rattle.fb_names.specs.declared.numbers.NetworkNumbers.{NetworkNumbers}
+use Rattle.fb_names.specs.declared.numbers.Resolved.{Resolved}
+use Rattle.fb_names.specs.Numbers.{IsNetwork, IsResolved, type_number, kind_of_number}
 use Rattle.fb_joins.specs.Heights.{is_marked, holds_marked, marks_after}
 use Rattle.fb_joins.proofs.Lists.{Contains-at, at_from_Contains, any_at, any_from, each_at, each_from, past_both}
 use Rattle.fb_joins.proofs.Naming.{type_by_number}

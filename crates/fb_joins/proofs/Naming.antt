@@ -18,9 +18,9 @@ use Rattle.fb_types.specs.declared.event_kind.EventKind.TheVariants.{Restart, Sp
 use Rattle.fb_types.specs.declared.deploy.Plan.{Plan}
 use Rattle.fb_names.proofs.NameLemmas.{Contains-nil, Contains-cons_cases, Contains-here, Contains-there, Twice-append_left}
 use Rattle.fb_names.proofs.Positions.{named-position, position_is, slice_get-Contains}
-use Rattle.fb_resolve.specs.declared.numbers.TypeNumber.{TypeNumber}
-use Rattle.fb_resolve.specs.declared.numbers.TypeNumber.TheVariants as number
-use Rattle.fb_resolve.specs.Numbers.{place_of, type_number, kind_of_number}
+use Rattle.fb_names.specs.declared.numbers.TypeNumber.{TypeNumber}
+use Rattle.fb_names.specs.declared.numbers.TypeNumber.TheVariants as number
+use Rattle.fb_names.specs.Numbers.{place_of, type_number, kind_of_number}
 use Rattle.fb_joins.proofs.Lists.{Contains-at, Contains-map, Twice-both}
 
 -- ---- Types

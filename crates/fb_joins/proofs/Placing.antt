@@ -11,9 +11,9 @@ use Rattle.fb_types.specs.declared.library.BlockType.TheVariants as block
 use Rattle.fb_types.specs.declared.library.CompositeType.{CompositeType}
 use Rattle.fb_types.specs.declared.deploy.Plan.{Plan}
 use Rattle.fb_names.proofs.NameLemmas.{Contains-cons_cases, Contains-here, Contains-there}
-use Rattle.fb_resolve.specs.declared.numbers.NetworkNumbers.{NetworkNumbers}
-use Rattle.fb_resolve.specs.declared.numbers.Resolved.{Resolved}
-use Rattle.fb_resolve.specs.Numbers.{IsNetwork, IsResolved}
+use Rattle.fb_names.specs.declared.numbers.NetworkNumbers.{NetworkNumbers}
+use Rattle.fb_names.specs.declared.numbers.Resolved.{Resolved}
+use Rattle.fb_names.specs.Numbers.{IsNetwork, IsResolved}
 use Rattle.fb_joins.specs.Networks.{inside_passes, some_inside_passes, network_passes}
 use Rattle.fb_joins.proofs.Lists.{any_pair_at, any_pair_from}
 use Rattle.fb_joins.proofs.Naming.{composite_at, composite_in}

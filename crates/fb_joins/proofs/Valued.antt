@@ -18,10 +18,10 @@ use Rattle.fb_types.specs.declared.library.Ports.{Ports}
 use Rattle.fb_types.specs.declared.library.Variable.{Variable}
 use Rattle.fb_types.specs.declared.deploy.Plan.{Plan}
 use Rattle.fb_names.proofs.Positions.{named-position}
-use Rattle.fb_resolve.specs.declared.numbers.TypeNumber.{TypeNumber}
-use Rattle.fb_resolve.specs.declared.numbers.NetworkNumbers.{NetworkNumbers}
-use Rattle.fb_resolve.specs.declared.numbers.Resolved.{Resolved}
-use Rattle.fb_resolve.specs.Numbers.{IsNetwork, IsResolved, each_or_none, place_of, type_number, kind_of_number, parameter_numbers}
+use Rattle.fb_names.specs.declared.numbers.TypeNumber.{TypeNumber}
+use Rattle.fb_names.specs.declared.numbers.NetworkNumbers.{NetworkNumbers}
+use Rattle.fb_names.specs.declared.numbers.Resolved.{Resolved}
+use Rattle.fb_names.specs.Numbers.{IsNetwork, IsResolved, each_or_none, place_of, type_number, kind_of_number, parameter_numbers}
 use Rattle.fb_joins.specs.Variables.{type_at, input_type}
 use Rattle.fb_joins.specs.Networks.{network_passes}
 use Rattle.fb_joins.specs.Parameters.{ParameterWrong, is_wrong, has_wrong, has_wrong_in}

@@ -1,9 +1,9 @@
 -- How many instances stand inside a type, counted no further than is needed (IEC 61499-1, 5.3; the limit is this project's profile).
 use Rattle.std.specs.Prelude.{◌+◌, ℕ, zero, suc, List, map, min, Option, Some, None, slice_get, unwrap_or}
 use Rattle.std.specs.List.{sum_by}
-use Rattle.fb_resolve.specs.declared.numbers.TypeNumber.{TypeNumber}
-use Rattle.fb_resolve.specs.declared.numbers.TypeNumber.TheVariants as number
-use Rattle.fb_resolve.specs.declared.numbers.NetworkNumbers.{NetworkNumbers}
+use Rattle.fb_names.specs.declared.numbers.TypeNumber.{TypeNumber}
+use Rattle.fb_names.specs.declared.numbers.TypeNumber.TheVariants as number
+use Rattle.fb_names.specs.declared.numbers.NetworkNumbers.{NetworkNumbers}
 
 -- how many instances stand inside one of a type; none inside an event block
 abbrev pub inside_count : List ℕ → TypeNumber → ℕ

@@ -5,9 +5,9 @@ use Rattle.fb_types.specs.Repeated.{Placed}
 use Rattle.fb_types.specs.declared.value.Ty.{Ty}
 use Rattle.fb_types.specs.declared.library.Library.{Library}
 use Rattle.fb_types.specs.declared.library.Ports.{Ports}
-use Rattle.fb_resolve.specs.declared.numbers.TypeNumber.{TypeNumber}
-use Rattle.fb_resolve.specs.declared.numbers.Wire.{Wire}
-use Rattle.fb_resolve.specs.declared.numbers.NetworkNumbers.{NetworkNumbers}
+use Rattle.fb_names.specs.declared.numbers.TypeNumber.{TypeNumber}
+use Rattle.fb_names.specs.declared.numbers.Wire.{Wire}
+use Rattle.fb_names.specs.declared.numbers.NetworkNumbers.{NetworkNumbers}
 use Rattle.fb_joins.specs.Ranges.{is_within}
 use Rattle.fb_joins.specs.Variables.{source_type, target_type}
 use Rattle.fb_joins.specs.Networks.{boundary}

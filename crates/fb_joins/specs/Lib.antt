@@ -6,3 +6,6 @@ pub mod Joins
 pub mod Sources
 pub mod Heights
 pub mod Counts
+pub mod Serving
+pub mod Links
+pub mod Mapping

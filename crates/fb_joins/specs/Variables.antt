@@ -5,9 +5,9 @@ use Rattle.fb_types.specs.declared.value.Ty.{Ty}
 use Rattle.fb_types.specs.declared.library.Library.{Library}
 use Rattle.fb_types.specs.declared.library.Ports.{Ports}
 use Rattle.fb_types.specs.declared.library.Variable.{Variable}
-use Rattle.fb_resolve.specs.declared.numbers.TypeNumber.{TypeNumber}
-use Rattle.fb_resolve.specs.declared.numbers.End.{End}
-use Rattle.fb_resolve.specs.Numbers.{kind_of_number}
+use Rattle.fb_names.specs.declared.numbers.TypeNumber.{TypeNumber}
+use Rattle.fb_names.specs.declared.numbers.End.{End}
+use Rattle.fb_names.specs.Numbers.{kind_of_number}
 
 -- the type of the variable at a place
 abbrev pub type_at : List Variable → ℕ → Option Ty

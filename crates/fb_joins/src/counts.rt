@@ -4,10 +4,10 @@ ghost use Rattle.std.specs.Prelude.{◌≡◌, ◌↔◌, ◌<◌, length, map, 
 ghost use Rattle.fb_types.specs.Flat.{paths_of};
 ghost use Rattle.fb_types.specs.declared.deploy.Plan.{Plan};
 ghost use Rattle.fb_types.specs.declared.library.Library.{Library};
-ghost use Rattle.fb_resolve.specs.Numbers.{IsResolved};
+ghost use Rattle.fb_names.specs.Numbers.{IsResolved};
 ghost use Rattle.fb_joins.specs.Counts as spec;
 
-use fb_resolve::numbers::{NetworkNumbers, Resolved, TypeNumber};
+use fb_names::numbers::{NetworkNumbers, Resolved, TypeNumber};
 use std::alloc::{AllocError, Global};
 
 /// The instances that an application may have, composites and their components among them.

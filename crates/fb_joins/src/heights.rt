@@ -5,10 +5,10 @@ ghost use Rattle.std.specs.List.{list_any};
 ghost use Rattle.fb_types.specs.Joined.{TooHigh};
 ghost use Rattle.fb_types.specs.declared.deploy.Plan.{Plan};
 ghost use Rattle.fb_types.specs.declared.library.Library.{Library};
-ghost use Rattle.fb_resolve.specs.Numbers.{IsResolved};
+ghost use Rattle.fb_names.specs.Numbers.{IsResolved};
 ghost use Rattle.fb_joins.specs.Heights as spec;
 
-use fb_resolve::numbers::{NetworkNumbers, Resolved, TypeNumber};
+use fb_names::numbers::{NetworkNumbers, Resolved, TypeNumber};
 use std::alloc::{AllocError, Global};
 
 /// The height that a composite type may have. One that holds no composite type has height 1.

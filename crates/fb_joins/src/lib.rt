@@ -1,17 +1,23 @@
-//! What is checked of networks by their numbers: values of parameters (E22), types at the ends of data connections
-//! (E23), sources of data (E24), heights of composite types (E25) and counts of instances (E30).
+//! What is checked of networks and of their mapping by numbers: values of parameters (E22), types at the ends of data
+//! connections (E23), sources of data (E24), heights of composite types (E25), instances and connections that a
+//! deployment does not map to resources and links (E26 to E28), and counts of instances (E30).
 //!
-//! What is promised above: a function for each, which says whether it applies. Heights and counts come from rounds over
-//! types, so no instance is made to refuse a declaration.
+//! What is promised above: a function for each, which says whether it applies; and for E26 the mapping, or none exactly
+//! where it applies. Heights and counts come from rounds over types, so no instance is made to refuse a declaration.
 //!
 //! To be read in this order: `variables` and `values`, types by number; `parameters`, `ranges`, `sources`, `heights`,
-//! `counts`.
+//! `counts`. Then `mapping` (E26); `links` (E27); `interfaces`, `serving` and `uncarried` (E28).
 #![tactic(auto)]
 
 pub mod counts;
 pub mod heights;
+mod interfaces;
+pub mod links;
+pub mod mapping;
 pub mod parameters;
 pub mod ranges;
+mod serving;
 pub mod sources;
+pub mod uncarried;
 mod values;
 mod variables;

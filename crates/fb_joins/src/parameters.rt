@@ -2,13 +2,13 @@
 
 ghost use Rattle.std.specs.Prelude.{◌≡◌, ◌↔◌, IsTrue};
 ghost use Rattle.fb_types.specs.declared.deploy.Plan.{Plan};
-ghost use Rattle.fb_resolve.specs.Numbers.{IsResolved};
+ghost use Rattle.fb_names.specs.Numbers.{IsResolved};
 ghost use Rattle.fb_joins.specs.Networks.{inside_passes, some_inside_passes};
 ghost use Rattle.fb_joins.specs.Parameters as spec;
 
 use crate::values::is_value_of;
 use crate::variables::input_type;
-use fb_resolve::numbers::{NetworkNumbers, Resolved, TypeNumber};
+use fb_names::numbers::{NetworkNumbers, Resolved, TypeNumber};
 use fb_types::library::{BlockType, Instance, Library, Network, Parameter};
 
 /// Whether a parameter is no value of the type of the input that it sets.

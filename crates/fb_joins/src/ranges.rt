@@ -6,13 +6,13 @@ ghost use Rattle.std.specs.Option.{option_copied};
 ghost use Rattle.fb_types.specs.Joined.{OutOfRange};
 ghost use Rattle.fb_types.specs.Repeated.{NameTwice};
 ghost use Rattle.fb_types.specs.declared.deploy.Plan.{Plan};
-ghost use Rattle.fb_resolve.specs.Numbers.{IsResolved};
+ghost use Rattle.fb_names.specs.Numbers.{IsResolved};
 ghost use Rattle.fb_joins.specs.Networks.{inside_passes, some_inside_passes};
 ghost use Rattle.fb_joins.specs.Joins as spec;
 
 use crate::values::is_within;
 use crate::variables::{source_type, target_type};
-use fb_resolve::numbers::{NetworkNumbers, Resolved, TypeNumber, Wire};
+use fb_names::numbers::{NetworkNumbers, Resolved, TypeNumber, Wire};
 use fb_types::library::{BlockType, Library, Ports};
 
 /// Whether a data connection leads out of the range of the type at its end, in a network with these ports

@@ -6,7 +6,7 @@ ghost use Rattle.fb_types.specs.Blocks as blocks;
 ghost use Rattle.fb_types.specs.Flat.{kind_of};
 ghost use Rattle.fb_joins.specs.Variables as spec;
 
-use fb_resolve::numbers::{End, TypeNumber};
+use fb_names::numbers::{End, TypeNumber};
 use fb_types::event_kind::EventKind;
 use fb_types::library::{BlockType, Library, Ports, Variable};
 use fb_types::value::Ty;

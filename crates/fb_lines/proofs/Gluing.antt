@@ -15,8 +15,8 @@ use Rattle.fb_types.specs.declared.run.Form.TheVariants.{One, Two}
 use Rattle.fb_types.specs.declared.run.Line.{Line}
 use Rattle.fb_types.specs.declared.value.Reason.{Reason}
 use Rattle.fb_types.specs.declared.value.Value.{Value}
-use Rattle.fb_interfaces.specs.Stands.{ArePlaces}
-use Rattle.fb_words.specs.Reading.{AreRead, name_at, number_text}
+use Rattle.fb_system.specs.Stands.{ArePlaces}
+use Rattle.fb_lines.specs.Reading.{AreRead, name_at, number_text}
 use Rattle.fb_lines.specs.Lines.{AreValuesOf, IsHead, IsTextOf}
 use Rattle.fb_lines.specs.Ports.{IsPortOf, holder_name, port_text}
 use Rattle.fb_lines.specs.declared.line.Parts.{Parts}

@@ -1,3 +1,5 @@
 pub mod Ports
 pub mod Tables
 pub mod Lines
+pub mod Words
+pub mod Reading

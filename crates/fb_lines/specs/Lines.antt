@@ -14,11 +14,11 @@ use Rattle.fb_types.specs.declared.value.Value.{Value}
 use Rattle.fb_lines.specs.Ports.{side}
 use Rattle.fb_lines.specs.declared.line.Parts.{Parts}
 use Rattle.fb_lines.specs.declared.ports.Port.{Port}
-use Rattle.fb_interfaces.specs.Stands.{ArePlaces}
+use Rattle.fb_system.specs.Stands.{ArePlaces}
 use Rattle.fb_system.specs.Lines.{BelongsTo, line_variables}
 use Rattle.fb_trace.specs.End.{EndsIn, ending_of}
 use Rattle.fb_trace.specs.declared.last.End.{End}
-use Rattle.fb_words.specs.Reading.{fit_each, type_at}
+use Rattle.fb_lines.specs.Reading.{fit_each, type_at}
 
 -- the variables among which those of a line are
 abbrev pub line_side : System → Line → List Variable

@@ -6,12 +6,12 @@ ghost use Rattle.fb_types.specs.Simulation.{AtStop};
 ghost use Rattle.fb_types.specs.Text.{last_line, place_text, reason_text};
 ghost use Rattle.fb_lines.specs.Lines.{IsLast, IsStop};
 
+use crate::number::{natural, tick};
+use crate::words::{behind, cut};
 use fb_system::system::System;
 use fb_trace::last::End;
 use fb_types::run::StopMark;
 use fb_types::value::Reason;
-use fb_words::number::{natural, tick};
-use fb_words::words::{behind, cut};
 
 /// The number of the resource with a name.
 fn resource_of(system: &System, name: &[u8]) -> Option<u32>

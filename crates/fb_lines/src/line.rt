@@ -8,15 +8,15 @@ ghost use Rattle.fb_lines.specs.Lines.{AreValuesOf, IsHead, IsTextOf};
 ghost use Rattle.fb_lines.specs.Ports.{IsPortOf};
 ghost use Rattle.fb_lines.specs.Tables.{IsTable};
 
+use crate::number::{number, tick};
 use crate::ports::{Port, holder_of};
 use crate::table::{Guess, Table};
+use crate::values::values_of;
 use fb_system::system::System;
 use fb_types::items::Items;
 use fb_types::key::Key;
 use fb_types::run::{Form, Line};
 use fb_types::value::Value;
-use fb_words::number::{number, tick};
-use fb_words::values::values_of;
 use std::alloc::{AllocError, Global};
 
 /// The class and the parts of a key.

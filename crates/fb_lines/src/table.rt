@@ -8,10 +8,10 @@ ghost use Rattle.fb_lines.specs.Ports.{IsPortOf};
 ghost use Rattle.fb_lines.specs.Tables.{IsTable};
 
 use crate::ports::{Port, port_text};
+use crate::words::{behind, cut};
 use fb_names::places::{Places, place_of, places_of};
 use fb_system::system::System;
 use fb_types::name::Name;
-use fb_words::words::{behind, cut};
 use std::alloc::{AllocError, Global};
 
 /// The ports of a system, and the places of their texts among those of all.

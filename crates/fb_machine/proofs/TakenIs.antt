@@ -13,7 +13,7 @@ use Rattle.fb_types.specs.Takes.{Effect, Takes, TakesWith, begun, with_at, world
 use Rattle.fb_types.specs.declared.key.Key.{Key}
 use Rattle.fb_types.specs.declared.value.Reason.{Reason}
 use Rattle.fb_types.proofs.PathLaws.{same_path_is}
-use Rattle.fb_sound.proofs.Stays.{reacts_stays}
+use Rattle.fb_laws.proofs.Stays.{reacts_stays}
 use Rattle.fb_system.specs.Ports.{variable_of}
 use Rattle.fb_tree.specs.Worlds.{IsForest, StandsAt}
 use Rattle.fb_tree.specs.declared.resource.Forest.{Forest}

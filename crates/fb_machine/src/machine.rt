@@ -7,7 +7,7 @@ ghost use Rattle.fb_types.specs.States.{Config, State};
 ghost use Rattle.fb_types.specs.States as model;
 ghost use Rattle.fb_net.specs.Events.{IsEventIn, event_of};
 ghost use Rattle.fb_system.specs.Lines.{BelongsTo};
-ghost use Rattle.fb_typing.specs.Typed.{IsTypedEvent};
+ghost use Rattle.fb_laws.specs.Typed.{IsTypedEvent};
 ghost use Rattle.fb_machine.specs.Completions.{Completes};
 ghost use Rattle.fb_machine.specs.Machines.{IsAt, IsReady, IsTaken};
 ghost use Rattle.fb_machine.specs.Runs.{IsSpent};

@@ -6,3 +6,11 @@ pub mod NameTwice
 pub mod Unless
 pub mod PartAnswers
 pub mod Catalogs
+pub mod Each
+pub mod Elements
+pub mod Parts
+pub mod EventBlocks
+pub mod Lookups
+pub mod NetworkUnknown
+pub mod BlockNumbers
+pub mod Resolving

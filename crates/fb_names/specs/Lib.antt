@@ -3,3 +3,8 @@ pub mod Ends
 pub mod Catalog
 pub mod GivenTwice
 pub mod Parts
+pub mod Numbers
+pub mod Sorts
+pub mod Types
+pub mod Scopes
+pub mod Unknown

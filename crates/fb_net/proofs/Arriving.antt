@@ -21,15 +21,15 @@ use Rattle.fb_types.specs.declared.run.Target.{Target}
 use Rattle.fb_types.specs.declared.run.TimerAsk.{TimerAsk}
 use Rattle.fb_types.specs.declared.value.Value.{Value}
 use Rattle.fb_types.proofs.PathLaws.{same_name_itself}
-use Rattle.fb_emit.specs.Outs.{Stands, out_of}
-use Rattle.fb_emit.specs.declared.outbox.Outbox.{Outbox}
+use Rattle.fb_net.specs.Outs.{Stands, out_of}
+use Rattle.fb_net.specs.declared.outbox.Outbox.{Outbox}
 use Rattle.fb_event.specs.Reactions.{FitTheirTypes}
-use Rattle.fb_react.specs.Leaves.{EventCame, HasTypedInputs, taken_reaction}
-use Rattle.fb_sample.specs.Samples.{AreShown}
+use Rattle.fb_net.specs.Leaves.{EventCame, HasTypedInputs, taken_reaction}
+use Rattle.fb_net.specs.Samples.{AreShown}
 use Rattle.fb_tree.specs.Worlds.{InForest, IsForest}
 use Rattle.fb_tree.specs.declared.resource.Forest.{Forest}
-use Rattle.fb_typing.specs.Typed.{AllFit, AreTyped, IsTypedSystem, variable_named}
-use Rattle.fb_typing.proofs.Kept.{taking_typed}
+use Rattle.fb_laws.specs.Typed.{AllFit, AreTyped, IsTypedSystem, variable_named}
+use Rattle.fb_laws.proofs.Kept.{taking_typed}
 use Rattle.fb_net.specs.Arrivals.{ComesTo, IsReady, StandTyped, entering, leaving, lines_in, reacting, sampling}
 use Rattle.fb_net.proofs.Sampling.{bound-paired, input_port, output_port, port_named, ports-of_kind}
 

@@ -22,10 +22,10 @@ use Rattle.fb_types.specs.declared.run.Target.{Target}
 use Rattle.fb_types.specs.declared.value.Reason.{Reason}
 use Rattle.fb_types.specs.declared.value.Value.{Value}
 use Rattle.fb_types.proofs.PathLaws.{same_path_itself}
-use Rattle.fb_emit.specs.Outs.{Stands}
-use Rattle.fb_emit.specs.declared.outbox.Outbox.{Outbox}
-use Rattle.fb_react.specs.Leaves.{ChartCame, ChartEnded, EachWorld, chart_start, charted_block}
-use Rattle.fb_sample.specs.Samples.{AreSampled}
+use Rattle.fb_net.specs.Outs.{Stands}
+use Rattle.fb_net.specs.declared.outbox.Outbox.{Outbox}
+use Rattle.fb_net.specs.Leaves.{ChartCame, ChartEnded, EachWorld, chart_start, charted_block}
+use Rattle.fb_net.specs.Samples.{AreSampled}
 use Rattle.fb_tree.specs.Worlds.{InForest, IsForest}
 use Rattle.fb_tree.specs.declared.resource.Forest.{Forest}
 use Rattle.fb_net.specs.Arrivals.{Arrives, HasReacted, IsReady, IsBegun, ReactedIn, Tells, lines_in}

@@ -4,3 +4,12 @@ pub mod Crossing
 pub mod Sampling
 pub mod Taking
 pub mod Wholes
+pub mod Changing
+pub mod Reading
+pub mod Bounds
+pub mod Emitting
+pub mod Going
+pub mod Publishing
+pub mod Basics
+pub mod Events
+pub mod Leaves

@@ -17,9 +17,9 @@ use Rattle.fb_types.specs.declared.run.Line as run_line
 use Rattle.fb_types.specs.declared.run.Target.{Target}
 use Rattle.fb_types.specs.declared.value.Value.{Value}
 use Rattle.fb_types.proofs.PathLaws.{same_name_is, same_name_itself}
-use Rattle.fb_emit.specs.Outs.{Stands, out_of}
-use Rattle.fb_emit.specs.declared.outbox.Outbox.{Outbox}
-use Rattle.fb_sample.specs.Samples.{AreSampled, all_sampled, names_in}
+use Rattle.fb_net.specs.Outs.{Stands, out_of}
+use Rattle.fb_net.specs.declared.outbox.Outbox.{Outbox}
+use Rattle.fb_net.specs.Samples.{AreSampled, all_sampled, names_in}
 use Rattle.fb_tree.specs.Changes.{Changes}
 use Rattle.fb_tree.specs.Worlds.{InForest, IsForest}
 use Rattle.fb_tree.specs.declared.resource.Forest.{Forest}

@@ -28,17 +28,17 @@ use Rattle.fb_types.specs.declared.value.Reason.{Reason}
 use Rattle.fb_types.specs.declared.value.Value.{Value}
 use Rattle.fb_agenda.specs.declared.agenda.Event.{Event as Waiting}
 use Rattle.fb_agenda.specs.declared.agenda.Event.TheVariants as waits
-use Rattle.fb_emit.specs.Outs.{Stands, out_of}
-use Rattle.fb_emit.specs.declared.outbox.Outbox.{Outbox}
-use Rattle.fb_react.specs.Leaves.{EventCame, expiry_reaction}
-use Rattle.fb_sample.specs.Samples.{HoldsAll, slots_set}
+use Rattle.fb_net.specs.Outs.{Stands, out_of}
+use Rattle.fb_net.specs.declared.outbox.Outbox.{Outbox}
+use Rattle.fb_net.specs.Leaves.{EventCame, expiry_reaction}
+use Rattle.fb_net.specs.Samples.{HoldsAll, slots_set}
 use Rattle.fb_system.specs.Stimuli.{IsStimulusAt, set_of}
 use Rattle.fb_system.specs.declared.stimulus.StimulusAt.{StimulusAt}
 use Rattle.fb_tree.specs.Changes.{Changes}
 use Rattle.fb_tree.specs.Worlds.{InForest, IsForest}
 use Rattle.fb_tree.specs.declared.resource.Forest.{Forest}
-use Rattle.fb_typing.specs.Typed.{AreTyped, IsTypedEvent}
-use Rattle.fb_typing.proofs.Kept.{held_typed, slots_typed}
+use Rattle.fb_laws.specs.Typed.{AreTyped, IsTypedEvent}
+use Rattle.fb_laws.proofs.Kept.{held_typed, slots_typed}
 use Rattle.fb_net.specs.Arrivals.{Arrives, ComesTo, HasReacted, IsReady, ReactedIn, StandTyped, expiring, lines_in}
 use Rattle.fb_net.specs.Events.{Came, HasTaken, event_of, stimulated}
 use Rattle.fb_net.proofs.Crossing.{answered-left, answered-stop}

@@ -5,7 +5,7 @@ use Rattle.fb_types.specs.Numbers.{carried_of}
 use Rattle.fb_types.specs.Reactions.{World, hold_all}
 use Rattle.fb_types.specs.States as model
 use Rattle.fb_types.specs.declared.run.Carried.{Carried}
-use Rattle.fb_sample.specs.Samples.{HoldsAll}
+use Rattle.fb_net.specs.Samples.{HoldsAll}
 use Rattle.fb_tree.specs.Changes.{Changes, block_in, with_instance}
 use Rattle.fb_tree.specs.Worlds.{InForest, IsForest}
 use Rattle.fb_tree.specs.declared.resource.Forest.{Forest}

@@ -13,11 +13,11 @@ use Rattle.fb_types.specs.declared.run.Halt.TheVariants as halt
 use Rattle.fb_types.specs.declared.run.Target.{Target}
 use Rattle.fb_types.specs.declared.run.TimerAsk.TheVariants.{Keep}
 use Rattle.fb_types.specs.declared.value.Reason.{Reason}
-use Rattle.fb_emit.specs.Outs.{AreOuts, Stands}
-use Rattle.fb_emit.specs.declared.outbox.Outbox.{Outbox}
+use Rattle.fb_net.specs.Outs.{AreOuts, Stands}
+use Rattle.fb_net.specs.declared.outbox.Outbox.{Outbox}
 use Rattle.fb_tree.specs.Worlds.{IsForest}
 use Rattle.fb_tree.specs.declared.resource.Forest.{Forest}
-use Rattle.fb_typing.specs.Typed.{AreTyped}
+use Rattle.fb_laws.specs.Typed.{AreTyped}
 
 -- ---- Before
 

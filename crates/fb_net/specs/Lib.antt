@@ -1,2 +1,6 @@
 pub mod Arrivals
 pub mod Events
+pub mod Samples
+pub mod Emitting
+pub mod Outs
+pub mod Leaves

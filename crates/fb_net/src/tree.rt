@@ -6,14 +6,14 @@ ghost use Rattle.fb_types.specs.Reactions.{World};
 ghost use Rattle.fb_types.specs.Simulation.{opening_state};
 ghost use Rattle.fb_types.specs.Takes.{world_of};
 ghost use Rattle.fb_types.specs.declared.run.TimerAsk.TheVariants.{Keep};
-ghost use Rattle.fb_emit.specs.Outs.{AreOuts};
+ghost use Rattle.fb_net.specs.Outs.{AreOuts};
 ghost use Rattle.fb_tree.specs.Worlds.{IsForest};
-ghost use Rattle.fb_typing.specs.Typed.{AreTyped, IsTypedEvent};
+ghost use Rattle.fb_laws.specs.Typed.{AreTyped, IsTypedEvent};
 ghost use Rattle.fb_net.specs.Events.{HasTaken, IsEventIn, Remembered, event_of};
 
+use crate::outbox::Outbox;
 use crate::take::take_event;
 use fb_agenda::agenda::Event;
-use fb_emit::outbox::Outbox;
 use fb_st::meter::Meter;
 use fb_system::system::System;
 use fb_tree::resource::Forest;
@@ -49,7 +49,7 @@ impl Tree {
         ensures opened { IfOk result (λ t. IsForest system.now t (world_of (opening_state (system_of system.now)) resource)) }
         ensures resource { IfOk result (λ t. t.resource ≡ resource) }
     {
-        let forest = fb_build::build::build(alloc, system, resource)?;
+        let forest = fb_tree::build::build(alloc, system, resource)?;
         Ok(Tree { forest })
     }
 

@@ -1,6 +1,6 @@
-//! Tests of the crates that find by number what names stand for: `fb_resolve`, `fb_stimuli`, `fb_interfaces`, `fb_rows`,
-//! `fb_links`, `fb_wiring` and `fb_initial`. They stand apart, so that a check of the tests does not prove those crates
-//! once more, and together, since what they drop is proved once in each crate that drops it.
+//! Tests of what finds by number what names stand for, in `fb_names`, `fb_check`, `fb_fabric` and `fb_system`, as far as it
+//! can be made of a declaration without a system. They stand apart, so that a check of the tests does not prove those
+//! crates once more.
 #![tactic(auto)]
 
 #[cfg(test)]

@@ -3,6 +3,7 @@
 mod finding;
 mod initial;
 mod interfaces;
+mod layout;
 mod links;
 mod names;
 mod networks;

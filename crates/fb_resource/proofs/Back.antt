@@ -13,7 +13,7 @@ use Rattle.fb_types.specs.Parts.{Part, part_of, outcome_of, machine, item_of, it
 use Rattle.fb_types.specs.States.{Line}
 use Rattle.fb_types.specs.declared.key.Key.{Key}
 use Rattle.fb_types.specs.declared.value.Reason.{Reason}
-use Rattle.fb_sound.specs.Sound.{IsSound}
+use Rattle.fb_laws.specs.Sound.{IsSound}
 use Rattle.fb_resource.specs.Worlds.{World, TakesLeast, next, Simulates, Simulation}
 use Rattle.fb_types.proofs.Lookups.{none_some}
 use Rattle.fb_resource.proofs.Global.{with_at_same}

@@ -13,7 +13,7 @@ use Rattle.fb_types.specs.Parts.{Part, part_of, machine, item_of, items_of, IsAt
 use Rattle.fb_types.specs.Histories.{takings_below, stop_of}
 use Rattle.fb_types.specs.declared.key.Key.{Key}
 use Rattle.fb_types.specs.declared.value.Reason.{Reason}
-use Rattle.fb_sound.specs.Sound.{IsSound}
+use Rattle.fb_laws.specs.Sound.{IsSound}
 use Rattle.fb_resource.specs.Worlds.{World, TakesLeast, next, Simulates, last, StopsAt}
 use Rattle.fb_types.proofs.Lookups.{none_some, option_cases, or_else_none}
 use Rattle.fb_resource.proofs.Global.{with_at_same, with_at_other}

@@ -13,12 +13,12 @@ use Rattle.fb_types.specs.declared.key.Key.{Key}
 use Rattle.fb_types.specs.declared.run.TimerAsk.{TimerAsk}
 use Rattle.fb_types.specs.declared.run.TimerAsk.TheVariants.{Keep, Clear, At}
 use Rattle.fb_types.proofs.KeyLaws.{same_key_is}
-use Rattle.fb_sound.specs.Sound.{IsSound}
+use Rattle.fb_laws.specs.Sound.{IsSound}
 use Rattle.fb_resource.specs.Facts.{IsTaking}
 use Rattle.fb_types.proofs.Lookups.{or_else_some, none_some, edit_some, without_some}
 use Rattle.fb_types.proofs.EachLaws.{each_map}
-use Rattle.fb_sound.proofs.Timers.{IsLater}
-use Rattle.fb_sound.proofs.Outs.{GoodOutcome, reacts_good}
+use Rattle.fb_laws.proofs.Timers.{IsLater}
+use Rattle.fb_laws.proofs.Outs.{GoodOutcome, reacts_good}
 use Rattle.fb_resource.proofs.Posting.{each_found, IsRaised, IsSent, post_all_good}
 
 -- a choice that comes to something

@@ -9,7 +9,7 @@ use Rattle.fb_types.specs.Machines.{Each}
 use Rattle.fb_types.specs.Parts.{count_of, IsAtResource}
 use Rattle.fb_types.specs.declared.key.Key.{Key}
 use Rattle.fb_types.specs.declared.value.Reason.{Reason}
-use Rattle.fb_sound.specs.Sound.{IsSound}
+use Rattle.fb_laws.specs.Sound.{IsSound}
 use Rattle.fb_types.proofs.Lookups.{before_irrefl, before_cases, before_trans, tick_before, resource_before, none_some, none_since, option_cases, or_else_nones, or_else_some, edit_some, edit_none, without_none, without_some}
 use Rattle.fb_resource.proofs.Effects.{GoodEffect, takes_good, agenda_fits}
 use Rattle.fb_resource.proofs.TakeTotal.{In, in_left, in_right, keys, found_in, left_in, can_take}

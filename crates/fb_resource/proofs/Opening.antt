@@ -11,7 +11,7 @@ use Rattle.fb_types.specs.Machines.{Each}
 use Rattle.fb_types.specs.Parts.{machine, count_of, IsAtResource}
 use Rattle.fb_types.specs.declared.key.Key.{Key}
 use Rattle.fb_types.specs.declared.event_kind.EventKind.TheVariants.{Restart, Split, Merge, Rendezvous, Permit, Select, Switch, Delay, Cycle, SetReset, DataLatch, RisingEdge, FallingEdge, CountUp}
-use Rattle.fb_sound.specs.Sound.{IsSound}
+use Rattle.fb_laws.specs.Sound.{IsSound}
 use Rattle.fb_resource.specs.Worlds.{IsOpening, IsCounted}
 use Rattle.fb_types.proofs.Lookups.{none_some, none_since, or_else_some}
 use Rattle.fb_types.proofs.EachLaws.{each_append}

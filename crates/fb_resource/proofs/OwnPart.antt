@@ -13,12 +13,12 @@ use Rattle.fb_types.specs.Parts.{Part, part_of, machine, outcome_of, IsAtResourc
 use Rattle.fb_types.specs.declared.key.Key.{Key}
 use Rattle.fb_types.specs.declared.value.Reason.{Reason}
 use Rattle.fb_types.proofs.PathLaws.{same_path_is}
-use Rattle.fb_sound.specs.Sound.{IsSound}
+use Rattle.fb_laws.specs.Sound.{IsSound}
 use Rattle.fb_resource.specs.Facts.{IsLawful, IsTaking}
 use Rattle.fb_resource.proofs.Global.{with_at_same, with_at_other}
 use Rattle.fb_resource.proofs.Alike.{SameWorld, SameOutcome, reacts_same, reacts_one}
-use Rattle.fb_sound.proofs.Stays.{reacts_stays}
-use Rattle.fb_sound.proofs.Outs.{GoodOutcome, reacts_good}
+use Rattle.fb_laws.proofs.Stays.{reacts_stays}
+use Rattle.fb_laws.proofs.Outs.{GoodOutcome, reacts_good}
 use Rattle.fb_resource.proofs.Posting.{SamePosts, post_all_same, post_all_stays}
 use Rattle.fb_resource.proofs.Effects.{takes_good, is_taking}
 

@@ -11,10 +11,10 @@ use Rattle.fb_types.specs.Machines.{Each}
 use Rattle.fb_types.specs.Parts.{IsArrival, IsAtResource}
 use Rattle.fb_types.specs.declared.key.Key.{Key}
 use Rattle.fb_types.proofs.KeyLaws.{same_key_from}
-use Rattle.fb_sound.specs.Sound.{IsSound}
+use Rattle.fb_laws.specs.Sound.{IsSound}
 use Rattle.fb_types.proofs.Lookups.{same_cases, or_else_some, none_some}
 use Rattle.fb_types.proofs.EachLaws.{each_append}
-use Rattle.fb_sound.proofs.Outs.{IsGood}
+use Rattle.fb_laws.proofs.Outs.{IsGood}
 
 -- what is said of each pair holds of what is found
 pub each_found : {V : Type 0} (P : Key → V → Type 0) (es : List (Key × V)) → Each (λ (e : Key × V). P e.0 e.1) es → (j : Key) (v : V) → found j es ≡ Some v → P j v

@@ -17,7 +17,7 @@ use Rattle.fb_types.specs.declared.event_kind.EventKind.TheVariants.{Restart, Sp
 use Rattle.fb_types.specs.declared.run.TimerAsk.{TimerAsk}
 use Rattle.fb_types.specs.declared.run.TimerAsk.TheVariants.{Keep, Clear, At}
 use Rattle.fb_types.proofs.KeyLaws.{same_key_is}
-use Rattle.fb_sound.specs.Sound.{IsSound}
+use Rattle.fb_laws.specs.Sound.{IsSound}
 use Rattle.fb_resource.specs.Law.{PutsLater}
 use Rattle.fb_types.proofs.Lookups.{cmp_equal, tick_before, or_else_some, none_some, none_since, edit_some, without_some}
 use Rattle.fb_types.proofs.EachLaws.{each_map, each_append}

@@ -22,10 +22,10 @@ use Rattle.fb_types.proofs.value.Reason.TheSendSync as reason
 use Rattle.fb_types.proofs.text.UnaryOperator.TheSendSync as unary
 use Rattle.fb_types.proofs.text.BinaryOperator.TheSendSync as binary
 use Rattle.fb_types.proofs.text.Label.TheSendSync as label
-use Rattle.fb_wiring.proofs.wiring.Wiring.TheSendSync as wiring
-use Rattle.fb_links.proofs.links.Links.TheSendSync as links
-use Rattle.fb_interfaces.proofs.interfaces.Interfaces.TheSendSync as interfaces
-use Rattle.fb_rows.proofs.rows.StimulusRow.TheSendSync as row
+use Rattle.fb_fabric.proofs.wiring.Wiring.TheSendSync as wiring
+use Rattle.fb_system.proofs.links.Links.TheSendSync as links
+use Rattle.fb_system.proofs.interfaces.Interfaces.TheSendSync as interfaces
+use Rattle.fb_system.proofs.rows.StimulusRow.TheSendSync as row
 use Rattle.fb_tree.proofs.block.BasicBlock.TheSendSync as basic
 use Rattle.fb_tree.proofs.block.EventBlock.TheSendSync as event
 use Rattle.fb_tree.proofs.places.Places.TheSendSync as places

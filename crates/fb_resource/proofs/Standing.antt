@@ -11,7 +11,7 @@ use Rattle.fb_types.specs.Takes.{Effect, Takes}
 use Rattle.fb_types.specs.declared.key.Key.{Key}
 use Rattle.fb_types.specs.declared.value.Reason.{Reason}
 use Rattle.fb_types.proofs.Lookups.{edit_some}
-use Rattle.fb_sound.specs.Sound.{IsSound}
+use Rattle.fb_laws.specs.Sound.{IsSound}
 use Rattle.fb_agenda.specs.Agendas.{Contents, waiting}
 use Rattle.fb_agenda.specs.declared.agenda.Event.{Event}
 use Rattle.fb_net.specs.Events.{event_of}

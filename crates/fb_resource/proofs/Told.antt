@@ -13,7 +13,7 @@ use Rattle.fb_types.specs.Histories.{told_to, IsTold, takings_below, stop_of, hi
 use Rattle.fb_types.specs.Merges.{IsMerge, lines_before}
 use Rattle.fb_types.specs.declared.key.Key.{Key}
 use Rattle.fb_types.specs.declared.value.Reason.{Reason}
-use Rattle.fb_sound.specs.Sound.{IsSound}
+use Rattle.fb_laws.specs.Sound.{IsSound}
 use Rattle.fb_resource.specs.Facts.{IsLawful}
 use Rattle.fb_resource.specs.Worlds.{World, Simulates, last, Simulation, IsOpening, IsCounted, StopsAt, far, HasTold, NotBefore, left_at, taken_at, view}
 use Rattle.fb_resource.specs.Law.{HasHistories, OneRun, HasLines, lines_to_stop, HasStops}

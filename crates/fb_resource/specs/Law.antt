@@ -11,7 +11,7 @@ use Rattle.fb_types.specs.Histories.{IsTold, history, taken, alone, IsSameAt, Is
 use Rattle.fb_types.specs.Merges.{IsMerge, lines_before}
 use Rattle.fb_types.specs.declared.key.Key.{Key}
 use Rattle.fb_types.specs.declared.value.Reason.{Reason}
-use Rattle.fb_sound.specs.Sound.{AreGood}
+use Rattle.fb_laws.specs.Sound.{AreGood}
 
 -- Said of every simulation of accepted inputs.
 abbrev pub OfEach : ((sys : System) → List Stimulus → (horizon limit : ℕ) → List Taken → Type 0) → Type 0

@@ -10,7 +10,7 @@ use Rattle.fb_types.specs.declared.key.Key.{Key}
 use Rattle.fb_types.specs.declared.run.Message.{Message}
 use Rattle.fb_agenda.specs.Agendas.{Contents, waiting}
 use Rattle.fb_agenda.specs.Arrivals.{AreNew, arrival_at}
-use Rattle.fb_sound.specs.Sound.{IsSound}
+use Rattle.fb_laws.specs.Sound.{IsSound}
 use Rattle.fb_resource.specs.Resources.{StandsFor}
 use Rattle.fb_resource.specs.declared.resource.Inner.{Inner}
 use Rattle.fb_resource.proofs.Opening.{is_opening}

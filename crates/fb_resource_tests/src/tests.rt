@@ -12,4 +12,6 @@ mod merging;
 mod messages;
 mod rings;
 mod rows;
+mod systems;
+mod trace;
 mod words;

@@ -16,8 +16,8 @@ use Rattle.fb_types.specs.declared.run.Line as run
 use Rattle.fb_types.specs.declared.value.Reason.{Reason}
 use Rattle.fb_types.proofs.EachLaws.{each_map, each_append}
 use Rattle.fb_types.proofs.Lookups.{option_cases}
-use Rattle.fb_sound.specs.Sound.{AreGood}
-use Rattle.fb_sound.proofs.Accepting.{sound_of}
+use Rattle.fb_laws.specs.Sound.{AreGood}
+use Rattle.fb_laws.proofs.Accepting.{sound_of}
 use Rattle.fb_resource.specs.Facts.{IsLawful}
 use Rattle.fb_resource.specs.Worlds.{World, IsOpening, IsCounted, Simulation}
 use Rattle.fb_resource.proofs.Bridge.{world_of}

@@ -10,8 +10,8 @@ use Rattle.fb_types.specs.Schedules.{IsSchedule, IsAtHorizon, IsLeastStop}
 use Rattle.fb_types.specs.Simulation.{opening}
 use Rattle.fb_types.specs.declared.value.Reason.{Reason}
 use Rattle.fb_types.proofs.Lookups.{none_some, option_cases}
-use Rattle.fb_sound.specs.Sound.{AreGood}
-use Rattle.fb_sound.proofs.Accepting.{sound_of}
+use Rattle.fb_laws.specs.Sound.{AreGood}
+use Rattle.fb_laws.proofs.Accepting.{sound_of}
 use Rattle.fb_resource.specs.declared.resource.Inner.{Inner}
 use Rattle.fb_resource.specs.Worlds.{World}
 use Rattle.fb_resource.proofs.Bridge.{world_of}

@@ -13,9 +13,9 @@ use Rattle.fb_types.specs.Parts.{machine, count_of}
 use Rattle.fb_types.specs.Schedules.{IsSchedule, IsAtHorizon, IsLeastStop}
 use Rattle.fb_types.specs.declared.run.Line as run
 use Rattle.fb_types.specs.declared.value.Reason.{Reason}
-use Rattle.fb_sound.specs.Sound.{AreGood}
+use Rattle.fb_laws.specs.Sound.{AreGood}
 use Rattle.fb_system.specs.Lines.{BelongsTo}
-use Rattle.fb_sound.proofs.Accepting.{sound_of}
+use Rattle.fb_laws.proofs.Accepting.{sound_of}
 use Rattle.fb_resource.proofs.Existence.{there_is}
 use Rattle.fb_resource.specs.declared.resource.Inner.{Inner}
 use Rattle.fb_window.specs.Bounding.{AreGreatest}

@@ -14,7 +14,7 @@ use Rattle.fb_types.specs.Cores as model_cores
 use Rattle.fb_types.specs.Parts.{machine}
 use Rattle.fb_types.specs.Schedules.{IsSchedule}
 use Rattle.fb_types.specs.declared.run.Line as run
-use Rattle.fb_sound.specs.Sound.{AreGood}
+use Rattle.fb_laws.specs.Sound.{AreGood}
 use Rattle.fb_system.specs.Lines.{BelongsTo}
 use Rattle.fb_resource.specs.declared.resource.Inner.{Inner}
 use Rattle.fb_resource.specs.declared.resource.WindowDone.{WindowDone}

@@ -15,7 +15,7 @@ use Rattle.fb_read.specs.declared.error.ReadError.TheVariants as read
 use Rattle.fb_inputs.specs.Deployments.{deploy_of}
 use Rattle.fb_inputs.specs.Stimuli.{stimuli_of}
 use Rattle.fb_inputs.specs.Refusals as input
-use Rattle.fb_judge.specs.Faults as judge
+use Rattle.fb_check.specs.Faults as judge
 use Rattle.fb_trace.specs.Progress.{IsPartWritten}
 use Rattle.fb_sim.specs.Given.{Given}
 use Rattle.fb_sim.specs.declared.options.Options.{Options}

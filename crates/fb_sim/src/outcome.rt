@@ -3,8 +3,8 @@
 ghost use Rattle.std.specs.Prelude.{◌≡◌};
 ghost use Rattle.fb_sim.specs.declared.outcome.RunError.TheVariants.{Memory};
 
+use fb_check::fault::Fault;
 use fb_inputs::error::InputError;
-use fb_judge::fault::Fault;
 use fb_phase::PhaseError;
 use fb_read::error::ReadError;
 use fb_types::run::StopMark;

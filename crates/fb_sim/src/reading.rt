@@ -8,13 +8,13 @@ ghost use Rattle.fb_sim.specs.Serial.{AreStimuli, Declares, IsDeclared, IsPlan, 
 use crate::options::Inputs;
 use crate::outcome::{Refusal, RunError};
 use fb_check::accept::accept;
+use fb_check::case::Case;
 use fb_check::error::CheckError;
+use fb_check::fault;
+use fb_check::judge::judge;
 use fb_inputs::deployment::read_deploy;
 use fb_inputs::error::InputError;
 use fb_inputs::stimuli::read_stimuli;
-use fb_judge::case::Case;
-use fb_judge::fault;
-use fb_judge::judge::judge;
 use fb_read::error::ReadError;
 use fb_read::read::read_library;
 use fb_system::system::System;

@@ -12,11 +12,11 @@ use Rattle.fb_types.specs.declared.library.Instance.{Instance}
 use Rattle.fb_types.specs.declared.library.Library.{Library}
 use Rattle.fb_types.specs.declared.library.Parameter.{Parameter}
 use Rattle.fb_types.specs.declared.library.Ports.{Ports}
-use Rattle.fb_resolve.specs.Numbers.{each_or_none, parameter_numbers, place_of}
-use Rattle.fb_layout.specs.Layouts.{path_of}
-use Rattle.fb_initial.specs.Begins.{begins_with, parameter_names}
-use Rattle.fb_initial.proofs.Initial.{inputs_begin, outputs_begin}
-use Rattle.fb_initial.proofs.Naming.{inputs_once, parameters_once, parameters_placed}
+use Rattle.fb_names.specs.Numbers.{each_or_none, parameter_numbers, place_of}
+use Rattle.fb_fabric.specs.Layouts.{path_of}
+use Rattle.fb_system.specs.Begins.{begins_with, parameter_names}
+use Rattle.fb_system.proofs.Initial.{inputs_begin, outputs_begin}
+use Rattle.fb_system.proofs.Naming.{inputs_once, parameters_once, parameters_placed}
 use Rattle.fb_system.specs.Stimuli.{initial_inputs, initial_outputs}
 use Rattle.fb_system.specs.Systems.{inputs_of}
 use Rattle.fb_system.specs.declared.whole.Whole.{Whole}

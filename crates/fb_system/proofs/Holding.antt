@@ -12,9 +12,9 @@ use Rattle.fb_types.specs.declared.library.Library.{Library}
 use Rattle.fb_names.proofs.NameLemmas.{any_from_contains, Contains-cons_cases, Contains-here, Contains-nil, Contains-there}
 use Rattle.fb_names.proofs.Positions.{is_some-position, position_is}
 use Rattle.fb_names.proofs.TwiceIn.{Contains-map}
-use Rattle.fb_layout.proofs.Distinct.{at_Contains, below, below_through, IsThrough, paths_from}
-use Rattle.fb_layout.specs.Layouts.{path_of, place_at, route_to}
-use Rattle.fb_links.specs.Linking.{holder_at, IsLinked, Linked}
+use Rattle.fb_fabric.proofs.Distinct.{at_Contains, below, below_through, IsThrough, paths_from}
+use Rattle.fb_fabric.specs.Layouts.{path_of, place_at, route_to}
+use Rattle.fb_system.specs.Linking.{holder_at, IsLinked, Linked}
 use Rattle.fb_system.specs.Systems.{inputs_of, StandFor}
 use Rattle.fb_system.specs.declared.whole.Whole.{Whole}
 use Rattle.fb_system.proofs.Seen.{linked_seen}

@@ -1,5 +1,19 @@
 mod Seen
 mod Holding
-mod Interfaces
+mod WithPlaces
 mod Stimuli
 mod Beginning
+pub mod Ways
+pub mod Linked
+pub mod EventBlocks
+pub mod Rising
+pub mod Listed
+pub mod Declared
+pub mod Named
+pub mod Placing
+pub mod Naming
+pub mod Initial
+pub mod Tables
+pub mod TypesByName
+pub mod Known
+pub mod Numbered

@@ -19,17 +19,17 @@ use Rattle.fb_types.specs.declared.deploy.Stimulus.{Stimulus}
 use Rattle.fb_types.specs.declared.library.Library.{Library}
 use Rattle.fb_types.specs.declared.library.Ports.{Ports}
 use Rattle.fb_types.specs.declared.run.Target.{Target}
-use Rattle.fb_resolve.specs.Numbers.{kind_of_number}
-use Rattle.fb_resolve.specs.declared.numbers.TypeNumber.{TypeNumber}
-use Rattle.fb_layout.specs.Layouts.{AreComponents, AreNumbers, IsParent, path_of, route_to}
+use Rattle.fb_names.specs.Numbers.{kind_of_number}
+use Rattle.fb_names.specs.declared.numbers.TypeNumber.{TypeNumber}
+use Rattle.fb_fabric.specs.Layouts.{AreComponents, AreNumbers, IsParent, path_of, route_to}
 use Rattle.fb_fabric.specs.Fabrics as fabric
 use Rattle.fb_fabric.specs.declared.fabric.Place.{Place}
-use Rattle.fb_interfaces.specs.Tables.{AreInterfaces}
-use Rattle.fb_interfaces.specs.declared.interfaces.Interfaces.{Interfaces}
-use Rattle.fb_resolve.specs.Types.{ArePortsOfKinds}
-use Rattle.fb_rows.specs.Rows.{AreRows}
-use Rattle.fb_rows.specs.declared.rows.StimulusRow.{StimulusRow}
-use Rattle.fb_links.specs.Linking.{IsLinked, Linked, link_at, receiver_at, sender_at}
+use Rattle.fb_system.specs.Tables.{AreInterfaces}
+use Rattle.fb_system.specs.declared.interfaces.Interfaces.{Interfaces}
+use Rattle.fb_names.specs.Types.{ArePortsOfKinds}
+use Rattle.fb_system.specs.Rows.{AreRows}
+use Rattle.fb_system.specs.declared.rows.StimulusRow.{StimulusRow}
+use Rattle.fb_system.specs.Linking.{IsLinked, Linked, link_at, receiver_at, sender_at}
 use Rattle.fb_system.specs.Ports.{IsPort, IsSource, IsTarget, IsVariable, variable_of}
 use Rattle.fb_system.specs.Systems.{inputs_of, StandFor}
 use Rattle.fb_system.specs.declared.whole.Whole.{Whole}

@@ -2,3 +2,10 @@ pub mod Lines
 pub mod Ports
 pub mod Stimuli
 pub mod Systems
+pub mod Linking
+pub mod Stands
+pub mod Lookups
+pub mod Tables
+pub mod Begins
+pub mod Interfaces
+pub mod Rows

@@ -8,7 +8,7 @@ use Rattle.fb_types.specs.Simulation.{Stimulus}
 use Rattle.fb_types.specs.Systems.{System}
 use Rattle.fb_types.specs.declared.value.Value.{Value}
 use Rattle.fb_system.specs.Ports.{IsPort, data_input}
-use Rattle.fb_rows.specs.declared.rows.SlotValue.{SlotValue}
+use Rattle.fb_system.specs.declared.rows.SlotValue.{SlotValue}
 use Rattle.fb_system.specs.declared.stimulus.StimulusAt.{StimulusAt}
 
 -- a slot of an instance, with the value that it gets

@@ -1,7 +1,7 @@
 //! The interfaces of the event blocks.
 
 ghost use Rattle.std.specs.Prelude.{◌≡◌, IfOk};
-ghost use Rattle.fb_resolve.specs.Types.{ArePortsOfKinds, kind_place};
+ghost use Rattle.fb_names.specs.Types.{ArePortsOfKinds, kind_place};
 
 use fb_types::event_kind::EventKind;
 use fb_types::event_ports::ports_of;

@@ -1,6 +1,6 @@
 //! Stimuli by number.
 
-pub use fb_rows::rows::SlotValue;
+pub use crate::rows::SlotValue;
 use fb_types::run::Target;
 
 /// A stimulus of a system: its tick in milliseconds, the event input at which it comes, and the slots that it sets.

@@ -3,14 +3,14 @@
 ghost use Rattle.std.specs.Prelude.{◌≡◌, Some, option_map};
 ghost use Rattle.fb_types.specs.Blocks.{Kind, ports_of};
 ghost use Rattle.fb_types.specs.Flat.{kind_of};
-ghost use Rattle.fb_interfaces.specs.Stands.{AreWithPlaces};
-ghost use Rattle.fb_resolve.specs.Numbers.{kind_of_number};
+ghost use Rattle.fb_system.specs.Stands.{AreWithPlaces};
+ghost use Rattle.fb_names.specs.Numbers.{kind_of_number};
 ghost use Rattle.fb_system.specs.Systems.{StandFor};
 
 use crate::event_blocks::place_of_kind;
 use crate::whole::Whole;
-use fb_interfaces::with_places::WithPlaces;
-use fb_resolve::numbers::TypeNumber;
+use crate::with_places::WithPlaces;
+use fb_names::numbers::TypeNumber;
 use fb_types::library::{BlockType, Ports};
 
 fn ports_in(block: &BlockType) -> &Ports

@@ -2,10 +2,10 @@
 
 ghost use Rattle.std.specs.Prelude.{◌≡◌, ◌<◌, Some, length, slice_get};
 
+use crate::interfaces::Interfaces;
+use crate::links::Links;
+use crate::rows::StimulusRow;
 use fb_fabric::fabric::Fabric;
-use fb_interfaces::interfaces::Interfaces;
-use fb_links::links::Links;
-use fb_rows::rows::StimulusRow;
 use fb_types::deploy::{Deploy, Stimulus};
 use fb_types::items::Items;
 use fb_types::library::Ports;

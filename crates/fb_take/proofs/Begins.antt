@@ -5,8 +5,8 @@ use Rattle.fb_types.specs.Simulation.{opening_state}
 use Rattle.fb_types.specs.Takes.{world_of}
 use Rattle.fb_tree.specs.Worlds.{IsForest}
 use Rattle.fb_tree.specs.declared.resource.Forest.{Forest}
-use Rattle.fb_typing.proofs.Accepted.{accepted_typed}
-use Rattle.fb_typing.proofs.Simulated.{opening_state-typed}
+use Rattle.fb_laws.proofs.Accepted.{accepted_typed}
+use Rattle.fb_laws.proofs.Simulated.{opening_state-typed}
 use Rattle.fb_take.specs.Counts.{IsMetered}
 use Rattle.fb_take.specs.Takings.{IsHere}
 

@@ -27,9 +27,9 @@ use Rattle.fb_agenda.specs.declared.agenda.Event.TheVariants as kinds
 use Rattle.fb_net.specs.Events.{event_of, stimulated}
 use Rattle.fb_system.specs.Stimuli.{IsStimulusAt}
 use Rattle.fb_system.specs.declared.stimulus.StimulusAt.{StimulusAt}
-use Rattle.fb_typing.specs.Simulations.{IsTypedStimulus}
-use Rattle.fb_typing.specs.Typed.{IsTypedEvent}
-use Rattle.fb_typing.proofs.Accepted.{accepted_typed}
+use Rattle.fb_laws.specs.Simulations.{IsTypedStimulus}
+use Rattle.fb_laws.specs.Typed.{IsTypedEvent}
+use Rattle.fb_laws.proofs.Accepted.{accepted_typed}
 use Rattle.fb_take.specs.Openings.{HasRestarts, HasStimuli, HasTimersBelow, IsOpened, IsStimulusKey, is_of, only}
 use Rattle.fb_take.specs.Posts.{IsPut}
 use Rattle.fb_take.specs.Waiting.{IsInOrder, MayWait, meaning}

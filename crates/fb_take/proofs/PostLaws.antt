@@ -22,10 +22,10 @@ use Rattle.fb_types.proofs.TakeLaws.{found-put}
 use Rattle.fb_agenda.specs.Agendas.{Contents, waiting, IsTimed}
 use Rattle.fb_agenda.specs.declared.agenda.Event.{Event}
 use Rattle.fb_agenda.specs.declared.agenda.Event.TheVariants.{Arrival, Local}
-use Rattle.fb_emit.specs.declared.outbox.Sending.{Sending}
-use Rattle.fb_emit.specs.Outs.{IsLocal, out_of}
-use Rattle.fb_emit.specs.declared.outbox.Out.{Out}
-use Rattle.fb_emit.specs.declared.outbox.Out.TheVariants as outs
+use Rattle.fb_net.specs.declared.outbox.Sending.{Sending}
+use Rattle.fb_net.specs.Outs.{IsLocal, out_of}
+use Rattle.fb_net.specs.declared.outbox.Out.{Out}
+use Rattle.fb_net.specs.declared.outbox.Out.TheVariants as outs
 use Rattle.fb_net.specs.Events.{event_of}
 use Rattle.fb_take.specs.Posts.{ArePosted, CountsAre, IsMessage, IsPut, IsSendable, arriving, message_of}
 use Rattle.fb_take.specs.Waiting.{meaning, MayWait, AllMayWait, TimersAtHome, IsInOrder}

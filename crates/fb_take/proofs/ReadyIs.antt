@@ -16,22 +16,22 @@ use Rattle.fb_types.specs.declared.key.Key.{Key}
 use Rattle.fb_types.specs.declared.run.TimerAsk.{TimerAsk}
 use Rattle.fb_types.specs.declared.run.TimerAsk.TheVariants.{Keep, Clear, At}
 use Rattle.fb_types.proofs.KeyLaws.{same_key_is}
-use Rattle.fb_sound.specs.Sound.{IsSound}
-use Rattle.fb_sound.proofs.Accepting.{sound_of}
-use Rattle.fb_sound.proofs.Outs.{GoodOutcome, IsGood, reacts_good}
-use Rattle.fb_sound.proofs.Timers as timers
+use Rattle.fb_laws.specs.Sound.{IsSound}
+use Rattle.fb_laws.proofs.Accepting.{sound_of}
+use Rattle.fb_laws.proofs.Outs.{GoodOutcome, IsGood, reacts_good}
+use Rattle.fb_laws.proofs.Timers as timers
 use Rattle.fb_agenda.specs.Agendas.{Contents, IsTimed, LiesIn, timer_set, waiting}
 use Rattle.fb_agenda.specs.declared.agenda.Event.{Event}
 use Rattle.fb_agenda.specs.declared.agenda.Event.TheVariants.{Timer}
-use Rattle.fb_emit.specs.Outs.{IsOut, out_of}
-use Rattle.fb_emit.specs.declared.outbox.Out.{Out}
-use Rattle.fb_emit.specs.declared.outbox.Out.TheVariants.{Local, Send}
-use Rattle.fb_emit.specs.declared.outbox.Outbox.{Outbox}
+use Rattle.fb_net.specs.Outs.{IsOut, out_of}
+use Rattle.fb_net.specs.declared.outbox.Out.{Out}
+use Rattle.fb_net.specs.declared.outbox.Out.TheVariants.{Local, Send}
+use Rattle.fb_net.specs.declared.outbox.Outbox.{Outbox}
 use Rattle.fb_net.specs.Events.{CameTo, event_of}
 use Rattle.fb_tree.specs.declared.resource.Forest.{Forest}
-use Rattle.fb_typing.specs.Typed.{AreTyped, IsTypedEvent, IsTypedOut, KeepsTypes}
-use Rattle.fb_typing.proofs.Accepted.{accepted_typed}
-use Rattle.fb_typing.proofs.Kept.{reacts_typed}
+use Rattle.fb_laws.specs.Typed.{AreTyped, IsTypedEvent, IsTypedOut, KeepsTypes}
+use Rattle.fb_laws.proofs.Accepted.{accepted_typed}
+use Rattle.fb_laws.proofs.Kept.{reacts_typed}
 use Rattle.fb_take.specs.Counts.{IsMetered}
 use Rattle.fb_take.specs.Posts.{IsPostable}
 use Rattle.fb_take.specs.Takings.{IsLater}

@@ -17,14 +17,14 @@ use Rattle.fb_types.specs.declared.value.Reason.TheVariants as reason
 use Rattle.fb_agenda.specs.Agendas.{Contents, waiting, timer_set}
 use Rattle.fb_agenda.specs.declared.agenda.Event.{Event}
 use Rattle.fb_agenda.specs.declared.agenda.Event.TheVariants.{Timer}
-use Rattle.fb_emit.specs.Outs.{out_of}
-use Rattle.fb_emit.specs.declared.outbox.Outbox.{Outbox}
+use Rattle.fb_net.specs.Outs.{out_of}
+use Rattle.fb_net.specs.declared.outbox.Outbox.{Outbox}
 use Rattle.fb_net.specs.Events.{CameTo, event_of}
 use Rattle.fb_tree.specs.Worlds.{IsForest}
 use Rattle.fb_tree.specs.declared.resource.Forest.{Forest}
-use Rattle.fb_typing.specs.Typed.{IsTypedEvent, IsTypedSystem}
-use Rattle.fb_typing.proofs.Agendas.{holds_none}
-use Rattle.fb_typing.proofs.Simulated.{IsTypedConfig, takes-typed}
+use Rattle.fb_laws.specs.Typed.{IsTypedEvent, IsTypedSystem}
+use Rattle.fb_laws.proofs.Agendas.{holds_none}
+use Rattle.fb_laws.proofs.Simulated.{IsTypedConfig, takes-typed}
 use Rattle.fb_take.specs.Counts.{meter_of}
 use Rattle.fb_take.specs.Posts.{CountsAre, arriving}
 use Rattle.fb_take.specs.Takings.{IsHere, IsSettled, IsTakenHere}

@@ -13,12 +13,12 @@ use Rattle.fb_types.specs.declared.value.Value.{Value}
 use Rattle.fb_agenda.specs.Agendas.{Contents, waiting}
 use Rattle.fb_agenda.specs.declared.agenda.Event.{Event}
 use Rattle.fb_agenda.specs.declared.agenda.Event.TheVariants.{Arrival}
-use Rattle.fb_emit.specs.Outs.{IsLocal, IsSending}
-use Rattle.fb_emit.specs.declared.outbox.Out.{Out}
-use Rattle.fb_emit.specs.declared.outbox.Out.TheVariants.{Local, Send}
-use Rattle.fb_emit.specs.declared.outbox.Sending.{Sending}
+use Rattle.fb_net.specs.Outs.{IsLocal, IsSending}
+use Rattle.fb_net.specs.declared.outbox.Out.{Out}
+use Rattle.fb_net.specs.declared.outbox.Out.TheVariants.{Local, Send}
+use Rattle.fb_net.specs.declared.outbox.Sending.{Sending}
 use Rattle.fb_net.specs.Events.{IsEventIn, event_of}
-use Rattle.fb_typing.specs.Typed.{FitsAt, IsTypedEvent}
+use Rattle.fb_laws.specs.Typed.{FitsAt, IsTypedEvent}
 use Rattle.fb_take.specs.Waiting.{meaning}
 
 -- an event was put under a key

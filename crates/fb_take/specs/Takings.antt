@@ -14,7 +14,7 @@ use Rattle.fb_agenda.specs.Agendas.{Contents, waiting, timer_set}
 use Rattle.fb_system.specs.Lines.{BelongsTo}
 use Rattle.fb_tree.specs.Worlds.{IsForest}
 use Rattle.fb_tree.specs.declared.resource.Forest.{Forest}
-use Rattle.fb_typing.specs.Typed.{AreTyped}
+use Rattle.fb_laws.specs.Typed.{AreTyped}
 use Rattle.fb_take.specs.Counts.{meter_of}
 use Rattle.fb_take.specs.Posts.{ArePosted, CountsAre, IsMessage, arriving}
 use Rattle.fb_take.specs.Waiting.{IsInOrder, meaning}

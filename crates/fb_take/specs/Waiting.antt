@@ -8,7 +8,7 @@ use Rattle.fb_agenda.specs.Agendas.{Contents, waiting, IsTimed}
 use Rattle.fb_agenda.specs.declared.agenda.Event.{Event}
 use Rattle.fb_agenda.specs.declared.agenda.Event.TheVariants.{Timer}
 use Rattle.fb_net.specs.Events.{IsEventIn, event_of}
-use Rattle.fb_typing.specs.Typed.{IsTypedEvent}
+use Rattle.fb_laws.specs.Typed.{IsTypedEvent}
 
 -- the events that wait, as the model has them
 abbrev pub meaning : Inputs → Contents → Key → Option model.Event

@@ -11,7 +11,7 @@ ghost use Rattle.fb_take.specs.Openings.{AreOpenedApart, HasRestarts, HasStimuli
 ghost use Rattle.fb_take.specs.Waiting.{IsInOrder, MayWait, meaning};
 
 use fb_agenda::agenda::{Agenda, Event};
-use fb_resolve::numbers::TypeNumber;
+use fb_names::numbers::TypeNumber;
 use fb_system::system::System;
 use fb_types::event_kind::EventKind;
 use fb_types::key::Key;

@@ -8,7 +8,7 @@ ghost use Rattle.fb_take.specs.Posts.{CountsAre};
 ghost use Rattle.fb_take.specs.Takings.{AreReady};
 
 use fb_agenda::agenda::Agenda;
-use fb_emit::outbox::Outbox;
+use fb_net::outbox::Outbox;
 use fb_system::system::System;
 use fb_types::run::{Message, TimerAsk};
 use std::alloc::{AllocError, Global};

@@ -3,7 +3,7 @@
 ghost use Rattle.std.specs.Prelude.{◌≡◌};
 ghost use Rattle.fb_types.specs.Headline.{system_of};
 ghost use Rattle.fb_types.specs.Numbers.{line_of};
-ghost use Rattle.fb_interfaces.specs.Stands.{ArePlaces};
+ghost use Rattle.fb_system.specs.Stands.{ArePlaces};
 ghost use Rattle.fb_system.specs.Lines.{BelongsTo, line_variables};
 
 use fb_system::system::System;

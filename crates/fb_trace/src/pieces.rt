@@ -4,7 +4,7 @@ ghost use Rattle.std.specs.Prelude.{◌≡◌, ◌<◌, ◌++◌, length, map, A
 ghost use Rattle.fb_types.specs.Headline.{system_of};
 ghost use Rattle.fb_types.specs.Numbers.{pair_up};
 ghost use Rattle.fb_types.specs.Text.{key_text, place_text, value_text, values_text};
-ghost use Rattle.fb_interfaces.specs.Stands.{variable_at};
+ghost use Rattle.fb_system.specs.Stands.{variable_at};
 ghost use Rattle.fb_trace.specs.Progress.{Gathers};
 
 use crate::fault::WriteFault;

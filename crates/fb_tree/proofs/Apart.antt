@@ -16,7 +16,7 @@ use Rattle.fb_types.specs.declared.library.Instance.{Instance}
 use Rattle.fb_types.specs.declared.library.Library.{Library}
 use Rattle.fb_names.proofs.NameLemmas.{Contains-nil, Contains-cons_cases, Contains-there, any_from_contains, contains_from_any, Twice-append_left}
 use Rattle.fb_names.proofs.TwiceIn.{Contains-map}
-use Rattle.fb_layout.proofs.Inside.{Contains-named}
+use Rattle.fb_fabric.proofs.Inside.{Contains-named}
 
 twice_both : {A : Type 0} (xs ys : List A) (x : A) → Contains xs x → Contains ys x → Twice (xs ++ ys)
 twice_both [] ys x c d = absurd (Contains-nil x c)

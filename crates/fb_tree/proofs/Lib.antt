@@ -10,3 +10,10 @@ pub mod Shells
 pub mod Taking
 pub mod Ways
 pub mod Writing
+pub mod Known
+pub mod Frames
+pub mod Begun
+pub mod Growing
+pub mod Seating
+pub mod Standing
+pub mod Copies

@@ -14,8 +14,8 @@ use Rattle.fb_types.specs.declared.library.CompositeType.{CompositeType}
 use Rattle.fb_types.specs.declared.library.Variable.{Variable}
 use Rattle.fb_types.specs.declared.value.Value.{Value}
 use Rattle.fb_fabric.specs.declared.fabric.Place.{Place}
-use Rattle.fb_layout.proofs.Inside.{map_parts}
-use Rattle.fb_layout.specs.Layouts.{route_to}
+use Rattle.fb_fabric.proofs.Inside.{map_parts}
+use Rattle.fb_fabric.specs.Layouts.{route_to}
 use Rattle.fb_system.specs.Ports.{IsVariable, data_input, data_output, variable_of, variables_at}
 use Rattle.fb_tree.specs.Blocks.{inputs_in, inputs_of, own_of, shell_in, shell_of}
 use Rattle.fb_tree.specs.Trees.{block_at}

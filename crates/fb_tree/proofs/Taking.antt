@@ -12,8 +12,8 @@ use Rattle.fb_types.specs.States as model
 use Rattle.fb_types.specs.Systems.{System}
 use Rattle.fb_types.specs.declared.library.CompositeType.{CompositeType}
 use Rattle.fb_types.proofs.PathLaws.{same_path_is, same_path_itself}
-use Rattle.fb_layout.proofs.Inside.{map_parts}
-use Rattle.fb_layout.specs.Layouts.{route_to}
+use Rattle.fb_fabric.proofs.Inside.{map_parts}
+use Rattle.fb_fabric.specs.Layouts.{route_to}
 use Rattle.fb_tree.specs.Blocks.{components_in, components_of, composite_with, own_of, with_components}
 use Rattle.fb_tree.specs.Changes.{IsForestBut, IsOut, with_instance}
 use Rattle.fb_tree.specs.Trees.{PutAlone, block_at, own_at, put_at, put_back}

@@ -18,10 +18,10 @@ use Rattle.fb_types.specs.declared.library.Network.{Network}
 use Rattle.fb_names.proofs.NameLemmas.{Contains-cons_cases, Contains-here, Contains-nil}
 use Rattle.fb_names.proofs.Positions.{named-position, position_is}
 use Rattle.fb_names.proofs.TwiceIn.{flat_map-Contains}
-use Rattle.fb_layout.specs.Layouts.{place_at, route_to}
-use Rattle.fb_layout.proofs.Distinct.{AreOnce, below, paths_from}
-use Rattle.fb_layout.proofs.Inside.{and_then_parts, network_known}
-use Rattle.fb_layout.proofs.Sites.{IsSite, all_once, inside_is, instance_is}
+use Rattle.fb_fabric.specs.Layouts.{place_at, route_to}
+use Rattle.fb_fabric.proofs.Distinct.{AreOnce, below, paths_from}
+use Rattle.fb_fabric.proofs.Inside.{and_then_parts, network_known}
+use Rattle.fb_fabric.proofs.Sites.{IsSite, all_once, inside_is, instance_is}
 use Rattle.fb_tree.specs.Worlds.{before, route_in_tree, seat, seated}
 use Rattle.fb_tree.proofs.Reading.{there_is}
 use Rattle.fb_tree.proofs.Sampling.{contains_at}

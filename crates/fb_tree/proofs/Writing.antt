@@ -17,7 +17,7 @@ use Rattle.fb_types.specs.declared.library.BasicType.{BasicType}
 use Rattle.fb_types.specs.declared.library.Ports.{Ports}
 use Rattle.fb_types.specs.declared.value.Value.{Value}
 use Rattle.fb_fabric.specs.declared.fabric.Place.{Place}
-use Rattle.fb_layout.specs.Layouts.{route_to}
+use Rattle.fb_fabric.specs.Layouts.{route_to}
 use Rattle.fb_system.specs.Ports.{IsVariable, variable_of}
 use Rattle.fb_names.proofs.NameLemmas.{any_from_contains, same_from_same_name, same_name-itself}
 use Rattle.fb_tree.specs.Blocks.{inputs_in, inputs_of, node_with_inputs, node_with_shell, shell_of, with_input, with_published, with_shell, with_slot}

@@ -3,3 +3,4 @@ pub mod Changes
 pub mod Trees
 pub mod Worlds
 pub mod formers
+pub mod Opening

@@ -1,16 +1,23 @@
 //! The blocks of one resource as trees, with its held copies.
 //!
 //! What is promised above: a `resource::Forest` stands for the world of the model; what it shows and samples is what
-//! the model has; each change touches one thing; a leaf is taken out while it reacts, and put back.
+//! the model has; each change touches one thing; a leaf is taken out while it reacts, and put back. `build::build` gives
+//! blocks and held copies that stand for the opening state.
 //!
 //! To be read in this order: `block` and `shell`, what a block holds; `resource`, what is asked and changed; `tree` and
-//! `values`, the block at a route; `places`; `laws`.
+//! `values`, the block at a route; `places`; `laws`. Then `build`, how they are made before the first event; `seats`,
+//! `opening_trees` and `opening_leaves`, the blocks; `opening_copies`.
 #![tactic(auto)]
 
 pub mod block;
+pub mod build;
 pub mod laws;
+mod opening_copies;
+mod opening_leaves;
+mod opening_trees;
 pub mod places;
 pub mod resource;
+mod seats;
 pub mod shell;
 pub mod tree;
 pub mod values;

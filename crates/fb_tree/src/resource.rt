@@ -8,7 +8,7 @@ ghost use Rattle.fb_types.specs.Headline.{system_of};
 ghost use Rattle.fb_types.specs.Numbers.{path_at};
 ghost use Rattle.fb_types.specs.Reactions.{World};
 ghost use Rattle.fb_types.specs.States as model;
-ghost use Rattle.fb_layout.specs.Layouts.{route_to};
+ghost use Rattle.fb_fabric.specs.Layouts.{route_to};
 ghost use Rattle.fb_system.specs.Ports.{IsVariable, variable_of};
 ghost use Rattle.fb_tree.specs.Blocks.{components_of, own_of};
 ghost use Rattle.fb_tree.specs.Changes.{Changes, Holds, IsForestBut, IsOut, ShowsInside, input_sampled, output_shown, slot_set, with_instance};

@@ -13,7 +13,7 @@ use Rattle.fb_types.specs.declared.run.Line.{Line}
 use Rattle.fb_trace.specs.End.{EndsIn, ending_of}
 use Rattle.fb_trace.specs.declared.last.End.{End}
 use Rattle.fb_trace.specs.declared.last.End.TheVariants.{Horizon, Stop}
-use Rattle.fb_signals.specs.Scopes.{head_text}
+use Rattle.fb_dump.specs.Scopes.{head_text}
 use Rattle.fb_dump.specs.Dumps.{dump_text, end_text, last_tick, ticks_text}
 use Rattle.fb_dump.specs.Writing.{HasTold, IsDump}
 use Rattle.fb_dump.specs.declared.dump.Dump.{Dump}

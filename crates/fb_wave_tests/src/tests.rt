@@ -4,5 +4,7 @@
 mod flasher;
 mod latch;
 mod refusals;
+mod signals;
 mod startup;
 mod systems;
+mod words;

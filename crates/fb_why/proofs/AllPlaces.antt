@@ -13,9 +13,9 @@ use Rattle.fb_types.specs.declared.deploy.Plan.{Plan}
 use Rattle.fb_names.proofs.NameLemmas.{Contains-nil, Contains-cons_cases, Contains-here, Contains-there}
 use Rattle.fb_kinds.specs.Checks.{is_known_block}
 use Rattle.fb_kinds.proofs.Checks.{known_answer}
-use Rattle.fb_resolve.specs.Unknown.{NetworkUnknown, DeploymentUnknown}
-use Rattle.fb_resolve.proofs.Elements.{Contains-flat_map_from}
-use Rattle.fb_resolve.proofs.Resolving.{all_known}
+use Rattle.fb_names.specs.Unknown.{NetworkUnknown, DeploymentUnknown}
+use Rattle.fb_names.proofs.Elements.{Contains-flat_map_from}
+use Rattle.fb_names.proofs.Resolving.{all_known}
 use Rattle.fb_why.specs.declared.place.Place.{Place}
 use Rattle.fb_why.specs.declared.place.Place.TheVariants.{InstanceType, Parameter, End, With, Transition, Action, Guard, Body, Mapped, LinkEnd}
 use Rattle.fb_why.specs.Unknown.{IsUnknownIn, IsUnknownAt, IsBlockKnown}

@@ -20,8 +20,8 @@ use Rattle.fb_types.specs.declared.deploy.Link.{Link}
 use Rattle.fb_types.specs.declared.deploy.Plan.{Plan}
 use Rattle.fb_types.specs.declared.deploy.Resource.{Resource}
 use Rattle.fb_kinds.specs.Checks.{is_met, all_met, guard_mentions, is_known_block}
-use Rattle.fb_resolve.specs.Unknown.{NetworkUnknown}
-use Rattle.fb_resolve.specs.Types.{ports_of_block}
+use Rattle.fb_names.specs.Unknown.{NetworkUnknown}
+use Rattle.fb_names.specs.Types.{ports_of_block}
 use Rattle.fb_why.specs.declared.networks.Scope.{Scope}
 use Rattle.fb_why.specs.declared.place.Flow.{Flow}
 use Rattle.fb_why.specs.declared.place.Flow.TheVariants.{Events, Data}

@@ -7,7 +7,7 @@ ghost use Rattle.fb_types.specs.Unknown.{Mention, chart_wanted, is_known, mentio
 ghost use Rattle.fb_types.specs.declared.library.Algorithm.{Algorithm};
 ghost use Rattle.fb_types.specs.declared.library.Transition.{Transition};
 ghost use Rattle.fb_kinds.specs.Checks.{all_known, all_met, body_known, guard_known, guard_mentions};
-ghost use Rattle.fb_resolve.specs.Types.{ports_of_block};
+ghost use Rattle.fb_names.specs.Types.{ports_of_block};
 ghost use Rattle.fb_why.specs.Mentions.{meant, meant_all};
 ghost use Rattle.fb_why.specs.Unknown.{IsBlockKnown, IsUnknownIn, UnknownAmong, basic_at};
 

@@ -5,7 +5,7 @@ ghost use Rattle.std.specs.List.{list_all, list_any};
 ghost use Rattle.fb_types.specs.Names.{Name, same_name};
 ghost use Rattle.fb_types.specs.declared.deploy.Link.{Link};
 ghost use Rattle.fb_types.specs.declared.deploy.Resource.{Resource};
-ghost use Rattle.fb_resolve.specs.Unknown.{DeploymentUnknown};
+ghost use Rattle.fb_names.specs.Unknown.{DeploymentUnknown};
 ghost use Rattle.fb_why.specs.Unknown.{IsUnknownAt, are_sides_met, are_mapped, is_instance, is_resource, side_of};
 
 use crate::place::{Place, Side};

@@ -7,7 +7,7 @@ ghost use Rattle.fb_types.specs.Names.{same_name};
 ghost use Rattle.fb_types.specs.Blocks.{among, ports_of};
 ghost use Rattle.fb_types.specs.Flat as spec;
 ghost use Rattle.fb_types.specs.Repeated.{block_type_names};
-ghost use Rattle.fb_resolve.specs.Types.{ArePortsOfKinds, kind_place, ports_of_block};
+ghost use Rattle.fb_names.specs.Types.{ArePortsOfKinds, kind_place, ports_of_block};
 ghost use Rattle.fb_why.specs.Sites.{names_of_sort};
 
 use fb_types::event_kind::EventKind;

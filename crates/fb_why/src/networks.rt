@@ -9,7 +9,7 @@ ghost use Rattle.fb_types.specs.Unknown.{data_ins};
 ghost use Rattle.fb_types.specs.declared.library.Connection.{Connection};
 ghost use Rattle.fb_types.specs.declared.library.Instance.{Instance};
 ghost use Rattle.fb_types.specs.declared.library.Parameter.{Parameter};
-ghost use Rattle.fb_resolve.specs.Unknown.{NetworkUnknown};
+ghost use Rattle.fb_names.specs.Unknown.{NetworkUnknown};
 ghost use Rattle.fb_why.specs.Sites.{connections_of, names_of_sort, network_at};
 ghost use Rattle.fb_why.specs.declared.place.Place.TheVariants.{End};
 ghost use Rattle.fb_why.specs.Unknown.{IsUnknownIn, UnmetParameter, are_ends_known, are_parameters_met, inputs_of, is_side_known, is_type_met, outputs_of, placed};

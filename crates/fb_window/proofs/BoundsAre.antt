@@ -11,8 +11,8 @@ use Rattle.fb_types.specs.Cores.{Core, CoreStep, opening_core}
 use Rattle.fb_types.specs.Schedules.{IsSchedule, IsLeastStop}
 use Rattle.fb_types.specs.declared.value.Reason.{Reason}
 use Rattle.fb_types.proofs.Lookups.{none_some, none_since}
-use Rattle.fb_sound.specs.Sound.{AreGood, IsSound}
-use Rattle.fb_sound.proofs.Accepting.{sound_of}
+use Rattle.fb_laws.specs.Sound.{AreGood, IsSound}
+use Rattle.fb_laws.proofs.Accepting.{sound_of}
 use Rattle.fb_net.specs.Events.{event_of}
 use Rattle.fb_resource.specs.declared.resource.Inner.{Inner}
 use Rattle.fb_resource.proofs.OwnPart.{lawful}

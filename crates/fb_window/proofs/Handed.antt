@@ -12,7 +12,7 @@ use Rattle.fb_types.specs.Cores.{Core, CoreStep, floor, floor_of, opening_core}
 use Rattle.fb_types.specs.Schedules.{IsSchedule, IsAtHorizon, IsLeastStop, core_after, taken_after}
 use Rattle.fb_types.proofs.EachLaws.{each_map, each_both}
 use Rattle.fb_types.proofs.Lookups.{option_cases}
-use Rattle.fb_sound.specs.Sound.{IsSound}
+use Rattle.fb_laws.specs.Sound.{IsSound}
 use Rattle.fb_resource.specs.Facts.{IsLawful}
 use Rattle.fb_resource.specs.Worlds.{World}
 use Rattle.fb_resource.proofs.Bridge.{world_of}

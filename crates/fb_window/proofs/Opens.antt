@@ -10,8 +10,8 @@ use Rattle.fb_types.specs.Numbers.{line_of}
 use Rattle.fb_types.specs.Parts.{count_of}
 use Rattle.fb_types.specs.Simulation.{opening}
 use Rattle.fb_types.specs.declared.run.Line.{Line}
-use Rattle.fb_sound.specs.Sound.{AreGood}
-use Rattle.fb_sound.proofs.Accepting.{sound_of}
+use Rattle.fb_laws.specs.Sound.{AreGood}
+use Rattle.fb_laws.proofs.Accepting.{sound_of}
 use Rattle.fb_resource.proofs.Opening.{is_counted}
 use Rattle.fb_resource.specs.Resources.{AreOpened}
 use Rattle.fb_resource.specs.declared.resource.Inner.{Inner}

@@ -20,8 +20,8 @@ use Rattle.fb_types.specs.declared.run.StopMark.{StopMark}
 use Rattle.fb_types.specs.declared.value.Reason.{Reason}
 use Rattle.fb_agenda.specs.Agendas.{IsNext, waiting}
 use Rattle.fb_system.specs.Lines.{BelongsTo}
-use Rattle.fb_sound.specs.Sound.{AreGood, IsSound}
-use Rattle.fb_sound.proofs.Accepting.{sound_of}
+use Rattle.fb_laws.specs.Sound.{AreGood, IsSound}
+use Rattle.fb_laws.proofs.Accepting.{sound_of}
 use Rattle.fb_link.specs.Exchanges.{all_of}
 use Rattle.fb_trace.specs.Merging.{AreMerged, AreRising}
 use Rattle.fb_resource.specs.Facts.{IsLawful}

@@ -23,8 +23,8 @@ use Rattle.fb_types.specs.declared.run.StopMark.{StopMark}
 use Rattle.fb_types.proofs.Lookups.{none_some, none_since}
 use Rattle.fb_agenda.specs.Agendas.{IsNext, waiting}
 use Rattle.fb_net.specs.Events.{event_of}
-use Rattle.fb_sound.specs.Sound.{AreGood, IsSound}
-use Rattle.fb_sound.proofs.Accepting.{sound_of}
+use Rattle.fb_laws.specs.Sound.{AreGood, IsSound}
+use Rattle.fb_laws.proofs.Accepting.{sound_of}
 use Rattle.fb_take.specs.Posts.{IsMessage, arriving, receiver_of}
 use Rattle.fb_link.specs.Exchanges.{goes_to}
 use Rattle.fb_link.proofs.Lists.{set_each}

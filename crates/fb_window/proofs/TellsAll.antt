@@ -9,7 +9,7 @@ use Rattle.fb_types.specs.Parts.{machine, items_of, count_of}
 use Rattle.fb_types.specs.Merges.{IsMerge, lines_before}
 use Rattle.fb_types.specs.Cores.{Core, CoreStep, opening_core}
 use Rattle.fb_types.specs.Schedules.{IsSchedule, core_after, taken_after}
-use Rattle.fb_sound.specs.Sound.{IsSound}
+use Rattle.fb_laws.specs.Sound.{IsSound}
 use Rattle.fb_resource.specs.Facts.{IsLawful}
 use Rattle.fb_resource.specs.Worlds.{World, IsOpening, IsCounted, reach}
 use Rattle.fb_resource.proofs.Lines.{merge_same, sim_merge}

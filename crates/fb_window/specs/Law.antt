@@ -13,7 +13,7 @@ use Rattle.fb_types.specs.Cores.{Core, CoreStep, IsFloor, opening_core}
 use Rattle.fb_types.specs.Schedules.{IsSchedule, core_after, taken_after, IsAtHorizon, IsLeastStop, IsFinal}
 use Rattle.fb_types.specs.declared.key.Key.{Key}
 use Rattle.fb_types.specs.declared.value.Reason.{Reason}
-use Rattle.fb_sound.specs.Sound.{AreGood}
+use Rattle.fb_laws.specs.Sound.{AreGood}
 
 module _ (M : Machine) where
   -- whether a key was taken

@@ -2,12 +2,12 @@
 
 ghost use Rattle.std.specs.Prelude.{IfSome};
 ghost use Rattle.fb_names.specs.Catalog.{IsCatalog};
-ghost use Rattle.fb_resolve.specs.Numbers.{IsResolved};
+ghost use Rattle.fb_names.specs.Numbers.{IsResolved};
 
 use fb_kinds::parts::are_parts_known;
 use fb_names::catalog::{Catalog, catalog_of};
-use fb_resolve::numbers::Resolved;
-use fb_resolve::resolve::resolve;
+use fb_names::numbers::Resolved;
+use fb_names::resolve::resolve;
 use fb_types::deploy::Plan;
 use fb_types::library::Library;
 use std::alloc::Global;

@@ -4,7 +4,7 @@ ghost use Rattle.std.specs.Prelude.{◌≡◌, [], ◌∷◌, IfOk, codes};
 ghost use Rattle.fb_types.specs.Blocks.{ports_of_event_block};
 ghost use Rattle.fb_types.specs.declared.event_kind.EventKind.TheVariants.{CountUp};
 
-use fb_initial::values::{input_values, output_values};
+use fb_system::initial_values::{input_values, output_values};
 use fb_types::event_kind::EventKind;
 use fb_types::event_ports::ports_of;
 use fb_types::items::Items;

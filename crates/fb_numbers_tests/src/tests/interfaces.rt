@@ -1,11 +1,11 @@
 //! The places of the variables WITH the events of two declared types and of two event blocks.
 
-ghost use Rattle.fb_interfaces.specs.Tables.{AreInterfaces};
+ghost use Rattle.fb_system.specs.Tables.{AreInterfaces};
 
 use super::finding::{catalog, numbers};
 use super::networks::{Face, basic, composite, library_of};
-use fb_interfaces::interfaces::{Interfaces, interfaces_of};
-use fb_interfaces::with_places::WithPlaces;
+use fb_system::interfaces::{Interfaces, interfaces_of};
+use fb_system::with_places::WithPlaces;
 use fb_types::deploy::{Deploy, Plan};
 use fb_types::event_kind::EventKind;
 use fb_types::items::Items;

@@ -2,8 +2,8 @@
 
 use super::finding::{catalog, numbers};
 use super::networks::{Layout, Net, library, plan};
-use fb_links::links::Links;
-use fb_mapping::mapping::mapping_of;
+use fb_joins::mapping::mapping_of;
+use fb_system::links::Links;
 use fb_types::deploy::{Deploy, Plan};
 use fb_types::library::Library;
 use std::alloc::Global;

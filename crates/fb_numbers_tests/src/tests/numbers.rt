@@ -3,7 +3,7 @@
 use super::finding::{catalog, numbers};
 use super::names::NONE;
 use super::networks::{Face, Layout, Net, Part, basic, composite, library, library_of, plan};
-use fb_resolve::numbers::{End, LinkEnds, NetworkNumbers, Resolved, TypeNumber, Wire};
+use fb_names::numbers::{End, LinkEnds, NetworkNumbers, Resolved, TypeNumber, Wire};
 use fb_types::event_kind::EventKind;
 use fb_types::library::Library;
 use fb_types::value::Ty;

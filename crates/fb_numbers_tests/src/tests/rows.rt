@@ -3,8 +3,8 @@
 use super::finding::{catalog, numbers};
 use super::networks::{Net, library};
 use super::stimuli::{Row, stimulus};
-use fb_rows::rows::{SlotValue, StimulusRow, rows_of};
-use fb_stimuli::stimuli::has_bad_stimulus;
+use fb_check::stimuli::has_bad_stimulus;
+use fb_system::rows::{SlotValue, StimulusRow, rows_of};
 use fb_types::deploy::{Deploy, Plan, Stimulus};
 use fb_types::items::Items;
 use fb_types::library::Library;

@@ -2,7 +2,7 @@
 
 use super::finding::{catalog, numbers};
 use super::networks::{Face, Net, basic, composite, library_of, named};
-use fb_stimuli::stimuli::has_bad_stimulus;
+use fb_check::stimuli::has_bad_stimulus;
 use fb_types::deploy::{Deploy, Plan, Setting, Stimulus};
 use fb_types::items::Items;
 use fb_types::library::Library;

@@ -1,9 +1,9 @@
 //! A network of two components: which ends its connections join, at components and at the boundary.
 //! And one in which the second component is connected at a port with a high number alone.
 
-use fb_resolve::numbers::{End, NetworkNumbers, Wire};
+use fb_fabric::wiring::Wiring;
+use fb_names::numbers::{End, NetworkNumbers, Wire};
 use fb_types::items::Items;
-use fb_wiring::wiring::Wiring;
 use std::alloc::Global;
 use std::process::Abort;
 

@@ -1,7 +1,7 @@
 use Rattle.std.proofs.Common.{rules, ◌≡◌, Bor, List, ℕ, Option, Some, option_map, refl, sym, subst, string_bytes, true}
 use Rattle.std.specs.Prelude.{MatchOption}
-use Rattle.fb_reason.specs.Reasons.{IsSilent, Tells}
-use Rattle.fb_reason.specs.declared.reason.Reason.{Reason}
+use Rattle.fb_why.specs.Reasons.{IsSilent, Tells}
+use Rattle.fb_why.specs.declared.reason.Reason.{Reason}
 use Rattle.fb_command.specs.Notes.{IsNote}
 use Rattle.fb_command.specs.Texts.{given_of}
 use Rattle.fb_command.specs.declared.failure.Failure.{Failure}

@@ -1,7 +1,7 @@
 use Rattle.std.proofs.Common.{◌≡◌, ◌<◌, ◌+◌, ◌^◌, length, get_or, refl, sym, subst, arith}
 use Rattle.fb_types.specs.Headline.{system_of}
 use Rattle.fb_types.specs.declared.library.Ports.{Ports}
-use Rattle.fb_signals.specs.Signals.{size_of}
+use Rattle.fb_dump.specs.Signals.{size_of}
 use Rattle.fb_dump.specs.declared.dump.Marks.{Marks}
 use Rattle.fb_dump.proofs.Marking.{emitted_within, marks_emitted, marks_taken, taken_within}
 use Rattle.fb_dump.proofs.Numbering.{signals_fit}

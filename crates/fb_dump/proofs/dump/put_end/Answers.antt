@@ -4,7 +4,7 @@ use Rattle.fb_types.specs.Headline.{system_of}
 use Rattle.fb_types.specs.Names.{Name}
 use Rattle.fb_trace.specs.End.{ending_of}
 use Rattle.fb_trace.specs.declared.last.End.{End}
-use Rattle.fb_signals.specs.Changes.{time_text}
+use Rattle.fb_dump.specs.Changes.{time_text}
 use Rattle.fb_dump.specs.Dumps.{end_text, stop_comment}
 use Rattle.fb_dump.proofs.dump.put_end.Goals as goal
 

@@ -2,7 +2,7 @@ use Rattle.std.proofs.Common.{◌≡◌, ℕ, ◌+◌, List, ◌++◌, length, m
 use Rattle.std.proofs.lemmas.List.{length_push, length-map, take_all}
 use Rattle.std.proofs.lemmas.Slice.Zip.{zip_turn, zip_end}
 use Rattle.fb_types.specs.declared.value.Value.{Value}
-use Rattle.fb_signals.specs.Levels.{AreLevels}
+use Rattle.fb_dump.specs.Levels.{AreLevels}
 use Rattle.fb_dump.specs.Told.{pairs}
 use Rattle.fb_dump.proofs.Pairing.{length-pairs, pairs-more, told-more}
 use Rattle.fb_dump.proofs.dump.tell_all.Goals as goal

@@ -1,5 +1,5 @@
 use Rattle.std.proofs.Common.{◌++◌}
-use Rattle.fb_signals.specs.Signals.{sizes_of}
+use Rattle.fb_dump.specs.Signals.{sizes_of}
 use Rattle.fb_dump.specs.Told.{fires_of, tells_of, touches_of}
 use Rattle.fb_dump.proofs.Telling.{turn_next, turn_same}
 use Rattle.fb_dump.proofs.dump.turn.Goals as goal

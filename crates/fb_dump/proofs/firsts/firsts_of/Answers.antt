@@ -1,7 +1,7 @@
 use Rattle.std.proofs.Common.{◌<◌, ℕ, ◌+◌, length, sym, ap, ◌∙◌, arith}
 use Rattle.fb_types.specs.Headline.{system_of}
 use Rattle.fb_types.specs.Numbers.{path_at, ports_at}
-use Rattle.fb_signals.specs.Signals.{size_of}
+use Rattle.fb_dump.specs.Signals.{size_of}
 use Rattle.fb_dump.proofs.Numbering.{first_signal-next, firsts-all, firsts-more}
 use Rattle.fb_dump.proofs.firsts.firsts_of.Goals as goal
 

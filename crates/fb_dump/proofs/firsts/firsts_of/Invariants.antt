@@ -1,6 +1,6 @@
 use Rattle.std.proofs.Common.{◌≡◌, ◌<◌, ◌^◌}
 use Rattle.fb_types.specs.Headline.{system_of}
-use Rattle.fb_signals.specs.Signals.{first_signal}
+use Rattle.fb_dump.specs.Signals.{first_signal}
 use Rattle.fb_dump.proofs.Numbering.{AreFirstsBefore}
 use Rattle.fb_dump.proofs.firsts.firsts_of.Given as goal
 

@@ -1,8 +1,8 @@
 use Rattle.std.proofs.Common.{◌<◌, ℕ, ◌+◌, ◌^◌, ◌++◌, length, get_or, sym, ap, subst, ◌∙◌, arith}
 use Rattle.fb_types.specs.Headline.{system_of}
 use Rattle.fb_types.specs.declared.library.Ports.{Ports}
-use Rattle.fb_signals.specs.Scopes.{ports_begun}
-use Rattle.fb_signals.specs.Signals.{first_signal, size_of}
+use Rattle.fb_dump.specs.Scopes.{ports_begun}
+use Rattle.fb_dump.specs.Signals.{first_signal, size_of}
 use Rattle.fb_dump.proofs.Heading.{begun_on}
 use Rattle.fb_dump.proofs.Numbering.{signals_fit}
 use Rattle.fb_dump.proofs.head.put_begun.Goals as goal

@@ -1,7 +1,7 @@
 use Rattle.std.proofs.Common.{◌≡◌, ◌++◌, drop}
 use Rattle.fb_types.specs.Headline.{system_of}
-use Rattle.fb_signals.specs.Scopes.{instances_begun}
-use Rattle.fb_signals.specs.Signals.{first_signal}
+use Rattle.fb_dump.specs.Scopes.{instances_begun}
+use Rattle.fb_dump.specs.Signals.{first_signal}
 use Rattle.fb_dump.proofs.head.put_begun.Given as goal
 
 abbrev pub invariant-loop-place : goal.invariant-loop-place

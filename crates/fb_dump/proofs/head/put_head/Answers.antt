@@ -1,7 +1,7 @@
 use Rattle.std.proofs.Common.{◌≡◌, ℕ, List, ◌++◌, codes, ap, ◌∙◌, append_assoc}
 use Rattle.fb_types.specs.Headline.{system_of}
-use Rattle.fb_signals.specs.Changes.{line}
-use Rattle.fb_signals.specs.Scopes.{instances_begun, resources_declared}
+use Rattle.fb_dump.specs.Changes.{line}
+use Rattle.fb_dump.specs.Scopes.{instances_begun, resources_declared}
 use Rattle.fb_dump.proofs.head.put_head.Goals as goal
 
 regroup : (t s r d z v g e : List ℕ) → ((((t ++ s) ++ r) ++ (d ++ (z ++ v))) ++ g) ++ e ≡ t ++ ((((((s ++ r) ++ d) ++ z) ++ v) ++ g) ++ e)

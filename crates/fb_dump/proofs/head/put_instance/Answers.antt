@@ -3,7 +3,7 @@ use Rattle.fb_types.specs.Headline.{system_of}
 use Rattle.fb_types.specs.Names.{Name}
 use Rattle.fb_types.specs.Numbers.{path_at, ports_at}
 use Rattle.fb_types.specs.declared.library.Ports.{Ports}
-use Rattle.fb_signals.specs.Scopes.{closed, opened, own_name, ports_declared}
+use Rattle.fb_dump.specs.Scopes.{closed, opened, own_name, ports_declared}
 use Rattle.fb_dump.proofs.Heading.{route_length}
 use Rattle.fb_dump.proofs.Placing.{path_some}
 use Rattle.fb_dump.proofs.head.put_instance.Goals as goal

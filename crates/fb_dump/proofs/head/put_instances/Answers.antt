@@ -1,8 +1,8 @@
 use Rattle.std.proofs.Common.{◌<◌, ℕ, ◌+◌, ◌++◌, drop, length, sym, ap, ◌∙◌, arith}
 use Rattle.fb_types.specs.Headline.{system_of}
 use Rattle.fb_types.specs.Numbers.{path_at}
-use Rattle.fb_signals.specs.Scopes.{instances_declared}
-use Rattle.fb_signals.specs.Signals.{first_signal}
+use Rattle.fb_dump.specs.Scopes.{instances_declared}
+use Rattle.fb_dump.specs.Signals.{first_signal}
 use Rattle.fb_dump.proofs.Heading.{declared_on, declared_past, instance_declared}
 use Rattle.fb_dump.proofs.Numbering.{signals_fit}
 use Rattle.fb_dump.proofs.head.put_instances.Goals as goal

@@ -1,6 +1,6 @@
 use Rattle.std.proofs.Common.{◌≡◌, ◌++◌, drop}
 use Rattle.fb_types.specs.Headline.{system_of}
-use Rattle.fb_signals.specs.Scopes.{resources_declared}
+use Rattle.fb_dump.specs.Scopes.{resources_declared}
 use Rattle.fb_dump.proofs.head.put_resources.Given as goal
 
 abbrev pub invariant-loop-resource : goal.invariant-loop-resource

@@ -1,5 +1,5 @@
 use Rattle.std.proofs.Common.{ap}
-use Rattle.fb_resolve.specs.declared.numbers.NetworkNumbers.{NetworkNumbers}
+use Rattle.fb_names.specs.declared.numbers.NetworkNumbers.{NetworkNumbers}
 use Rattle.fb_fabric.proofs.Standing.{got, none_got, none_last, parameters_of_instance, parameters_there}
 use Rattle.fb_fabric.proofs.Wired.{parent_within}
 use Rattle.fb_fabric.proofs.declared.parameters_at.Goals as goal

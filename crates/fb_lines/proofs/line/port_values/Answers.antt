@@ -2,7 +2,7 @@ use Rattle.std.proofs.Common.{List, ap, subst, ◌∙◌}
 use Rattle.fb_types.specs.Headline.{system_of}
 use Rattle.fb_types.specs.declared.library.Ports.{Ports}
 use Rattle.fb_types.specs.declared.library.Variable.{Variable}
-use Rattle.fb_words.specs.Reading.{AreRead, AreUnread}
+use Rattle.fb_lines.specs.Reading.{AreRead, AreUnread}
 use Rattle.fb_lines.specs.Lines.{AreValuesOf}
 use Rattle.fb_lines.proofs.Gluing.{input_values, output_values, some_read}
 use Rattle.fb_lines.proofs.line.port_values.Goals as goal

@@ -7,7 +7,7 @@ use Rattle.fb_types.specs.Numbers.{path_at}
 use Rattle.fb_types.specs.declared.library.BlockType.TheVariants as block
 use Rattle.fb_types.specs.declared.library.Library.{Library}
 use Rattle.std.specs.Option.{option_map}
-use Rattle.fb_typing.proofs.Accepted.{accepted_typed}
+use Rattle.fb_laws.proofs.Accepted.{accepted_typed}
 use Rattle.fb_net.specs.Arrivals.{Arrives, entering, leaving, reacting}
 use Rattle.fb_net.proofs.Crossing.{composite-enters, composite-leaves, done-reacted, event-arrives, reacting-left, reacting-stop}
 use Rattle.fb_net.proofs.arrive.arrive.Goals as goal

@@ -1,6 +1,6 @@
 use Rattle.std.proofs.Common.{List, subst}
 use Rattle.fb_types.specs.declared.value.Value.{Value}
-use Rattle.fb_react.specs.Leaves.{ChartEnded}
+use Rattle.fb_net.specs.Leaves.{ChartEnded}
 use Rattle.fb_net.proofs.Charting.{chart-reacts}
 use Rattle.fb_net.proofs.arrive.arrive_basic.Goals as goal
 

@@ -2,7 +2,7 @@ use Rattle.std.proofs.Common.{List, subst}
 use Rattle.std.proofs.lemmas.Result.{on_ok_weaker}
 use Rattle.fb_types.specs.Headline.{system_of}
 use Rattle.fb_types.specs.declared.value.Value.{Value}
-use Rattle.fb_sample.specs.Samples.{all_sampled, names_in}
+use Rattle.fb_net.specs.Samples.{all_sampled, names_in}
 use Rattle.fb_tree.specs.Changes.{Changes}
 use Rattle.fb_net.proofs.Sampling.{sampling-stands}
 use Rattle.fb_net.proofs.Wholes.{changed}

@@ -1,6 +1,6 @@
 use Rattle.std.proofs.Common.{List, subst}
 use Rattle.fb_types.specs.declared.run.Carried.{Carried}
-use Rattle.fb_sample.specs.Samples.{HoldsAll}
+use Rattle.fb_net.specs.Samples.{HoldsAll}
 use Rattle.fb_net.proofs.Taking.{arrival-taken, arrival-typed}
 use Rattle.fb_net.proofs.Wholes.{held}
 use Rattle.fb_net.proofs.take.take_arrival.Goals as goal

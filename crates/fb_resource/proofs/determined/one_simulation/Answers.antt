@@ -1,5 +1,5 @@
 use Rattle.fb_types.specs.Headline.{system_of, stimuli_of}
-use Rattle.fb_sound.proofs.Accepting.{sound_of}
+use Rattle.fb_laws.proofs.Accepting.{sound_of}
 use Rattle.fb_resource.proofs.Existence.{there_is}
 use Rattle.fb_resource.proofs.OneSimulation.{one_simulation_told}
 use Rattle.fb_resource.proofs.determined.one_simulation.Goals as goal

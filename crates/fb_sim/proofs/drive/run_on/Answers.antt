@@ -1,5 +1,5 @@
 use Rattle.std.proofs.Common.{arith}
-use Rattle.fb_sound.specs.Sound.{AreGood}
+use Rattle.fb_laws.specs.Sound.{AreGood}
 use Rattle.fb_sim.proofs.RunIs.{came_early, came_first, came_more, came_end, came_stop, came_failed}
 use Rattle.fb_sim.proofs.drive.run_on.Goals as goal
 

@@ -1,6 +1,6 @@
 use Rattle.std.proofs.Common.{◌≡◌, ℕ, map, take, subst, arith}
 use Rattle.fb_types.specs.Blocks.{ports_of_event_block}
-use Rattle.fb_resolve.proofs.EventBlocks.{kinds, ports_next, ports_all}
+use Rattle.fb_names.proofs.EventBlocks.{kinds, ports_next, ports_all}
 use Rattle.fb_system.proofs.event_blocks.event_blocks.Goals as goal
 
 pub loop-kind-preserved : goal.loop-kind-preserved

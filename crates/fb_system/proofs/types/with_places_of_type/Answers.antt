@@ -1,4 +1,4 @@
-use Rattle.fb_system.proofs.Interfaces.{declared_places}
+use Rattle.fb_system.proofs.WithPlaces.{declared_places}
 use Rattle.fb_system.proofs.types.with_places_of_type.Goals as goal
 
 pub returns-in-Declared : goal.returns-in-Declared

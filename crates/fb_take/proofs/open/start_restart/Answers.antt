@@ -3,7 +3,7 @@ use Rattle.fb_types.specs.Blocks.{Event}
 use Rattle.fb_types.specs.Headline.{system_of}
 use Rattle.fb_types.specs.Numbers.{path_at}
 use Rattle.fb_types.specs.declared.run.TimerAsk.TheVariants.{At}
-use Rattle.fb_resolve.specs.Numbers.{kind_of_number}
+use Rattle.fb_names.specs.Numbers.{kind_of_number}
 use Rattle.fb_take.proofs.OpenIs.{IsStarted, below_more, other_event, put_none, restart_below, restart_put}
 use Rattle.fb_take.proofs.ReadyIs.{lies_in, order_timer}
 use Rattle.fb_take.proofs.open.start_restart.Goals as goal

@@ -7,7 +7,7 @@ use Rattle.fb_types.specs.Keys.{local_key}
 use Rattle.fb_types.specs.Takes.{post_all}
 use Rattle.fb_types.specs.declared.run.Message.{Message}
 use Rattle.fb_agenda.specs.declared.agenda.Event.TheVariants.{Local}
-use Rattle.fb_emit.specs.Outs.{out_of}
+use Rattle.fb_net.specs.Outs.{out_of}
 use Rattle.fb_take.specs.Posts.{ArePosted, IsMessage, IsPostable, message_of}
 use Rattle.fb_take.proofs.Lists.{slice_all}
 use Rattle.fb_take.proofs.PostLaws.{local_waits, message_is, more_local, more_message, next_of, order_put}

@@ -2,7 +2,7 @@ use Rattle.std.proofs.Common.{◌≡◌, ◌+◌, ◌++◌, ◌≤◌, ◌<◌, 
 use Rattle.std.specs.Vec.Iter.{drain_items, DrainKeeps}
 use Rattle.fb_types.specs.Headline.{system_of}
 use Rattle.fb_types.specs.Takes.{post_all}
-use Rattle.fb_emit.specs.Outs.{out_of}
+use Rattle.fb_net.specs.Outs.{out_of}
 use Rattle.fb_take.specs.Posts.{ArePosted, CountsAre, IsMessage}
 use Rattle.fb_take.specs.Waiting.{IsInOrder}
 use Rattle.fb_take.proofs.post.post_all.Given as goal

@@ -1,9 +1,9 @@
 use Rattle.std.proofs.Common.{All, refl, sym, ap, subst, ◌∙◌, arith}
 use Rattle.fb_types.specs.Headline.{system_of}
 use Rattle.fb_types.specs.Takes.{begun, world_of}
-use Rattle.fb_emit.specs.Outs.{IsOut}
+use Rattle.fb_net.specs.Outs.{IsOut}
 use Rattle.fb_net.specs.Events.{IsEventIn, event_of}
-use Rattle.fb_typing.proofs.Accepted.{accepted_typed}
+use Rattle.fb_laws.proofs.Accepted.{accepted_typed}
 use Rattle.fb_take.specs.Counts.{meter_of}
 use Rattle.fb_take.proofs.ReadyIs.{came_good, lies_in, metered_after}
 use Rattle.fb_take.proofs.TakenIs.{taken_none, taken_one}

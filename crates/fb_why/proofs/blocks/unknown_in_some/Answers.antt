@@ -1,4 +1,4 @@
-use Rattle.fb_resolve.proofs.Elements.{match_none}
+use Rattle.fb_names.proofs.Elements.{match_none}
 use Rattle.fb_why.specs.Unknown.{IsBlockKnown, IsUnknownIn}
 use Rattle.fb_why.proofs.AllPlaces.{all_next, all_of_taken}
 use Rattle.fb_why.proofs.blocks.unknown_in_some.Goals as goal

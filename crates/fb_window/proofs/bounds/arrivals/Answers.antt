@@ -4,8 +4,8 @@ use Rattle.std.proofs.lemmas.Option.{slice_get_read}
 use Rattle.fb_types.specs.Headline.{system_of}
 use Rattle.fb_types.specs.Parts.{count_of}
 use Rattle.fb_types.specs.Systems.{System}
-use Rattle.fb_sound.specs.Sound.{AreGood, IsSound}
-use Rattle.fb_sound.proofs.Accepting.{sound_of}
+use Rattle.fb_laws.specs.Sound.{AreGood, IsSound}
+use Rattle.fb_laws.proofs.Accepting.{sound_of}
 use Rattle.fb_link.specs.Arrivals.{IsEarliest}
 use Rattle.fb_window.specs.Cuts.{IsCut, LinkAllows}
 use Rattle.fb_window.proofs.Bounding.{AreCut, cuts_first, cuts_here, cuts_past}

@@ -4,7 +4,7 @@ use Rattle.std.proofs.lemmas.Option.{slice_get_read}
 use Rattle.fb_types.specs.Headline.{system_of}
 use Rattle.fb_types.specs.Numbers.{path_at}
 use Rattle.fb_types.specs.declared.run.Message.{Message}
-use Rattle.fb_sound.proofs.Accepting.{sound_of}
+use Rattle.fb_laws.proofs.Accepting.{sound_of}
 use Rattle.fb_resource.specs.Resources.{HasReceived}
 use Rattle.fb_window.specs.Mails.{AreGiven}
 use Rattle.fb_window.proofs.Receives.{given_more}

@@ -2,9 +2,9 @@ use Rattle.std.proofs.Common.{◌≡◌, ◌<◌, ℕ, List, [], ◌++◌, lengt
 use Rattle.std.specs.Prelude.{All}
 use Rattle.std.proofs.lemmas.List.Elements.{All-nil}
 use Rattle.fb_types.specs.Headline.{system_of}
-use Rattle.fb_signals.specs.Levels.{AreLevels}
-use Rattle.fb_signals.specs.Scopes.{head_text}
-use Rattle.fb_signals.specs.Signals.{sizes_of}
+use Rattle.fb_dump.specs.Levels.{AreLevels}
+use Rattle.fb_dump.specs.Scopes.{head_text}
+use Rattle.fb_dump.specs.Signals.{sizes_of}
 use Rattle.fb_dump.proofs.Numbering.{count_read}
 use Rattle.fb_dump.proofs.Telling.{tells_none}
 use Rattle.fb_dump.proofs.dump.Dump.begin.Goals as goal

@@ -1,6 +1,6 @@
 use Rattle.fb_types.specs.Headline.{system_of}
 use Rattle.fb_trace.specs.End.{ending_of}
-use Rattle.fb_signals.specs.Signals.{sizes_of}
+use Rattle.fb_dump.specs.Signals.{sizes_of}
 use Rattle.fb_dump.specs.Told.{fires_of, tells_of, touches_of}
 use Rattle.fb_dump.proofs.Telling.{tells_all}
 use Rattle.fb_dump.proofs.dump.Dump.end.Goals as goal

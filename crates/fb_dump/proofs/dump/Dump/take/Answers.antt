@@ -1,8 +1,8 @@
 use Rattle.std.proofs.Common.{ℕ, ◌+◌, List, [], ◌∷◌, ◌++◌, map, subst, ◌∙◌, arith}
 use Rattle.fb_types.specs.Headline.{system_of}
 use Rattle.fb_types.specs.declared.value.Value.{Value}
-use Rattle.fb_signals.specs.Levels.{AreLevels}
-use Rattle.fb_signals.specs.Signals.{sizes_of}
+use Rattle.fb_dump.specs.Levels.{AreLevels}
+use Rattle.fb_dump.specs.Signals.{sizes_of}
 use Rattle.fb_dump.specs.Told.{fires_of, pairs, tells_of, touches_of}
 use Rattle.fb_dump.proofs.Marking.{line_once, marks_told}
 use Rattle.fb_dump.proofs.Telling.{tells_more}

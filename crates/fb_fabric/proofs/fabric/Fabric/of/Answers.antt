@@ -1,7 +1,7 @@
 use Rattle.std.proofs.Common.{◌≡◌, List, Option}
-use Rattle.fb_layout.specs.Layouts.{IsLayout}
-use Rattle.fb_layout.specs.declared.layout.Layout.{Layout}
-use Rattle.fb_resolve.specs.declared.numbers.NetworkNumbers.{NetworkNumbers}
+use Rattle.fb_fabric.specs.Layouts.{IsLayout}
+use Rattle.fb_fabric.specs.declared.layout.Layout.{Layout}
+use Rattle.fb_names.specs.declared.numbers.NetworkNumbers.{NetworkNumbers}
 use Rattle.fb_fabric.specs.Networks.{AreNarrow}
 use Rattle.fb_fabric.proofs.Made.{ok_read, tables_made}
 use Rattle.fb_fabric.proofs.fabric.Fabric.of.Goals as goal

@@ -1,6 +1,6 @@
 use Rattle.std.proofs.Common.{◌<◌, ◌≤◌, refl, sym, subst, ◌∙◌, arith}
 use Rattle.std.specs.Prelude.{unwrap_or}
-use Rattle.fb_sound.proofs.Accepting.{sound_of}
+use Rattle.fb_laws.proofs.Accepting.{sound_of}
 use Rattle.fb_take.specs.Takings.{IsHere}
 use Rattle.fb_take.proofs.Fuel.{fuel_falls}
 use Rattle.fb_take.proofs.Leaving.{ready_left}

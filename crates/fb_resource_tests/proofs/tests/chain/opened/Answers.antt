@@ -1,4 +1,4 @@
-use Rattle.fb_sound.proofs.Accepting.{sound_of}
+use Rattle.fb_laws.proofs.Accepting.{sound_of}
 use Rattle.fb_resource_tests.proofs.Unheard.{unheard}
 use Rattle.fb_resource_tests.proofs.tests.chain.opened.Goals as goal
 

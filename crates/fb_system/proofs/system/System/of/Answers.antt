@@ -3,8 +3,8 @@ use Rattle.fb_types.specs.declared.deploy.Plan.{Plan}
 use Rattle.fb_types.specs.declared.library.Library.{Library}
 use Rattle.fb_types.specs.Mapped.{NotMapped}
 use Rattle.fb_types.specs.Repeated.{NameTwice}
-use Rattle.fb_links.specs.Linking.{IsLinked}
-use Rattle.fb_resolve.specs.Types.{ArePortsOfKinds}
+use Rattle.fb_system.specs.Linking.{IsLinked}
+use Rattle.fb_names.specs.Types.{ArePortsOfKinds}
 use Rattle.fb_system.proofs.Seen.{few_of, low_of, made, mapped_of, ok_read, ok_seen, once_of, view_made}
 use Rattle.fb_system.proofs.system.System.of.Goals as goal
 

@@ -2,7 +2,7 @@ use Rattle.std.proofs.Common.{◌≡◌, ◌+◌, ◌^◌, ◌<◌, ◌≤◌, �
 use Rattle.std.proofs.lemmas.Option.{slice_get_read, slice_get_within}
 use Rattle.fb_types.specs.Headline.{system_of}
 use Rattle.fb_types.specs.Parts.{count_of}
-use Rattle.fb_sound.specs.Sound.{AreGood}
+use Rattle.fb_laws.specs.Sound.{AreGood}
 use Rattle.fb_types.specs.Systems.{System}
 use Rattle.fb_resource.specs.declared.resource.Inner.{Inner}
 use Rattle.fb_window.specs.Cuts.{IsCut, LinkAllows, StopAllows}

@@ -4,7 +4,7 @@ use Rattle.std.specs.Vec.Iter.{into_iter_items}
 use Rattle.std.proofs.lemmas.List.{length-map}
 use Rattle.fb_types.specs.Headline.{Inputs, system_of}
 use Rattle.fb_types.specs.Parts.{count_of}
-use Rattle.fb_sound.specs.Sound.{AreGood}
+use Rattle.fb_laws.specs.Sound.{AreGood}
 use Rattle.fb_resource.specs.Resources.{IsOf}
 use Rattle.fb_window.specs.Jobs.{job_of, jobs_of, resting_of}
 use Rattle.fb_window.proofs.Leaves.{jobs_push, jobs_few, length_join, map_push}

@@ -1,7 +1,7 @@
 use Rattle.std.proofs.Common.{◌≡◌, length, ◌∙◌}
 use Rattle.fb_types.specs.Headline.{system_of}
 use Rattle.fb_types.specs.Parts.{count_of}
-use Rattle.fb_sound.specs.Sound.{AreGood}
+use Rattle.fb_laws.specs.Sound.{AreGood}
 use Rattle.fb_window.proofs.Opens.{opened_at, opened_left}
 use Rattle.fb_window.proofs.cores.Core.open.Goals as goal
 

@@ -5,7 +5,7 @@ use Rattle.fb_types.specs.Limits.{IsWithinLimits}
 use Rattle.fb_types.specs.Parts.{count_of}
 use Rattle.fb_types.specs.declared.key.Key.{Key}
 use Rattle.fb_types.specs.declared.run.StopMark.{StopMark}
-use Rattle.fb_sound.specs.Sound.{AreGood}
+use Rattle.fb_laws.specs.Sound.{AreGood}
 use Rattle.fb_agenda.specs.Agendas.{IsNext, waiting}
 use Rattle.fb_resource.specs.Resources.{IsOf}
 use Rattle.fb_resource.specs.declared.resource.Inner.{Inner}

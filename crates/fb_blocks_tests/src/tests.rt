@@ -1,0 +1,6 @@
+//! What blocks do, each by itself.
+
+mod charts;
+mod events;
+mod structured_text;
+mod trees;

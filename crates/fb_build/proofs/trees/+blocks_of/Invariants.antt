@@ -1,9 +1,0 @@
-use Rattle.std.proofs.Common.{take}
-use Rattle.fb_build.specs.Opening.{AreGrown}
-use Rattle.fb_build.proofs.trees.+blocks_of.Given as goal
-
-abbrev pub decreases-blocks_of : goal.decreases-blocks_of
-decreases-blocks_of l = l.depth
-
-abbrev pub invariant-loop-instance : goal.invariant-loop-instance
-invariant-loop-instance l = AreGrown l.system l.depth (take l.instance-index l.instances) l.blocks.items

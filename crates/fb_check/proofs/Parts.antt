@@ -1,0 +1,59 @@
+-- Where not all parts of block types are known, some name is unknown.
+use Rattle.std.proofs.Common.{◌≡◌, Bool, true, false, List, [], ◌∷◌, ◌++◌, Contains, refl, sym, ◌∙◌, subst, inl, inr, ⊎_elim}
+use Rattle.std.specs.Prelude.{flat_map}
+use Rattle.std.specs.List.{list_all}
+use Rattle.std.proofs.lemmas.Bool.{true≢false, and_parts}
+use Rattle.std.proofs.lemmas.List.Elements.{Contains-append_left, Contains-append_right, Contains-append_cases}
+use Rattle.fb_types.specs.Blocks.{among}
+use Rattle.fb_types.specs.Repeated.{networks, interfaces, basics}
+use Rattle.fb_types.specs.Unknown.{Wanted, wanted, types_wanted, withs_wanted, chart_wanted, parameters_wanted, deployment_wanted, mentioned, is_known, NameUnknown}
+use Rattle.fb_types.specs.declared.library.Library.{Library}
+use Rattle.fb_types.specs.declared.library.BasicType.{BasicType}
+use Rattle.fb_types.specs.declared.deploy.Plan.{Plan}
+use Rattle.fb_names.specs.Parts.{ArePartsKnown, parts_wanted}
+use Rattle.fb_names.proofs.NameLemmas.{Contains-nil, Contains-cons_cases, contains_from_any, any_from_contains}
+use Rattle.fb_names.proofs.Elements.{fails_at}
+
+-- what holds of all holds of each
+holds_at : {A : Type 0} (p : A → Bool) (xs : List A) (y : A) → list_all p xs ≡ true → Contains xs y → p y ≡ true
+holds_at p [] y h c = absurd (Contains-nil y c)
+holds_at {A} p (x ∷ xs) y h c =
+    let parts = and_parts (p x) (list_all p xs) h in
+    ⊎_elim (λ (e : x ≡ y). subst (λ (z : A). p z ≡ true) e parts.0) (λ d. holds_at p xs y parts.1 d) (Contains-cons_cases x xs y c)
+
+abbrev is_there : Wanted → Bool
+is_there w = among w.1 w.0
+
+abbrev are_mentions_known : BasicType → Bool
+are_mentions_known t = list_all (is_known t) (mentioned t)
+
+-- the wanted names of parts are among all
+part_wanted : (lib : Library) (plan : Plan) (w : Wanted) → Contains (parts_wanted lib) w → Contains (wanted lib plan) w
+part_wanted lib plan w c =
+    let types = flat_map (λ n. types_wanted lib n.1) (networks lib) in
+    let withs = flat_map withs_wanted (interfaces lib) in
+    let charts = flat_map chart_wanted (basics lib) in
+    let parameters = flat_map (λ n. flat_map (parameters_wanted lib) n.1.instances) (networks lib) in
+    let front = types ++ withs in
+    ⊎_elim
+    (λ d. Contains-append_left (front ++ charts ++ parameters) (deployment_wanted lib plan) w
+    (Contains-append_left (front ++ charts) parameters w (Contains-append_left front charts w (Contains-append_right types withs w d))))
+    (λ d. Contains-append_left (front ++ charts ++ parameters) (deployment_wanted lib plan) w
+    (Contains-append_left (front ++ charts) parameters w (Contains-append_right front charts w d)))
+    (Contains-append_cases withs charts w c)
+
+pub unknown_part : (lib : Library) (plan : Plan) → ¬ (ArePartsKnown lib) → NameUnknown lib plan
+unknown_part lib plan unknown = names (list_all is_there (parts_wanted lib)) (list_all are_mentions_known (basics lib)) refl refl
+  where
+    names : (a b : Bool) → list_all is_there (parts_wanted lib) ≡ a → list_all are_mentions_known (basics lib) ≡ b → NameUnknown lib plan
+    names false b e f =
+        let w = fails_at is_there (parts_wanted lib) e in
+        inl (w.0, part_wanted lib plan w.0 w.1, λ c. true≢false (sym (any_from_contains w.0.0 w.0.1 c) ∙ w.2))
+    names true false e f =
+        let t = fails_at are_mentions_known (basics lib) f in
+        let m = fails_at (is_known t.0) (mentioned t.0) t.2 in
+        inr (inl (t.0, m.0, t.1, m.1, m.2))
+    names true true e f = absurd (unknown (record {
+      names = λ w c. contains_from_any w.0 w.1 (holds_at is_there (parts_wanted lib) w e c);
+      mentions = λ t m c d. holds_at (is_known t) (mentioned t) m (holds_at are_mentions_known (basics lib) t f c) d;
+    }))

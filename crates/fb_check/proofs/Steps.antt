@@ -1,0 +1,301 @@
+-- One more element of a loop that fills a set or a map by names.
+use Rattle.std.proofs.Common.{◌≡◌, ℕ, zero, suc, ◌<◌, ◌+◌, Bool, true, false, ◌&&◌, ◌||◌, cond, List, [], ◌∷◌, ◌++◌, length, map, take, get_or, Option, Some, None, Ordering, Bor, refl, sym, ◌∙◌, ap, subst}
+use Rattle.std.specs.Prelude.{option_map, is_some, slice_get}
+use Rattle.std.specs.List.{list_any}
+use Rattle.std.specs.Ordering.{nat_cmp, is_eq, ordering_then}
+use Rattle.std.specs.declared.cmp.Ordering.TheVariants as order
+use Rattle.std.specs.Cmp.Lexicographic.{slice_cmp}
+use Rattle.std.specs.Map.{lookup}
+use Rattle.std.specs.BTreeMap as tree
+use Rattle.std.specs.BTreeSet as set
+use Rattle.std.proofs.lemmas.Bool.{true≢false}
+use Rattle.std.proofs.lemmas.List.{take_more}
+use Rattle.std.proofs.lemmas.List.Folds.{list_any_more}
+use Rattle.std.proofs.lemmas.Map.Text.{is_eq-slice_cmp}
+use Rattle.fb_types.specs.Names.{Name, same_name, same_port}
+use Rattle.fb_types.specs.Blocks.{named, among}
+use Rattle.fb_types.specs.Flat.{port_in}
+use Rattle.fb_types.specs.declared.value.Ty.{Ty}
+use Rattle.fb_types.specs.declared.library.EventPort.{EventPort}
+use Rattle.fb_types.specs.declared.library.Variable.{Variable}
+use Rattle.fb_types.specs.declared.library.Connection.{Connection}
+use Rattle.fb_types.specs.declared.library.Ports.{Ports}
+use Rattle.fb_names.proofs.NameLemmas.{same_name-is, same_from_same_name}
+use Rattle.fb_names.proofs.Positions.{same_name-flip}
+use Rattle.fb_names.proofs.Seen.{more_of_part}
+use Rattle.fb_check.specs.Directory.{Pair, has_name, has_pair, type_in, lists, leads_to, AreEvents, IsExtended, AreWiths, AreTypes, AreTargets, IsInputs, IsFound, AreInputs}
+use Rattle.fb_check.specs.declared.directory_making.Inputs.{Inputs}
+
+-- ---- Comparisons
+
+abbrev pub name_cmp : Bor Name → Bor Name → Ordering
+name_cmp x y = slice_cmp nat_cmp x.now y.now
+
+abbrev pub pair_cmp : Pair → Pair → Ordering
+pair_cmp a b = ordering_then (name_cmp a.0 b.0) (name_cmp a.1 b.1)
+
+abbrev pub at_name : Name → Bor Name
+at_name n = record { ref_ptr = (0, 0); now = n }
+
+pub name_cmp-is : (n m : Name) → is_eq (slice_cmp nat_cmp n m) ≡ same_name n m
+name_cmp-is n m = is_eq-slice_cmp n m ∙ sym (same_name-is n m)
+
+then-is : (r s : Ordering) → is_eq (ordering_then r s) ≡ (is_eq r && is_eq s)
+then-is order.Less s = refl
+then-is order.Equal s = refl
+then-is order.Greater s = refl
+
+pub pair_cmp-is : (a b : Pair) → is_eq (pair_cmp a b) ≡ (same_name a.0.now b.0.now && same_name a.1.now b.1.now)
+pair_cmp-is a b =
+    then-is (name_cmp a.0 b.0) (name_cmp a.1 b.1)
+    ∙ ap (λ x. x && is_eq (name_cmp a.1 b.1)) (name_cmp-is a.0.now b.0.now) ∙ ap (λ y. same_name a.0.now b.0.now && y) (name_cmp-is a.1.now b.1.now)
+
+cond-or : (a b : Bool) → cond a true b ≡ (b || a)
+cond-or true true = refl
+cond-or true false = refl
+cond-or false true = refl
+cond-or false false = refl
+
+-- ---- Events
+
+pub events_none : (s : set.BTreeSet (Bor Name)) → s.keys ≡ [] → AreEvents [] s
+events_none s e = record { has = λ n. ap (list_any (λ k. is_eq (slice_cmp nat_cmp n k.now))) e }
+
+pub events_more :
+    (es : List EventPort) (i : ℕ) (e : EventPort) (s t : set.BTreeSet (Bor Name)) (k : Bor Name) → i < length es → e ≡ get_or es i e → k.now ≡ e.name
+    → AreEvents (take i es) s → ((q : Bor Name) → set.contains name_cmp t q ≡ cond (is_eq (name_cmp k q)) true (set.contains name_cmp s q))
+    → AreEvents (take (i + 1) es) t
+events_more es i e s t k h at is so_far updates = record {
+  has = λ n.
+      updates (at_name n)
+      ∙ ap (λ b. cond b true (has_name s n)) (name_cmp-is k.now n ∙ ap (λ (m : Name). same_name m n) is)
+      ∙ cond-or (same_name e.name n) (has_name s n)
+      ∙ ap (λ b. b || same_name e.name n) (so_far.has n)
+      ∙ ap (λ (q : EventPort). list_any (λ q. same_name q.name n) (take i es) || same_name q.name n) at
+      ∙ sym (list_any_more (λ q. same_name q.name n) es i e h);
+}
+
+-- ---- Variables WITH events
+
+pub extended_none : (event : Name) (s : set.BTreeSet Pair) → IsExtended event [] s s
+extended_none event s = record {
+  has = λ n m.
+      elim (has_pair s n m) as (λ b. b ≡ (b || (same_name event n && false))) [
+        | true ↦ refl
+        | false ↦ elim (same_name event n) as (λ b. false ≡ (b && false)) [ true ↦ refl | false ↦ refl ]
+      ];
+}
+
+more-or : (a b o m : Bool) → cond (a && b) true (o || (a && m)) ≡ (o || (a && (m || b)))
+more-or true true true m = refl
+more-or true true false true = refl
+more-or true true false false = refl
+more-or true false true m = refl
+more-or true false false true = refl
+more-or true false false false = refl
+more-or false b true m = refl
+more-or false b false m = refl
+
+pub extended_more :
+    (event : Name) (vs : List Name) (i : ℕ) (v : Name) (old s t : set.BTreeSet Pair) (k : Pair) → i < length vs → v ≡ get_or vs i v → k.0.now ≡ event → k.1.now ≡ v
+    → IsExtended event (take i vs) old s → ((q : Pair) → set.contains pair_cmp t q ≡ cond (is_eq (pair_cmp k q)) true (set.contains pair_cmp s q))
+    → IsExtended event (take (i + 1) vs) old t
+extended_more event vs i v old s t k h at is_event is so_far updates = record {
+  has = λ n m.
+      updates (at_name n, at_name m)
+      ∙ ap (λ b. cond b true (has_pair s n m))
+      (pair_cmp-is k (at_name n, at_name m) ∙ (λ j. same_name (is_event j) n && same_name (is j) m) ∙ ap (λ b. same_name event n && b) (same_name-flip v m))
+      ∙ ap (λ b. cond (same_name event n && same_name m v) true b) (so_far.has n m)
+      ∙ more-or (same_name event n) (same_name m v) (has_pair old n m) (among (take i vs) m)
+      ∙ ap (λ b. has_pair old n m || (same_name event n && b))
+      (ap (λ (w : Name). among (take i vs) m || same_name m w) at ∙ sym (list_any_more (same_name m) vs i v h));
+}
+
+pub withs_none : (s : set.BTreeSet Pair) → s.keys ≡ [] → AreWiths [] s
+withs_none s e = record {
+  has = λ n m. ap (list_any (λ (k : Pair). is_eq (ordering_then (slice_cmp nat_cmp n k.0.now) (slice_cmp nat_cmp m k.1.now)))) e;
+}
+
+pub withs_more :
+    (es : List EventPort) (i : ℕ) (e : EventPort) (s t : set.BTreeSet Pair) (name : Name) (vs : List Name) → i < length es → e ≡ get_or es i e → name ≡ e.name → vs ≡ e.with
+    → AreWiths (take i es) s → IsExtended name vs s t → AreWiths (take (i + 1) es) t
+withs_more es i e s t name vs h at is with so_far extended = record {
+  has = λ n m.
+      extended.has n m
+      ∙ ap (λ b. b || (same_name name n && among vs m)) (so_far.has n m)
+      ∙ (λ j. lists (take i es) n m || (same_name (is j) n && among (with j) m))
+      ∙ ap (λ (q : EventPort). lists (take i es) n m || (same_name q.name n && among q.with m)) at
+      ∙ sym (list_any_more (λ q. same_name q.name n && among q.with m) es i e h);
+}
+
+-- ---- Types of variables
+
+named-append :
+    {A : Type 0} (f : A → Name) (n : Name) (xs : List A) (y : A)
+    → named f n (xs ++ y ∷ []) ≡ elim (named f n xs) as (λ _. Option A) [ None ↦ cond (same_name (f y) n) (Some y) None | Some x ↦ Some x ]
+named-append f n [] y = refl
+named-append {A} f n (x ∷ xs) y =
+    elim (same_name (f x) n) as (λ b. cond b (Some x) (named f n (xs ++ y ∷ []))
+    ≡ elim (cond b (Some x) (named f n xs)) as (λ _. Option A) [ None ↦ cond (same_name (f y) n) (Some y) None | Some x ↦ Some x ]) [
+      | true ↦ refl
+      | false ↦ named-append f n xs y
+    ]
+
+abbrev type_of : List Variable → Name → Option Ty
+type_of vs n = option_map (λ v. v.ty) (named (λ v. v.name) n vs)
+
+type_of-append : (vs : List Variable) (v : Variable) (n : Name)
+    → type_of (vs ++ v ∷ []) n ≡ elim (type_of vs n) as (λ _. Option Ty) [ None ↦ cond (same_name v.name n) (Some v.ty) None | Some x ↦ Some x ]
+type_of-append vs v n =
+    ap (option_map (λ (v : Variable). v.ty)) (named-append (λ v. v.name) n vs v)
+    ∙ (elim (named (λ v. v.name) n vs) as (λ o. option_map (λ (v : Variable). v.ty) (elim o as (λ _. Option Variable) [ None ↦ cond (same_name v.name n) (Some v) None | Some x ↦ Some x ])
+    ≡ elim (option_map (λ (v : Variable). v.ty) o) as (λ _. Option Ty) [ None ↦ cond (same_name v.name n) (Some v.ty) None | Some x ↦ Some x ]) [
+      | None ↦ elim (same_name v.name n) as (λ b. option_map (λ (v : Variable). v.ty) (cond b (Some v) None) ≡ cond b (Some v.ty) None) [ true ↦ refl | false ↦ refl ]
+      | Some x ↦ refl
+    ])
+
+pub types_none : (m : tree.BTreeMap (Bor Name) Ty) → m.entries ≡ [] → AreTypes [] m
+types_none m e = record { type = λ n. ap (lookup (λ (k : Bor Name). is_eq (slice_cmp nat_cmp n k.now))) e }
+
+abbrev so_far_or : Option Ty → Option Ty → Option Ty
+so_far_or o new = elim o as (λ _. Option Ty) [ None ↦ new | Some x ↦ Some x ]
+
+-- the types of one more variable, where it is there already
+pub types_kept :
+    (vs : List Variable) (i : ℕ) (v : Variable) (m : tree.BTreeMap (Bor Name) Ty) (name : Name) → i < length vs → v ≡ get_or vs i v → name ≡ v.name
+    → is_some (type_in m name) ≡ true → AreTypes (take i vs) m → AreTypes (take (i + 1) vs) m
+types_kept vs i v m name h at is there so_far =
+    let P : List Variable → Type 0 = λ us. AreTypes us m in
+    let Q : Variable → Type 0 = λ u. P (take i vs ++ u ∷ []) in
+    let found : is_some (type_of (take i vs) v.name) ≡ true = ap is_some (sym (so_far.type v.name)) ∙ ap (λ (n : Name). is_some (type_in m n)) (sym is) ∙ there in
+    subst P (sym (take_more vs i v h))
+    (subst Q at (record {
+      type = λ n.
+          so_far.type n
+          ∙ (elim (type_of (take i vs) n) as (λ o. type_of (take i vs) n ≡ o → o ≡ so_far_or o (cond (same_name v.name n) (Some v.ty) None)) [
+            | Some x ↦ λ e. refl
+            | None ↦ λ e.
+                (elim (same_name v.name n) as (λ b. same_name v.name n ≡ b → None ≡ cond b (Some v.ty) None) [
+                  | true ↦ λ same.
+                      let there' = ap (λ (k : Name). is_some (type_of (take i vs) k)) (same_from_same_name v.name n same) ∙ ap is_some e in
+                      absurd (true≢false (sym found ∙ there'))
+                  | false ↦ λ _. refl
+                ] refl)
+          ] refl)
+          ∙ sym (type_of-append (take i vs) v n);
+    }))
+
+-- where it is new
+pub types_more :
+    (vs : List Variable) (i : ℕ) (v : Variable) (m m' : tree.BTreeMap (Bor Name) Ty) (k : Bor Name) → i < length vs → v ≡ get_or vs i v → k.now ≡ v.name
+    → is_some (type_in m k.now) ≡ false → AreTypes (take i vs) m
+    → ((q : Bor Name) → tree.get name_cmp m' q ≡ cond (is_eq (name_cmp k q)) (Some v.ty) (tree.get name_cmp m q))
+    → AreTypes (take (i + 1) vs) m'
+types_more vs i v m m' k h at is new so_far updates =
+    let P : List Variable → Type 0 = λ us. AreTypes us m' in
+    let Q : Variable → Type 0 = λ u. P (take i vs ++ u ∷ []) in
+    let absent : is_some (type_of (take i vs) v.name) ≡ false = ap is_some (sym (so_far.type v.name)) ∙ ap (λ (n : Name). is_some (type_in m n)) (sym is) ∙ new in
+    subst P (sym (take_more vs i v h))
+    (subst Q at (record {
+      type = λ n.
+          updates (at_name n)
+          ∙ ap (λ b. cond b (Some v.ty) (type_in m n)) (name_cmp-is k.now n ∙ ap (λ (w : Name). same_name w n) is)
+          ∙ ap (λ (o : Option Ty). cond (same_name v.name n) (Some v.ty) o) (so_far.type n)
+          ∙ (elim (same_name v.name n) as (λ b. same_name v.name n ≡ b → cond b (Some v.ty) (type_of (take i vs) n) ≡ so_far_or (type_of (take i vs) n) (cond b (Some v.ty) None)) [
+            | true ↦ λ same.
+                let absent' = ap (λ (k : Name). is_some (type_of (take i vs) k)) (sym (same_from_same_name v.name n same)) ∙ absent in
+                (elim (type_of (take i vs) n) as (λ o. type_of (take i vs) n ≡ o → Some v.ty ≡ so_far_or o (Some v.ty)) [
+                  | None ↦ λ e. refl
+                  | Some x ↦ λ e. absurd (true≢false (ap is_some (sym e) ∙ absent'))
+                ] refl)
+            | false ↦ λ _. (elim (type_of (take i vs) n) as (λ o. o ≡ so_far_or o None) [ None ↦ refl | Some x ↦ refl ])
+          ] refl)
+          ∙ sym (type_of-append (take i vs) v n);
+    }))
+
+-- ---- Targets of connections
+
+pub targets_none : (s : set.BTreeSet Pair) → s.keys ≡ [] → AreTargets [] s
+targets_none s e = record {
+  has = λ n m. ap (list_any (λ (k : Pair). is_eq (ordering_then (slice_cmp nat_cmp n k.0.now) (slice_cmp nat_cmp m k.1.now)))) e;
+}
+
+-- the port of one more connection, and whether it is the one
+abbrev is_target : Connection → Name → Name → Bool
+is_target w c n = same_port (port_in [] w.to) (record { at = c ∷ []; name = n })
+
+or-false : (b : Bool) → b ≡ (b || false)
+or-false true = refl
+or-false false = refl
+
+-- it leads to the boundary
+pub targets_kept :
+    (ws : List Connection) (i : ℕ) (w : Connection) (s : set.BTreeSet Pair) → i < length ws → w ≡ get_or ws i w → w.to.component ≡ None
+    → AreTargets (take i ws) s → AreTargets (take (i + 1) ws) s
+targets_kept ws i w s h at none so_far = record {
+  has = λ c n.
+      let P : Option Name → Type 0 = λ o. same_port (port_in [] (record { component = o; port = w.to.port })) (record { at = c ∷ []; name = n }) ≡ false in
+      let apart : is_target w c n ≡ false = subst P (sym none) refl in
+      so_far.has c n
+      ∙ or-false (leads_to (take i ws) c n)
+      ∙ ap (λ b. leads_to (take i ws) c n || b) (sym apart)
+      ∙ ap (λ (u : Connection). leads_to (take i ws) c n || is_target u c n) at
+      ∙ sym (list_any_more (λ u. is_target u c n) ws i w h);
+}
+
+and-true : (a b : Bool) → (a && b) ≡ ((a && true) && b)
+and-true true b = refl
+and-true false b = refl
+
+-- it leads to a component
+pub targets_more :
+    (ws : List Connection) (i : ℕ) (w : Connection) (component : Name) (s t : set.BTreeSet Pair) (k : Pair) → i < length ws → w ≡ get_or ws i w
+    → w.to.component ≡ Some component → k.0.now ≡ component → k.1.now ≡ w.to.port → AreTargets (take i ws) s
+    → ((q : Pair) → set.contains pair_cmp t q ≡ cond (is_eq (pair_cmp k q)) true (set.contains pair_cmp s q))
+    → AreTargets (take (i + 1) ws) t
+targets_more ws i w component s t k h at some is_component is_port so_far updates = record {
+  has = λ c n.
+      let P : Option Name → Type 0 =
+      λ o. ((same_name component c && true) && same_name w.to.port n) ≡ same_port (port_in [] (record { component = o; port = w.to.port })) (record { at = c ∷ []; name = n }) in
+      let here : (same_name component c && same_name w.to.port n) ≡ is_target w c n =
+      and-true (same_name component c) (same_name w.to.port n) ∙ subst P (sym some) refl in
+      updates (at_name c, at_name n)
+      ∙ ap (λ b. cond b true (has_pair s c n))
+      (pair_cmp-is k (at_name c, at_name n) ∙ (λ j. same_name (is_component j) c && same_name (is_port j) n) ∙ here)
+      ∙ cond-or (is_target w c n) (has_pair s c n)
+      ∙ ap (λ b. b || is_target w c n) (so_far.has c n)
+      ∙ ap (λ (u : Connection). leads_to (take i ws) c n || is_target u c n) at
+      ∙ sym (list_any_more (λ u. is_target u c n) ws i w h);
+}
+
+-- ---- One more type
+
+inputs_push :
+    (ps : List Ports) (xs : List Inputs) (p : Ports) (x : Inputs) → ((i : ℕ) → IsFound (slice_get ps i) (slice_get xs i)) → IsInputs p x
+    → (i : ℕ) → IsFound (slice_get (ps ++ p ∷ []) i) (slice_get (xs ++ x ∷ []) i)
+inputs_push [] [] p x each is zero = is
+inputs_push [] [] p x each is (suc i) = tt
+inputs_push [] (y ∷ ys) p x each is i = absurd (each 0)
+inputs_push (q ∷ qs) [] p x each is i = absurd (each 0)
+inputs_push (q ∷ qs) (y ∷ ys) p x each is zero = each 0
+inputs_push (q ∷ qs) (y ∷ ys) p x each is (suc i) = inputs_push qs ys p x (λ j. each (suc j)) is i
+
+pub inputs_none : (xs : List Inputs) → xs ≡ [] → AreInputs [] xs
+inputs_none xs e = subst (λ (ys : List Inputs). AreInputs [] ys) (sym e) (record { each = λ i. tt })
+
+pub inputs_more :
+    {A : Type 0} (f : A → Ports) (ts : List A) (i : ℕ) (a : A) (p : Ports) (xs ys : List Inputs) (x : Inputs) → i < length ts → a ≡ get_or ts i a → p ≡ f a
+    → AreInputs (map f (take i ts)) xs → IsInputs p x → ys ≡ xs ++ x ∷ [] → AreInputs (map f (take (i + 1) ts)) ys
+inputs_more f ts i a p xs ys x h at is so_far new grown =
+    let R : List Inputs → Type 0 = λ zs. AreInputs (map f (take i ts) ++ p ∷ []) zs in
+    let P : List Ports → Type 0 = λ qs. AreInputs qs ys in
+    more_of_part P f ts i a p h at is (subst R (sym grown) (record { each = inputs_push (map f (take i ts)) xs p x so_far.each new }))
+
+pub interfaces_more :
+    (ps : List Ports) (i : ℕ) (p : Ports) (xs ys : List Inputs) (x : Inputs) → i < length ps → p ≡ get_or ps i p
+    → AreInputs (take i ps) xs → IsInputs p x → ys ≡ xs ++ x ∷ [] → AreInputs (take (i + 1) ps) ys
+interfaces_more ps i p xs ys x h at so_far new grown =
+    let P : List Ports → Type 0 = λ qs. AreInputs qs ys in
+    let R : List Inputs → Type 0 = λ zs. AreInputs (take i ps ++ p ∷ []) zs in
+    subst P (sym (take_more ps i p h))
+    (subst (λ (q : Ports). AreInputs (take i ps ++ q ∷ []) ys) at (subst R (sym grown) (record { each = inputs_push (take i ps) xs p x so_far.each new })))

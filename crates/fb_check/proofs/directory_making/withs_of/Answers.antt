@@ -1,0 +1,18 @@
+use Rattle.std.proofs.Common.{List, subst}
+use Rattle.std.proofs.lemmas.List.{take_all}
+use Rattle.fb_types.specs.declared.library.EventPort.{EventPort}
+use Rattle.fb_check.specs.Directory.{AreWiths}
+use Rattle.fb_check.proofs.Steps.{withs_none, withs_more}
+use Rattle.fb_check.proofs.directory_making.withs_of.Goals as goal
+
+pub loop-event-init : goal.loop-event-init
+loop-event-init c = withs_none _ c.new-withs.ensures.empty
+
+pub loop-event-preserved : goal.loop-event-preserved
+loop-event-preserved c =
+    withs_more _ _ _ _ _ _ _ c.loop-event-test.true c.event-item.is c.as_bytes.ensures c.as_slice.ensures c.loop-event.invariant c.in_ok-extend.ensures
+
+pub returns : goal.returns
+returns c =
+    let P : List EventPort → Type 0 = λ es. AreWiths es c.loop-event.withs in
+    subst P (take_all c.loop-event.event-index c.args.events.now c.loop-event-test.false) c.loop-event.invariant

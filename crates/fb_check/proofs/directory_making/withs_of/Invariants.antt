@@ -1,0 +1,6 @@
+use Rattle.std.proofs.Common.{take}
+use Rattle.fb_check.specs.Directory.{AreWiths}
+use Rattle.fb_check.proofs.directory_making.withs_of.Given as goal
+
+abbrev pub invariant-loop-event : goal.invariant-loop-event
+invariant-loop-event l = AreWiths (take l.event-index l.events) l.withs

@@ -1,0 +1,150 @@
+-- What stimuli may name, by names: event inputs, the variables WITH them, and data inputs (IEC 61499-1, 5.2.1 and 6.1; event blocks by their kinds are this project's profile).
+use Rattle.std.specs.Prelude.{◌≡◌, ℕ, List, [], ◌∷◌, map, Bool, true, false, not, ◌&&◌, ◌||◌, Option, Some, None, Contains, slice_get, option_map, option_and_then}
+use Rattle.std.specs.List.{list_any, list_all}
+use Rattle.std.specs.Ordering.{nat_cmp, ordering_then}
+use Rattle.std.specs.Cmp.Lexicographic.{slice_cmp}
+use Rattle.std.specs.BTreeMap as tree
+use Rattle.std.specs.BTreeSet as set
+use Rattle.std.specs.Borrow.{Bor}
+use Rattle.fb_types.specs.Names.{Name, same_name, same_port}
+use Rattle.fb_types.specs.Values.{fits}
+use Rattle.fb_types.specs.Blocks.{named, among, ports_of, ports_of_event_block, is_event_input}
+use Rattle.fb_types.specs.Flat.{kind_of, kind_of_instance, instance_in, port_in}
+use Rattle.fb_types.specs.Repeated.{Twice}
+use Rattle.fb_types.specs.Accepted.{set_names, is_held}
+use Rattle.fb_types.specs.declared.event_kind.EventKind.{EventKind}
+use Rattle.fb_types.specs.declared.event_kind.EventKind.TheVariants.{Restart, Split, Merge, Rendezvous, Permit, Select, Switch, Delay, Cycle, SetReset, DataLatch, RisingEdge, FallingEdge, CountUp}
+use Rattle.fb_types.specs.declared.value.Ty.{Ty}
+use Rattle.fb_types.specs.declared.value.Value.{Value}
+use Rattle.fb_types.specs.declared.library.Library.{Library}
+use Rattle.fb_types.specs.declared.library.EventPort.{EventPort}
+use Rattle.fb_types.specs.declared.library.Variable.{Variable}
+use Rattle.fb_types.specs.declared.library.Connection.{Connection}
+use Rattle.fb_types.specs.declared.library.Ports.{Ports}
+use Rattle.fb_types.specs.declared.deploy.Stimulus.{Stimulus}
+use Rattle.fb_types.specs.declared.deploy.Setting.{Setting}
+use Rattle.fb_check.specs.declared.directory_making.Inputs.{Inputs}
+use Rattle.fb_check.specs.declared.directory.Directory.{Directory}
+
+-- ---- Interfaces of event blocks
+
+-- where the interface of an event block stands
+abbrev pub kind_place : EventKind → ℕ
+kind_place Restart = 0
+kind_place Split = 1
+kind_place Merge = 2
+kind_place Rendezvous = 3
+kind_place Permit = 4
+kind_place Select = 5
+kind_place Switch = 6
+kind_place Delay = 7
+kind_place Cycle = 8
+kind_place SetReset = 9
+kind_place DataLatch = 10
+kind_place RisingEdge = 11
+kind_place FallingEdge = 12
+kind_place CountUp = 13
+
+-- each event block's interface at its place
+pub record AreInterfaces (all : List Ports) : Type 0 where
+  pub each : (k : EventKind) → slice_get all (kind_place k) ≡ Some (ports_of_event_block k)
+
+-- ---- Sets and maps of names
+
+abbrev pub Pair : Type 0
+Pair = Bor Name × Bor Name
+
+abbrev pub has_name : set.BTreeSet (Bor Name) → Name → Bool
+has_name s n = set.contains_by (λ k. slice_cmp nat_cmp n k.now) s
+
+abbrev pub has_pair : set.BTreeSet Pair → Name → Name → Bool
+has_pair s n m = set.contains_by (λ k. ordering_then (slice_cmp nat_cmp n k.0.now) (slice_cmp nat_cmp m k.1.now)) s
+
+abbrev pub type_in : tree.BTreeMap (Bor Name) Ty → Name → Option Ty
+type_in m n = tree.get_by (λ k. slice_cmp nat_cmp n k.now) m
+
+-- ---- One type
+
+-- whether an event of the list has the name and lists the variable
+abbrev pub lists : List EventPort → Name → Name → Bool
+lists events e v = list_any (λ q. same_name q.name e && among q.with v) events
+
+-- the names of the events
+pub record AreEvents (events : List EventPort) (s : set.BTreeSet (Bor Name)) : Type 0 where
+  pub has : (n : Name) → has_name s n ≡ list_any (λ q. same_name q.name n) events
+
+-- beside what was there, the event with each of the variables
+pub record IsExtended (event : Name) (variables : List Name) (old new : set.BTreeSet Pair) : Type 0 where
+  pub has : (n m : Name) → has_pair new n m ≡ (has_pair old n m || (same_name event n && among variables m))
+
+-- the events, each with the variables that it lists
+pub record AreWiths (events : List EventPort) (s : set.BTreeSet Pair) : Type 0 where
+  pub has : (n m : Name) → has_pair s n m ≡ lists events n m
+
+-- the types of the variables
+pub record AreTypes (variables : List Variable) (m : tree.BTreeMap (Bor Name) Ty) : Type 0 where
+  pub type : (n : Name) → type_in m n ≡ option_map (λ v. v.ty) (named (λ v. v.name) n variables)
+
+-- the event inputs, the variables WITH them and the types of the data inputs of an interface
+pub record IsInputs (p : Ports) (x : Inputs) : Type 0 where
+  pub events : AreEvents p.event_inputs x.events
+  pub withs : AreWiths p.event_inputs x.withs
+  pub types : AreTypes p.inputs x.types
+
+-- none for none, else those of the interface
+abbrev pub IsFound : Option Ports → Option Inputs → Type 0
+IsFound None None = Unit
+IsFound None (Some x) = ⊥
+IsFound (Some p) None = ⊥
+IsFound (Some p) (Some x) = IsInputs p x
+
+-- those of each interface, at its place
+pub record AreInputs (ps : List Ports) (xs : List Inputs) : Type 0 where
+  pub each : (i : ℕ) → IsFound (slice_get ps i) (slice_get xs i)
+
+-- ---- A declaration
+
+-- whether a connection leads to the port of the component
+abbrev pub leads_to : List Connection → Name → Name → Bool
+leads_to cs c n = list_any (λ w. same_port (port_in [] w.to) (record { at = c ∷ []; name = n })) cs
+
+-- the components and their ports to which connections lead
+pub record AreTargets (cs : List Connection) (s : set.BTreeSet Pair) : Type 0 where
+  pub has : (c n : Name) → has_pair s c n ≡ leads_to cs c n
+
+-- the event blocks at the places of their interfaces, the block types of the declaration at theirs, and the targets of the application's data connections
+pub record IsDirectory (lib : Library) (d : Directory) : Type 0 where
+  pub event_blocks : (k : EventKind) → IsFound (Some (ports_of_event_block k)) (slice_get d.event_blocks (kind_place k))
+  pub declared : AreInputs (map (λ t. ports_of (kind_of t)) lib.blocks) d.declared
+  pub targets : AreTargets lib.application.network.data_connections d.targets
+
+-- ---- Stimuli
+
+-- the interface of the instance with a name
+abbrev pub ports_at : Library → Name → Option Ports
+ports_at lib n = option_map ports_of (option_and_then (kind_of_instance lib) (instance_in lib.application.network n))
+
+-- The variable goes WITH the event, no data connection of the application leads to it, and its type holds the value.
+abbrev pub can_set : Library → Ports → Stimulus → Setting → Bool
+can_set lib p s v =
+    lists p.event_inputs s.event v.variable && (not (leads_to lib.application.network.data_connections s.instance v.variable) && is_held p v)
+
+-- The event is an event input of an instance of the application, and each variable is set once and can be set.
+pub record CanTake (lib : Library) (s : Stimulus) : Type 0 where
+  pub ports : Ports
+  pub of_ports : ports_at lib s.instance ≡ Some ports
+  pub is_event : is_event_input ports s.event ≡ true
+  pub once : ¬ (Twice (set_names s))
+  pub each : list_all (can_set lib ports s) s.settings ≡ true
+
+abbrev pub HasRefused : Library → List Stimulus → Type 0
+HasRefused lib stimuli = (s : Stimulus) × Contains stimuli s × ¬ (CanTake lib s)
+
+-- whether there is a type with the name, and it holds the value
+abbrev pub holds : Inputs → Name → Value → Bool
+holds x n v = elim (type_in x.types n) [ None ↦ false | Some t ↦ fits t v ]
+
+-- the name is in the directory WITH the event and unconnected, and its type holds the value
+abbrev pub is_settable : Directory → Inputs → Stimulus → Setting → Bool
+is_settable d x s v =
+    has_pair x.withs s.event v.variable && (not (has_pair d.targets s.instance v.variable) && holds x v.variable v.value)

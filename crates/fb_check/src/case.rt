@@ -1,0 +1,23 @@
+//! What is judged, and what is made of it on the way.
+
+use fb_names::catalog::Catalog;
+use fb_names::numbers::Resolved;
+use fb_types::deploy::{Plan, Stimulus};
+use fb_types::library::Library;
+
+/// A declaration, a deployment and stimuli, as they were read.
+#[derive(Clone, Copy)]
+pub struct Case<'a> {
+    pub library: &'a Library,
+    pub plan: &'a Plan,
+    pub stimuli: &'a [Stimulus],
+}
+
+/// What is made of inputs that are accepted.
+#[derive(Drop)]
+pub struct Judged<'a> {
+    /// The places of all names.
+    pub catalog: Catalog<'a>,
+    /// What the names stand for, by numbers.
+    pub numbers: Resolved,
+}

@@ -1,0 +1,62 @@
+//! What stimuli may name, by names.
+
+ghost use Rattle.std.specs.Prelude.{◌≡◌, map, option_map, IfOk};
+ghost use Rattle.std.specs.Option.{option_copied};
+ghost use Rattle.fb_names.specs.Places.{IsIndex};
+ghost use Rattle.fb_types.specs.Blocks.{ports_of};
+ghost use Rattle.fb_types.specs.Flat.{type_name, type_named};
+ghost use Rattle.fb_check.specs.Directory.{AreInterfaces, IsDirectory, IsFound};
+
+use crate::directory_making::{Inputs, Pairs, inputs_of_blocks, inputs_of_each, targets_of};
+use crate::event_interfaces::place_of_kind;
+use fb_names::places::{Places, place_of};
+use fb_types::event_ports::kind_named;
+use fb_types::items::Items;
+use fb_types::library::{Library, Ports};
+use std::alloc::{AllocError, Global};
+
+/// What stimuli may name: of each type its event inputs and its data inputs, and the ports of the
+/// application to which data connections lead.
+#[derive(Drop)]
+pub struct Directory<'a> {
+    /// For each event block, by the place of its interface.
+    pub event_blocks: Items<Inputs<'a>>,
+    /// For each block type of the declaration.
+    pub declared: Items<Inputs<'a>>,
+    /// The ports to which data connections of the application lead.
+    pub targets: Pairs<'a>,
+}
+
+/// The directory of a declaration. The interfaces are those of the event blocks.
+pub fn directory_of<'a>(
+    alloc: Global,
+    library: &'a Library,
+    interfaces: &'a [Ports],
+) -> Result<Directory<'a>, AllocError>
+    requires { AreInterfaces interfaces.now }
+    ensures { IfOk result (IsDirectory library.now) }
+{
+    let network = &library.application.network;
+    Ok(Directory {
+        event_blocks: inputs_of_each(alloc, interfaces)?,
+        declared: inputs_of_blocks(alloc, library.blocks.as_slice())?,
+        targets: targets_of(alloc, network.data_connections.as_slice())?,
+    })
+}
+
+/// What stimuli may name of the type with a name, or `None` where there is no such type.
+pub fn inputs_named<'d, 'a>(
+    library: &Library,
+    directory: &'d Directory<'a>,
+    types: &Places,
+    name: &[u8],
+) -> Option<&'d Inputs<'a>>
+    requires directory { IsDirectory library.now directory.now }
+    requires types { IsIndex (map type_name library.now.blocks) types.now }
+    ensures { IsFound (option_map ports_of (type_named library.now name.now)) (option_copied result) }
+{
+    match kind_named(name) {
+        Some(kind) => directory.event_blocks.get(place_of_kind(kind)),
+        None => directory.declared.get(place_of(types, name)?),
+    }
+}

@@ -1,0 +1,141 @@
+//! What stimuli may name of a type, and to which ports data connections lead.
+
+ghost use Rattle.std.specs.Prelude.{◌≡◌, map, IfOk, OnOk};
+ghost use Rattle.fb_types.specs.Blocks.{ports_of};
+ghost use Rattle.fb_types.specs.Flat.{kind_of};
+ghost use Rattle.fb_check.specs.Directory.{AreInputs, IsInputs, IsExtended, AreEvents, AreWiths, AreTypes, AreTargets};
+
+use fb_types::items::Items;
+use fb_types::library::{BlockType, Connection, EventPort, Ports, Variable};
+use fb_types::name::Name;
+use fb_types::value::Ty;
+use std::alloc::{AllocError, Global};
+use std::collections::{BTreeMap, BTreeSet};
+
+/// Pairs of names.
+pub type Pairs<'a> = BTreeSet<(&'a [u8], &'a [u8]), Global>;
+
+/// What stimuli may name of a type.
+#[derive(Drop)]
+pub struct Inputs<'a> {
+    /// The event inputs.
+    pub events: BTreeSet<&'a [u8], Global>,
+    /// The event inputs, each with a variable that goes WITH it.
+    pub withs: Pairs<'a>,
+    /// The types of the data inputs.
+    pub types: BTreeMap<&'a [u8], Ty, Global>,
+}
+
+fn events_of<'a>(
+    alloc: Global,
+    events: &'a [EventPort],
+) -> Result<BTreeSet<&'a [u8], Global>, AllocError>
+    ensures { IfOk result (AreEvents events.now) }
+{
+    let mut names = BTreeSet::new(alloc);
+    for event in events {
+        names.insert(event.name.as_bytes())?;
+    }
+    Ok(names)
+}
+
+/// Adds the variables WITH an event.
+fn extend<'a>(
+    withs: &mut Pairs<'a>,
+    event: &'a [u8],
+    variables: &'a [Name],
+) -> Result<(), AllocError>
+    ensures { OnOk result (IsExtended event.now variables.now withs.old withs.new) }
+{
+    for variable in variables {
+        withs.insert((event, variable.as_bytes()))?;
+    }
+    Ok(())
+}
+
+fn withs_of<'a>(alloc: Global, events: &'a [EventPort]) -> Result<Pairs<'a>, AllocError>
+    ensures { IfOk result (AreWiths events.now) }
+{
+    let mut withs = BTreeSet::new(alloc);
+    for event in events {
+        extend(&mut withs, event.name.as_bytes(), event.with.as_slice())?;
+    }
+    Ok(withs)
+}
+
+/// The types of variables. Of variables with one name the first counts.
+fn types_of<'a>(
+    alloc: Global,
+    variables: &'a [Variable],
+) -> Result<BTreeMap<&'a [u8], Ty, Global>, AllocError>
+    ensures { IfOk result (AreTypes variables.now) }
+{
+    let mut types = BTreeMap::new(alloc);
+    for variable in variables {
+        let name = variable.name.as_bytes();
+        if !types.contains_key(name) {
+            types.insert(name, variable.ty)?;
+        }
+    }
+    Ok(types)
+}
+
+fn inputs_of<'a>(alloc: Global, ports: &'a Ports) -> Result<Inputs<'a>, AllocError>
+    ensures { IfOk result (IsInputs ports.now) }
+{
+    Ok(Inputs {
+        events: events_of(alloc, ports.event_inputs.as_slice())?,
+        withs: withs_of(alloc, ports.event_inputs.as_slice())?,
+        types: types_of(alloc, ports.inputs.as_slice())?,
+    })
+}
+
+/// What stimuli may name of each interface.
+pub fn inputs_of_each<'a>(
+    alloc: Global,
+    interfaces: &'a [Ports],
+) -> Result<Items<Inputs<'a>>, AllocError>
+    ensures { IfOk result (AreInputs interfaces.now) }
+{
+    let mut all = Items::new(alloc);
+    for ports in interfaces {
+        all.push(inputs_of(alloc, ports)?)?;
+    }
+    Ok(all)
+}
+
+fn ports_in(block: &BlockType) -> &Ports
+    ensures { result.now ≡ ports_of (kind_of block.now) }
+{
+    match block {
+        BlockType::Basic(basic) => &basic.ports,
+        BlockType::Composite(composite) => &composite.ports,
+    }
+}
+
+/// What stimuli may name of each block type of a declaration.
+pub fn inputs_of_blocks<'a>(
+    alloc: Global,
+    blocks: &'a [BlockType],
+) -> Result<Items<Inputs<'a>>, AllocError>
+    ensures { IfOk result (AreInputs (map (λ t. ports_of (kind_of t)) blocks.now)) }
+{
+    let mut all = Items::new(alloc);
+    for block in blocks {
+        all.push(inputs_of(alloc, ports_in(block))?)?;
+    }
+    Ok(all)
+}
+
+/// The components and their ports to which connections lead.
+pub fn targets_of<'a>(alloc: Global, connections: &'a [Connection]) -> Result<Pairs<'a>, AllocError>
+    ensures { IfOk result (AreTargets connections.now) }
+{
+    let mut targets = BTreeSet::new(alloc);
+    for connection in connections {
+        if let Some(component) = &connection.to.component {
+            targets.insert((component.as_bytes(), connection.to.port.as_bytes()))?;
+        }
+    }
+    Ok(targets)
+}

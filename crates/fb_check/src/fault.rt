@@ -1,0 +1,71 @@
+//! What is refused.
+
+ghost use Rattle.std.specs.Prelude.{◌≡◌};
+ghost use Rattle.fb_check.specs.Faults.{number_of};
+ghost use Rattle.fb_check.specs.declared.fault.Refusal.TheVariants.{Memory};
+
+use std::alloc::AllocError;
+use thiserror::Error;
+
+/// Why inputs are not accepted. Each refusal has a number.
+#[derive(Clone, Copy, Debug, Error, PartialEq, Eq)]
+pub enum Fault {
+    #[error("E20: a name or a connection is given twice")]
+    NameTwice,
+    #[error("E21: a name stands for nothing of the wanted sort")]
+    NameUnknown,
+    #[error("E22: an expression, a statement or a value has the wrong kind")]
+    KindWrong,
+    #[error("E23: a data connection leads to a type that does not hold all values")]
+    OutOfRange,
+    #[error("E24: two data connections lead to one port")]
+    TwoSources,
+    #[error("E25: a composite holds itself, or has a height over 16")]
+    TooHigh,
+    #[error("E26: an instance is not mapped to one resource")]
+    NotMapped,
+    #[error("E27: a connection between two resources has no link")]
+    NoLink,
+    #[error("E28: no event goes with a data connection between two resources")]
+    NoEvent,
+    #[error("E29: a stimulus does not fit its event input")]
+    BadStimulus,
+    #[error("E30: over a limit")]
+    OverLimit,
+}
+
+impl Fault {
+    /// The number of the refusal, from 20 to 30.
+    pub fn number(self) -> u8
+        ensures { result ≡ number_of self }
+    {
+        match self {
+            Fault::NameTwice => 20,
+            Fault::NameUnknown => 21,
+            Fault::KindWrong => 22,
+            Fault::OutOfRange => 23,
+            Fault::TwoSources => 24,
+            Fault::TooHigh => 25,
+            Fault::NotMapped => 26,
+            Fault::NoLink => 27,
+            Fault::NoEvent => 28,
+            Fault::BadStimulus => 29,
+            Fault::OverLimit => 30,
+        }
+    }
+}
+
+/// Why there is no verdict of acceptance: want of memory, or the least fault.
+#[derive(Clone, Copy, Debug, PartialEq, Eq)]
+pub enum Refusal {
+    Memory,
+    Fault(Fault),
+}
+
+impl From<AllocError> for Refusal {
+    ghost from_gives = { λ _ e. e ≡ Memory };
+
+    fn from(_error: AllocError) -> Refusal {
+        Refusal::Memory
+    }
+}

@@ -1,0 +1,71 @@
+//! The checks of how instances and connections are mapped, from E26 to E28.
+
+ghost use Rattle.std.specs.Prelude.{IfOk, IfErr};
+ghost use Rattle.fb_joins.specs.Mapping.{IsMapping};
+ghost use Rattle.fb_names.specs.Numbers.{IsResolved};
+ghost use Rattle.fb_check.specs.Verdicts.{HasPassed, IsRightly};
+
+use crate::case::Case;
+use crate::fault::{Fault, Refusal};
+use fb_joins::links::lacks_link;
+use fb_joins::mapping::{Mapping, mapping_of};
+use fb_joins::uncarried::lacks_event;
+use fb_names::numbers::Resolved;
+use std::alloc::Global;
+
+/// E26: each instance mapped once.
+fn mapping<'a>(alloc: Global, case: &Case<'a>) -> Result<Mapping<'a>, Refusal>
+    requires passed { HasPassed 26 case.now }
+    ensures ok { IfOk result (IsMapping case.now.library.now case.now.plan.now) }
+    ensures passed { IfOk result (λ _. HasPassed 27 case.now) }
+    ensures refused { IfErr result (IsRightly case.now) }
+{
+    match mapping_of(alloc, case.library, case.plan)? {
+        Some(mapping) => Ok(mapping),
+        None => Err(Refusal::Fault(Fault::NotMapped)),
+    }
+}
+
+/// E27: a link for each connection between two resources.
+fn judge_links(alloc: Global, case: &Case, mapping: &Mapping) -> Result<(), Refusal>
+    requires mapping { IsMapping case.now.library.now case.now.plan.now mapping.now }
+    requires passed { HasPassed 27 case.now }
+    ensures ok { IfOk result (λ _. HasPassed 28 case.now) }
+    ensures refused { IfErr result (IsRightly case.now) }
+{
+    if lacks_link(alloc, case.library, case.plan, mapping)? {
+        return Err(Refusal::Fault(Fault::NoLink));
+    }
+    Ok(())
+}
+
+/// E28: an event for each data connection between two resources.
+fn judge_events(
+    alloc: Global,
+    case: &Case,
+    mapping: &Mapping,
+    resolved: &Resolved,
+) -> Result<(), Refusal>
+    requires mapping { IsMapping case.now.library.now case.now.plan.now mapping.now }
+    requires resolved { IsResolved case.now.library.now case.now.plan.now resolved.now }
+    requires passed { HasPassed 28 case.now }
+    ensures ok { IfOk result (λ _. HasPassed 29 case.now) }
+    ensures refused { IfErr result (IsRightly case.now) }
+{
+    if lacks_event(alloc, case.library, case.plan, mapping, resolved)? {
+        return Err(Refusal::Fault(Fault::NoEvent));
+    }
+    Ok(())
+}
+
+/// The checks from E26 to E28.
+pub fn judge_mapping(alloc: Global, case: &Case, resolved: &Resolved) -> Result<(), Refusal>
+    requires resolved { IsResolved case.now.library.now case.now.plan.now resolved.now }
+    requires passed { HasPassed 26 case.now }
+    ensures ok { IfOk result (λ _. HasPassed 29 case.now) }
+    ensures refused { IfErr result (IsRightly case.now) }
+{
+    let mapping = mapping(alloc, case)?;
+    judge_links(alloc, case, &mapping)?;
+    judge_events(alloc, case, &mapping, resolved)
+}

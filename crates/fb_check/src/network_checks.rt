@@ -1,0 +1,69 @@
+//! The checks of types and networks, from E22 to E25.
+
+ghost use Rattle.std.specs.Prelude.{IfOk, IfErr};
+ghost use Rattle.fb_names.specs.Catalog.{IsCatalog};
+ghost use Rattle.fb_names.specs.Numbers.{IsResolved};
+ghost use Rattle.fb_check.specs.Verdicts.{HasPassed, IsRightly};
+
+use crate::case::Case;
+use crate::fault::{Fault, Refusal};
+use fb_joins::heights::is_too_high;
+use fb_joins::parameters::has_wrong_parameter;
+use fb_joins::ranges::leads_out_of_range;
+use fb_joins::sources::has_two_sources;
+use fb_kinds::parts::has_wrong_part;
+use fb_names::catalog::Catalog;
+use fb_names::numbers::Resolved;
+use std::alloc::Global;
+
+/// E22: expressions, statements and values of the right kind.
+pub fn judge_kinds(case: &Case, catalog: &Catalog, resolved: &Resolved) -> Result<(), Refusal>
+    requires catalog { IsCatalog case.now.library.now case.now.plan.now catalog.now }
+    requires resolved { IsResolved case.now.library.now case.now.plan.now resolved.now }
+    requires passed { HasPassed 22 case.now }
+    ensures ok { IfOk result (λ _. HasPassed 23 case.now) }
+    ensures refused { IfErr result (IsRightly case.now) }
+{
+    if has_wrong_part(case.library, catalog) || has_wrong_parameter(case.library, resolved) {
+        return Err(Refusal::Fault(Fault::KindWrong));
+    }
+    Ok(())
+}
+
+/// E23: data connections to types that hold all values.
+pub fn judge_ranges(case: &Case, resolved: &Resolved) -> Result<(), Refusal>
+    requires resolved { IsResolved case.now.library.now case.now.plan.now resolved.now }
+    requires passed { HasPassed 23 case.now }
+    ensures ok { IfOk result (λ _. HasPassed 24 case.now) }
+    ensures refused { IfErr result (IsRightly case.now) }
+{
+    if leads_out_of_range(case.library, resolved) {
+        return Err(Refusal::Fault(Fault::OutOfRange));
+    }
+    Ok(())
+}
+
+/// E24: one source for each port.
+pub fn judge_sources(alloc: Global, case: &Case) -> Result<(), Refusal>
+    requires passed { HasPassed 24 case.now }
+    ensures ok { IfOk result (λ _. HasPassed 25 case.now) }
+    ensures refused { IfErr result (IsRightly case.now) }
+{
+    if has_two_sources(alloc, case.library)? {
+        return Err(Refusal::Fault(Fault::TwoSources));
+    }
+    Ok(())
+}
+
+/// E25: composites of a height up to 16.
+pub fn judge_heights(alloc: Global, case: &Case, resolved: &Resolved) -> Result<(), Refusal>
+    requires resolved { IsResolved case.now.library.now case.now.plan.now resolved.now }
+    requires passed { HasPassed 25 case.now }
+    ensures ok { IfOk result (λ _. HasPassed 26 case.now) }
+    ensures refused { IfErr result (IsRightly case.now) }
+{
+    if is_too_high(alloc, resolved)? {
+        return Err(Refusal::Fault(Fault::TooHigh));
+    }
+    Ok(())
+}

@@ -1,4 +1,0 @@
-pub mod Bounds
-pub mod Emitting
-pub mod Going
-pub mod Publishing

@@ -1,2 +1,0 @@
-pub mod Emitting
-pub mod Outs

@@ -1,0 +1,124 @@
+//! Lists of ends of connections that are looked up by an end.
+
+ghost use Rattle.std.specs.Prelude.{◌≡◌, ℕ, [], ◌∷◌, ◌++◌, ◌&&◌, cond, nat_eq, IfOk, OnOk};
+ghost use Rattle.fb_names.specs.declared.numbers.End.{End};
+ghost use Rattle.fb_fabric.specs.Tables.{ends_of, row_of, ends_at};
+ghost use Rattle.fb_fabric.specs.Wirings.{same_end};
+
+use fb_names::numbers::End;
+use fb_types::items::Items;
+use std::alloc::{AllocError, Global};
+use std::collections::BTreeMap;
+use std::marker::Model;
+
+/// For each port of one component, or of the boundary, a list of ends. A port that was not reached yet has no ends,
+/// and takes no memory, since a component may have many ports of which few are connected.
+#[derive(Drop)]
+pub(crate) struct Row {
+    ports: BTreeMap<usize, Items<End>>,
+}
+
+impl Model for Row {
+    ghost use Rattle.std.specs.Prelude.{List, ℕ};
+    ghost use Rattle.fb_names.specs.declared.numbers.End.{End};
+
+    ghost Value = { List (ℕ × List End) };
+
+    ghost view = { λ r. r.ports.entries };
+}
+
+impl Row {
+    fn new(alloc: Global) -> Row
+        ensures { result ≡ [] }
+    {
+        Row {
+            ports: BTreeMap::new(alloc),
+        }
+    }
+
+    /// The ends at a port.
+    fn get(&self, port: usize) -> &[End]
+        ensures { result.now ≡ ends_of self.now port }
+    {
+        match self.ports.get(&port) {
+            Some(ends) => ends.as_slice(),
+            None => &[],
+        }
+    }
+
+    /// One more end at a port.
+    fn push(&mut self, alloc: Global, port: usize, end: End) -> Result<(), AllocError>
+        ensures { OnOk result ((p : ℕ) → ends_of self.new p ≡ cond (nat_eq port p) (ends_of self.old p ++ end ∷ []) (ends_of self.old p)) }
+    {
+        if let Some(ends) = self.ports.get_mut(&port) {
+            ends.push(end)?;
+            return Ok(());
+        }
+        let mut ends = Items::new(alloc);
+        ends.push(end)?;
+        self.ports.insert(port, ends)?;
+        Ok(())
+    }
+}
+
+/// One more end at a port of a component.
+fn push_at(
+    rows: &mut Vec<Row>,
+    alloc: Global,
+    component: usize,
+    port: usize,
+    end: End,
+) -> Result<(), AllocError>
+    ensures { OnOk result ((c p : ℕ) → ends_of (row_of rows.new.items c) p ≡ cond (nat_eq component c && nat_eq port p) (ends_of (row_of rows.old.items c) p ++ end ∷ []) (ends_of (row_of rows.old.items c) p)) }
+{
+    while rows.len() <= component {
+        rows.push(Row::new(alloc))?;
+    }
+    let row = &mut rows[component];
+    row.push(alloc, port, end)?;
+    Ok(())
+}
+
+/// For each end, a list of ends. An end that was not reached yet has none.
+#[derive(Drop)]
+pub(crate) struct Table {
+    boundary: Row,
+    /// For each component, its ports.
+    components: Vec<Row>,
+}
+
+impl Table {
+    /// The table in which no end has ends.
+    pub(crate) fn new(alloc: Global) -> Table
+        ensures { (e : End) → ends_at result e ≡ [] }
+    {
+        Table {
+            boundary: Row::new(alloc),
+            components: Vec::new(alloc),
+        }
+    }
+
+    /// The ends at an end.
+    pub(crate) fn get(&self, at: End) -> &[End]
+        ensures { result.now ≡ ends_at self.now at }
+    {
+        match at.component {
+            None => self.boundary.get(at.port),
+            Some(component) => match self.components.get(component) {
+                Some(row) => row.get(at.port),
+                None => &[],
+            },
+        }
+    }
+
+    /// One more end at an end.
+    pub(crate) fn push(&mut self, alloc: Global, at: End, end: End) -> Result<(), AllocError>
+        ensures { OnOk result ((e : End) → ends_at self.new e ≡ cond (same_end at e) (ends_at self.old e ++ end ∷ []) (ends_at self.old e)) }
+    {
+        match at.component {
+            None => self.boundary.push(alloc, at.port, end)?,
+            Some(component) => push_at(&mut self.components, alloc, component, at.port, end)?,
+        }
+        Ok(())
+    }
+}

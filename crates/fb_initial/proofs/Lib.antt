@@ -1,4 +1,0 @@
-pub mod Named
-pub mod Placing
-pub mod Naming
-pub mod Initial

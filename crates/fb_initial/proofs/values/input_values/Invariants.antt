@@ -1,7 +1,0 @@
-use Rattle.std.proofs.Common.{◌≡◌, map, take}
-use Rattle.fb_initial.specs.Begins.{begin_value}
-use Rattle.fb_initial.proofs.values.input_values.Given as goal
-
--- the values with the parameters so far
-abbrev pub invariant-loop-number : goal.invariant-loop-number
-invariant-loop-number l = l.values.items ≡ map (begin_value (take l.number l.parameters)) l.fn.ports.inputs

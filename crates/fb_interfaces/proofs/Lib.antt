@@ -1,4 +1,0 @@
-pub mod EventBlocks
-pub mod Rising
-pub mod Listed
-pub mod Declared

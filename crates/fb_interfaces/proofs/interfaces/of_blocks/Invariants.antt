@@ -1,5 +1,0 @@
-use Rattle.fb_interfaces.specs.Tables.{AreOfBlocksUpTo}
-use Rattle.fb_interfaces.proofs.interfaces.of_blocks.Given as goal
-
-abbrev pub invariant-loop-place : goal.invariant-loop-place
-invariant-loop-place l = AreOfBlocksUpTo l.place l.blocks l.all

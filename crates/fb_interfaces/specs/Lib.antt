@@ -1,3 +1,0 @@
-pub mod Stands
-pub mod Lookups
-pub mod Tables

@@ -1,0 +1,244 @@
+-- The resources that list names, one name at a time.
+use Rattle.std.proofs.Common.{◌≡◌, ℕ, suc, ◌<◌, ◌≤◌, ◌+◌, Bool, true, false, cond, ◌||◌, List, [], ◌∷◌, ◌++◌, length, map, take, drop, get_or, Option, Some, None, Contains, Bor, refl, sym, ◌∙◌, ap, subst, arith, append_assoc}
+use Rattle.std.specs.Prelude.{position, is_some, option_map, flat_map}
+use Rattle.std.specs.List.{list_any}
+use Rattle.std.specs.Ordering.{nat_cmp, is_eq}
+use Rattle.std.specs.Cmp.Lexicographic.{slice_cmp}
+use Rattle.std.specs.Map.{lookup}
+use Rattle.std.specs.BTreeMap as tree
+use Rattle.std.proofs.lemmas.List.{take_more, take_all, map-append, length-take, take-append-drop}
+use Rattle.std.proofs.lemmas.Grind.{flat_map-append}
+use Rattle.std.proofs.lemmas.Bool.{false_from_ne_true, true≢false}
+use Rattle.fb_types.specs.Names.{Name, same_name}
+use Rattle.fb_types.specs.Blocks.{named, among}
+use Rattle.fb_types.specs.Repeated.{Twice}
+use Rattle.fb_types.specs.declared.deploy.Resource.{Resource}
+use Rattle.fb_names.specs.Places.{place_in}
+use Rattle.fb_names.proofs.NameLemmas.{same_name-itself, same_from_same_name, contains_from_any, any_from_contains, Twice-push, Twice-append_left, once_push}
+use Rattle.fb_names.proofs.Positions.{position-cons, same_name-flip}
+use Rattle.fb_names.proofs.Seen.{name_cmp, slice_cmp-Decides, more_of_part}
+use Rattle.fb_joins.specs.Mapping.{IsListing}
+
+-- ---- Names with the numbers of the resources that list them
+
+abbrev pub at_number : ℕ → List Name → List (Name × ℕ)
+at_number k ns = map (λ n. (n, k)) ns
+
+-- the names of the resources from the one with a number on
+abbrev pub holdings : ℕ → List Resource → List (Name × ℕ)
+holdings k [] = []
+holdings k (r ∷ rs) = at_number k r.instances ++ holdings (suc k) rs
+
+abbrev pub names_of : List (Name × ℕ) → List Name
+names_of ps = map (λ p. p.0) ps
+
+abbrev pub number_in : List (Name × ℕ) → Name → Option ℕ
+number_in ps n = option_map (λ p. p.1) (named (λ p. p.0) n ps)
+
+abbrev or_else : {A : Type 0} → Option A → Option A → Option A
+or_else None o = o
+or_else (Some x) o = Some x
+
+pub append-nil : {A : Type 0} (xs : List A) → xs ++ [] ≡ xs
+append-nil [] = refl
+append-nil (x ∷ xs) = ap (λ ys. x ∷ ys) (append-nil xs)
+
+holdings-push :
+    (k : ℕ) (rs : List Resource) (r : Resource) → holdings k (rs ++ r ∷ []) ≡ holdings k rs ++ at_number (k + length rs) r.instances
+holdings-push k [] r =
+    let e : k ≡ k + 0 = omega arith in append-nil (at_number k r.instances) ∙ ap (λ n. at_number n r.instances) e
+holdings-push k (s ∷ rs) r =
+    let e : suc k + length rs ≡ k + suc (length rs) = omega arith in
+    ap (λ ps. at_number k s.instances ++ ps) (holdings-push (suc k) rs r ∙ ap (λ n. holdings (suc k) rs ++ at_number n r.instances) e)
+    ∙ sym (append_assoc (at_number k s.instances) (holdings (suc k) rs) (at_number (k + suc (length rs)) r.instances))
+
+names-at_number : (k : ℕ) (ns : List Name) → names_of (at_number k ns) ≡ ns
+names-at_number k [] = refl
+names-at_number k (n ∷ ns) = ap (λ ms. n ∷ ms) (names-at_number k ns)
+
+names-holdings : (k : ℕ) (rs : List Resource) → names_of (holdings k rs) ≡ flat_map (λ r. r.instances) rs
+names-holdings k [] = refl
+names-holdings k (r ∷ rs) =
+    map-append (λ (p : Name × ℕ). p.0) (at_number k r.instances) (holdings (suc k) rs)
+    ∙ ap (λ ns. ns ++ names_of (holdings (suc k) rs)) (names-at_number k r.instances)
+    ∙ ap (λ ns. r.instances ++ ns) (names-holdings (suc k) rs)
+
+number_in-append : (ps qs : List (Name × ℕ)) (n : Name) → number_in (ps ++ qs) n ≡ or_else (number_in ps n) (number_in qs n)
+number_in-append [] qs n = refl
+number_in-append (p ∷ ps) qs n =
+    elim (same_name p.0 n) as (λ b. option_map (λ p. p.1) (cond b (Some p) (named (λ p. p.0) n (ps ++ qs))) ≡ or_else (option_map (λ p. p.1) (cond b (Some p) (named (λ p. p.0) n ps))) (number_in qs n)) [
+      | true ↦ refl
+      | false ↦ number_in-append ps qs n
+    ]
+
+number_in-at : (k : ℕ) (ns : List Name) (n : Name) → number_in (at_number k ns) n ≡ cond (among ns n) (Some k) None
+number_in-at k [] n = refl
+number_in-at k (m ∷ ms) n =
+    rw (same_name-flip m n)
+    (elim (same_name n m) as (λ b. option_map (λ p. p.1) (cond b (Some (m, k)) (named (λ p. p.0) n (at_number k ms))) ≡ cond (b || among ms n) (Some k) None) [
+      | true ↦ refl
+      | false ↦ number_in-at k ms n
+    ])
+
+-- the first resource that lists a name
+number_in-holdings :
+    (k : ℕ) (rs : List Resource) (n : Name) → number_in (holdings k rs) n ≡ option_map (λ i. i + k) (position (λ r. among r.instances n) rs)
+number_in-holdings k [] n = refl
+number_in-holdings k (r ∷ rs) n =
+    let p : Resource → Bool = λ r. among r.instances n in
+    number_in-append (at_number k r.instances) (holdings (suc k) rs) n
+    ∙ ap (λ o. or_else o (number_in (holdings (suc k) rs) n)) (number_in-at k r.instances n)
+    ∙ ap (λ o. or_else (cond (p r) (Some k) None) o) (number_in-holdings (suc k) rs n)
+    ∙ (elim (p r) as (λ b. or_else (cond b (Some k) None) (option_map (λ i. i + suc k) (position p rs)) ≡ option_map (λ i. i + k) (cond b (Some 0) (option_map (λ i. i + 1) (position p rs)))) [
+      | true ↦ let e : k ≡ 0 + k = omega arith in ap (λ i. Some i) e
+      | false ↦
+          (elim (position p rs) as (λ o. option_map (λ i. i + suc k) o ≡ option_map (λ i. i + k) (option_map (λ i. i + 1) o)) [
+            | None ↦ refl
+            | Some i ↦ let e : i + suc k ≡ i + 1 + k = omega arith in ap (λ i. Some i) e
+          ])
+    ])
+    ∙ ap (option_map (λ i. i + k)) (sym (position-cons p r rs))
+
+is_some-number_in : (ps : List (Name × ℕ)) (n : Name) → is_some (number_in ps n) ≡ list_any (same_name n) (names_of ps)
+is_some-number_in [] n = refl
+is_some-number_in (p ∷ ps) n =
+    rw (same_name-flip p.0 n)
+    (elim (same_name n p.0) as (λ b. is_some (option_map (λ p. p.1) (cond b (Some p) (named (λ p. p.0) n ps))) ≡ (b || list_any (same_name n) (names_of ps))) [
+      | true ↦ refl
+      | false ↦ is_some-number_in ps n
+    ])
+
+-- ---- The map after so many names
+
+pub record IsHeld (ps : List (Name × ℕ)) (m : tree.BTreeMap (Bor Name) ℕ) : Type 0 where
+  pub once : ¬ (Twice (names_of ps))
+  pub place : (n : Name) → place_in m n ≡ number_in ps n
+
+pub held_none : (m : tree.BTreeMap (Bor Name) ℕ) → m.entries ≡ [] → IsHeld [] m
+held_none m e = record {
+  once = λ t. t;
+  place = λ n. ap (lookup (λ (k : Bor Name). is_eq (slice_cmp nat_cmp n k.now))) e;
+}
+
+abbrev at_name : Name → Bor Name
+at_name n = record { ref_ptr = (0, 0); now = n }
+
+pub none_from_is_some : {X : Type 0} (o : Option X) → is_some o ≡ false → o ≡ None
+none_from_is_some None h = refl
+none_from_is_some (Some x) h = absurd (true≢false h)
+
+or_else-None : {X : Type 0} (o : Option X) → o ≡ or_else o None
+or_else-None None = refl
+or_else-None (Some x) = refl
+
+held_push :
+    (ps : List (Name × ℕ)) (number : ℕ) (m m' : tree.BTreeMap (Bor Name) ℕ) (k : Bor Name) → IsHeld ps m → tree.get name_cmp m k ≡ None
+    → ((q : Bor Name) → tree.get name_cmp m' q ≡ cond (is_eq (name_cmp k q)) (Some number) (tree.get name_cmp m q))
+    → IsHeld (ps ++ (k.now, number) ∷ []) m'
+held_push ps number m m' k held new updates =
+    let absent : list_any (same_name k.now) (names_of ps) ≡ false =
+    sym (is_some-number_in ps k.now) ∙ ap is_some (sym (held.place k.now) ∙ new) in
+    record {
+      once =
+          let P : List Name → Type 0 = λ ns. ¬ (Twice ns) in
+          subst P (sym (map-append (λ (p : Name × ℕ). p.0) ps ((k.now, number) ∷ [])))
+          (once_push (names_of ps) k.now held.once (λ c. true≢false (sym (any_from_contains k.now (names_of ps) c) ∙ absent)));
+      place = λ n.
+          updates (at_name n)
+          ∙ (elim (is_eq (slice_cmp nat_cmp k.now n)) as (λ b. is_eq (slice_cmp nat_cmp k.now n) ≡ b → cond b (Some number) (place_in m n) ≡ or_else (number_in ps n) (number_in ((k.now, number) ∷ []) n)) [
+            | true ↦ λ e.
+                let same : k.now ≡ n = (slice_cmp-Decides k.now n).0 e in
+                let P : Name → Type 0 = λ n. Some number ≡ or_else (number_in ps n) (number_in ((k.now, number) ∷ []) n) in
+                subst P same
+                (sym (ap (λ o. or_else o (number_in ((k.now, number) ∷ []) k.now)) (sym (held.place k.now) ∙ new)
+                ∙ ap (λ b. option_map (λ (p : Name × ℕ). p.1) (cond b (Some (k.now, number)) None)) (same_name-itself k.now)))
+            | false ↦ λ e.
+                let apart : same_name k.now n ≡ false =
+                false_from_ne_true (same_name k.now n) (λ s. true≢false (sym ((slice_cmp-Decides k.now n).1 (same_from_same_name k.now n s)) ∙ e)) in
+                held.place n ∙ or_else-None (number_in ps n)
+                ∙ ap (λ b. or_else (number_in ps n) (option_map (λ (p : Name × ℕ). p.1) (cond b (Some (k.now, number)) None))) (sym apart)
+          ] refl)
+          ∙ sym (number_in-append ps ((k.now, number) ∷ []) n);
+    }
+
+-- ---- Steps of the loops
+
+-- the names so far: all of the resources before one, and some of this one's
+abbrev pub so_far : List Resource → ℕ → List Name → List (Name × ℕ)
+so_far rs number ns = holdings 0 (take number rs) ++ at_number number ns
+
+pub held_more :
+    (rs : List Resource) (number : ℕ) (ns : List Name) (j : ℕ) (n : Name) (m m' : tree.BTreeMap (Bor Name) ℕ) (k : Bor Name) (o : Option ℕ)
+    → j < length ns → n ≡ get_or ns j n → k.now ≡ n → IsHeld (so_far rs number (take j ns)) m → o ≡ tree.get name_cmp m k → is_some o ≡ false
+    → ((q : Bor Name) → tree.get name_cmp m' q ≡ cond (is_eq (name_cmp k q)) (Some number) (tree.get name_cmp m q))
+    → IsHeld (so_far rs number (take (j + 1) ns)) m'
+held_more rs number ns j n m m' k o h e g held old new updates =
+    let P : List (Name × ℕ) → Type 0 = λ ps. IsHeld (holdings 0 (take number rs) ++ ps) m' in
+    let Q : List (Name × ℕ) → Type 0 = λ ps. IsHeld ps m' in
+    let pair : (k.now, number) ≡ (n, number) = ap (λ (n : Name). (n, number)) g in
+    more_of_part P (λ (n : Name). (n, number)) ns j n (k.now, number) h e pair
+    (subst Q (append_assoc (holdings 0 (take number rs)) (at_number number (take j ns)) ((k.now, number) ∷ []))
+    (held_push (so_far rs number (take j ns)) number m m' k held (sym old ∙ none_from_is_some o new) updates))
+
+resources_more :
+    (rs : List Resource) (number : ℕ) (r : Resource) → number < length rs → r ≡ get_or rs number r
+    → holdings 0 (take (number + 1) rs) ≡ so_far rs number r.instances
+resources_more rs number r h e =
+    let counted : 0 + length (take number rs) ≡ number = omega (arith, length-take number rs) in
+    ap (holdings 0) (take_more rs number r h ∙ ap (λ (r : Resource). take number rs ++ r ∷ []) (sym e))
+    ∙ holdings-push 0 (take number rs) r
+    ∙ ap (λ n. holdings 0 (take number rs) ++ at_number n r.instances) counted
+
+-- all names of a resource
+pub held_resource :
+    (rs : List Resource) (number : ℕ) (r : Resource) (items : List Name) (j : ℕ) (m : tree.BTreeMap (Bor Name) ℕ) → number < length rs → r ≡ get_or rs number r
+    → items ≡ r.instances → length items ≤ j → IsHeld (so_far rs number (take j items)) m → IsHeld (holdings 0 (take (number + 1) rs)) m
+held_resource rs number r items j m h e same ended held =
+    let P : List (Name × ℕ) → Type 0 = λ ps. IsHeld ps m in
+    subst P (ap (so_far rs number) (take_all j items ended ∙ same) ∙ sym (resources_more rs number r h e)) held
+
+-- a resource before its first name
+pub held_before : (rs : List Resource) (number : ℕ) (m : tree.BTreeMap (Bor Name) ℕ) → IsHeld (holdings 0 (take number rs)) m → IsHeld (so_far rs number []) m
+held_before rs number m held =
+    let P : List (Name × ℕ) → Type 0 = λ ps. IsHeld ps m in subst P (sym (append-nil (holdings 0 (take number rs)))) held
+
+-- what stands twice up to a name stands twice in all
+pub held_twice :
+    (rs : List Resource) (number : ℕ) (r : Resource) (items : List Name) (j : ℕ) (n : Name) (m : tree.BTreeMap (Bor Name) ℕ) (k : Bor Name) (o : Option ℕ)
+    → number < length rs → r ≡ get_or rs number r → items ≡ r.instances → j < length items → n ≡ get_or items j n → k.now ≡ n
+    → IsHeld (so_far rs number (take j items)) m → o ≡ tree.get name_cmp m k → is_some o ≡ true → Twice (flat_map (λ r. r.instances) rs)
+held_twice rs number r items j n m k o hr er same h e g held old found =
+    let ps = so_far rs number (take j items) in
+    let before : List Name = flat_map (λ r. r.instances) (take number rs) in
+    let there : Contains (names_of ps) k.now =
+    contains_from_any k.now (names_of ps) (sym (is_some-number_in ps k.now) ∙ ap is_some (sym (held.place k.now) ∙ sym old) ∙ found) in
+    let named_so_far : names_of ps ≡ before ++ take j items =
+    map-append (λ (p : Name × ℕ). p.0) (holdings 0 (take number rs)) (at_number number (take j items))
+    ∙ ap (λ ns. ns ++ names_of (at_number number (take j items))) (names-holdings 0 (take number rs))
+    ∙ ap (λ ns. before ++ ns) (names-at_number number (take j items)) in
+    let T : List Name → Type 0 = λ ns. Twice ns in
+    let twice : Twice ((before ++ take j items) ++ n ∷ []) =
+    subst T (ap (λ ns. ns ++ n ∷ []) named_so_far)
+    (subst (λ (n : Name). Twice (names_of ps ++ n ∷ [])) g (Twice-push (names_of ps) k.now there)) in
+    let of_resource : Twice ((before ++ take (j + 1) items) ++ drop (j + 1) items) =
+    Twice-append_left (before ++ take (j + 1) items) (drop (j + 1) items)
+    (subst T (append_assoc before (take j items) (n ∷ []) ∙ ap (λ ns. before ++ ns) (sym (take_more items j n h ∙ ap (λ (n : Name). take j items ++ n ∷ []) (sym e)))) twice) in
+    let whole : (before ++ take (j + 1) items) ++ drop (j + 1) items ≡ flat_map (λ r. r.instances) (take (number + 1) rs) =
+    append_assoc before (take (j + 1) items) (drop (j + 1) items)
+    ∙ ap (λ ns. before ++ ns) (take-append-drop (j + 1) items ∙ same)
+    ∙ ap (λ ns. before ++ ns) (sym (append-nil r.instances))
+    ∙ sym (ap (flat_map (λ (r : Resource). r.instances)) (take_more rs number r hr ∙ ap (λ (r : Resource). take number rs ++ r ∷ []) (sym er))
+    ∙ flat_map-append (λ (r : Resource). r.instances) (take number rs) (r ∷ [])) in
+    subst T
+    (sym (flat_map-append (λ (r : Resource). r.instances) (take (number + 1) rs) (drop (number + 1) rs)) ∙ ap (flat_map (λ (r : Resource). r.instances)) (take-append-drop (number + 1) rs))
+    (Twice-append_left (flat_map (λ r. r.instances) (take (number + 1) rs)) (flat_map (λ r. r.instances) (drop (number + 1) rs)) (subst T whole of_resource))
+
+option_map-zero : (o : Option ℕ) → option_map (λ i. i + 0) o ≡ o
+option_map-zero None = refl
+option_map-zero (Some i) = let e : i + 0 ≡ i = omega arith in ap (λ i. Some i) e
+
+pub listing_from_held : (rs : List Resource) (m : tree.BTreeMap (Bor Name) ℕ) → IsHeld (holdings 0 rs) m → IsListing rs m
+listing_from_held rs m held = record {
+  once = let P : List Name → Type 0 = λ ns. ¬ (Twice ns) in subst P (names-holdings 0 rs) held.once;
+  place = λ n. held.place n ∙ number_in-holdings 0 rs n ∙ option_map-zero (position (λ r. among r.instances n) rs);
+}

@@ -1,0 +1,159 @@
+-- Instances of the application that are mapped, and names that are mapped twice.
+use Rattle.std.proofs.Common.{◌≡◌, ◌||◌, ℕ, ◌<◌, ◌+◌, Bool, true, false, cond, List, [], ◌∷◌, ◌++◌, length, map, take, get_or, Option, Some, None, Contains, Bor, refl, sym, ◌∙◌, ap, subst, inl, inr}
+use Rattle.std.specs.Prelude.{position, is_some, flat_map, unwrap_or, MatchOption}
+use Rattle.std.specs.List.{list_any}
+use Rattle.std.specs.BTreeMap as tree
+use Rattle.std.proofs.lemmas.Bool.{true≢false}
+use Rattle.std.proofs.lemmas.List.{take_more}
+use Rattle.std.proofs.lemmas.List.Elements.{Contains-append_left, Contains-append_right, Contains-push_cases, Contains-get_or}
+use Rattle.std.proofs.lemmas.List.Folds.{list_any-append}
+use Rattle.fb_types.specs.Names.{Name, same_name}
+use Rattle.fb_types.specs.Blocks.{among}
+use Rattle.fb_types.specs.Flat.{resource_names_of}
+use Rattle.fb_types.specs.Repeated.{Twice, NameTwice, networks, networks_in, basics, interfaces, block_type_names, port_names, algorithm_names, state_names, instance_names, with_lists, parameter_lists}
+use Rattle.fb_types.specs.Mapped.{NotMapped, mapped}
+use Rattle.fb_types.specs.declared.library.Library.{Library}
+use Rattle.fb_types.specs.declared.library.Instance.{Instance}
+use Rattle.fb_types.specs.declared.deploy.Plan.{Plan}
+use Rattle.fb_types.specs.declared.deploy.Resource.{Resource}
+use Rattle.fb_names.specs.Places.{place_in}
+use Rattle.fb_names.proofs.NameLemmas.{Contains-nil, Contains-cons_cases, Contains-here, Contains-there, contains_from_any, any_from_contains}
+use Rattle.fb_names.proofs.Positions.{is_some-position}
+use Rattle.fb_names.proofs.Seen.{name_cmp}
+use Rattle.fb_joins.specs.Mapping.{IsListing, IsMapping}
+use Rattle.fb_joins.specs.declared.mapping.Mapping.TheVariants.{All, Listed}
+
+pub Contains-map : {A B : Type 0} (f : A → B) (xs : List A) (x : A) → Contains xs x → Contains (map f xs) (f x)
+Contains-map f [] x h = absurd (Contains-nil x h)
+Contains-map {A} f (y ∷ ys) x h =
+    elim (Contains-cons_cases y ys x h) [
+      | inl e ↦ subst (λ (z : A). Contains (f y ∷ map f ys) (f z)) e (Contains-here (f y) (map f ys))
+      | inr rest ↦ Contains-there (f y) (map f ys) (f x) (Contains-map f ys x rest)
+    ]
+
+pub map-Contains : {A B : Type 0} (f : A → B) (xs : List A) (z : B) → Contains (map f xs) z → (x : A) × Contains xs x × (f x ≡ z)
+map-Contains f [] z h = absurd (Contains-nil z h)
+map-Contains f (y ∷ ys) z h =
+    elim (Contains-cons_cases (f y) (map f ys) z h) [
+      | inl e ↦ (y, Contains-here y ys, e)
+      | inr rest ↦ let r = map-Contains f ys z rest in (r.0, Contains-there y ys r.0 r.1, r.2)
+    ]
+
+-- ---- One resource holds all
+
+-- the instances of the application are a name space
+instances_once : (lib : Library) (plan : Plan) → ¬ (NameTwice lib plan) → ¬ (Twice (instance_names lib.application.network))
+instances_once lib plan once t =
+    let own = instance_names lib.application.network in
+    let own_all : List (List Name) = map (λ n. instance_names n.1) (networks lib) in
+    let before = block_type_names lib ∷ map port_names lib.blocks ++ map algorithm_names (basics lib) ++ map state_names (basics lib) in
+    let withs = flat_map with_lists (interfaces lib) in
+    let parameters = flat_map (λ n. parameter_lists n.1) (networks lib) in
+    let here : Contains own_all own =
+    Contains-map (λ n. instance_names n.1) (networks lib) (None, lib.application.network) (Contains-here (None, lib.application.network) (flat_map networks_in lib.blocks)) in
+    once (inl (
+      own,
+      Contains-append_left (before ++ own_all ++ withs ++ parameters) (resource_names_of plan ∷ []) own
+          (Contains-append_left (before ++ own_all ++ withs) parameters own
+          (Contains-append_left (before ++ own_all) withs own (Contains-append_right before own_all own here))),
+      t,
+    ))
+
+pub all_mapped : (lib : Library) (plan : Plan) → plan.holds_all ≡ true → ¬ (NameTwice lib plan) → IsMapping lib plan All
+all_mapped lib plan h once =
+    let all : mapped lib plan ≡ instance_names lib.application.network = ap (λ b. cond b (instance_names lib.application.network) (flat_map (λ r. r.instances) plan.resources)) h in
+    record {
+      each = λ n.
+          elim n [
+            | inl i ↦ i.2 (let P : List Name → Type 0 = λ ns. Contains ns i.0.name in subst P (sym all) (Contains-map (λ i. i.name) lib.application.network.instances i.0 i.1))
+            | inr t ↦ instances_once lib plan once (let P : List Name → Type 0 = λ ns. Twice ns in subst P all t)
+          ];
+      holds = record { holder = λ n. sym (ap (λ b. cond b 0 (unwrap_or (position (λ r. among r.instances n) plan.resources) 0)) h) };
+    }
+
+-- ---- Resources list what they hold
+
+any_listed : (rs : List Resource) (n : Name) → list_any (λ r. among r.instances n) rs ≡ list_any (same_name n) (flat_map (λ r. r.instances) rs)
+any_listed [] n = refl
+any_listed (r ∷ rs) n =
+    ap (λ b. among r.instances n || b) (any_listed rs n) ∙ sym (list_any-append (same_name n) r.instances (flat_map (λ r. r.instances) rs))
+
+-- the map has a name exactly where a resource lists it
+found_is : (rs : List Resource) (m : tree.BTreeMap (Bor Name) ℕ) (n : Name) → IsListing rs m → is_some (place_in m n) ≡ list_any (same_name n) (flat_map (λ r. r.instances) rs)
+found_is rs m n listing = ap is_some (listing.place n) ∙ is_some-position (λ r. among r.instances n) rs ∙ any_listed rs n
+
+listed_all : (lib : Library) (plan : Plan) → plan.holds_all ≡ false → mapped lib plan ≡ flat_map (λ r. r.instances) plan.resources
+listed_all lib plan h = ap (λ b. cond b (instance_names lib.application.network) (flat_map (λ r. r.instances) plan.resources)) h
+
+-- the map has the names of the instances
+pub record AreListed (is : List Instance) (m : tree.BTreeMap (Bor Name) ℕ) : Type 0 where
+  pub each : (i : Instance) → Contains is i → is_some (place_in m i.name) ≡ true
+
+pub listed_none : (m : tree.BTreeMap (Bor Name) ℕ) → AreListed [] m
+listed_none m = record { each = λ i c. absurd (Contains-nil i c) }
+
+pub listed_more :
+    (is : List Instance) (k : ℕ) (i : Instance) (m : tree.BTreeMap (Bor Name) ℕ) → k < length is → i ≡ get_or is k i → is_some (place_in m i.name) ≡ true
+    → AreListed (take k is) m → AreListed (take (k + 1) is) m
+listed_more is k i m h e found so_far =
+    let P : List Instance → Type 0 = λ is. AreListed is m in
+    subst P (sym (take_more is k i h ∙ ap (λ (i : Instance). take k is ++ i ∷ []) (sym e))) (record {
+      each = λ j c.
+          elim (Contains-push_cases (take k is) i j c) [
+            | inl old ↦ so_far.each j old
+            | inr same ↦ subst (λ (i : Instance). is_some (place_in m i.name) ≡ true) same found
+          ];
+    })
+
+pub all_listed :
+    (lib : Library) (plan : Plan) (m : tree.BTreeMap (Bor Name) ℕ) → plan.holds_all ≡ false → IsListing plan.resources m
+    → AreListed lib.application.network.instances m → IsMapping lib plan (Listed m)
+all_listed lib plan m h listing are = record {
+  each = λ n.
+      elim n [
+        | inl i ↦ i.2 (let P : List Name → Type 0 = λ ns. Contains ns i.0.name in
+            subst P (sym (listed_all lib plan h)) (contains_from_any i.0.name (flat_map (λ r. r.instances) plan.resources) (sym (found_is plan.resources m i.0.name listing) ∙ are.each i.0 i.1)))
+        | inr t ↦ listing.once (let P : List Name → Type 0 = λ ns. Twice ns in subst P (listed_all lib plan h) t)
+      ];
+  holds = record {
+    holder = λ n.
+        ap (λ o. unwrap_or o 0) (listing.place n)
+        ∙ sym (ap (λ b. cond b 0 (unwrap_or (position (λ r. among r.instances n) plan.resources) 0)) h);
+  };
+}
+
+pub twice_listed : (lib : Library) (plan : Plan) → plan.holds_all ≡ false → Twice (flat_map (λ r. r.instances) plan.resources) → NotMapped lib plan
+twice_listed lib plan h t = inr (let P : List Name → Type 0 = λ ns. Twice ns in subst P (sym (listed_all lib plan h)) t)
+
+pub not_listed :
+    (lib : Library) (plan : Plan) (m : tree.BTreeMap (Bor Name) ℕ) (i : Instance) → plan.holds_all ≡ false → IsListing plan.resources m
+    → Contains lib.application.network.instances i → is_some (place_in m i.name) ≡ false → NotMapped lib plan
+not_listed lib plan m i h listing c absent =
+    inl (
+      i,
+      c,
+      λ there.
+          true≢false (sym (any_from_contains i.name (flat_map (λ r. r.instances) plan.resources) (let P : List Name → Type 0 = λ ns. Contains ns i.name in subst P (listed_all lib plan h) there))
+          ∙ sym (found_is plan.resources m i.name listing) ∙ absent),
+    )
+
+-- the same, at an element of the loop
+pub not_listed_at :
+    (lib : Library) (plan : Plan) (m : tree.BTreeMap (Bor Name) ℕ) (is : List Instance) (k : ℕ) (i : Instance) (q : Bor Name) (b : Bool) (rs : List Resource)
+    → plan.holds_all ≡ false → rs ≡ plan.resources → IsListing rs m → is ≡ lib.application.network.instances → k < length is → i ≡ get_or is k i
+    → q.now ≡ i.name → b ≡ is_some (tree.get name_cmp m q) → b ≡ false → NotMapped lib plan
+not_listed_at lib plan m is k i q b rs h all listing own kh e g found absent =
+    let there : Contains lib.application.network.instances i =
+    subst (λ (is : List Instance). Contains is i) own (subst (λ (j : Instance). Contains is j) (sym e) (Contains-get_or is k i kh)) in
+    let lacks : is_some (place_in m i.name) ≡ false = ap (λ n. is_some (place_in m n)) (sym g) ∙ sym found ∙ absent in
+    let L : List Resource → Type 0 = λ rs. IsListing rs m in
+    not_listed lib plan m i h (subst L all listing) there lacks
+
+pub listed_found :
+    (m : tree.BTreeMap (Bor Name) ℕ) (n : Name) (q : Bor Name) (b : Bool) → q.now ≡ n → b ≡ is_some (tree.get name_cmp m q) → b ≡ true → is_some (place_in m n) ≡ true
+listed_found m n q b g found there = ap (λ n. is_some (place_in m n)) (sym g) ∙ sym found ∙ there
+
+pub listing_some : (rs : List Resource) (o : Option (tree.BTreeMap (Bor Name) ℕ)) (m : tree.BTreeMap (Bor Name) ℕ)
+    → MatchOption o (Twice (flat_map (λ r. r.instances) rs)) (IsListing rs) → o ≡ Some m → IsListing rs m
+listing_some rs o m h e =
+    let M : Option (tree.BTreeMap (Bor Name) ℕ) → Type 0 = λ o. MatchOption o (Twice (flat_map (λ r. r.instances) rs)) (IsListing rs) in subst M e h

@@ -1,0 +1,21 @@
+use Rattle.std.proofs.Common.{[], Contains, map, subst, List}
+use Rattle.std.proofs.lemmas.List.{take_all}
+use Rattle.fb_types.specs.declared.deploy.Link.{Link}
+use Rattle.fb_joins.specs.Links.{names_of_link}
+use Rattle.fb_names.proofs.NameLemmas.{Contains-nil}
+use Rattle.fb_joins.proofs.Sets.{Has, pair_cmp, pair_view, pair_cmp-exact, has_none, elements_more}
+use Rattle.fb_joins.proofs.Unlinked.{ways_from}
+use Rattle.fb_joins.proofs.links.ways_of.Goals as goal
+
+pub loop-link-init : goal.loop-link-init
+loop-link-init c = has_none pair_cmp pair_view (Contains []) c.new-ways.result c.new-ways.ensures.empty (λ y h. Contains-nil y h)
+
+pub loop-link-preserved : goal.loop-link-preserved
+loop-link-preserved c =
+    elements_more pair_cmp pair_view names_of_link _ _ _ _ _ (c.as_bytes.result, c.as_bytes-in-loop-link.result) pair_cmp-exact c.loop-link-test.true c.link-item.is
+    (λ i. (c.as_bytes.ensures i, c.as_bytes-in-loop-link.ensures i)) c.loop-link.invariant c.in_ok-insert.ensures.updates.0
+
+pub returns : goal.returns
+returns c =
+    let P : List Link → Type 0 = λ ls. Has pair_cmp pair_view (Contains (map names_of_link ls)) c.loop-link.ways in
+    ways_from c.args.links.now _ (subst P (take_all c.loop-link.link-index c.args.links.now c.loop-link-test.false) c.loop-link.invariant)

@@ -1,0 +1,85 @@
+//! E26: instances of the application that are not mapped, and names that are mapped twice.
+
+ghost use Rattle.std.specs.Prelude.{◌≡◌, IfOk, MatchOption, flat_map, true};
+ghost use Rattle.fb_types.specs.Repeated.{NameTwice, Twice};
+ghost use Rattle.fb_types.specs.Mapped.{NotMapped};
+ghost use Rattle.fb_joins.specs.Mapping.{IsMapping, IsListing, holder_in, resource_in};
+
+use fb_types::deploy::{Plan, Resource};
+use fb_types::library::{Library, PortName};
+use std::alloc::{AllocError, Global};
+use std::collections::BTreeMap;
+
+/// The resource that lists each name, by its place from 0.
+pub type Listing<'a> = BTreeMap<&'a [u8], usize, Global>;
+
+/// Where the instances of the application lie.
+#[derive(Drop)]
+pub enum Mapping<'a> {
+    /// All in the one resource.
+    All,
+    /// Each in the resource that lists it.
+    Listed(Listing<'a>),
+}
+
+/// The resource that lists each name, or `None` where a name is listed twice.
+fn listing_of<'a>(
+    alloc: Global,
+    resources: &'a [Resource],
+) -> Result<Option<Listing<'a>>, AllocError>
+    ensures { IfOk result (λ o. MatchOption o (Twice (flat_map (λ r. r.instances) resources.now)) (IsListing resources.now)) }
+{
+    let mut listing = BTreeMap::new(alloc);
+    for (number, resource) in resources.iter().enumerate() {
+        for name in resource.instances.as_slice() {
+            if listing.insert(name.as_bytes(), number)?.is_some() {
+                return Ok(None);
+            }
+        }
+    }
+    Ok(Some(listing))
+}
+
+/// Where the instances of the application lie, or `None` where one is not mapped or a name is mapped twice.
+pub fn mapping_of<'a>(
+    alloc: Global,
+    library: &Library,
+    plan: &'a Plan,
+) -> Result<Option<Mapping<'a>>, AllocError>
+    requires once { plan.now.holds_all ≡ true → ¬ (NameTwice library.now plan.now) }
+    ensures { IfOk result (λ o. MatchOption o (NotMapped library.now plan.now) (IsMapping library.now plan.now)) }
+{
+    if plan.holds_all {
+        return Ok(Some(Mapping::All));
+    }
+    let listing = match listing_of(alloc, plan.resources.as_slice())? {
+        Some(listing) => listing,
+        None => return Ok(None),
+    };
+    for instance in library.application.network.instances.as_slice() {
+        if !listing.contains_key(instance.name.as_bytes()) {
+            return Ok(None);
+        }
+    }
+    Ok(Some(Mapping::Listed(listing)))
+}
+
+/// The resource that holds an instance of the application, by its place from 0. A name that is not mapped gives 0.
+pub fn holder(mapping: &Mapping, name: &[u8]) -> usize
+    ensures { result ≡ holder_in mapping.now name.now }
+{
+    match mapping {
+        Mapping::All => 0,
+        Mapping::Listed(listing) => listing.get(name).copied().unwrap_or(0),
+    }
+}
+
+/// The resource in which an end of a connection of the application lies, by its place from 0. The boundary gives 0.
+pub fn resource_of(mapping: &Mapping, end: &PortName) -> usize
+    ensures { result ≡ resource_in mapping.now end.now }
+{
+    match &end.component {
+        Some(component) => holder(mapping, component.as_bytes()),
+        None => 0,
+    }
+}

@@ -1,0 +1,69 @@
+//! E28: data connections between two resources that no event serves.
+
+ghost use Rattle.std.specs.Prelude.{◌≡◌, ◌↔◌, IfOk, IsTrue};
+ghost use Rattle.fb_types.specs.Repeated.{NameTwice};
+ghost use Rattle.fb_types.specs.Mapped.{NoEvent};
+ghost use Rattle.fb_names.specs.Numbers.{IsResolved};
+ghost use Rattle.fb_joins.specs.Mapping.{IsMapping, IsHolding};
+ghost use Rattle.fb_joins.specs.Serving.{AreServed, IsUnserved};
+
+use crate::interfaces::interfaces;
+use crate::mapping::{Mapping, resource_of};
+use crate::serving::{Leads, component_of, served_by};
+use fb_names::numbers::Resolved;
+use fb_types::deploy::Plan;
+use fb_types::library::{Connection, Library};
+use std::alloc::{AllocError, Global};
+
+/// Whether a data connection goes from one resource to another, and no event serves it.
+fn is_unserved<'a>(
+    library: &Library,
+    plan: &Plan,
+    mapping: &Mapping,
+    served: &Leads<'a>,
+    connection: &'a Connection,
+) -> bool
+    requires mapping { IsHolding plan.now mapping.now }
+    requires served { AreServed library.now plan.now served.now }
+    ensures { IsTrue result ↔ IsUnserved library.now plan.now connection.now }
+{
+    let from = resource_of(mapping, &connection.from);
+    let to = resource_of(mapping, &connection.to);
+    if from == to {
+        return false;
+    }
+    let component = component_of(&connection.from);
+    let variable = connection.from.port.as_bytes();
+    !served.contains(&(component, variable, to))
+}
+
+/// Whether a data connection of the application goes from one resource to another, and no output event WITH its
+/// variable goes from the same instance to that resource (E28).
+pub fn lacks_event(
+    alloc: Global,
+    library: &Library,
+    plan: &Plan,
+    mapping: &Mapping,
+    resolved: &Resolved,
+) -> Result<bool, AllocError>
+    requires once { ¬ (NameTwice library.now plan.now) }
+    requires mapping { IsMapping library.now plan.now mapping.now }
+    requires resolved { IsResolved library.now plan.now resolved.now }
+    ensures { IfOk result (λ b. IsTrue b ↔ NoEvent library.now plan.now) }
+{
+    let blocks = interfaces(alloc)?;
+    let served = served_by(
+        alloc,
+        library,
+        blocks.as_slice(),
+        plan,
+        mapping,
+        &resolved.application,
+    )?;
+    for connection in library.application.network.data_connections.as_slice() {
+        if is_unserved(library, plan, mapping, &served, connection) {
+            return Ok(true);
+        }
+    }
+    Ok(false)
+}

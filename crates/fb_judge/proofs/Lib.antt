@@ -1,2 +1,0 @@
-pub mod Verdict
-pub mod Parts

@@ -1,8 +1,0 @@
-use Rattle.fb_types.specs.Mapped.{NoLink}
-use Rattle.fb_judge.proofs.Verdict.{not_so, passes_27}
-use Rattle.fb_judge.proofs.links.judge_links.Goals as goal
-
-pub returns-clause-ok : goal.returns-clause-ok
-returns-clause-ok c =
-    passes_27 c.args.case.now.library.now c.args.case.now.plan.now c.args.case.now.stimuli.now c.requires.passed
-    (not_so c.in_ok-lacks_link.field-0 (NoLink c.args.case.now.library.now c.args.case.now.plan.now) c.in_ok-lacks_link.ensures c.if-branch.false)

@@ -1,0 +1,3 @@
+pub mod Typed
+pub mod Simulations
+pub mod Sound

@@ -1,6 +1,0 @@
-use Rattle.std.proofs.Common.{take}
-use Rattle.fb_links.specs.Linking.{AreWays}
-use Rattle.fb_links.proofs.links.ways_of.Given as goal
-
-abbrev pub invariant-loop-number : goal.invariant-loop-number
-invariant-loop-number l = AreWays (take l.number l.links) l.ways

@@ -1,3 +1,0 @@
-pub mod Serving
-pub mod Links
-pub mod Mapping

@@ -1,0 +1,124 @@
+-- The networks of the first block types by numbers.
+use Rattle.std.proofs.Common.{◌≡◌, ℕ, zero, suc, ◌<◌, ◌+◌, List, [], ◌∷◌, ◌++◌, length, get_or, Some, None, Option, MatchOption, refl, sym, ◌∙◌, ap, subst, length-append, arith}
+use Rattle.std.specs.Prelude.{slice_get}
+use Rattle.std.proofs.lemmas.Option.{slice_get_within, slice_get_read, same_Some}
+use Rattle.fb_types.specs.Repeated.{Placed, networks_in, instance_names}
+use Rattle.fb_types.specs.declared.library.BasicType.{BasicType}
+use Rattle.fb_types.specs.declared.library.BlockType.{BlockType}
+use Rattle.fb_types.specs.declared.library.BlockType.TheVariants as block
+use Rattle.fb_types.specs.declared.library.CompositeType.{CompositeType}
+use Rattle.fb_types.specs.declared.library.Library.{Library}
+use Rattle.fb_names.specs.Places.{IsIndex}
+use Rattle.fb_names.specs.declared.catalog.BlockPlaces.{BlockPlaces}
+use Rattle.fb_names.specs.declared.catalog.Catalog.{Catalog}
+use Rattle.fb_names.proofs.NameLemmas.{Contains-here}
+use Rattle.fb_names.specs.Numbers.{IsNetwork}
+use Rattle.fb_names.specs.Sorts.{ArePlacesOf}
+use Rattle.fb_names.specs.Types.{HasTypes}
+use Rattle.fb_names.specs.Unknown.{AreBlocks, BlockUnknown, NetworkUnknown}
+use Rattle.fb_names.specs.declared.numbers.NetworkNumbers.{NetworkNumbers}
+use Rattle.fb_names.proofs.Lookups.{block_places}
+use Rattle.fb_names.proofs.Elements.{Contains-flat_map, element_of_place, match_none, match_some}
+
+-- the network of a block type by numbers, none of a basic type
+abbrev pub IsBlockNumbers : Library → BlockType → Option NetworkNumbers → Type 0
+IsBlockNumbers lib (block.Basic t) o = o ≡ None
+IsBlockNumbers lib (block.Composite t) o = (x : NetworkNumbers) × (o ≡ Some x) × IsNetwork lib (Some t, t.network) x
+
+-- those of the first n types
+pub record AreFirst (lib : Library) (n : ℕ) (all : List (Option NetworkNumbers)) : Type 0 where
+  pub counted : length all ≡ n
+  pub each : (k : ℕ) (o : Option NetworkNumbers) → slice_get all k ≡ Some o → (t : BlockType) → slice_get lib.blocks k ≡ Some t → IsBlockNumbers lib t o
+
+slice_get-push : {A : Type 0} (P : ℕ → A → Type 0) (xs : List A) (y : A) → ((k : ℕ) (x : A) → slice_get xs k ≡ Some x → P k x) → P (length xs) y
+    → (k : ℕ) (x : A) → slice_get (xs ++ y ∷ []) k ≡ Some x → P k x
+slice_get-push {A} P [] y old new zero x h = let e : y ≡ x = cc in subst (λ (z : A). P 0 z) e new
+slice_get-push P [] y old new (suc k) x h = absurd (cc)
+slice_get-push {A} P (z ∷ zs) y old new zero x h = old zero x h
+slice_get-push {A} P (z ∷ zs) y old new (suc k) x h =
+    slice_get-push (λ k x. P (suc k) x) zs y (λ k x h. old (suc k) x h) new k x h
+
+pub first_none : (lib : Library) (all : List (Option NetworkNumbers)) → all ≡ [] → AreFirst lib 0 all
+first_none lib all e =
+    subst (λ (xs : List (Option NetworkNumbers)). AreFirst lib 0 xs) (sym e) (record { counted = refl; each = λ k o h t g. absurd (cc) })
+
+first_more :
+    (lib : Library) (n : ℕ) (t : BlockType) (o : Option NetworkNumbers) (all more : List (Option NetworkNumbers)) → slice_get lib.blocks n ≡ Some t
+    → IsBlockNumbers lib t o → AreFirst lib n all → more ≡ all ++ o ∷ [] → AreFirst lib (n + 1) more
+first_more lib n t o all more at is so_far grown =
+    let P : ℕ → Option NetworkNumbers → Type 0 = λ k o. (t : BlockType) → slice_get lib.blocks k ≡ Some t → IsBlockNumbers lib t o in
+    let here : P n o = λ u h. subst (λ (t : BlockType). IsBlockNumbers lib t o) (same_Some t u (sym at ∙ h)) is in
+    subst (λ (xs : List (Option NetworkNumbers)). AreFirst lib (n + 1) xs) (sym grown) (record {
+      counted = length-append all (o ∷ []) ∙ ap (λ n. n + 1) so_far.counted;
+      each = slice_get-push P all o so_far.each (subst (λ (k : ℕ). P k o) (sym so_far.counted) here);
+    })
+
+-- the type that a loop over the types has reached
+reached :
+    (lib : Library) (bs : List BlockType) (n : ℕ) (b t : BlockType) → bs ≡ lib.blocks → n < length bs → b ≡ get_or bs n b → b ≡ t
+    → slice_get lib.blocks n ≡ Some t
+reached lib bs n b t e h at is =
+    ap (λ (bs : List BlockType). slice_get bs n) (sym e) ∙ slice_get_read bs (length bs) n b refl h at ∙ ap (λ (b : BlockType). Some b) is
+
+-- the steps of a loop over the types
+pub next_basic :
+    (lib : Library) (bs : List BlockType) (n : ℕ) (b : BlockType) (t : BasicType) (all more : List (Option NetworkNumbers)) → bs ≡ lib.blocks → n < length bs
+    → b ≡ get_or bs n b → b ≡ block.Basic t → AreFirst lib n all → more ≡ all ++ None ∷ [] → AreFirst lib (n + 1) more
+next_basic lib bs n b t all more e h at is so_far grown =
+    first_more lib n (block.Basic t) None all more (reached lib bs n b (block.Basic t) e h at is) refl so_far grown
+
+pub next_composite :
+    (lib : Library) (bs : List BlockType) (n : ℕ) (b : BlockType) (t : CompositeType) (o : Option NetworkNumbers) (x : NetworkNumbers)
+    (all more : List (Option NetworkNumbers)) → bs ≡ lib.blocks → n < length bs → b ≡ get_or bs n b → b ≡ block.Composite t
+    → MatchOption o (NetworkUnknown lib (Some t, t.network)) (IsNetwork lib (Some t, t.network)) → o ≡ Some x
+    → AreFirst lib n all → more ≡ all ++ Some x ∷ [] → AreFirst lib (n + 1) more
+next_composite lib bs n b t o x all more e h at is answer some so_far grown =
+    first_more lib n (block.Composite t) (Some x) all more (reached lib bs n b (block.Composite t) e h at is)
+    (x, refl, match_some o (NetworkUnknown lib (Some t, t.network)) (IsNetwork lib (Some t, t.network)) x answer some) so_far grown
+
+pub composite_unknown :
+    (lib : Library) (bs : List BlockType) (n : ℕ) (b : BlockType) (t : CompositeType) (o : Option NetworkNumbers) → bs ≡ lib.blocks → n < length bs
+    → b ≡ get_or bs n b → b ≡ block.Composite t
+    → MatchOption o (NetworkUnknown lib (Some t, t.network)) (IsNetwork lib (Some t, t.network)) → o ≡ None → BlockUnknown lib
+composite_unknown lib bs n b t o e h at is answer none =
+    let place : Placed = (Some t, t.network) in (
+      place,
+      Contains-flat_map networks_in lib.blocks (block.Composite t) place
+          (element_of_place lib.blocks n (block.Composite t) (reached lib bs n b (block.Composite t) e h at is)) (Contains-here place []),
+      match_none o (NetworkUnknown lib (Some t, t.network)) (IsNetwork lib (Some t, t.network)) answer none,
+    )
+
+-- the places of its ports and of its instances
+pub composite_ports :
+    (lib : Library) (c : Catalog) (bs : List BlockType) (n : ℕ) (b : BlockType) (t : CompositeType) (x : BlockPlaces) → HasTypes lib c → bs ≡ lib.blocks
+    → n < length bs → b ≡ get_or bs n b → b ≡ block.Composite t → x ≡ get_or c.blocks.items n x → ArePlacesOf t.ports x.ports
+composite_ports lib c bs n b t x has e h at is there =
+    let within : n < length c.blocks.items = subst (λ (m : ℕ). n < m) (ap length e ∙ sym has.counted) h in
+    block_places lib c c.blocks.items n (block.Composite t) x t.ports has (reached lib bs n b (block.Composite t) e h at is) refl within there refl
+
+pub composite_instances :
+    (lib : Library) (c : Catalog) (bs : List BlockType) (n : ℕ) (b : BlockType) (t : CompositeType) (x : BlockPlaces) → HasTypes lib c → bs ≡ lib.blocks
+    → n < length bs → b ≡ get_or bs n b → b ≡ block.Composite t → x ≡ get_or c.blocks.items n x → IsIndex (instance_names t.network) x.instances
+composite_instances lib c bs n b t x has e h at is there =
+    let within : n < length c.blocks.items = subst (λ (m : ℕ). n < m) (ap length e ∙ sym has.counted) h in
+    (has.blocks n (block.Composite t) x (reached lib bs n b (block.Composite t) e h at is) (slice_get_read c.blocks.items (length c.blocks.items) n x refl within there)).instances
+
+element_at : {A : Type 0} (xs : List A) (k : ℕ) → k < length xs → (x : A) × (slice_get xs k ≡ Some x)
+element_at [] k h = absurd (omega (arith, h))
+element_at (x ∷ xs) zero h = (x, refl)
+element_at (x ∷ xs) (suc k) h = element_at xs k (omega (arith, h))
+
+pub first_all : (lib : Library) (n : ℕ) (all : List (Option NetworkNumbers)) → n ≡ length lib.blocks → AreFirst lib n all → AreBlocks lib all
+first_all lib n all counted are =
+    let there = λ (k : ℕ) (t : BlockType) (h : slice_get lib.blocks k ≡ Some t).
+    element_at all k (subst (λ (n : ℕ). k < n) (sym (are.counted ∙ counted)) (slice_get_within lib.blocks k t h)) in
+    record {
+      counted = are.counted ∙ counted;
+      basics = λ k t h.
+          let o = there k (block.Basic t) h in
+          o.1 ∙ ap (λ (o : Option NetworkNumbers). Some o) (are.each k o.0 o.1 (block.Basic t) h);
+      composites = λ k t h.
+          let o = there k (block.Composite t) h in
+          let x = are.each k o.0 o.1 (block.Composite t) h in
+          (x.0, o.1 ∙ ap (λ (o : Option NetworkNumbers). Some o) x.1, x.2);
+    }

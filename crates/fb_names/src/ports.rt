@@ -1,0 +1,77 @@
+//! Ports of a type by their places among the ports of their sort.
+
+ghost use Rattle.std.specs.Prelude.{◌≡◌, ◌<◌, ◌≤◌, ◌-◌, None, MatchOption, SomeIff, position};
+ghost use Rattle.fb_types.specs.Names.{same_name};
+ghost use Rattle.fb_names.specs.Numbers as spec;
+ghost use Rattle.fb_names.specs.Sorts.{names_of_sort, ArePlacesOf};
+
+use crate::places::{Places, place_of};
+use fb_types::library::{EventPort, Ports, Variable};
+use fb_types::name::Name;
+
+/// A sort of ports, each with a direction.
+#[derive(Clone, Copy)]
+pub enum Sort {
+    EventInput,
+    EventOutput,
+    Input,
+    Output,
+}
+
+fn event_place(events: &[EventPort], name: &Name) -> Option<usize>
+    ensures { result ≡ position (λ p. same_name p.name name.now) events.now }
+{
+    events.iter().position(|event| event.name.is(name))
+}
+
+fn variable_place(variables: &[Variable], name: &Name) -> Option<usize>
+    ensures { result ≡ position (λ v. same_name v.name name.now) variables.now }
+{
+    variables.iter().position(|variable| variable.name.is(name))
+}
+
+/// The place of a port among those of its sort. It goes through all of them, as suits an interface with few.
+pub fn place_among(ports: &Ports, sort: Sort, name: &Name) -> Option<usize>
+    ensures { result ≡ spec.place_of (names_of_sort sort ports.now) name.now }
+{
+    match sort {
+        Sort::EventInput => event_place(ports.event_inputs.as_slice(), name),
+        Sort::EventOutput => event_place(ports.event_outputs.as_slice(), name),
+        Sort::Input => variable_place(ports.inputs.as_slice(), name),
+        Sort::Output => variable_place(ports.outputs.as_slice(), name),
+    }
+}
+
+/// A place in the rest of a list, from its place in the list.
+fn after(place: Option<usize>, count: usize) -> Option<usize>
+    ensures { MatchOption place (result ≡ None) (λ p. SomeIff result (count ≤ p) (p - count)) }
+{
+    place?.checked_sub(count)
+}
+
+/// A place, if it is within the first of a list.
+fn within(place: Option<usize>, count: usize) -> Option<usize>
+    ensures { MatchOption place (result ≡ None) (λ p. SomeIff result (p < count) p) }
+{
+    match place {
+        Some(p) if p < count => Some(p),
+        _ => None,
+    }
+}
+
+/// The place of a port among those of its sort, from the places of all names of the type.
+pub fn place_in(ports: &Ports, places: &Places, sort: Sort, name: &Name) -> Option<usize>
+    requires { ArePlacesOf ports.now places.now }
+    ensures { result ≡ spec.place_of (names_of_sort sort ports.now) name.now }
+{
+    let place = place_of(places, name.as_bytes());
+    let after_event_inputs = after(place, ports.event_inputs.len());
+    let after_events = after(after_event_inputs, ports.event_outputs.len());
+    let after_inputs = after(after_events, ports.inputs.len());
+    match sort {
+        Sort::EventInput => within(place, ports.event_inputs.len()),
+        Sort::EventOutput => within(after_event_inputs, ports.event_outputs.len()),
+        Sort::Input => within(after_events, ports.inputs.len()),
+        Sort::Output => within(after_inputs, ports.outputs.len()),
+    }
+}

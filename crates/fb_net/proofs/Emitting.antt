@@ -1,0 +1,152 @@
+-- What the emission of output events makes of a world, of the lines and of what goes out.
+use Rattle.std.proofs.Common.{◌≡◌, ℕ, ◌<◌, false, List, [], ◌∷◌, ◌++◌, map, length, refl, sym, ap, subst, ◌∙◌, suc, append_assoc, arith}
+use Rattle.std.specs.Prelude.{All}
+use Rattle.std.proofs.lemmas.List.{map-append}
+use Rattle.std.proofs.lemmas.List.Elements.{All-append, All-push}
+use Rattle.fb_system.specs.Stands.{ArePlaces, variable_at}
+use Rattle.fb_types.specs.Blocks.{Bound, Emission, outputs_with}
+use Rattle.fb_types.specs.Headline.{Inputs, system_of}
+use Rattle.fb_types.specs.Names.{Name, Path, Port}
+use Rattle.fb_types.specs.Numbers.{carried_of, emission_of, event_at, event_output, line_of, pair_up, path_at, ports_at}
+use Rattle.fb_types.specs.Reactions as reactions
+use Rattle.fb_types.specs.Reactions.{Outcome, World, carried_from, emitted, emitted_all, spread, with_block}
+use Rattle.fb_types.specs.States as model
+use Rattle.fb_types.specs.Systems.{System}
+use Rattle.fb_types.specs.declared.key.Key.{Key}
+use Rattle.fb_types.specs.declared.run.Emission as run
+use Rattle.fb_types.specs.declared.run.Line.{Line}
+use Rattle.fb_types.specs.declared.value.Value.{Value}
+use Rattle.fb_system.specs.Lines.{BelongsTo, IsEmission}
+use Rattle.fb_system.specs.Ports.{IsCarried}
+use Rattle.fb_tree.specs.Changes.{Changes}
+use Rattle.fb_tree.specs.Worlds.{IsForest}
+use Rattle.fb_tree.specs.declared.resource.Forest.{Forest}
+use Rattle.fb_net.specs.Emitting.{HasEmitted, carried_by, outputs_at, outputs_shown}
+use Rattle.fb_net.specs.Outs.{AreOuts, IsOut, Stands, out_of}
+use Rattle.fb_net.specs.declared.outbox.Outbox.{Outbox}
+
+-- ---- What messages carry
+
+pub carried_named :
+    (sys : System) (k : ℕ) (places : List ℕ) (values : List Value)
+    → map (carried_of sys) (carried_by k places values) ≡ carried_from (path_at sys k) (outputs_at sys k places values)
+carried_named sys k [] values = refl
+carried_named sys k (place ∷ places) [] = refl
+carried_named sys k (place ∷ places) (v ∷ values) =
+    ap (λ (cs : List (Port × Value)). (record { at = path_at sys k; name = variable_at (ports_at sys (path_at sys k)).outputs place }, v) ∷ cs)
+    (carried_named sys k places values)
+
+-- each element is among the first list's, or among the others
+all_first : {A : Type 0} (P : A → Type 0) (x : A) (xs : List A) → P x → All P xs → All P (x ∷ xs)
+all_first P x xs h hs = All-append P (x ∷ []) xs (All-push P [] x (λ k d lt. absurd (omega arith)) h) hs
+
+pub are_carried :
+    (sys : System) (k : ℕ) (places : List ℕ) (values : List Value) → k < length sys.paths
+    → All (λ place. place < length (ports_at sys (path_at sys k)).outputs) places → All (IsCarried sys) (carried_by k places values)
+are_carried sys k [] values h within = λ n d lt. absurd (omega arith)
+are_carried sys k (place ∷ places) [] h within = λ n d lt. absurd (omega arith)
+are_carried sys k (place ∷ places) (v ∷ values) h within =
+    all_first (IsCarried sys) _ (carried_by k places values) (record { instance = h; variable = within 0 0 (omega arith) })
+    (are_carried sys k places values h (λ n d lt. within (suc n) d (omega arith)))
+
+-- ---- Emission after emission
+
+emitted_all-append :
+    (sys : System) (key : Key) (p : Path) (es ds : List Emission) (o : Outcome)
+    → emitted_all sys key p (es ++ ds) o ≡ emitted_all sys key p ds (emitted_all sys key p es o)
+emitted_all-append sys key p [] ds o = refl
+emitted_all-append sys key p (e ∷ es) ds o = emitted_all-append sys key p es ds (emitted sys key p e o)
+
+pub nothing_emitted :
+    (i : Inputs) (key : Key) (k : ℕ) (f : Forest) (x : Outbox) → AreOuts (system_of i) f.resource x → HasEmitted i key k f x [] f x
+nothing_emitted i key k f x outs = record { emitted = λ before o h. h; outs = outs; resource = refl }
+
+pub one_more_emitted :
+    (i : Inputs) (key : Key) (k : ℕ) (f g h : Forest) (x y z : Outbox) (es : List run.Emission) (e : run.Emission)
+    → HasEmitted i key k f x es g y → HasEmitted i key k g y (e ∷ []) h z → HasEmitted i key k f x (es ++ e ∷ []) h z
+one_more_emitted i key k f g h x y z es e first then =
+    let sys = system_of i in
+    let p = path_at sys k in
+    let said = emission_of (ports_at sys p) in
+    record {
+      emitted = λ before o s.
+          subst (λ (o : Outcome). Stands i before h z o)
+          (sym (ap (λ (ds : List Emission). emitted_all sys key p ds o) (map-append said es (e ∷ [])) ∙ emitted_all-append sys key p (map said es) (said e ∷ []) o))
+          (then.emitted before (emitted_all sys key p (map said es) o) (first.emitted before o s));
+      outs = then.outs;
+      resource = then.resource ∙ first.resource;
+    }
+
+-- ---- One emission
+
+-- the line of an emission
+abbrev pub line_by : Key → (instance : ℕ) → run.Emission → Line
+line_by key k e = record { key = key; taken = false; instance = k; event = e.event; values = e.values }
+
+-- how an emission was done
+pub record Doing (i : Inputs) (key : Key) (k : ℕ) (f : Forest) (x : Outbox) (e : run.Emission) (g : Forest) (y : Outbox) : Type 0 where
+  pub places : List ℕ
+  pub stand : ArePlaces (ports_at (system_of i) (path_at (system_of i) k)).outputs
+      (outputs_with (ports_at (system_of i) (path_at (system_of i) k)) (event_at (ports_at (system_of i) (path_at (system_of i) k)).event_outputs e.event)) places
+  pub published : Changes i f k (outputs_shown (outputs_at (system_of i) k places e.values)) g
+  pub sent : map (out_of (system_of i)) y.outs.items ≡ map (out_of (system_of i)) x.outs.items
+      ++ spread (system_of i) g.resource (map (carried_of (system_of i)) (carried_by k places e.values)) ((system_of i).targets (event_output (system_of i) k e.event))
+  pub belong : All (IsOut (system_of i) g.resource) y.outs.items
+  pub lines : y.lines.items ≡ x.lines.items ++ line_by key k e ∷ []
+  pub timer : y.timer ≡ x.timer
+
+-- the variables and values of an emission
+same_values :
+    (sys : System) (k : ℕ) (e : run.Emission) (places : List ℕ)
+    → ArePlaces (ports_at sys (path_at sys k)).outputs (outputs_with (ports_at sys (path_at sys k)) (event_at (ports_at sys (path_at sys k)).event_outputs e.event)) places
+    → outputs_at sys k places e.values ≡ (emission_of (ports_at sys (path_at sys k)) e).values
+same_values sys k e places stand = ap (λ (ns : List Name). pair_up ns e.values) stand.named
+
+module _ (i : Inputs) (key : Key) (k : ℕ) (f : Forest) (x : Outbox) (e : run.Emission) (g : Forest) (y : Outbox) (done : Doing i key k f x e g y) where
+  abbrev sys : System
+  sys = system_of i
+
+  abbrev p : Path
+  p = path_at sys k
+
+  abbrev said : Emission
+  said = emission_of (ports_at sys p) e
+
+  goes : key.resource ≡ f.resource → map (out_of sys) y.outs.items ≡ map (out_of sys) x.outs.items
+      ++ spread sys key.resource (carried_from p said.values) (sys.targets (record { at = p; name = said.event }))
+  goes resource =
+      let here : g.resource ≡ key.resource = done.published.resource ∙ sym resource in
+      let carried : map (carried_of sys) (carried_by k done.places e.values) ≡ carried_from p said.values =
+      carried_named sys k done.places e.values ∙ ap (carried_from p) (same_values sys k e done.places done.stand) in
+      done.sent ∙ (λ n. map (out_of sys) x.outs.items ++ spread sys (here n) (carried n) (sys.targets (event_output sys k e.event)))
+
+  shows : (w : World) → IsForest i f w → sys.resource p ≡ f.resource → IsForest i g (with_block p (outputs_shown said.values (w.blocks p)) w)
+  shows w forest here =
+      subst (λ (bs : List Bound). IsForest i g (with_block p (outputs_shown bs (w.blocks p)) w)) (same_values sys k e done.places done.stand)
+      (done.published.stands w forest here)
+
+  stands : sys.resource p ≡ f.resource → key.resource ≡ f.resource → (before : List model.Line) (o : Outcome) → Stands i before f x o
+      → Stands i before g y (emitted sys key p said o)
+  stands here resource before o h = record {
+    world = shows o.world h.world here;
+    lines =
+        ap (λ (ls : List Line). map (line_of sys) ls) done.lines
+        ∙ map-append (line_of sys) x.lines.items (line_by key k e ∷ [])
+        ∙ ap (λ (ls : List model.Line). ls ++ line_of sys (line_by key k e) ∷ []) h.lines
+        ∙ append_assoc before o.lines (line_of sys (line_by key k e) ∷ []);
+    outs = goes resource ∙ ap (λ (os : List reactions.Out). os ++ spread sys key.resource (carried_from p said.values) (sys.targets (record { at = p; name = said.event }))) h.outs;
+    timer = done.timer ∙ h.timer;
+  }
+
+  pub has_emitted : k < length sys.paths → sys.resource p ≡ f.resource → key.resource ≡ f.resource → key.resource < length sys.resource_names
+      → IsEmission (ports_at sys p) e → AreOuts sys f.resource x → HasEmitted i key k f x (e ∷ []) g y
+  has_emitted number here resource named emission were =
+      let line : BelongsTo sys (line_by key k e) = record { instance = number; resource = named; event = emission.event; values = emission.values } in
+      record {
+        emitted = stands here resource;
+        outs = record {
+          lines = subst (λ (ls : List Line). All (BelongsTo sys) ls) (sym done.lines) (All-push (BelongsTo sys) x.lines.items (line_by key k e) were.lines line);
+          outs = done.belong;
+        };
+        resource = done.published.resource;
+      }

@@ -1,0 +1,126 @@
+-- Where an event goes from a port, target after target.
+use Rattle.std.proofs.Common.{◌≡◌, ◌≢◌, ℕ, ◌+◌, ◌<◌, ◌≤◌, Bool, true, false, cond, eqb, List, [], ◌∷◌, ◌++◌, map, take, length, get_or, Option, Some, None, refl, sym, ap, subst, ◌∙◌, inl, inr, append_assoc, arith}
+use Rattle.std.specs.Prelude.{All, option_map, slice_get}
+use Rattle.std.proofs.lemmas.Bool.{eq-eqb, ne_eqb, cases_lt}
+use Rattle.std.proofs.lemmas.List.{append-nil, length-append, map-append, take_all, take_more}
+use Rattle.std.proofs.lemmas.List.Elements.{All-push}
+use Rattle.std.proofs.lemmas.Option.{get_or_from_slice_get, slice_get-get_or, slice_get_within}
+use Rattle.fb_types.specs.Names.{Port}
+use Rattle.fb_types.specs.Numbers.{carried_of, event_input, event_output, path_at, port_of}
+use Rattle.fb_types.specs.Reactions as reactions
+use Rattle.fb_types.specs.Reactions.{spread}
+use Rattle.fb_types.specs.Systems.{System}
+use Rattle.fb_types.specs.declared.run.Carried.{Carried}
+use Rattle.fb_types.specs.declared.run.Target.{Target}
+use Rattle.fb_types.specs.declared.value.Value.{Value}
+use Rattle.fb_system.specs.Ports.{IsCarried, IsTarget}
+use Rattle.fb_net.specs.Emitting.{GoesTo, out_at}
+use Rattle.fb_net.specs.Outs.{IsOut, out_of}
+use Rattle.fb_net.specs.declared.outbox.Out.{Out}
+use Rattle.fb_net.specs.declared.outbox.Out.TheVariants.{Local, Send}
+use Rattle.fb_net.specs.declared.outbox.Sending.{Sending}
+
+-- ---- One target
+
+port_at : (sys : System) (t : Target) → (port_of sys t).at ≡ path_at sys t.instance
+port_at sys t = go t.is_output
+  where
+    go : (b : Bool) → (cond b (event_output sys t.instance t.event) (event_input sys t.instance t.event)).at ≡ path_at sys t.instance
+    go true = refl
+    go false = refl
+
+pub goes_local :
+    (sys : System) (r : ℕ) (carried : List (Port × Value)) (t : Target) → IsTarget sys t → sys.resource (path_at sys t.instance) ≡ r
+    → GoesTo sys r carried (port_of sys t) (Local t)
+goes_local sys r carried t target here =
+    let same : eqb (sys.resource (port_of sys t).at) r ≡ true = eq-eqb (sys.resource (port_of sys t).at) r (ap sys.resource (port_at sys t) ∙ here) in
+    record {
+      is = sym (ap (λ b. cond b (reactions.Local (port_of sys t)) (reactions.Sends (port_of sys t) carried)) same);
+      belongs = record { target = target; here = here };
+    }
+
+pub goes_away :
+    (sys : System) (r : ℕ) (carried : List Carried) (s : Sending) → IsTarget sys s.target → sys.resource (path_at sys s.target.instance) ≢ r
+    → s.link ≡ sys.link r (sys.resource (path_at sys s.target.instance)) → s.values ≡ carried → All (IsCarried sys) carried
+    → GoesTo sys r (map (carried_of sys) carried) (port_of sys s.target) (Send s)
+goes_away sys r carried s target away link values each =
+    let q = port_of sys s.target in
+    let other : eqb (sys.resource q.at) r ≡ false = ne_eqb (sys.resource q.at) r (λ e. away (sym (ap sys.resource (port_at sys s.target)) ∙ e)) in
+    record {
+      is =
+          ap (λ (cs : List Carried). reactions.Sends q (map (carried_of sys) cs)) values
+          ∙ sym (ap (λ b. cond b (reactions.Local q) (reactions.Sends q (map (carried_of sys) carried))) other);
+      belongs = record { target = target; away = away; link = link; values = subst (λ (cs : List Carried). All (IsCarried sys) cs) (sym values) each };
+    }
+
+-- ---- Target after target
+
+spread-append :
+    (sys : System) (r : ℕ) (carried : List (Port × Value)) (ps qs : List Port) → spread sys r carried (ps ++ qs) ≡ spread sys r carried ps ++ spread sys r carried qs
+spread-append sys r carried [] qs = refl
+spread-append sys r carried (p ∷ ps) qs = ap (λ (os : List reactions.Out). out_at sys r carried p ∷ os) (spread-append sys r carried ps qs)
+
+-- What has gone out to the first targets of a port.
+pub record HaveGone (sys : System) (r : ℕ) (carried : List (Port × Value)) (targets : List Port) (before : List Out) (place : ℕ) (outs : List Out) : Type 0 where
+  pub within : place ≤ length targets
+  pub counted : length outs ≡ length before + place
+  pub sent : map (out_of sys) outs ≡ map (out_of sys) before ++ spread sys r carried (take place targets)
+  pub belong : All (IsOut sys r) outs
+
+pub none_gone :
+    (sys : System) (r : ℕ) (carried : List (Port × Value)) (targets : List Port) (outs : List Out) → All (IsOut sys r) outs
+    → HaveGone sys r carried targets outs 0 outs
+none_gone sys r carried targets outs belong = record {
+  within = omega arith;
+  counted = omega arith;
+  sent = sym (append-nil (map (out_of sys) outs));
+  belong = belong;
+}
+
+there : (sys : System) (targets : List Port) (place : ℕ) (o : Option Target) (t : Target) → option_map (port_of sys) o ≡ slice_get targets place → o ≡ Some t → slice_get targets place ≡ Some (port_of sys t)
+there sys targets place o t leads is = sym leads ∙ ap (λ (o : Option Target). option_map (port_of sys) o) is
+
+pub more_within :
+    (sys : System) (targets : List Port) (place : ℕ) (o : Option Target) (t : Target) → option_map (port_of sys) o ≡ slice_get targets place → o ≡ Some t
+    → place < length targets
+more_within sys targets place o t leads is = slice_get_within targets place (port_of sys t) (there sys targets place o t leads is)
+
+pub one_more_gone :
+    (sys : System) (r : ℕ) (carried : List (Port × Value)) (targets : List Port) (before : List Out) (place : ℕ) (outs : List Out) (o : Option Target) (t : Target) (out : Out)
+    → HaveGone sys r carried targets before place outs → option_map (port_of sys) o ≡ slice_get targets place → o ≡ Some t → GoesTo sys r carried (port_of sys t) out
+    → HaveGone sys r carried targets before (place + 1) (outs ++ out ∷ [])
+one_more_gone sys r carried targets before place outs o t out gone leads is goes =
+    let q = port_of sys t in
+    let at : slice_get targets place ≡ Some q = there sys targets place o t leads is in
+    let lt : place < length targets = slice_get_within targets place q at in
+    let taken : take (place + 1) targets ≡ take place targets ++ q ∷ [] =
+    take_more targets place q lt ∙ ap (λ (p : Port). take place targets ++ p ∷ []) (get_or_from_slice_get targets place q q at) in
+    let so_far = gone.counted in
+    record {
+      within = omega arith;
+      counted = omega (arith, length-append outs (out ∷ []));
+      sent =
+          map-append (out_of sys) outs (out ∷ [])
+          ∙ ap (λ (os : List reactions.Out). os ++ out_of sys out ∷ []) gone.sent
+          ∙ append_assoc (map (out_of sys) before) (spread sys r carried (take place targets)) (out_of sys out ∷ [])
+          ∙ ap (λ (os : List reactions.Out). map (out_of sys) before ++ os)
+          (ap (λ (x : reactions.Out). spread sys r carried (take place targets) ++ x ∷ []) goes.is
+          ∙ sym (spread-append sys r carried (take place targets) (q ∷ []))
+          ∙ ap (spread sys r carried) (sym taken));
+      belong = All-push (IsOut sys r) outs out gone.belong goes.belongs;
+    }
+
+behind : (targets : List Port) (place : ℕ) → slice_get targets place ≡ None → length targets ≤ place
+behind targets place none =
+    elim (cases_lt place (length targets)) [
+      | inl lt ↦ let at : slice_get targets place ≡ Some (get_or targets place (record { at = []; name = [] })) = slice_get-get_or targets place _ lt in absurd (cc)
+      | inr le ↦ le
+    ]
+
+pub all_gone :
+    (sys : System) (r : ℕ) (carried : List (Port × Value)) (targets : List Port) (before : List Out) (place : ℕ) (outs : List Out) (o : Option Target)
+    → HaveGone sys r carried targets before place outs → option_map (port_of sys) o ≡ slice_get targets place → o ≡ None
+    → map (out_of sys) outs ≡ map (out_of sys) before ++ spread sys r carried targets
+all_gone sys r carried targets before place outs o gone leads is =
+    let none : slice_get targets place ≡ None = sym leads ∙ ap (λ (o : Option Target). option_map (port_of sys) o) is in
+    gone.sent ∙ ap (λ (ps : List Port). map (out_of sys) before ++ spread sys r carried ps) (take_all place targets (behind targets place none))

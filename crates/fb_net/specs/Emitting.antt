@@ -1,0 +1,48 @@
+-- How the emission of an output event is done by numbers (IEC 61499-1, 5.2.2 and 5.3.2; messages are this project's profile).
+use Rattle.std.specs.Prelude.{◌≡◌, ◌==◌, ℕ, List, map, if◌then◌else◌}
+use Rattle.std.specs.List.{zip}
+use Rattle.fb_system.specs.Stands.{variable_at}
+use Rattle.fb_types.specs.Blocks.{Bound}
+use Rattle.fb_types.specs.Headline.{Inputs, system_of}
+use Rattle.fb_types.specs.Names.{Port}
+use Rattle.fb_types.specs.Numbers.{emission_of, pair_up, path_at, ports_at}
+use Rattle.fb_types.specs.Reactions as reactions
+use Rattle.fb_types.specs.Reactions.{Outcome, emitted_all, with_values}
+use Rattle.fb_types.specs.States as model
+use Rattle.fb_types.specs.Systems.{System}
+use Rattle.fb_types.specs.declared.key.Key.{Key}
+use Rattle.fb_types.specs.declared.run.Carried.{Carried}
+use Rattle.fb_types.specs.declared.run.Emission as run
+use Rattle.fb_types.specs.declared.value.Value.{Value}
+use Rattle.fb_tree.specs.declared.resource.Forest.{Forest}
+use Rattle.fb_net.specs.Outs.{AreOuts, IsOut, Stands, out_of}
+use Rattle.fb_net.specs.declared.outbox.Out.{Out}
+use Rattle.fb_net.specs.declared.outbox.Outbox.{Outbox}
+
+-- what goes out to a target: a local event, or a message where the target lies in another resource
+abbrev pub out_at : System → (resource : ℕ) → List (Port × Value) → Port → reactions.Out
+out_at sys r carried q = if sys.resource q.at == r then reactions.Local q else reactions.Sends q carried
+
+-- It goes out to a target, and belongs to the system.
+pub record GoesTo (sys : System) (r : ℕ) (carried : List (Port × Value)) (q : Port) (out : Out) : Type 0 where
+  pub is : out_of sys out ≡ out_at sys r carried q
+  pub belongs : IsOut sys r out
+
+-- values, each with the data output at its place
+abbrev pub outputs_at : System → (instance : ℕ) → (places : List ℕ) → List Value → List Bound
+outputs_at sys k places values = pair_up (map (variable_at (ports_at sys (path_at sys k)).outputs) places) values
+
+-- some data outputs show other values
+abbrev pub outputs_shown : List Bound → model.Block → model.Block
+outputs_shown bs b = record b { published = with_values bs b.published }
+
+-- values, each with the number of the data output at its place
+abbrev pub carried_by : (instance : ℕ) → (places : List ℕ) → List Value → List Carried
+carried_by k places values = map (λ x. record { instance = k; variable = x.0; value = x.1 }) (zip places values)
+
+-- An instance has emitted so: the blocks and what was put out stand for what the emissions make of what they stood for.
+pub record HasEmitted (i : Inputs) (key : Key) (k : ℕ) (f : Forest) (x : Outbox) (es : List run.Emission) (g : Forest) (y : Outbox) : Type 0 where
+  pub emitted : (before : List model.Line) (o : Outcome) → Stands i before f x o →
+      Stands i before g y (emitted_all (system_of i) key (path_at (system_of i) k) (map (emission_of (ports_at (system_of i) (path_at (system_of i) k))) es) o)
+  pub outs : AreOuts (system_of i) g.resource y
+  pub resource : g.resource ≡ f.resource

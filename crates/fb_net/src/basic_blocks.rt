@@ -1,0 +1,61 @@
+//! The reaction of a basic block among the blocks of its resource.
+
+ghost use Rattle.std.specs.Prelude.{◌≡◌, ◌≤◌, [], length, map, All, Some, false};
+ghost use Rattle.fb_types.specs.Blocks.{Basic, inputs_with};
+ghost use Rattle.fb_types.specs.Headline.{system_of};
+ghost use Rattle.fb_types.specs.Numbers.{event_at, path_at};
+ghost use Rattle.fb_types.specs.Reactions.{World};
+ghost use Rattle.fb_system.specs.Lines.{IsEmission};
+ghost use Rattle.fb_system.specs.Ports.{IsPort};
+ghost use Rattle.fb_tree.specs.Worlds.{IsForest};
+ghost use Rattle.fb_net.specs.Leaves.{ChartEnded, IsOne};
+
+use fb_ecc::reaction::react;
+use fb_st::meter::Meter;
+use fb_system::system::System;
+use fb_tree::block::Block;
+use fb_tree::resource::Forest;
+use fb_types::library::BasicType;
+use fb_types::run::{Emits, Halt, Target};
+use fb_types::value::Value;
+
+/// The reaction of a basic block, which lies in the resource, to one of its event inputs. `values` are the sampled
+/// values of the variables WITH the event. What it emits is put into `emits`, which is empty before.
+///
+/// # Errors
+/// `Halt::Stop` where a reason ends the reaction: the emissions before it stand. `Halt::Memory`, after which each
+/// instance has its block still, and no more is said.
+pub fn react_basic(
+    forest: &mut Forest,
+    system: &System,
+    block: &BasicType,
+    at: Target,
+    values: &[Value],
+    meter: &mut Meter,
+    emits: &mut Emits,
+) -> Result<(), Halt>
+    requires port { IsPort (system_of system.now) at }
+    requires input { at.is_output ≡ false }
+    requires kind { (system_of system.now).kind (path_at (system_of system.now) at.instance) ≡ Some (Basic block.now) }
+    requires one { IsOne system.now forest.old at.instance }
+    requires values { length values.now ≡ length (inputs_with block.now.ports (event_at block.now.ports.event_inputs at.event)) }
+    requires fresh { emits.old ≡ [] }
+    ensures reacted { ChartEnded system.now forest.old at block.now values.now meter.old.left result forest.new meter.new.left emits.new }
+    ensures fewer { meter.new.left ≤ meter.old.left }
+    ensures emissions { All (IsEmission block.now.ports) emits.new }
+    ensures resource { forest.new.resource ≡ forest.old.resource }
+
+    // Also where memory runs out.
+    ensures whole { (w : World) × IsForest system.now forest.new w }
+{
+    let alloc = emits.allocator();
+    match forest.take_out(alloc, system, at.instance) {
+        Some(Block::Basic(mut basic)) => {
+            let end = react(&mut basic.state, block, at.event, values, meter, emits);
+            forest.put_back(system, at.instance, Block::Basic(basic));
+            end
+        }
+        // The instance is a basic block.
+        _ => unreachable!(),
+    }
+}

@@ -1,0 +1,68 @@
+//! Values that an event brings to variables, slots and held copies.
+
+ghost use Rattle.std.specs.Prelude.{◌≡◌, ◌<◌, ◌≢◌, false, length, All, Some};
+ghost use Rattle.fb_types.specs.Blocks.{Basic};
+ghost use Rattle.fb_types.specs.Headline.{system_of};
+ghost use Rattle.fb_types.specs.Numbers.{path_at, ports_at};
+ghost use Rattle.fb_types.specs.declared.library.BasicType.{BasicType};
+ghost use Rattle.fb_system.specs.Ports.{IsCarried, IsPort};
+ghost use Rattle.fb_tree.specs.Changes.{Changes};
+ghost use Rattle.fb_net.specs.Samples.{HoldsAll, all_sampled, names_in, slots_set};
+
+use fb_fabric::fabric::Place;
+use fb_system::stimulus::SlotValue;
+use fb_system::system::System;
+use fb_tree::resource::Forest;
+use fb_types::run::{Carried, Target};
+use fb_types::value::Value;
+
+/// Gives the variables WITH an event input the values that they sampled. The instance is an event block or a
+/// composite, and lies in the resource.
+pub fn keep_samples(forest: &mut Forest, system: &System, at: Target, values: &[Value])
+    requires port { IsPort (system_of system.now) at }
+    requires input { at.is_output ≡ false }
+    requires no_basic { (t : BasicType) → (system_of system.now).kind (path_at (system_of system.now) at.instance) ≢ Some (Basic t) }
+    requires values { length values.now ≡ length (names_in (system_of system.now) at) }
+    ensures { Changes system.now forest.old at.instance (all_sampled (names_in (system_of system.now) at) values.now) forest.new }
+{
+    let places = system.inputs_with(at.instance, at.event);
+    for (place, value) in places.iter().zip(values) {
+        let input = Place {
+            instance: at.instance,
+            variable: *place,
+            is_output: false,
+        };
+        forest.set_input(system, input, *value);
+    }
+}
+
+/// Sets the slots of a stimulus, at an instance that lies in the resource.
+pub fn set_slots(forest: &mut Forest, system: &System, instance: u32, sets: &[SlotValue])
+    requires instance { instance < length (system_of system.now).paths }
+    requires within { All (λ s. s.place < length (ports_at (system_of system.now) (path_at (system_of system.now) instance)).inputs) sets.now }
+    ensures { Changes system.now forest.old instance (slots_set (system_of system.now) instance sets.now) forest.new }
+{
+    for set in sets {
+        let input = Place {
+            instance,
+            variable: set.place,
+            is_output: false,
+        };
+        forest.set_slot(system, input, set.value);
+    }
+}
+
+/// Puts the values that a message carries into the held copies of the resource.
+pub fn hold_carried(forest: &mut Forest, system: &System, carried: &[Carried])
+    requires { All (IsCarried (system_of system.now)) carried.now }
+    ensures { HoldsAll system.now forest.old carried.now forest.new }
+{
+    for item in carried {
+        let output = Place {
+            instance: item.instance,
+            variable: item.variable,
+            is_output: true,
+        };
+        forest.hold(system, output, item.value);
+    }
+}

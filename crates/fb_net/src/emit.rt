@@ -1,0 +1,221 @@
+//! Emissions, and where events go.
+
+ghost use Rattle.std.specs.Prelude.{◌≡◌, ◌++◌, ◌∷◌, [], ◌<◌, length, map, All, List, IfOk, OnOk, true};
+ghost use Rattle.fb_types.specs.Headline.{system_of};
+ghost use Rattle.fb_types.specs.Numbers.{carried_of, emission_of, line_of, path_at, port_of, ports_at};
+ghost use Rattle.fb_types.specs.Reactions.{Outcome, World, emitted_all, spread};
+ghost use Rattle.fb_types.specs.States as model;
+ghost use Rattle.fb_system.specs.Lines.{BelongsTo, IsEmission};
+ghost use Rattle.fb_system.specs.Ports.{IsCarried, IsPort, IsTarget};
+ghost use Rattle.fb_tree.specs.Changes.{Changes};
+ghost use Rattle.fb_tree.specs.Worlds.{IsForest};
+ghost use Rattle.fb_net.specs.Emitting.{GoesTo, HasEmitted, carried_by, outputs_at, outputs_shown};
+ghost use Rattle.fb_net.specs.Outs.{AreOuts, IsOut, Stands, out_of};
+
+use crate::outbox::{Out, Outbox, Sending};
+use fb_fabric::fabric::Place;
+use fb_system::system::System;
+use fb_tree::resource::Forest;
+use fb_types::items::Items;
+use fb_types::key::Key;
+use fb_types::run::{Carried, Emission, Emits, Line, Target};
+use fb_types::value::Value;
+use std::alloc::{AllocError, Global};
+
+/// What an event puts out that goes to a target: a local event where the target lies in the same resource, else a
+/// message with the values.
+fn out_to(
+    alloc: Global,
+    forest: &Forest,
+    system: &System,
+    target: Target,
+    carried: &[Carried],
+) -> Result<Out, AllocError>
+    requires resource { forest.now.resource < length (system_of system.now).resource_names }
+    requires target { IsTarget (system_of system.now) target }
+    requires carried { All (IsCarried (system_of system.now)) carried.now }
+    ensures { IfOk result (GoesTo (system_of system.now) forest.now.resource (map (carried_of (system_of system.now)) carried.now) (port_of (system_of system.now) target)) }
+{
+    let there = system.resource(target.instance);
+    if there == forest.resource {
+        return Ok(Out::Local(target));
+    }
+    // There are at most 1,024 links, so that the number of one fits.
+    system.facts();
+    let link = system.link(forest.resource, there) as u32;
+    let values = Items::from_slice(alloc, carried)?;
+    Ok(Out::Send(Sending {
+        link,
+        target,
+        values,
+    }))
+}
+
+/// Sends an event from a port to where its connections lead, in their order, with the values that messages carry. Each
+/// target costs one lookup, and a message memory for its values. The error is that memory runs out.
+pub fn send_out(
+    outs: &mut Vec<Out>,
+    forest: &Forest,
+    system: &System,
+    from: Target,
+    carried: &[Carried],
+) -> Result<(), AllocError>
+    requires resource { forest.now.resource < length (system_of system.now).resource_names }
+    requires port { IsPort (system_of system.now) from }
+    requires carried { All (IsCarried (system_of system.now)) carried.now }
+    requires outs { All (IsOut (system_of system.now) forest.now.resource) outs.old.items }
+    ensures sent { OnOk result (map (out_of (system_of system.now)) outs.new.items ≡ map (out_of (system_of system.now)) outs.old.items
+        ++ spread (system_of system.now) forest.now.resource (map (carried_of (system_of system.now)) carried.now) ((system_of system.now).targets (port_of (system_of system.now) from))) }
+    ensures outs { OnOk result (All (IsOut (system_of system.now) forest.now.resource) outs.new.items) }
+{
+    let alloc = *outs.allocator();
+    let mut place = 0;
+    while let Some(target) = system.target(from, place) {
+        let out = out_to(alloc, forest, system, target, carried)?;
+        outs.push(out)?;
+        place += 1;
+    }
+    Ok(())
+}
+
+/// Writes the line of an event that was taken at a port of an instance. The error is that memory runs out.
+pub fn write_taken(
+    outbox: &mut Outbox,
+    system: &System,
+    key: &Key,
+    at: Target,
+    values: Items<Value>,
+) -> Result<(), AllocError>
+    requires port { IsPort (system_of system.now) at }
+    requires line { BelongsTo (system_of system.now) (record { key = key.now; taken = true; instance = at.instance; event = at.event; values = values }) }
+    requires lines { All (BelongsTo (system_of system.now)) outbox.old.lines.items }
+    ensures written { OnOk result (map (line_of (system_of system.now)) outbox.new.lines.items ≡ map (line_of (system_of system.now)) outbox.old.lines.items
+        ++ line_of (system_of system.now) (record { key = key.now; taken = true; instance = at.instance; event = at.event; values = values }) ∷ []) }
+    ensures lines { OnOk result (All (BelongsTo (system_of system.now)) outbox.new.lines.items) }
+    ensures outs { outbox.new.outs.items ≡ outbox.old.outs.items }
+    ensures timer { outbox.new.timer ≡ outbox.old.timer }
+{
+    outbox.lines.push(Line {
+        key: *key,
+        taken: true,
+        instance: at.instance,
+        event: at.event,
+        values,
+    })?;
+    Ok(())
+}
+
+/// Publishes values at data outputs of an instance, each at its place.
+fn publish_all(
+    forest: &mut Forest,
+    system: &System,
+    instance: u32,
+    places: &[u32],
+    values: &[Value],
+)
+    requires instance { instance < length (system_of system.now).paths }
+    requires within { All (λ k. k < length (ports_at (system_of system.now) (path_at (system_of system.now) instance)).outputs) places.now }
+    ensures { Changes system.now forest.old instance (outputs_shown (outputs_at (system_of system.now) instance places.now values.now)) forest.new }
+{
+    for (place, value) in places.iter().zip(values) {
+        let output = Place {
+            instance,
+            variable: *place,
+            is_output: true,
+        };
+        forest.publish(system, output, *value);
+    }
+}
+
+/// The values that a message carries, each with the data output that it is of.
+fn carried_values(
+    alloc: Global,
+    instance: u32,
+    places: &[u32],
+    values: &[Value],
+) -> Result<Vec<Carried>, AllocError>
+    ensures { IfOk result (λ carried. carried.items ≡ carried_by instance places.now values.now) }
+{
+    places
+        .iter()
+        .zip(values)
+        .map(|(place, value)| Carried {
+            instance,
+            variable: *place,
+            value: *value,
+        })
+        .collect(alloc)
+}
+
+/// Emits one output event.
+fn emit_one(
+    forest: &mut Forest,
+    outbox: &mut Outbox,
+    system: &System,
+    key: &Key,
+    instance: u32,
+    emission: Emission,
+) -> Result<(), AllocError>
+    requires instance { instance < length (system_of system.now).paths }
+    requires here { (system_of system.now).resource (path_at (system_of system.now) instance) ≡ forest.old.resource }
+    requires resource { key.now.resource ≡ forest.old.resource }
+    requires named { key.now.resource < length (system_of system.now).resource_names }
+    requires emission { IsEmission (ports_at (system_of system.now) (path_at (system_of system.now) instance)) emission }
+    requires outs { AreOuts (system_of system.now) forest.old.resource outbox.old }
+    ensures emitted { OnOk result (HasEmitted system.now key.now instance forest.old outbox.old (emission ∷ []) forest.new outbox.new) }
+    ensures resource { forest.new.resource ≡ forest.old.resource }
+
+    // Also where memory runs out.
+    ensures whole { (w : World) → IsForest system.now forest.old w → (v : World) × IsForest system.now forest.new v }
+{
+    let Emission { event, values } = emission;
+    let places = system.outputs_with(instance, event);
+    publish_all(forest, system, instance, places, values.as_slice());
+    let alloc = *outbox.outs.allocator();
+    let carried = carried_values(alloc, instance, places, values.as_slice())?;
+    let from = Target {
+        instance,
+        event,
+        is_output: true,
+    };
+    send_out(&mut outbox.outs, forest, system, from, carried.as_slice())?;
+    outbox.lines.push(Line {
+        key: *key,
+        taken: false,
+        instance,
+        event,
+        values,
+    })?;
+    Ok(())
+}
+
+/// Emits output events of an instance in their order: their variables are published, each has a line, and each goes
+/// where its connections lead. The error is that memory runs out; each instance has its block then too.
+pub fn emit_all(
+    forest: &mut Forest,
+    outbox: &mut Outbox,
+    system: &System,
+    key: &Key,
+    instance: u32,
+    emits: Emits,
+) -> Result<(), AllocError>
+    requires instance { instance < length (system_of system.now).paths }
+    requires here { (system_of system.now).resource (path_at (system_of system.now) instance) ≡ forest.old.resource }
+    requires resource { key.now.resource ≡ forest.old.resource }
+    requires named { key.now.resource < length (system_of system.now).resource_names }
+    requires emissions { All (IsEmission (ports_at (system_of system.now) (path_at (system_of system.now) instance))) emits }
+    requires outs { AreOuts (system_of system.now) forest.old.resource outbox.old }
+    ensures emitted { OnOk result ((before : List model.Line) (o : Outcome) → Stands system.now before forest.old outbox.old o →
+        Stands system.now before forest.new outbox.new
+        (emitted_all (system_of system.now) key.now (path_at (system_of system.now) instance) (map (emission_of (ports_at (system_of system.now) (path_at (system_of system.now) instance))) emits) o)) }
+    ensures outs { OnOk result (AreOuts (system_of system.now) forest.new.resource outbox.new) }
+    ensures resource { forest.new.resource ≡ forest.old.resource }
+
+    // Also where memory runs out.
+    ensures whole { (w : World) → IsForest system.now forest.old w → (v : World) × IsForest system.now forest.new v }
+{
+    for emission in emits.into_vec() {
+        emit_one(forest, outbox, system, key, instance, emission)?;
+    }
+    Ok(())
+}

@@ -1,0 +1,106 @@
+//! The reactions of an event block among the blocks of its resource, to an event and to its timer.
+
+ghost use Rattle.std.specs.Prelude.{◌≡◌, ◌≤◌, ◌<◌, ◌^◌, [], length, All, IfOk, Some, false};
+ghost use Rattle.fb_types.specs.Blocks.{Event, ports_of_event_block};
+ghost use Rattle.fb_types.specs.Headline.{system_of};
+ghost use Rattle.fb_types.specs.Numbers.{path_at};
+ghost use Rattle.fb_types.specs.Reactions.{World};
+ghost use Rattle.fb_system.specs.Lines.{IsEmission};
+ghost use Rattle.fb_system.specs.Ports.{IsPort};
+ghost use Rattle.fb_tree.specs.Worlds.{InForest, IsForest};
+ghost use Rattle.fb_net.specs.Leaves.{EventCame, HasTypedInputs, IsOne, taken_reaction, expiry_reaction};
+
+use fb_event::reaction::{expire, react};
+use fb_system::system::System;
+use fb_tree::block::Block;
+use fb_tree::resource::Forest;
+use fb_types::event_kind::EventKind;
+use fb_types::run::{Emits, Target, TimerAsk};
+use std::alloc::AllocError;
+
+/// The reaction of an event block, which lies in the resource and has sampled its inputs, to one of its event inputs,
+/// in a tick that is at most 10^12. What it emits is put into `emits`, which is empty before. Gives what it asks of
+/// its timer.
+///
+/// # Errors
+/// `AllocError` where memory ran out, after which each instance has its block still, and no more is said.
+pub fn react_event(
+    forest: &mut Forest,
+    system: &System,
+    kind: EventKind,
+    at: Target,
+    tick: u64,
+    emits: &mut Emits,
+) -> Result<TimerAsk, AllocError>
+    requires port { IsPort (system_of system.now) at }
+    requires input { at.is_output ≡ false }
+    requires kind { (system_of system.now).kind (path_at (system_of system.now) at.instance) ≡ Some (Event kind) }
+    requires typed { (w : World) × IsForest system.now forest.old w × InForest system.now forest.old at.instance × HasTypedInputs system.now kind at.instance w }
+    requires early { tick ≤ 10 ^ 12 }
+    requires fresh { emits.old ≡ [] }
+    ensures reacted { IfOk result (λ ask. (w : World) → IsForest system.now forest.old w → InForest system.now forest.old at.instance →
+        EventCame system.now at.instance kind (taken_reaction system.now kind at tick w) forest.new ask emits.new w) }
+    ensures emissions { All (IsEmission (ports_of_event_block kind)) emits.new }
+    ensures resource { forest.new.resource ≡ forest.old.resource }
+
+    // Also where memory runs out.
+    ensures whole { (w : World) × IsForest system.now forest.new w }
+{
+    let alloc = emits.allocator();
+    match forest.take_out(alloc, system, at.instance) {
+        Some(Block::Event(mut event)) => {
+            let mut ask = TimerAsk::Keep;
+            let inputs = event.inputs.as_slice();
+            let end = react(&mut event.state, at.event, tick, inputs, emits, &mut ask);
+            forest.put_back(system, at.instance, Block::Event(event));
+            match end {
+                Ok(()) => Ok(ask),
+                Err(_) => Err(AllocError),
+            }
+        }
+        // The instance is an event block.
+        _ => unreachable!(),
+    }
+}
+
+/// The reaction of an event block, which lies in the resource, to its timer, in a tick that is at most 10^12. What it
+/// emits is put into `emits`, which is empty before. Gives what it asks of its timer.
+///
+/// # Errors
+/// `AllocError` where memory ran out, after which each instance has its block still, and no more is said.
+pub fn expire_event(
+    forest: &mut Forest,
+    system: &System,
+    kind: EventKind,
+    instance: u32,
+    tick: u64,
+    emits: &mut Emits,
+) -> Result<TimerAsk, AllocError>
+    requires instance { instance < length (system_of system.now).paths }
+    requires kind { (system_of system.now).kind (path_at (system_of system.now) instance) ≡ Some (Event kind) }
+    requires one { IsOne system.now forest.old instance }
+    requires early { tick ≤ 10 ^ 12 }
+    requires fresh { emits.old ≡ [] }
+    ensures reacted { IfOk result (λ ask. (w : World) → IsForest system.now forest.old w → InForest system.now forest.old instance →
+        EventCame system.now instance kind (expiry_reaction system.now kind instance tick w) forest.new ask emits.new w) }
+    ensures emissions { All (IsEmission (ports_of_event_block kind)) emits.new }
+    ensures resource { forest.new.resource ≡ forest.old.resource }
+
+    // Also where memory runs out.
+    ensures whole { (w : World) × IsForest system.now forest.new w }
+{
+    let alloc = emits.allocator();
+    match forest.take_out(alloc, system, instance) {
+        Some(Block::Event(mut event)) => {
+            let mut ask = TimerAsk::Keep;
+            let end = expire(&mut event.state, tick, emits, &mut ask);
+            forest.put_back(system, instance, Block::Event(event));
+            match end {
+                Ok(()) => Ok(ask),
+                Err(_) => Err(AllocError),
+            }
+        }
+        // The instance is an event block.
+        _ => unreachable!(),
+    }
+}

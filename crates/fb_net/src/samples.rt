@@ -1,0 +1,65 @@
+//! The values that an event brings with it.
+
+ghost use Rattle.std.specs.Prelude.{◌≡◌, false, true, length, IfOk};
+ghost use Rattle.fb_types.specs.Headline.{system_of};
+ghost use Rattle.fb_system.specs.Ports.{IsCompositeAt, IsPort};
+ghost use Rattle.fb_net.specs.Samples.{AreSampled, AreShown, names_in, names_out};
+
+use fb_fabric::fabric::Place;
+use fb_system::system::System;
+use fb_tree::resource::Forest;
+use fb_types::items::Items;
+use fb_types::run::Target;
+use fb_types::value::Value;
+use std::alloc::{AllocError, Global};
+
+/// What the data inputs WITH an event input sample, in the order in which they are declared. The instance lies in the
+/// resource.
+pub fn sampled_values(
+    alloc: Global,
+    forest: &Forest,
+    system: &System,
+    at: Target,
+) -> Result<Items<Value>, AllocError>
+    requires port { IsPort (system_of system.now) at }
+    requires input { at.is_output ≡ false }
+    ensures sampled { IfOk result (AreSampled system.now forest.now at) }
+    ensures counted { IfOk result (λ vs. length vs ≡ length (names_in (system_of system.now) at)) }
+{
+    let mut values = Items::new(alloc);
+    for place in system.inputs_with(at.instance, at.event) {
+        let input = Place {
+            instance: at.instance,
+            variable: *place,
+            is_output: false,
+        };
+        values.push(forest.sampled(system, input))?;
+    }
+    Ok(values)
+}
+
+/// What a composite, which lies in the resource, shows from inside of the data outputs WITH an event output, in the
+/// order in which they are declared.
+pub fn shown_values(
+    alloc: Global,
+    forest: &Forest,
+    system: &System,
+    at: Target,
+) -> Result<Items<Value>, AllocError>
+    requires port { IsPort (system_of system.now) at }
+    requires output { at.is_output ≡ true }
+    requires composite { IsCompositeAt (system_of system.now) at.instance }
+    ensures shown { IfOk result (AreShown system.now forest.now at) }
+    ensures counted { IfOk result (λ vs. length vs ≡ length (names_out (system_of system.now) at)) }
+{
+    let mut values = Items::new(alloc);
+    for place in system.outputs_with(at.instance, at.event) {
+        let output = Place {
+            instance: at.instance,
+            variable: *place,
+            is_output: true,
+        };
+        values.push(forest.shown_inside(system, output))?;
+    }
+    Ok(values)
+}

@@ -1,3 +1,0 @@
-pub mod Basics
-pub mod Events
-pub mod Leaves

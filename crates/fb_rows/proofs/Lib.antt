@@ -1,4 +1,0 @@
-pub mod Tables
-pub mod Types
-pub mod Known
-pub mod Numbered

@@ -1,2 +1,0 @@
-pub mod Interfaces
-pub mod Rows

@@ -1,6 +1,0 @@
-use Rattle.fb_sample.proofs.Changing.{holds_more}
-use Rattle.fb_sample.proofs.bring.hold_carried.Goals as goal
-
-pub loop-item-preserved : goal.loop-item-preserved
-loop-item-preserved c =
-    holds_more c.args.carried.now c.loop-item.item-index _ c.loop-item.invariant c.loop-item-test.true c.hold.ensures

@@ -1,6 +1,0 @@
-use Rattle.fb_sample.proofs.Reading.{AreReadUpTo, sampled_at}
-use Rattle.fb_sample.proofs.values.sampled_values.Given as goal
-
-abbrev pub invariant-loop-place : goal.invariant-loop-place
-invariant-loop-place l =
-    AreReadUpTo l.system l.forest l.at.instance (sampled_at l.system l.forest l.at.instance) l.place-index l.place-items l.values

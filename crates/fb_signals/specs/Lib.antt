@@ -1,4 +1,0 @@
-pub mod Levels
-pub mod Changes
-pub mod Signals
-pub mod Scopes

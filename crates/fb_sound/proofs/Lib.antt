@@ -1,4 +1,0 @@
-pub mod Timers
-pub mod Outs
-pub mod Stays
-pub mod Accepting

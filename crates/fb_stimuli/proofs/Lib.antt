@@ -1,6 +1,0 @@
-pub mod Steps
-pub mod EventInterfaces
-pub mod Found
-pub mod Sources
-pub mod Good
-pub mod Refused

@@ -1,6 +1,0 @@
-use Rattle.std.proofs.Common.{take}
-use Rattle.fb_stimuli.specs.Directory.{AreEvents}
-use Rattle.fb_stimuli.proofs.fill.events_of.Given as goal
-
-abbrev pub invariant-loop-event : goal.invariant-loop-event
-invariant-loop-event l = AreEvents (take l.event-index l.events) l.names

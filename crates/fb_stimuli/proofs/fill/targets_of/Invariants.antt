@@ -1,6 +1,0 @@
-use Rattle.std.proofs.Common.{take}
-use Rattle.fb_stimuli.specs.Directory.{AreTargets}
-use Rattle.fb_stimuli.proofs.fill.targets_of.Given as goal
-
-abbrev pub invariant-loop-connection : goal.invariant-loop-connection
-invariant-loop-connection l = AreTargets (take l.connection-index l.connections) l.targets

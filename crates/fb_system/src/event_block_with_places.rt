@@ -1,0 +1,116 @@
+//! The places of the variables WITH each event of the event blocks.
+
+ghost use Rattle.std.specs.Prelude.{◌≡◌, ◌<◌, ◌^◌, IfOk, length, ◌&&◌};
+ghost use Rattle.std.specs.List.{list_any};
+ghost use Rattle.fb_types.specs.Names.{same_name};
+ghost use Rattle.fb_types.specs.Blocks.{among, variables_with, ports_of_event_block};
+ghost use Rattle.fb_system.specs.Stands.{ArePlaces, ArePlacesOfEach, AreWithPlaces};
+ghost use Rattle.fb_system.specs.Tables.{AreOfEventBlocks, kind_place};
+
+use crate::with_places::WithPlaces;
+use fb_types::event_kind::EventKind;
+use fb_types::event_ports::ports_of;
+use fb_types::items::Items;
+use fb_types::library::{EventPort, Variable};
+use fb_types::name::Name;
+use std::alloc::{AllocError, Global};
+
+const KINDS: [EventKind; 14] = [
+    EventKind::Restart,
+    EventKind::Split,
+    EventKind::Merge,
+    EventKind::Rendezvous,
+    EventKind::Permit,
+    EventKind::Select,
+    EventKind::Switch,
+    EventKind::Delay,
+    EventKind::Cycle,
+    EventKind::SetReset,
+    EventKind::DataLatch,
+    EventKind::RisingEdge,
+    EventKind::FallingEdge,
+    EventKind::CountUp,
+];
+
+fn is_among(names: &[Name], name: &Name) -> bool
+    ensures { result ≡ among names.now name.now }
+{
+    names.iter().any(|other| name.is(other))
+}
+
+/// Whether a variable goes WITH an event.
+fn is_with(events: &[EventPort], event: &Name, variable: &Name) -> bool
+    ensures { result ≡ list_any (λ p. same_name p.name event.now && among p.with variable.now) events.now }
+{
+    events.iter().any(|port| port.name.is(event) && is_among(port.with.as_slice(), variable))
+}
+
+/// The places of the variables WITH an event. It goes through all of them, as suits the few of an event block.
+fn places_with(
+    alloc: Global,
+    events: &[EventPort],
+    variables: &[Variable],
+    event: &Name,
+) -> Result<Items<u32>, AllocError>
+    requires { length variables.now < 2 ^ 32 }
+    ensures { IfOk result (ArePlaces variables.now (variables_with events.now variables.now event.now)) }
+{
+    let mut places = Items::new(alloc);
+    for (place, variable) in variables.iter().enumerate() {
+        if is_with(events, event, &variable.name) {
+            places.push(place as u32)?;
+        }
+    }
+    Ok(places)
+}
+
+/// The places of the variables WITH each event.
+fn places_with_each(
+    alloc: Global,
+    events: &[EventPort],
+    variables: &[Variable],
+) -> Result<Items<Items<u32>>, AllocError>
+    requires { length variables.now < 2 ^ 32 }
+    ensures { IfOk result (ArePlacesOfEach events.now variables.now) }
+{
+    let mut all = Items::new(alloc);
+    for event in events {
+        all.push(places_with(alloc, events, variables, &event.name)?)?;
+    }
+    Ok(all)
+}
+
+fn of_kind(alloc: Global, kind: EventKind) -> Result<WithPlaces, AllocError>
+    ensures { IfOk result (AreWithPlaces (ports_of_event_block kind)) }
+{
+    let ports = ports_of(alloc, kind)?;
+    let inputs = places_with_each(
+        alloc,
+        ports.event_inputs.as_slice(),
+        ports.inputs.as_slice(),
+    )?;
+    let outputs = places_with_each(
+        alloc,
+        ports.event_outputs.as_slice(),
+        ports.outputs.as_slice(),
+    )?;
+    Ok(WithPlaces { inputs, outputs })
+}
+
+/// The place of an event block among all of them.
+pub(crate) fn place_of_kind(kind: EventKind) -> usize
+    ensures { result ≡ kind_place kind }
+{
+    kind as usize
+}
+
+/// The places of the variables WITH each event of each event block.
+pub(crate) fn of_event_blocks(alloc: Global) -> Result<Items<WithPlaces>, AllocError>
+    ensures { IfOk result AreOfEventBlocks }
+{
+    let mut all = Items::new(alloc);
+    for kind in &KINDS {
+        all.push(of_kind(alloc, *kind)?)?;
+    }
+    Ok(all)
+}

@@ -1,0 +1,76 @@
+//! The values with which the data inputs and the data outputs of an instance begin.
+
+ghost use Rattle.std.specs.Prelude.{◌≡◌, IfOk, Some, map};
+ghost use Rattle.fb_types.specs.Blocks.{initial_of, variable_names};
+ghost use Rattle.fb_types.specs.Repeated.{Twice};
+ghost use Rattle.fb_types.specs.Unknown.{data_ins};
+ghost use Rattle.fb_types.specs.Values as spec;
+ghost use Rattle.fb_names.specs.Numbers.{each_or_none, place_of};
+ghost use Rattle.fb_system.specs.Begins.{begins_with, parameter_names};
+
+use fb_types::items::Items;
+use fb_types::library::{Parameter, Ports, Variable};
+use fb_types::value::{Ty, Value};
+use std::alloc::{AllocError, Global};
+
+/// 0 or FALSE.
+fn zero_of(ty: Ty) -> Value
+    ensures { result ≡ spec.zero_of ty }
+{
+    match ty {
+        Ty::Bool => Value::Bool(false),
+        _ => Value::Whole(0),
+    }
+}
+
+/// The declared initial value, else 0 or FALSE.
+fn initial_value(variable: &Variable) -> Value
+    ensures { result ≡ initial_of variable.now }
+{
+    match variable.initial {
+        Some(value) => value,
+        None => zero_of(variable.ty),
+    }
+}
+
+fn initial_values(alloc: Global, variables: &[Variable]) -> Result<Vec<Value>, AllocError>
+    ensures { IfOk result (λ vs. vs.items ≡ map initial_of variables.now) }
+{
+    variables.iter().map(initial_value).collect(alloc)
+}
+
+/// What the data inputs of an instance begin with: the instance's parameter, else the declared initial value, else
+/// 0 or FALSE. The places are those of the inputs that the parameters set.
+///
+/// # Errors
+///
+/// Want of memory.
+pub fn input_values(
+    alloc: Global,
+    ports: &Ports,
+    parameters: &[Parameter],
+    places: &[usize],
+) -> Result<Items<Value>, AllocError>
+    requires places { each_or_none (λ x. place_of (data_ins ports.now) x.name) parameters.now ≡ Some places.now }
+    requires inputs { ¬ (Twice (variable_names ports.now.inputs)) }
+    requires parameters { ¬ (Twice (parameter_names parameters.now)) }
+    ensures { IfOk result (λ vs. vs ≡ begins_with ports.now parameters.now) }
+{
+    let mut values = initial_values(alloc, ports.inputs.as_slice())?;
+    for (number, parameter) in parameters.iter().enumerate() {
+        values[places[number]] = parameter.value;
+    }
+    Ok(Items::from_vec(values))
+}
+
+/// What the data outputs of an instance begin with: the declared initial value, else 0 or FALSE.
+///
+/// # Errors
+///
+/// Want of memory.
+pub fn output_values(alloc: Global, ports: &Ports) -> Result<Items<Value>, AllocError>
+    ensures { IfOk result (λ vs. vs ≡ map initial_of ports.now.outputs) }
+{
+    let values = initial_values(alloc, ports.outputs.as_slice())?;
+    Ok(Items::from_vec(values))
+}

@@ -1,0 +1,91 @@
+//! The types of a declaration and the event blocks, with the places of the variables WITH each event.
+
+ghost use Rattle.std.specs.Prelude.{◌≡◌, ◌<◌, ℕ, IfOk, Some, length, slice_get};
+ghost use Rattle.fb_types.specs.Blocks.{ports_of, ports_of_event_block};
+ghost use Rattle.fb_types.specs.Flat.{kind_of};
+ghost use Rattle.fb_types.specs.Unknown.{NameUnknown};
+ghost use Rattle.fb_types.specs.declared.deploy.Plan.{Plan};
+ghost use Rattle.fb_types.specs.declared.library.BlockType.{BlockType as Declared};
+ghost use Rattle.fb_types.specs.declared.library.Library.{Library as Declaration};
+ghost use Rattle.fb_names.specs.Catalog.{IsCatalog};
+ghost use Rattle.fb_system.specs.Stands.{AreWithPlaces};
+ghost use Rattle.fb_system.specs.Tables.{AreBlocks, AreInterfaces, AreOfBlocks};
+
+use crate::event_block_with_places::{of_event_blocks, place_of_kind};
+use crate::with_places::{WithPlaces, with_places};
+use fb_names::catalog::{BlockPlaces, Catalog};
+use fb_types::event_kind::EventKind;
+use fb_types::items::Items;
+use fb_types::library::{BlockType, Library, Ports};
+use std::alloc::{AllocError, Global};
+
+/// The types of a declaration and the event blocks: for each event the places of the variables WITH it.
+#[derive(Drop)]
+pub struct Interfaces {
+    blocks: Items<WithPlaces>,
+    event_blocks: Items<WithPlaces>,
+}
+
+impl Interfaces {
+    /// What the events of the block type at a place of the declaration go WITH.
+    pub fn of_block(&self, block: usize) -> &WithPlaces
+        requires { (library : Declaration) × AreInterfaces library self.now × (block < length library.blocks) }
+        ensures { (library : Declaration) (t : Declared) → AreInterfaces library self.now → slice_get library.blocks block ≡ Some t → AreWithPlaces (ports_of (kind_of t)) result.now }
+    {
+        &self.blocks.as_slice()[block]
+    }
+
+    /// What the events of an event block go WITH.
+    pub fn of_event_block(&self, kind: EventKind) -> &WithPlaces
+        requires { (library : Declaration) × AreInterfaces library self.now }
+        ensures { AreWithPlaces (ports_of_event_block kind) result.now }
+    {
+        &self.event_blocks.as_slice()[place_of_kind(kind)]
+    }
+}
+
+fn ports_in(block: &BlockType) -> &Ports
+    ensures { result.now ≡ ports_of (kind_of block.now) }
+{
+    match block {
+        BlockType::Basic(basic) => &basic.ports,
+        BlockType::Composite(composite) => &composite.ports,
+    }
+}
+
+fn of_blocks(
+    alloc: Global,
+    blocks: &[BlockType],
+    names: &[BlockPlaces],
+) -> Result<Items<WithPlaces>, AllocError>
+    requires { AreBlocks blocks.now names.now }
+    ensures { IfOk result (AreOfBlocks blocks.now) }
+{
+    let mut all = Items::new(alloc);
+    for (place, block) in blocks.iter().enumerate() {
+        all.push(with_places(alloc, ports_in(block), &names[place].ports)?)?;
+    }
+    Ok(all)
+}
+
+/// The places of the variables WITH each event of each type of a declaration, and of each event block, in near
+/// linear time. In the declaration no name is given twice, and each stands for something.
+///
+/// # Errors
+///
+/// Want of memory. A type with 2^32 variables or more counts as that.
+pub fn interfaces_of(
+    alloc: Global,
+    library: &Library,
+    catalog: &Catalog,
+) -> Result<Interfaces, AllocError>
+    requires { (plan : Plan) × IsCatalog library.now plan catalog.now × ¬ (NameUnknown library.now plan) }
+    ensures { IfOk result (AreInterfaces library.now) }
+{
+    let blocks = of_blocks(alloc, library.blocks.as_slice(), catalog.blocks.as_slice())?;
+    let event_blocks = of_event_blocks(alloc)?;
+    Ok(Interfaces {
+        blocks,
+        event_blocks,
+    })
+}

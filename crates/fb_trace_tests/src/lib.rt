@@ -1,6 +1,0 @@
-//! Tests of `fb_trace`, over systems from texts. They stand apart from it, so that a check of the tests does not prove
-//! the crate once more.
-#![tactic(auto)]
-
-#[cfg(test)]
-mod tests;

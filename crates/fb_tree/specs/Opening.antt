@@ -1,0 +1,94 @@
+-- The blocks of a resource before the first event (IEC 61499-1, 5.2 and 5.3; that they stand as trees, with held copies, is this project's profile).
+use Rattle.std.specs.Prelude.{◌≡◌, ◌≢◌, ◌<◌, ◌+◌, ℕ, zero, suc, Bool, true, List, [], ◌∷◌, length, nat_eq, Option, Some, slice_get}
+use Rattle.std.specs.List.{filter}
+use Rattle.std.specs.BTreeMap.{BTreeMap, get}
+use Rattle.fb_types.specs.Names.{Name, Path, with_value}
+use Rattle.fb_types.specs.Values.{Values}
+use Rattle.fb_types.specs.Flat.{network_at}
+use Rattle.fb_types.specs.Headline.{Inputs, system_of}
+use Rattle.fb_types.specs.Numbers.{path_at}
+use Rattle.fb_types.specs.Simulation.{opening_block}
+use Rattle.fb_types.specs.Systems.{System}
+use Rattle.fb_types.specs.declared.library.Instance.{Instance}
+use Rattle.fb_types.specs.declared.library.Network.{Network}
+use Rattle.fb_types.specs.declared.value.Value.{Value}
+use Rattle.fb_st.specs.Frames.{Declared, is_declared}
+use Rattle.fb_fabric.specs.declared.fabric.Place.{Place}
+use Rattle.fb_fabric.specs.Layouts.{AreNumbers}
+use Rattle.fb_system.specs.Ports.{IsVariable, variable_of}
+use Rattle.fb_tree.specs.Blocks.{components_of, own_of}
+use Rattle.fb_tree.specs.Worlds.{StandsFor, key_cmp, key_of}
+use Rattle.fb_tree.specs.declared.block.Block.{Block}
+
+-- ---- Values
+
+-- the frame has a variable of each name
+abbrev pub AreDeclared : List Declared → List Name → Type 0
+AreDeclared ds ns = (place : ℕ) (n : Name) → slice_get ns place ≡ Some n → is_declared ds n ≡ true
+
+-- variables get values in turn, each that at its place
+abbrev pub begun_all : List Name → List Value → Values → Values
+begun_all [] vs m = m
+begun_all (n ∷ ns) [] m = m
+begun_all (n ∷ ns) (v ∷ vs) m = begun_all ns vs (with_value n v m)
+
+-- ---- Trees
+
+-- What is known of an instance whose block is made: how deep it stands, and how many names deeper one may go, make 18.
+pub record IsDeep (i : Inputs) (depth : ℕ) (k : ℕ) : Type 0 where
+  pub number : k < length (system_of i).paths
+  pub deep : length (path_at (system_of i) k) + depth ≡ 18
+
+abbrev pub AreDeep : Inputs → (depth : ℕ) → List ℕ → Type 0
+AreDeep i depth numbers = (place k : ℕ) → slice_get numbers place ≡ Some k → IsDeep i depth k
+
+-- The block stands for an instance before the first event, and its components do so, at most so many names deep.
+abbrev pub Grown : Inputs → (depth : ℕ) → Path → Block → Type 0
+Grown i zero p b = ⊥
+Grown i (suc d) p b =
+    StandsFor (system_of i) p (own_of b) (opening_block (system_of i) p)
+    × ((net : Network) → network_at i.library p ≡ Some net → (place : ℕ) (x : Instance) → slice_get net.instances place ≡ Some x →
+    (c : Block) × (slice_get (components_of b) place ≡ Some c) × Grown i d (x.name ∷ p) c)
+
+-- A block for each instance, at its place.
+pub record AreGrown (i : Inputs) (depth : ℕ) (numbers : List ℕ) (blocks : List Block) : Type 0 where
+  pub each : length blocks ≡ length numbers
+  pub grown : (place k : ℕ) → slice_get numbers place ≡ Some k → (b : Block) × (slice_get blocks place ≡ Some b) × Grown i depth (path_at (system_of i) k) b
+
+-- ---- The application's instances
+
+abbrev pub lies_in : System → (resource : ℕ) → (instance : ℕ) → Bool
+lies_in sys r k = nat_eq (sys.resource (path_at sys k)) r
+
+-- the numbers of the application's instances in a resource, in the order of the text
+pub record IsTopIn (i : Inputs) (resource : ℕ) (numbers : List ℕ) : Type 0 where
+  pub top : List ℕ
+  pub are : AreNumbers i.library [] i.library.application.network.instances top
+  pub is : numbers ≡ filter (lies_in (system_of i) resource) top
+
+-- ---- Held copies
+
+abbrev pub Held : Type 0
+Held = BTreeMap (ℕ × ℕ × Bool) Value
+
+-- What the variable is connected to has its held copy, where it lies in another resource.
+abbrev pub Covers : Inputs → (resource : ℕ) → Held → Place → Type 0
+Covers i r held to =
+    (x : Place) → IsVariable (system_of i) x → (system_of i).source (variable_of (system_of i) to) ≡ Some (variable_of (system_of i) x) →
+    (system_of i).resource (path_at (system_of i) x.instance) ≢ r →
+    get key_cmp held (key_of x) ≡ Some ((system_of i).initial (variable_of (system_of i) x))
+
+-- .. for each of the data inputs of an instance, or of its data outputs
+abbrev pub CoversPlaces : Inputs → (resource : ℕ) → Held → (instance : ℕ) → (is_output : Bool) → Type 0
+CoversPlaces i r held k o =
+    (v : ℕ) → IsVariable (system_of i) (record { instance = k; variable = v; is_output = o }) →
+    Covers i r held (record { instance = k; variable = v; is_output = o })
+
+-- .. for each variable in the resource
+abbrev pub CoversAll : Inputs → (resource : ℕ) → Held → Type 0
+CoversAll i r held =
+    (to : Place) → IsVariable (system_of i) to → (system_of i).resource (path_at (system_of i) to.instance) ≡ r → Covers i r held to
+
+-- No held copy is lost.
+abbrev pub KeepsCovers : Inputs → (resource : ℕ) → (old new : Held) → Type 0
+KeepsCovers i r old new = (to : Place) → Covers i r old to → Covers i r new to

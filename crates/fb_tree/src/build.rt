@@ -1,0 +1,40 @@
+//! The blocks of a resource before the first event.
+
+ghost use Rattle.std.specs.Prelude.{◌≡◌, ◌<◌, length, IfOk};
+ghost use Rattle.fb_types.specs.Headline.{system_of};
+ghost use Rattle.fb_types.specs.Simulation.{opening_state};
+ghost use Rattle.fb_types.specs.Takes.{world_of};
+ghost use Rattle.fb_tree.specs.Worlds.{IsForest};
+
+use crate::opening_copies::held_of;
+use crate::opening_trees::blocks_of;
+use crate::places::Places;
+use crate::resource::Forest;
+use crate::seats::{seats_of, top_in};
+use fb_system::system::System;
+use std::alloc::{AllocError, Global};
+
+/// How deep an instance stands at most: the components of the highest composite's lowest one.
+const DEPTH: usize = 17;
+
+/// The blocks of a resource, each with what it begins with, and the held copies of the variables of other resources
+/// to which they are connected.
+///
+/// # Errors
+/// When memory runs out.
+pub fn build(alloc: Global, system: &System, resource: u32) -> Result<Forest, AllocError>
+    requires { resource < length (system_of system.now).resource_names }
+    ensures opened { IfOk result (λ f. IsForest system.now f (world_of (opening_state (system_of system.now)) resource)) }
+    ensures resource { IfOk result (λ f. f.resource ≡ resource) }
+{
+    system.facts();
+    let resource = resource as usize;
+    let top = top_in(alloc, system, resource)?;
+    let blocks = blocks_of(alloc, system, top.as_slice(), DEPTH)?;
+    Ok(Forest {
+        resource,
+        seats: seats_of(alloc, system)?,
+        blocks: Places::from_vec(blocks),
+        held: held_of(alloc, system, resource)?,
+    })
+}

@@ -1,0 +1,129 @@
+//! One block before the first event.
+
+ghost use Rattle.std.specs.Prelude.{◌≡◌, ◌<◌, length, map, Some, true, IfOk, OnOk};
+ghost use Rattle.fb_types.specs.Blocks.{Basic, Composite, variable_names};
+ghost use Rattle.fb_types.specs.Headline.{system_of};
+ghost use Rattle.fb_types.specs.Numbers.{path_at, ports_at};
+ghost use Rattle.fb_types.specs.Simulation.{opening_block};
+ghost use Rattle.fb_types.specs.declared.library.CompositeType.{CompositeType};
+ghost use Rattle.fb_st.specs.Frames.{declared_in, values_of};
+ghost use Rattle.fb_system.specs.Stimuli.{initial_inputs, initial_outputs};
+ghost use Rattle.fb_tree.specs.Blocks.{components_of, own_of};
+ghost use Rattle.fb_tree.specs.Worlds.{BasicStands, StandsFor};
+ghost use Rattle.fb_tree.specs.Opening.{AreDeclared, begun_all};
+
+use crate::block::{BasicBlock, Block, CompositeBlock, EventBlock};
+use crate::places::Places;
+use crate::shell::Shell;
+use fb_ecc::state::BasicState;
+use fb_event::state::EventState;
+use fb_names::numbers::TypeNumber;
+use fb_st::frame::Frame;
+use fb_system::system::System;
+use fb_types::library::{BasicType, BlockType, Variable};
+use fb_types::reference::Reference;
+use fb_types::value::Value;
+use std::alloc::{AllocError, Global};
+
+/// What the data inputs of an instance begin with.
+fn inputs_of(alloc: Global, system: &System, instance: u32) -> Result<Places<Value>, AllocError>
+    requires { instance < length (system_of system.now).paths }
+    ensures { IfOk result (λ vs. vs ≡ initial_inputs (system_of system.now) (path_at (system_of system.now) instance)) }
+{
+    let values = system.initial_inputs(alloc, instance)?;
+    Ok(Places::from_vec(values.into_vec()))
+}
+
+/// What connections and stimuli have set of an instance before the first event.
+fn shell_of(alloc: Global, system: &System, instance: u32) -> Result<Shell, AllocError>
+    requires { instance < length (system_of system.now).paths }
+    ensures slots { IfOk result (λ s. s.slots ≡ initial_inputs (system_of system.now) (path_at (system_of system.now) instance)) }
+    ensures published { IfOk result (λ s. s.published ≡ initial_outputs (system_of system.now) (path_at (system_of system.now) instance)) }
+{
+    let slots = inputs_of(alloc, system, instance)?;
+    let values = system.initial_outputs(alloc, instance)?;
+    let published = Places::from_vec(values.into_vec());
+    Ok(Shell { slots, published })
+}
+
+/// Gives data inputs their values in a frame.
+fn set_inputs(
+    alloc: Global,
+    inputs: &[Variable],
+    values: &[Value],
+    frame: &mut Frame,
+) -> Result<(), AllocError>
+    requires as_many { length values.now ≡ length inputs.now }
+    requires declared { AreDeclared (declared_in frame.old) (variable_names inputs.now) }
+    ensures values { OnOk result (values_of frame.new ≡ begun_all (variable_names inputs.now) values.now (values_of frame.old)) }
+    ensures declared { OnOk result (declared_in frame.new ≡ declared_in frame.old) }
+{
+    for (place, input) in inputs.iter().enumerate() {
+        let variable = Reference::new(input.name.try_clone(alloc)?);
+        frame.put(&variable, values[place]);
+    }
+    Ok(())
+}
+
+/// A basic block of a type in its first state, with the values that its variables begin with.
+fn basic_of(
+    alloc: Global,
+    system: &System,
+    instance: u32,
+    block: &BasicType,
+) -> Result<BasicState, AllocError>
+    requires instance { instance < length (system_of system.now).paths }
+    requires kind { (system_of system.now).kind (path_at (system_of system.now) instance) ≡ Some (Basic block.now) }
+    ensures { IfOk result (λ s. BasicStands block.now s (opening_block (system_of system.now) (path_at (system_of system.now) instance))) }
+{
+    system.facts();
+    let Some(mut state) = BasicState::open(alloc, block)? else {
+        unreachable!()
+    };
+    let values = system.initial_inputs(alloc, instance)?;
+    let inputs = block.ports.inputs.as_slice();
+    set_inputs(alloc, inputs, values.as_slice(), &mut state.frame)?;
+    Ok(state)
+}
+
+/// The block of an instance. Its components stand inside it where it is a composite.
+pub(crate) fn block_with(
+    alloc: Global,
+    system: &System,
+    instance: u32,
+    components: Vec<Block>,
+) -> Result<Block, AllocError>
+    requires { instance < length (system_of system.now).paths }
+    ensures stands { IfOk result (λ b. let p = path_at (system_of system.now) instance in StandsFor (system_of system.now) p (own_of b) (opening_block (system_of system.now) p)) }
+    ensures components { IfOk result (λ b. (c : CompositeType) → (system_of system.now).kind (path_at (system_of system.now) instance) ≡ Some (Composite c) → components_of b ≡ components.items) }
+{
+    system.facts();
+    let shell = shell_of(alloc, system, instance)?;
+    match system.kind(instance) {
+        TypeNumber::Event(kind) => {
+            let state = EventState::new(kind);
+            let inputs = inputs_of(alloc, system, instance)?;
+            Ok(Block::Event(EventBlock {
+                state,
+                inputs,
+                shell,
+            }))
+        }
+        TypeNumber::Declared(place) => match system.library().blocks.get(place) {
+            Some(BlockType::Basic(block)) => {
+                let state = basic_of(alloc, system, instance, block)?;
+                Ok(Block::Basic(BasicBlock { state, shell }))
+            }
+            Some(BlockType::Composite(_)) => {
+                let inputs = inputs_of(alloc, system, instance)?;
+                let components = Places::from_vec(components);
+                Ok(Block::Composite(CompositeBlock {
+                    inputs,
+                    shell,
+                    components,
+                }))
+            }
+            None => unreachable!(),
+        },
+    }
+}

@@ -1,9 +1,0 @@
-use Rattle.std.proofs.Common.{◌≡◌, map, take}
-use Rattle.std.specs.List.{filter}
-use Rattle.fb_resolve.specs.declared.numbers.End.{End}
-use Rattle.fb_wiring.specs.Tables.{ends_at}
-use Rattle.fb_wiring.specs.Wirings.{same_end}
-use Rattle.fb_wiring.proofs.wiring.targets_of.Given as goal
-
-abbrev pub invariant-loop-wire : goal.invariant-loop-wire
-invariant-loop-wire l = (e : End) → ends_at l.table e ≡ map (λ w. w.to) (filter (λ w. same_end w.from e) (take l.wire-index l.wires))

@@ -1,3 +1,0 @@
-pub mod Cutting
-pub mod Numerals
-pub mod Valued
