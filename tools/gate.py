@@ -12,11 +12,13 @@ on texts that are cut or changed in one byte (tools/hostile.py), and with each o
 (tools/refuse.py). Then it tells the processor seconds of each crate. The last line is 'N passed, M failed', and the
 status 0 where none failed.
 
-With crates it does the same for these alone, over the libraries below them as they are built in out/.
+With crates it does the same for these and those below them alone, on a copy of their files.
 --jobs N uses N processors, and not all.
 
-It runs the kit's own `rt ci`, so it proves and judges as that does. Only how wrong bodies are tried is another way: all of a
-crate stand in one check, each in a function of its own. See tools/wrong_bodies.py."""
+It runs the kit's own `rt ci`, so it proves and judges as that does, and as with that what passed is kept on this machine by the
+checksums of all that it stands on: a later run here, in a clone too, proves and tries only what changed and what stands on
+that. Only how wrong bodies are tried is another way: all of a crate stand in one check, each in a function of its own. See
+tools/wrong_bodies.py."""
 
 import os
 import re
@@ -35,7 +37,7 @@ import refuse
 import traces
 import waves
 from kit import TOP, rt, rtlib
-from wrong_bodies import try_all
+from wrong_bodies import add_edits
 
 # Runs a command and adds to a file how much processor time it took, as a line 'seconds', folder, and the command's words.
 MEASURE = """
@@ -53,6 +55,8 @@ if os.WIFSIGNALED(status):
 sys.exit(os.WEXITSTATUS(status))
 """
 TASKS = ("proof", "tests", "edits", "runs")
+# The folder of a copy of a crate in which a wrong body is tried.
+OF_EDITS = re.compile(r"/(rt-edit|gate-edits)-")
 # What src/lib.rt of a crate says that is nothing but tests.
 TESTS_ALONE = re.compile(r"(//.*\n)*#!\[tactic\(auto\)\]\n(\s*#\[cfg\(test\)\]\nmod \w+;\n)+")
 
@@ -98,7 +102,7 @@ class Times:
         for seconds, folder, *words in rows:
             name = words[words.index("--crate-name") + 1] if "--crate-name" in words else os.path.basename(folder)
             is_of_tests = "--test" in words or any(it.endswith("_tests.o") for it in words)
-            task = "edits" if not folder.startswith(f"{TOP}/") else "tests" if is_of_tests else "proof"
+            task = "edits" if OF_EDITS.search(folder) else "tests" if is_of_tests else "proof"
             found[name, task] = found.get((name, task), 0) + float(seconds)
         return found
 
@@ -122,35 +126,6 @@ def used_by_children():
     """Returns the processor seconds of all commands that have ended, with what they started."""
     used = resource.getrusage(resource.RUSAGE_CHILDREN)
     return used.ru_utime + used.ru_stime
-
-
-def keep_to(names):
-    """Has the gate look at these crates alone. What is below them is built over the work that out/ keeps."""
-    edits_of, stop_on_unread = rt.edits_of, rtlib.stop_on_unread
-
-    class Kept(Crate):
-        def ci(self, flags, tests):
-            if self.name in names:
-                return super().ci(flags, tests)
-            self.cuts_libraries = False
-            return self.build_rlib(flags, anew=False)
-
-        def has_tests(self):
-            return self.name in names and super().has_tests()
-
-    def crates_to_try(root, _):
-        crates = rtlib.crates_below(root)
-        lacking = sorted({*names} - {it.name for it in crates})
-        if lacking:
-            rtlib.stop(f"crates.txt names no {', '.join(lacking)}")
-        below = {dep.name for it in crates if it.name in names for dep in it.below()}
-        rtlib.stop_on_unread = lambda top, _: stop_on_unread(top, crates)
-        return sorted((it for it in crates if it.name in {*names, *below}), key=lambda it: len(it.below()))
-
-    # (the libraries below say that they are of kept work, and so do those above them)
-    rtlib.VERDICT = re.compile(rtlib.VERDICT.pattern.replace(r"\n\Z", r"( incremental=trusted)?\n\Z"), re.M)
-    rtlib.Crate, rt.crates_of = Kept, crates_to_try
-    rt.edits_of = lambda crate: edits_of(crate) if crate.name in names else ([], [])
 
 
 def call_after_each_run():
@@ -181,7 +156,7 @@ def tell_before_the_last_line(times):
     """Has the kit's script print the times before its last line, which says how many passed and failed."""
 
     def tell(*texts, **how):
-        if texts and re.fullmatch(r"\d+ passed, \d+ failed", str(texts[0])):
+        if texts and re.match(r"\d+ passed, \d+ failed", str(texts[0])):
             times.tell()
         print(*texts, **how)
 
@@ -206,10 +181,8 @@ def main(words):
     with tempfile.TemporaryDirectory(prefix="gate-") as room:
         call_after_each_run()
         tell_before_the_last_line(Times(room))
-        rt.must_fail_all = try_all
-        if words:
-            keep_to(words)
-        return rt.ci()
+        rt.add_edits = add_edits
+        return rt.ci(False, words)
 
 
 if __name__ == "__main__":

@@ -12,6 +12,7 @@ the other proofs whole; where a text cannot be read, each half of the edits is t
 judged as the kit's own `rt must-fail` does. No check is over what an older one kept."""
 
 import copy
+import hashlib
 import os
 import re
 import shutil
@@ -236,18 +237,71 @@ def try_together(crate, sources, edits):
 
 
 def try_alone(crate, edit, flags):
-    """Tries an edit as the kit does. Where it is refused by names alone that it took away, no contract was tried."""
-    is_refused, text = rt.must_fail(crate, edit.file, flags)
-    return is_refused and "this says little of the contract" not in text, text
+    """Tries an edit as the kit does. Where it is refused by names alone that it took away, no contract was tried; and one that
+    cannot be applied or read shows nothing."""
+    kind, text = rt.must_fail(crate, edit.file, flags)[:2]
+    shows_nothing = kind == rt.BAD or "this says little of the contract" in text
+    return rt.MISSED if shows_nothing else kind, text
 
 
 def try_all(crate, files, flags):
-    """Stands in for the kit's must_fail_all: returns for each edit whether it is refused, and what to say."""
+    """Returns for each edit what its try comes to, as the kit has it, and what to say."""
     sources = Sources(crate)
     edits, refused = [Edit(crate, sources, it) for it in files], {}
     left = [it for it in edits if it.home]
     while left:
         found, left = try_together(crate, sources, left)
         refused.update(found)
-    said = {it: (True, f"{it.label}: refused, as it must be: {line[:160]}") for it, line in refused.items()}
+    said = {it: (rt.REFUSED, f"{it.label}: refused, as it must be: {line[:160]}") for it, line in refused.items()}
     return [said.get(it) or try_alone(crate, it, flags) for it in edits]
+
+
+def sum_of_tools():
+    """Returns a sum of what tries edits here, which is a part of the name under which it is kept what an edit came to."""
+    here = os.path.dirname(os.path.realpath(__file__))
+    texts = [rtlib.text_of(f"{here}/{name}") for name in ("wrong_bodies.py", "functions.py")]
+    return hashlib.sha256(repr(texts).encode()).hexdigest()
+
+
+class Tried:
+    """What a crate's edits came to, kept on this machine beside what the kit keeps, by the sums of all that it stands on."""
+
+    def __init__(self, crate, files, kept):
+        self.crate, self.files, self.kept, self.names, self.found = crate, files, kept, [], None
+
+    def known(self):
+        """Returns, by their numbers, what earlier runs came to for those edits that they tried."""
+        if self.found is None:
+            sum = self.kept.key(self.crate) + sum_of_tools()
+            self.names = [self.kept.of_edit(it, sum) for it in self.files]
+            told = {number: self.kept.tried(name) for number, name in enumerate(self.names)}
+            self.found = {number: it for number, it in told.items() if it}
+        return self.found
+
+    def keep(self, number, kind, text):
+        sum = self.kept.key(self.crate) + sum_of_tools()
+        is_same = self.kept.is_untouched(self.crate) and self.kept.of_edit(self.files[number], sum) == self.names[number]
+        if kind in rt.SETTLED and is_same:
+            self.kept.keep_tried(self.names[number], kind, text)
+
+
+def add_edits(tasks, crate, files, first, waits, is_well, kept, *_):
+    """Stands in for the kit's function of this name: adds the one task that tries a crate's edits, and returns what gives their
+    results, in order, and what gives those of earlier runs."""
+    tried, key = Tried(crate, files, kept), (crate.name, "edits")
+
+    def work(given, jobs):
+        if not files or not is_well(given):
+            return []
+        known = tried.known()
+        new = [number for number in range(len(files)) if number not in known]
+        if not new:
+            return [known[number] for number in range(len(files))]
+        is_well(given, len(new))
+        found = dict(zip(new, try_all(crate, [files[it] for it in new], ["--jobs", "1"])))
+        for number, (kind, text) in found.items():
+            tried.keep(number, kind, text)
+        return [known.get(number) or found[number] for number in range(len(files))]
+
+    tasks[key] = (waits, crate.count(rb"\n"), rt.need(crate), work)
+    return lambda given: given[key], lambda: tried.known() if files else {}
