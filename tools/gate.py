@@ -74,7 +74,15 @@ class Crate(rt.Crate):
         return bool(TESTS_ALONE.fullmatch(rtlib.text_of(f"{self.folder}/src/lib.rt") or ""))
 
 
-rt.Crate = Crate
+class Kept(rt.Kept):
+    """What runs on this machine passed. Of a crate that is nothing but tests there is nothing to keep but these."""
+
+    def keep(self, crate, tests, key):
+        if tests or not crate.has_tests_alone():
+            super().keep(crate, tests, key)
+
+
+rt.Crate, rt.Kept = Crate, Kept
 
 
 class Times:
@@ -152,15 +160,37 @@ def call_after_each_run():
     rt.run = run_and_call
 
 
-def tell_before_the_last_line(times):
-    """Has the kit's script print the times before its last line, which says how many passed and failed."""
+class Beside:
+    """A look that goes beside the rest of the gate, and what it said."""
+
+    def __init__(self, *words):
+        self.said = tempfile.TemporaryFile("w+")
+        self.command = subprocess.Popen([sys.executable, "-B", *words], stdout=self.said, stderr=subprocess.STDOUT, stdin=subprocess.DEVNULL)
+
+    def has_failed(self):
+        """Waits for its end, tells what it said, and returns whether it found a fault."""
+        status = self.command.wait()
+        self.said.seek(0)
+        print(self.said.read(), end="", flush=True)
+        return status != 0
+
+
+def tell_before_the_last_line(times, look):
+    """Has the kit's script print the times before its last line, which says how many passed and failed. A look that has failed counts there,
+    and is what this returns a call for."""
+    failed = []
 
     def tell(*texts, **how):
-        if texts and re.match(r"\d+ passed, \d+ failed", str(texts[0])):
-            times.tell()
-        print(*texts, **how)
+        counts = texts and re.match(r"(\d+) passed, (\d+) failed", str(texts[0]))
+        if not counts:
+            return print(*texts, **how)
+        failed.append(look.has_failed())
+        times.tell()
+        passed, missed = (int(it) for it in counts.groups())
+        print(f"{passed + (not failed[0])} passed, {missed + failed[0]} failed{texts[0][counts.end() :]}", **how)
 
     rt.print = tell
+    return lambda: any(failed)
 
 
 def main(words):
@@ -174,15 +204,16 @@ def main(words):
     if any(it.startswith("-") for it in words):
         print(__doc__, file=sys.stderr)
         return 2
-    looks = [["examples/check"], [sys.executable, "-B", "tools/wrong_bodies_test.py"]]
-    if any(subprocess.run(it).returncode for it in looks) or explained.main([]) or documents.main():
+    if subprocess.run(["examples/check"]).returncode or explained.main([]) or documents.main():
         print("0 passed, 1 failed")
         return 1
     with tempfile.TemporaryDirectory(prefix="gate-") as room:
+        look = Beside("tools/wrong_bodies_test.py")
         call_after_each_run()
-        tell_before_the_last_line(Times(room))
+        has_failed = tell_before_the_last_line(Times(room), look)
         rt.add_edits = add_edits
-        return rt.ci(False, words)
+        status = rt.ci(False, words)
+        return status or int(has_failed())
 
 
 if __name__ == "__main__":
