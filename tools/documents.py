@@ -17,7 +17,7 @@ from kit import TOP
 ROW = re.compile(r"\| `(fb\w+)` \|.*\|")
 TEXTS = re.compile(r"`([^`\n]+)`")
 # A file or a folder of the repository, as a page names it.
-PLACE = re.compile(r"(?:docs|crates|tools|examples|bench)/[\w./+]*\w")
+PLACE = re.compile(r"(?:docs|crates|cases|tools|examples|bench)/[\w./+]*\w")
 
 
 def text_of(place):

@@ -2,15 +2,14 @@
 """./gate [--jobs N] [CRATE..]: the test command and merge gate of this repository.
 
 Without a crate it is the whole gate: the examples are those of the tests, docs/FORMATS.md shows the explanations of the
-refusals, what the documents name is there (tools/documents.py), and what tries wrong bodies tells them from right ones
-(tools/wrong_bodies_test.py); then, from nothing, every crate and its tests are
+refusals, what the documents name is there (tools/documents.py), and what tries stored cases and wrong bodies tells right ones
+from wrong ones (tools/cases_test.py, tools/wrong_bodies_test.py); then, from nothing, every crate and its tests are
 proved, every wrong body in crates/*/must-fail is shown to be refused, tests and programs are run, and the program is
 called at least once for each status (tools/calls.py), as docs/FIRST_APPLICATION.md has it (tools/first_application.py),
 for the waveforms of the examples, which are compared with their traces (tools/waves.py), and of what is no trace
-(tools/traces.py),
-on texts that are cut or changed in one byte (tools/hostile.py), and with each of its requests for memory refused
-(tools/refuse.py). Then it tells the processor seconds of each crate. The last line is 'N passed, M failed', and the
-status 0 where none failed.
+(tools/traces.py), on the stored cases of cases/ (tools/cases.py) and on rings of resources (tools/rings.py), on texts that
+are cut or changed in one byte (tools/hostile.py), and with each of its requests for memory refused (tools/refuse.py). Then
+it tells the processor seconds of each crate. The last line is 'N passed, M failed', and the status 0 where none failed.
 
 With crates it does the same for these and those below them alone, on a copy of their files.
 --jobs N uses N processors, and not all.
@@ -29,11 +28,14 @@ import tempfile
 import time
 
 import calls
+import cases
+import cases_test
 import documents
 import explained
 import first_application
 import hostile
 import refuse
+import rings
 import traces
 import waves
 from kit import TOP, rt, rtlib
@@ -145,6 +147,8 @@ def call_after_each_run():
         yield first_application.main(made) == 0
         yield waves.make_all(made)
         yield traces.try_all(made)
+        yield cases.run_all(made)
+        yield rings.try_all(made)
         yield hostile.try_all(made)
         yield refuse.try_all(made)
 
@@ -204,7 +208,7 @@ def main(words):
     if any(it.startswith("-") for it in words):
         print(__doc__, file=sys.stderr)
         return 2
-    if subprocess.run(["examples/check"]).returncode or explained.main([]) or documents.main():
+    if subprocess.run(["examples/check"]).returncode or explained.main([]) or documents.main() or cases_test.main():
         print("0 passed, 1 failed")
         return 1
     with tempfile.TemporaryDirectory(prefix="gate-") as room:

@@ -1,6 +1,5 @@
-//! Tests of what finds by number what names stand for, in `fb_names`, `fb_check`, `fb_fabric` and `fb_system`, as far as it
-//! can be made of a declaration without a system. They stand apart, so that a check of the tests does not prove those
-//! crates once more.
+//! Tests of what is looked up by number of a system: what `fb_names`, `fb_joins`, `fb_fabric`, `fb_check` and `fb_system` make
+//! of names. They stand apart, so that a check of the tests does not prove those crates once more.
 #![tactic(auto)]
 
 #[cfg(test)]

@@ -136,21 +136,15 @@ module _ (i : Inputs) (limit horizon : ℕ) (core : Core) (h : HasCome i limit h
           → AreLegal j l u (core_of j l es) bounds
           → Settles j l u es bounds before workers s
 
-      said : (s : Settled) → away.horizon ≡ horizon
+      pub is_after : (s : Settled) → away.horizon ≡ horizon
           → OfEachCore core.system core.steps horizon core.resources.items (λ c. AreLegal core.system core.steps horizon c all)
           → Says away.system away.steps away.horizon (lists_of away.pending.items) s → IsAfter i limit horizon s
-      said s to legal says =
+      is_after s to legal says =
           let a : Says i away.steps away.horizon (lists_of away.pending.items) s = subst (λ (j : Inputs). Says j away.steps away.horizon (lists_of away.pending.items) s) (system ∙ h.inputs) says in
           let b : Says i limit away.horizon (lists_of away.pending.items) s = subst (λ (l : ℕ). Says i l away.horizon (lists_of away.pending.items) s) (steps ∙ h.steps) a in
           let c : Says i limit horizon (lists_of away.pending.items) s = subst (λ (u : ℕ). Says i limit u (lists_of away.pending.items) s) to b in
           let d : Says i limit horizon (lists_of core.pending.items) s = subst (λ (ps : List (List run.Line)). Says i limit horizon ps s) (ap (λ ps. lists_of ps.items) pending) c in
           after all (λ r. 0) s (d core.resources.items all h.way (λ r. 0) left h.schedule h.at (are_legal legal))
-
-      pub is_after : {E : Type 0} (r : Result Settled E) → away.horizon ≡ horizon
-          → OfEachCore core.system core.steps horizon core.resources.items (λ c. AreLegal core.system core.steps horizon c all)
-          → IfOk r (Says away.system away.steps away.horizon (lists_of away.pending.items)) → IfOk r (IsAfter i limit horizon)
-      is_after (Err e) to legal says = tt
-      is_after (Ok s) to legal says = said s to legal says
 
   -- ---- A walk
 

@@ -1,5 +1,5 @@
-//! Tests of what is read, and of the data that it is read into: `fb_types`, `fb_read`, `fb_inputs`. They stand apart, so
-//! that a check of the tests does not prove those crates once more.
+//! Tests of what the program does not show: the trees that texts are read into, and the data that other crates share, of `fb_types`,
+//! `fb_names`, `fb_read` and `fb_inputs`. What the program shows of a text stands in the folder `cases`.
 #![tactic(auto)]
 
 #[cfg(test)]

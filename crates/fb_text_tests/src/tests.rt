@@ -1,5 +1,9 @@
-//! Texts of declarations, deployments and stimuli, and what is read of them.
+//! Expected values that were written out by hand. What is read is left to the end of the process, since whoever drops a library
+//! proves how each of its parts is dropped.
 
-mod declarations;
+mod catalog;
+mod expressions;
 mod inputs;
-mod types;
+mod shared;
+mod show;
+mod statements;

@@ -1,8 +1,19 @@
--- What follows each piece of a line.
-use Rattle.std.specs.Prelude.{ℕ, List, [], ◌∷◌, codes, if◌then◌else◌}
+-- The pieces of a line, and what follows each.
+use Rattle.std.proofs.Common.{◌≡◌, refl, append_assoc}
+use Rattle.std.specs.Prelude.{ℕ, List, [], ◌∷◌, ◌++◌, codes, if◌then◌else◌}
 use Rattle.fb_types.specs.Systems.{System}
 use Rattle.fb_types.specs.States.{Line}
-use Rattle.fb_types.specs.Text.{place_text, path_text, values_text}
+use Rattle.fb_types.specs.Text.{key_text, place_text, path_text, values_text}
+use Rattle.fb_types.specs.declared.run.Form.{Form}
+
+-- the sign of an event
+abbrev pub sign_text : Line → List ℕ
+sign_text l = if l.taken then codes " > " else codes " < "
+
+-- a line up to the name of its event
+abbrev pub until_event : Form → System → Line → List ℕ
+until_event form sys l =
+    key_text form l.key ++ place_text sys l.key.tick l.key.resource ++ sign_text l ++ path_text l.at ++ codes "." ++ l.event
 
 abbrev pub after_values : List (List ℕ)
 after_values = (10 ∷ []) ∷ []
@@ -10,17 +21,10 @@ after_values = (10 ∷ []) ∷ []
 abbrev pub after_event : Line → List (List ℕ)
 after_event l = values_text l.values ∷ after_values
 
-abbrev pub after_dot : Line → List (List ℕ)
-after_dot l = l.event ∷ after_event l
-
-abbrev pub after_path : Line → List (List ℕ)
-after_path l = codes "." ∷ after_dot l
-
-abbrev pub after_sign : Line → List (List ℕ)
-after_sign l = path_text l.at ∷ after_path l
-
-abbrev pub after_place : Line → List (List ℕ)
-after_place l = (if l.taken then codes " > " else codes " < ") ∷ after_sign l
-
 abbrev pub after_key : System → Line → List (List ℕ)
-after_key sys l = place_text sys l.key.tick l.key.resource ∷ after_place l
+after_key sys l = place_text sys l.key.tick l.key.resource ∷ sign_text l ∷ path_text l.at ∷ codes "." ∷ l.event ∷ after_event l
+
+-- a head behind what stands before it
+pub behind : (k place sign path dot event : List ℕ) → k ++ (place ++ sign ++ path ++ dot ++ event) ≡ k ++ place ++ sign ++ path ++ dot ++ event
+behind k place sign path dot event =
+    rw (append_assoc k place sign, append_assoc k (place ++ sign) path, append_assoc k (place ++ sign ++ path) dot, append_assoc k (place ++ sign ++ path ++ dot) event) refl

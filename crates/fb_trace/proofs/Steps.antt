@@ -1,5 +1,5 @@
 -- Text that is put piece by piece.
-use Rattle.std.proofs.Common.{◌≡◌, ℕ, ◌+◌, ◌<◌, List, [], ◌∷◌, ◌++◌, length, take, drop, Option, Result, Ok, Err, sym, subst, ◌∙◌, arith, append_assoc, append-nil, length-append, length-drop, length-take, take-append-drop}
+use Rattle.std.proofs.Common.{◌≡◌, ℕ, ◌+◌, ◌<◌, List, [], ◌∷◌, ◌++◌, length, take, drop, Option, Result, Ok, Err, refl, sym, subst, ◌∙◌, arith, append_assoc, append-nil, length-append, length-drop, length-take, take-append-drop}
 use Rattle.std.specs.Result.{IsErrAnd}
 use Rattle.std.specs.Io.KnownBytes.{Appends}
 use Rattle.std.proofs.KnownBytes.{Appends-nil, Appends-trans}
@@ -56,6 +56,14 @@ Fails-before {a} {b} {p} {x} y t =
 -- nothing is put
 pub Puts-none : (a : Option (List ℕ)) (p : Page) → Puts a a p p []
 Puts-none a p = record { sent = []; got = Appends-nil a; parts = append-nil _; counted = omega arith }
+
+-- a piece for which there was room
+pub Puts-appended : (a : Option (List ℕ)) {p q : Page} {x : List ℕ} → q ≡ record p { waiting = p.waiting ++ x } → Puts a a p q x
+Puts-appended a e = rw e (record { sent = []; got = Appends-nil a; parts = refl; counted = omega arith })
+
+-- .. and one more behind it
+pub appended-more : (p q r : Page) (x y : List ℕ) → q ≡ record p { waiting = p.waiting ++ x } → r ≡ record q { waiting = q.waiting ++ y } → r ≡ record p { waiting = p.waiting ++ (x ++ y) }
+appended-more p q r x y e f = rw (f, e, append_assoc p.waiting x y) refl
 
 -- the answer of the last piece
 pub Gathers-after : {a b c : Option (List ℕ)} {p q r : Page} {x y : List ℕ} (result : Result (Unit {0}) WriteFault) → Puts a b p q x → Gathers b c q r y result → Gathers a c p r (x ++ y) result

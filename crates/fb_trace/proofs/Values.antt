@@ -28,6 +28,10 @@ values_text-push bs b =
 pub values_text-parts : (i : ℕ) (bs : List Bound) → values_text (take i bs) ++ values_text (drop i bs) ≡ values_text bs
 values_text-parts i bs = sym (values_text-append (take i bs) (drop i bs)) ∙ ap values_text (take-append-drop i bs)
 
+pub pair_up-none : (ns : List Name) → pair_up ns [] ≡ []
+pair_up-none [] = refl
+pair_up-none (n ∷ ns) = refl
+
 pub length-pair_up : (ns : List Name) (vs : List Value) → length (pair_up ns vs) ≡ min (length ns) (length vs)
 length-pair_up [] vs = omega arith
 length-pair_up (n ∷ ns) [] = omega arith

@@ -4,23 +4,48 @@ ghost use Rattle.std.specs.Prelude.{◌≡◌, map, length, All, IfErr, IfOk, On
 ghost use Rattle.std.specs.Io.KnownBytes.{Appends};
 ghost use Rattle.fb_types.specs.Headline.{system_of};
 ghost use Rattle.fb_types.specs.Numbers.{line_of};
-ghost use Rattle.fb_types.specs.Text.{line_text, lines_text};
+ghost use Rattle.fb_types.specs.Text.{line_text, lines_text, values_text};
 ghost use Rattle.fb_system.specs.Lines.{BelongsTo};
 ghost use Rattle.fb_trace.specs.Progress.{Gathers, IsPartWritten, bounded};
 
 use crate::fault::WriteFault;
-use crate::names::names_of;
+use crate::names::{event_name, shown_by};
 use crate::page::Page;
-use crate::pieces::{put_key, put_place, put_values};
+use crate::pieces::{put_head, put_key, put_values};
 use fb_system::system::System;
 use fb_types::run::{Form, Line};
 use std::io::Write;
 
 /// What stands before the path: the sign of an event that was taken, or of one that was emitted.
 fn sign(taken: bool) -> &'static [u8]
-    ensures { result.now ≡ (if taken then codes " > " else codes " < ") }
+    ensures sign { result.now ≡ (if taken then codes " > " else codes " < ") }
+    ensures short { length result.now ≡ 3 }
 {
     if taken { b" > " } else { b" < " }
+}
+
+/// Puts the values of a line, each with the name of its variable.
+fn put_bindings<W: Write>(
+    page: &mut Page,
+    out: &mut W,
+    system: &System,
+    line: &Line,
+) -> Result<(), WriteFault>
+    requires { BelongsTo (system_of system.now) line.now }
+    ensures { Gathers (W.contents out.old) (W.contents out.new) page.old page.new
+        (values_text (line_of (system_of system.now) line.now).values) result }
+{
+    if line.values.is_empty() {
+        return Ok(());
+    }
+    let shown = shown_by(system, line);
+    put_values(
+        page,
+        out,
+        shown.variables,
+        shown.places,
+        line.values.as_slice(),
+    )
 }
 
 fn put_line<W: Write>(
@@ -34,21 +59,20 @@ fn put_line<W: Write>(
     ensures { Gathers (W.contents out.old) (W.contents out.new) page.old page.new
         (let sys = system_of system.now in line_text form sys (line_of sys line.now)) result }
 {
-    let names = names_of(system, line);
     put_key(page, out, form, &line.key)?;
-    put_place(page, out, system, line.key.tick, line.key.resource)?;
-    page.put(out, sign(line.taken))?;
-    page.put(out, system.path(line.instance))?;
-    page.put(out, b".")?;
-    page.put(out, names.event)?;
-    put_values(
+    put_head(
         page,
         out,
-        names.variables,
-        names.places,
-        line.values.as_slice(),
+        line.key.tick,
+        system.resource_name(line.key.resource as usize),
+        sign(line.taken),
+        system.path(line.instance),
+        event_name(system, line),
     )?;
-    page.put(out, b"\n")
+    put_bindings(page, out, system, line)?;
+    page.make_room(out, 1)?;
+    page.append(b"\n");
+    Ok(())
 }
 
 /// Puts the text of lines.

@@ -10,7 +10,10 @@ use std::io::Write;
 use std::marker::Model;
 
 /// How many bytes wait at most.
-const SIZE: usize = 8192;
+pub(crate) const SIZE: usize = 8192;
+
+/// A text of no more bytes is short: an empty page has room for three of them, with all that stands between.
+pub(crate) const SHORT: usize = 2048;
 
 /// Text that waits to be written, and how many bytes were written before it.
 #[derive(Drop)]
@@ -107,13 +110,44 @@ impl Page {
         Ok(())
     }
 
-    fn append(&mut self, bytes: &[u8])
+    /// Makes room for so many bytes: where they do not fit, all that waits is written first.
+    #[inline(always)]
+    pub(crate) fn make_room<W: Write>(
+        &mut self,
+        out: &mut W,
+        count: usize,
+    ) -> Result<(), WriteFault>
+        requires { count ≤ SIZE }
+        ensures text { Gathers (W.contents out.old) (W.contents out.new) self.old self.new [] result }
+        ensures room { OnOk result (length self.new.waiting + count ≤ SIZE) }
+    {
+        if count > SIZE - self.used {
+            self.flush(out)?;
+        }
+        Ok(())
+    }
+
+    /// Puts bytes behind those that wait, where there is room for them.
+    #[inline(always)]
+    pub(crate) fn append(&mut self, bytes: &[u8])
         requires { length self.old.waiting + length bytes.now ≤ SIZE }
-        ensures { self.new ≡ record self.old { waiting = self.old.waiting ++ bytes.now } }
+        ensures text { self.new ≡ record self.old { waiting = self.old.waiting ++ bytes.now } }
+        ensures length { length self.new.waiting ≡ length self.old.waiting + length bytes.now }
     {
         let end = self.used + bytes.len();
         self.bytes[self.used..end].copy_from_slice(bytes);
         self.used = end;
+    }
+
+    /// Puts the decimal digits of a number behind what waits, where there is room for as many as a number may have.
+    pub(crate) fn append_number(&mut self, number: u128)
+        requires { length self.old.waiting + MOST_DIGITS ≤ SIZE }
+        ensures text { self.new ≡ record self.old { waiting = self.old.waiting ++ decimal number } }
+        ensures length { length self.new.waiting ≤ length self.old.waiting + MOST_DIGITS }
+    {
+        let mut digits = [0; MOST_DIGITS];
+        let start = write_digits(number, &mut digits);
+        self.append(&digits[start..]);
     }
 
     /// Puts the decimal digits of a number.

@@ -1,14 +1,14 @@
 //! The pieces of a line.
 
-ghost use Rattle.std.specs.Prelude.{◌≡◌, ◌<◌, ◌++◌, length, map, All, codes, decimal};
+ghost use Rattle.std.specs.Prelude.{◌≡◌, ◌<◌, ◌≤◌, ◌+◌, ◌++◌, ℕ, List, Option, length, map, All, codes, decimal};
 ghost use Rattle.fb_types.specs.Headline.{system_of};
 ghost use Rattle.fb_types.specs.Numbers.{pair_up};
 ghost use Rattle.fb_types.specs.Text.{key_text, place_text, value_text, values_text};
 ghost use Rattle.fb_system.specs.Stands.{variable_at};
-ghost use Rattle.fb_trace.specs.Progress.{Gathers};
+ghost use Rattle.fb_trace.specs.Progress.{Gathers, Puts};
 
 use crate::fault::WriteFault;
-use crate::page::Page;
+use crate::page::{Page, SHORT, SIZE};
 use fb_system::system::System;
 use fb_types::key::Key;
 use fb_types::library::Variable;
@@ -59,23 +59,123 @@ pub(crate) fn put_place<W: Write>(
     page.put(out, system.resource_name(resource as usize))
 }
 
-fn put_whole<W: Write>(page: &mut Page, out: &mut W, number: i128) -> Result<(), WriteFault>
-    ensures { Gathers (W.contents out.old) (W.contents out.new) page.old page.new (value_text (Value.Whole number)) result }
+/// What stands between the texts of a head, and a number, takes no more bytes.
+const HEAD: usize = 44;
+
+/// What stands before and behind the name of a value, and a number with its sign, takes no more bytes.
+const BINDING: usize = 42;
+
+/// Puts a head of short texts, where there is room for it.
+fn append_head(page: &mut Page, tick: u64, resource: &[u8], sign: &[u8], path: &[u8], event: &[u8])
+    requires sign { length sign.now ≡ 3 }
+    requires room { length page.old.waiting + (HEAD + length resource.now + length path.now + length event.now) ≤ SIZE }
+    ensures { (a : Option (List ℕ)) → Puts a a page.old page.new
+        (decimal tick ++ codes " " ++ resource.now ++ sign.now ++ path.now ++ codes "." ++ event.now) }
 {
-    if number < 0 {
-        page.put(out, b"-")?;
-    }
-    page.put_number(out, number.unsigned_abs())
+    page.append_number(tick as u128);
+    page.append(b" ");
+    page.append(resource);
+    page.append(sign);
+    page.append(path);
+    page.append(b".");
+    page.append(event);
 }
 
-fn put_value<W: Write>(page: &mut Page, out: &mut W, value: Value) -> Result<(), WriteFault>
-    ensures { Gathers (W.contents out.old) (W.contents out.new) page.old page.new (value_text value) result }
+/// Puts a head piece by piece, however long they are.
+fn put_long_head<W: Write>(
+    page: &mut Page,
+    out: &mut W,
+    tick: u64,
+    resource: &[u8],
+    sign: &[u8],
+    path: &[u8],
+    event: &[u8],
+) -> Result<(), WriteFault>
+    ensures { Gathers (W.contents out.old) (W.contents out.new) page.old page.new
+        (decimal tick ++ codes " " ++ resource.now ++ sign.now ++ path.now ++ codes "." ++ event.now) result }
+{
+    page.put_number(out, tick as u128)?;
+    page.put(out, b" ")?;
+    page.put(out, resource)?;
+    page.put(out, sign)?;
+    page.put(out, path)?;
+    page.put(out, b".")?;
+    page.put(out, event)
+}
+
+/// Puts the head of a line: its tick, the name of a resource, a sign, a path, and the name of an event. Where all are
+/// short there is room on the page for the whole, and no piece has to ask for it.
+pub(crate) fn put_head<W: Write>(
+    page: &mut Page,
+    out: &mut W,
+    tick: u64,
+    resource: &[u8],
+    sign: &[u8],
+    path: &[u8],
+    event: &[u8],
+) -> Result<(), WriteFault>
+    requires { length sign.now ≡ 3 }
+    ensures { Gathers (W.contents out.old) (W.contents out.new) page.old page.new
+        (decimal tick ++ codes " " ++ resource.now ++ sign.now ++ path.now ++ codes "." ++ event.now) result }
+{
+    if resource.len() > SHORT || path.len() > SHORT || event.len() > SHORT {
+        return put_long_head(page, out, tick, resource, sign, path, event);
+    }
+    page.make_room(out, HEAD + resource.len() + path.len() + event.len())?;
+    append_head(page, tick, resource, sign, path, event);
+    Ok(())
+}
+
+/// Puts a whole number, where there is room for it.
+fn append_whole(page: &mut Page, number: i128)
+    requires { length page.old.waiting + 40 ≤ SIZE }
+    ensures { page.new ≡ record page.old { waiting = page.old.waiting ++ value_text (Value.Whole number) } }
+{
+    if number < 0 {
+        page.append(b"-");
+    }
+    page.append_number(number.unsigned_abs());
+}
+
+/// Puts a value, where there is room for it.
+fn append_value(page: &mut Page, value: Value)
+    requires { length page.old.waiting + 40 ≤ SIZE }
+    ensures { page.new ≡ record page.old { waiting = page.old.waiting ++ value_text value } }
 {
     match value {
-        Value::Bool(true) => page.put(out, b"TRUE"),
-        Value::Bool(false) => page.put(out, b"FALSE"),
-        Value::Whole(number) => put_whole(page, out, number),
+        Value::Bool(true) => page.append(b"TRUE"),
+        Value::Bool(false) => page.append(b"FALSE"),
+        Value::Whole(number) => append_whole(page, number),
     }
+}
+
+/// Puts a variable with a short name and its value, where there is room for them.
+fn append_binding(page: &mut Page, name: &[u8], value: Value)
+    requires { length page.old.waiting + (BINDING + length name.now) ≤ SIZE }
+    ensures { (a : Option (List ℕ)) → Puts a a page.old page.new (codes " " ++ name.now ++ codes "=" ++ value_text value) }
+{
+    page.append(b" ");
+    page.append(name);
+    page.append(b"=");
+    append_value(page, value);
+}
+
+/// Puts a variable and its value, however long its name is.
+fn put_long_binding<W: Write>(
+    page: &mut Page,
+    out: &mut W,
+    name: &[u8],
+    value: Value,
+) -> Result<(), WriteFault>
+    ensures { Gathers (W.contents out.old) (W.contents out.new) page.old page.new
+        (codes " " ++ name.now ++ codes "=" ++ value_text value) result }
+{
+    page.put(out, b" ")?;
+    page.put(out, name)?;
+    page.make_room(out, BINDING)?;
+    page.append(b"=");
+    append_value(page, value);
+    Ok(())
 }
 
 /// A variable and its value.
@@ -88,10 +188,12 @@ fn put_binding<W: Write>(
     ensures { Gathers (W.contents out.old) (W.contents out.new) page.old page.new
         (codes " " ++ name.now ++ codes "=" ++ value_text value) result }
 {
-    page.put(out, b" ")?;
-    page.put(out, name)?;
-    page.put(out, b"=")?;
-    put_value(page, out, value)
+    if name.len() > SHORT {
+        return put_long_binding(page, out, name, value);
+    }
+    page.make_room(out, BINDING + name.len())?;
+    append_binding(page, name, value);
+    Ok(())
 }
 
 /// Values, each with the name of the variable at its place.

@@ -7,7 +7,7 @@ use Rattle.std.proofs.lemmas.List.Elements.{All-nil, All-cons, All-head, All-tai
 use Rattle.fb_types.specs.Headline.{Inputs, system_of}
 use Rattle.fb_types.specs.Cores.{Core, Member, exchanged}
 use Rattle.fb_types.specs.Keys.{same_key, or_else, found}
-use Rattle.fb_types.specs.Machines.{Machine, Item, Local, waiting}
+use Rattle.fb_types.specs.Machines.{Machine, Item, Local}
 use Rattle.fb_types.specs.Parts.{machine, count_of}
 use Rattle.fb_types.specs.States as model
 use Rattle.fb_types.specs.declared.key.Key.{Key}

@@ -40,3 +40,4 @@ pub mod Sends
 pub mod Single
 pub mod Walking
 pub mod Walked
+pub mod Noting

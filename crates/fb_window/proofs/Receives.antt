@@ -1,5 +1,5 @@
 -- Messages that come to resources one after another.
-use Rattle.std.proofs.Common.{◌≡◌, ◌≢◌, ℕ, ◌<◌, ◌==◌, Bool, true, false, Some, List, [], ◌∷◌, ◌++◌, map, length, refl, sym, ap, ◌∙◌, subst, ⊎_elim, arith, All, append-nil, inl, inr, ◌⊎◌}
+use Rattle.std.proofs.Common.{◌≡◌, ◌≢◌, ℕ, ◌<◌, false, Some, List, [], ◌∷◌, ◌++◌, map, length, refl, sym, ap, ◌∙◌, subst, ⊎_elim, arith, All, append-nil, inl, inr, ◌⊎◌}
 use Rattle.std.specs.Prelude.{slice_get, slice_set}
 use Rattle.std.specs.List.{filter}
 use Rattle.std.proofs.lemmas.Bool.{cases_eq, cond-true, cond-false, eq-eqb, ne_eqb, eqb-false}
@@ -17,7 +17,7 @@ use Rattle.fb_take.specs.Posts.{arriving}
 use Rattle.fb_link.specs.Exchanges.{goes_to, key_of, keyed, receiver_of}
 use Rattle.fb_link.proofs.Keyed.{found_kept}
 use Rattle.fb_link.proofs.Lists.{set_here, set_apart}
-use Rattle.fb_resource.specs.Resources.{HasReceived, IsFor, IsOf, StandsFor, with_messages}
+use Rattle.fb_resource.specs.Resources.{HasReceived, IsFor, StandsFor, with_messages}
 use Rattle.fb_resource.specs.declared.resource.Inner.{Inner}
 use Rattle.fb_window.specs.Mails.{AreGiven}
 use Rattle.fb_window.proofs.Delivers.{map_append}

@@ -1,14 +1,12 @@
 -- How far a walk has come, turn after turn.
-use Rattle.std.proofs.Common.{◌≡◌, ℕ, ◌+◌, ◌<◌, ◌≤◌, ◌++◌, Option, Some, None, List, [], ◌∷◌, length, refl, sym, ap, ◌∙◌, subst, inl, inr, ⊎_elim, arith, All}
+use Rattle.std.proofs.Common.{◌≡◌, ℕ, ◌+◌, ◌<◌, ◌++◌, Option, Some, None, List, [], ◌∷◌, length, refl, sym, ap, ◌∙◌, subst, inl, inr, ⊎_elim, arith, All}
 use Rattle.std.specs.Global.{Vec}
 use Rattle.std.specs.Prelude.{slice_get, slice_set}
-use Rattle.std.proofs.lemmas.Bool.{cases_eq}
 use Rattle.std.proofs.lemmas.List.{length-set}
 use Rattle.std.proofs.lemmas.List.Elements.{All-append}
 use Rattle.fb_types.specs.Headline.{Inputs, system_of, stimuli_of}
 use Rattle.fb_types.specs.Cores as model_cores
 use Rattle.fb_types.specs.Cores.{CoreStep, opening_core}
-use Rattle.fb_types.specs.Machines.{Machine}
 use Rattle.fb_types.specs.Parts.{machine, count_of}
 use Rattle.fb_types.specs.Schedules.{IsSchedule}
 use Rattle.fb_types.specs.declared.key.Key.{Key}
@@ -24,10 +22,9 @@ use Rattle.fb_resource.specs.Resources.{IsOf, mark_of}
 use Rattle.fb_resource.specs.declared.resource.Inner.{Inner}
 use Rattle.fb_window.specs.Finality.{core_of}
 use Rattle.fb_window.specs.Frontiers.{AreLive}
-use Rattle.fb_window.specs.Standing.{IsAt, Sits}
+use Rattle.fb_window.specs.Standing.{IsAt}
 use Rattle.fb_window.specs.Walking.{HasTurned, IsWalked, Leads, Single, Walks, after_walk}
 use Rattle.fb_window.specs.declared.cores.Core.{Core}
-use Rattle.fb_window.proofs.Passes.{some_of}
 use Rattle.fb_window.proofs.Places.{has_at, is_at, one_at, push_counted}
 use Rattle.fb_window.proofs.Receives.{set_same}
 use Rattle.fb_window.proofs.Single.{leads}

@@ -1,5 +1,5 @@
 -- Walks: turns of one resource each, one after another.
-use Rattle.std.proofs.Common.{◌≡◌, ℕ, ◌++◌, List, [], ◌∷◌, length, refl, sym, ap, ◌∙◌, subst, append_assoc, append-nil}
+use Rattle.std.proofs.Common.{◌≡◌, ℕ, ◌++◌, List, [], ◌∷◌, sym, ap, ◌∙◌, subst, append_assoc, append-nil}
 use Rattle.std.proofs.lemmas.Grind.{flat_map-append}
 use Rattle.fb_types.specs.Headline.{Inputs, system_of, stimuli_of}
 use Rattle.fb_types.specs.Cores as model_cores
@@ -7,7 +7,6 @@ use Rattle.fb_types.specs.Cores.{CoreStep, IsFloor, opening_core}
 use Rattle.fb_types.specs.Machines.{Machine}
 use Rattle.fb_types.specs.Parts.{machine, count_of}
 use Rattle.fb_types.specs.Schedules.{IsSchedule, core_after}
-use Rattle.fb_types.specs.States as model
 use Rattle.fb_window.specs.Finality.{HasKept, core_of}
 use Rattle.fb_window.specs.Settling.{lists_of}
 use Rattle.fb_window.specs.Standing.{IsAt}

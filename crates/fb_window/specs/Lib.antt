@@ -11,3 +11,4 @@ pub mod Mails
 pub mod Frontiers
 pub mod Settling
 pub mod Walking
+pub mod Noting

@@ -1,45 +1,67 @@
 //! Turns of one resource after another, on one thread.
 
 ghost use Rattle.std.specs.Prelude.{◌≡◌, ◌^◌, ◌<◌, ◌≤◌, ℕ, List, None, Some, All, IfOk, OnOk, length, slice_get};
-ghost use Rattle.fb_agenda.specs.Agendas.{IsNext, waiting};
 ghost use Rattle.fb_resource.specs.Resources.{IsOf};
 ghost use Rattle.fb_resource.specs.declared.resource.Inner.{Inner};
 ghost use Rattle.fb_types.specs.Cores.{CoreStep, opening_core};
 ghost use Rattle.fb_types.specs.Headline.{stimuli_of, system_of};
 ghost use Rattle.fb_types.specs.Parts.{count_of, machine};
 ghost use Rattle.fb_types.specs.Schedules.{IsSchedule};
-ghost use Rattle.fb_types.specs.declared.key.Key.{Key};
 ghost use Rattle.fb_system.specs.Lines.{BelongsTo};
 ghost use Rattle.fb_window.specs.Finality.{core_of};
 ghost use Rattle.fb_window.specs.Mails.{AreGiven};
+ghost use Rattle.fb_window.specs.Noting.{AreNoted, IsHanded};
 ghost use Rattle.fb_window.specs.Standing.{IsAt};
 ghost use Rattle.fb_window.specs.Walking.{HasTurned, Walks};
 
 use crate::cores::{Core, Failed};
 use crate::ends::first_stop;
+use crate::nexts::Nexts;
 use fb_resource::resource::Resource;
 use fb_system::system::System;
 use fb_types::run::{Message, StopMark};
 use std::alloc::{AllocError, Global};
 
-/// The first resource that has the least event, and the tick of this event; the tick is the horizon where no event
-/// comes before it.
-fn first_least(resources: &[Resource], horizon: u64) -> (usize, u64)
-    ensures cap { result.1 ≤ horizon }
-    ensures low { (r : ℕ) (x : Inner) (j : Key) → slice_get resources.now r ≡ Some x → j.tick < result.1 → waiting x.queues.agenda j ≡ None }
-    ensures there { result.1 < horizon → (x : Inner) × (slice_get resources.now result.0 ≡ Some x) × IsNext x.queues.agenda result.1 }
+/// Puts messages on the agenda of the resource at a place, and notes when it has its next event.
+fn hand(
+    resources: &mut Vec<Resource>,
+    nexts: &mut Nexts,
+    place: usize,
+    messages: Vec<Message>,
+) -> Result<(), AllocError>
+    requires place { place < length resources.old.items }
+    requires noted { AreNoted nexts.old.horizon resources.old.items nexts.old.ticks.items }
+    ensures horizon { nexts.new.horizon ≡ nexts.old.horizon }
+    ensures noted { OnOk result (AreNoted nexts.new.horizon resources.new.items nexts.new.ticks.items) }
+    ensures handed { OnOk result (IsHanded place messages.items resources.old.items resources.new.items) }
 {
-    let mut first = 0;
-    let mut least = horizon;
-    for (place, resource) in resources.iter().enumerate() {
-        if let Some(tick) = resource.next() {
-            if tick < least {
-                first = place;
-                least = tick;
-            }
+    match resources[place].receive(messages) {
+        Ok(()) => {
+            nexts.note(place, &resources[place]);
+            Ok(())
         }
+        Err((error, _messages)) => Err(error),
     }
-    (first, least)
+}
+
+/// Puts the one message on the agenda of its receiver.
+fn give_one(
+    system: &System,
+    resources: &mut Vec<Resource>,
+    nexts: &mut Nexts,
+    sent: Vec<Message>,
+) -> Result<(), AllocError>
+    requires one { length sent.items ≡ 1 }
+    requires targets { All (λ m. m.target.instance < length (system_of system.now).paths) sent.items }
+    requires counted { length resources.old.items ≡ count_of (system_of system.now) }
+    requires noted { AreNoted nexts.old.horizon resources.old.items nexts.old.ticks.items }
+    ensures horizon { nexts.new.horizon ≡ nexts.old.horizon }
+    ensures noted { OnOk result (AreNoted nexts.new.horizon resources.new.items nexts.new.ticks.items) }
+    ensures given { OnOk result (AreGiven (system_of system.now) sent.items resources.old.items resources.new.items) }
+{
+    system.facts();
+    let receiver = system.resource(sent[0].target.instance);
+    hand(resources, nexts, receiver, sent)
 }
 
 /// Puts each message on the agenda of its receiver.
@@ -48,21 +70,25 @@ fn give(
     alloc: Global,
     system: &System,
     resources: &mut Vec<Resource>,
+    nexts: &mut Nexts,
     sent: Vec<Message>,
 ) -> Result<(), AllocError>
     requires targets { All (λ m. m.target.instance < length (system_of system.now).paths) sent.items }
     requires counted { length resources.old.items ≡ count_of (system_of system.now) }
-    ensures { OnOk result (AreGiven (system_of system.now) sent.items resources.old.items resources.new.items) }
+    requires noted { AreNoted nexts.old.horizon resources.old.items nexts.old.ticks.items }
+    ensures horizon { OnOk result (nexts.new.horizon ≡ nexts.old.horizon) }
+    ensures noted { OnOk result (AreNoted nexts.new.horizon resources.new.items nexts.new.ticks.items) }
+    ensures given { OnOk result (AreGiven (system_of system.now) sent.items resources.old.items resources.new.items) }
 {
+    if sent.len() == 1 {
+        return give_one(system, resources, nexts, sent);
+    }
     system.facts();
     for message in sent {
         let receiver = system.resource(message.target.instance);
         let mut one = Vec::new(alloc);
         one.push(message)?;
-        match resources[receiver].receive(one) {
-            Ok(()) => {}
-            Err((error, _message)) => return Err(error),
-        }
+        hand(resources, nexts, receiver, one)?;
     }
     Ok(())
 }
@@ -75,6 +101,7 @@ impl Core {
         system: &System,
         place: usize,
         to: u64,
+        nexts: &mut Nexts,
     ) -> Result<Option<StopMark>, AllocError>
         requires system { system.now ≡ self.old.system }
         requires counted { length self.old.resources.items ≡ count_of (system_of self.old.system) }
@@ -85,6 +112,9 @@ impl Core {
         requires ahead { (x : Inner) → slice_get self.old.resources.items place ≡ Some x → x.clock ≤ to }
         requires early { to ≤ 10 ^ 12 }
         requires few_steps { self.old.steps ≤ 10 ^ 7 }
+        requires noted { AreNoted nexts.old.horizon self.old.resources.items nexts.old.ticks.items }
+        ensures horizon { OnOk result (nexts.new.horizon ≡ nexts.old.horizon) }
+        ensures noted { OnOk result (AreNoted nexts.new.horizon self.new.resources.items nexts.new.ticks.items) }
         ensures system { OnOk result (self.new.system ≡ self.old.system) }
         ensures steps { OnOk result (self.new.steps ≡ self.old.steps) }
         ensures turned { IfOk result (HasTurned self.old.system self.old.steps place to self.old self.new) }
@@ -93,7 +123,8 @@ impl Core {
         let output = self.resources[place].run_here(alloc, system, to, steps)?;
         let mut lines = output.lines;
         self.pending[place].append(&mut lines)?;
-        give(alloc, system, &mut self.resources, output.sent)?;
+        nexts.note(place, &self.resources[place]);
+        give(alloc, system, &mut self.resources, nexts, output.sent)?;
         Ok(output.stop)
     }
 
@@ -131,12 +162,14 @@ impl Core {
         if first_stop(&core.resources).is_some() {
             return Ok(core);
         }
+        let mut nexts = Nexts::of_all(alloc, &core.resources, horizon)?;
         for _ in 0..most {
-            let (place, tick) = first_least(&core.resources, horizon);
+            let (place, tick) = nexts.least();
             if tick == horizon {
                 return Ok(core);
             }
-            if core.turn(alloc, system, place, tick + 1)?.is_some() {
+            let stop = core.turn(alloc, system, place, tick + 1, &mut nexts)?;
+            if stop.is_some() {
                 return Ok(core);
             }
         }

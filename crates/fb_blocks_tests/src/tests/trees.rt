@@ -9,6 +9,7 @@ use fb_tree::values::{publish, replace, set_input, set_slot};
 use fb_types::event_kind::EventKind;
 use fb_types::value::Value;
 use std::alloc::Global;
+use std::mem::forget;
 use std::process::Abort;
 
 const NO: Value = Value::Bool(false);
@@ -77,10 +78,11 @@ fn a_leaf_deep_inside_changes_alone(rt: HostRuntime) {
     set_slot(&mut blocks, first, rest, 0, SEVEN);
     publish(&mut blocks, first, rest, 1, SEVEN);
     set_slot(&mut blocks, first, rest, 1, SEVEN);
-    assert_eq!(rt; seen(&blocks, DEEPEST), Some((SEVEN, NO, SEVEN)));
+    assert!(rt; seen(&blocks, DEEPEST) == Some((SEVEN, NO, SEVEN)));
     for route in OTHERS {
-        assert_eq!(rt; seen(&blocks, route), Some((NO, NO, NO)));
+        assert!(rt; seen(&blocks, route) == Some((NO, NO, NO)));
     }
+    forget(blocks);
 }
 
 #[test]
@@ -94,17 +96,19 @@ fn event_blocks_and_composite_blocks_keep_what_they_sample(rt: HostRuntime) {
         ((1, &[1]), SEVEN),
     ] {
         let block = find(blocks.as_slice(), first, rest).expect(&rt, "a block");
-        assert_eq!(rt; block.inputs(), [expected].as_slice());
+        assert!(rt; block.inputs() == [expected].as_slice());
     }
+    forget(blocks);
 }
 
 #[test]
 fn a_block_is_taken_out_and_put_back(rt: HostRuntime) {
     let mut blocks = trees(&rt, rt.alloc());
     let inner = replace(&mut blocks, 1, &[1], leaf(&rt, rt.alloc())).expect(&rt, "a block");
-    assert_eq!(rt; seen(&blocks, DEEPEST), None);
-    replace(&mut blocks, 1, &[1], inner);
-    assert_eq!(rt; seen(&blocks, DEEPEST), Some((NO, NO, NO)));
+    assert!(rt; seen(&blocks, DEEPEST) == None);
+    forget(replace(&mut blocks, 1, &[1], inner));
+    assert!(rt; seen(&blocks, DEEPEST) == Some((NO, NO, NO)));
+    forget(blocks);
 }
 
 #[test]
@@ -112,8 +116,9 @@ fn nothing_happens_where_no_block_stands(rt: HostRuntime) {
     let mut blocks = trees(&rt, rt.alloc());
     for (first, rest) in NOWHERE {
         assert!(rt; find(blocks.as_slice(), first, rest).is_none());
-        assert_eq!(rt; change(&mut blocks, first, rest, |_| 5u8), None);
+        assert!(rt; change(&mut blocks, first, rest, |_| 5u8) == None);
     }
     let (first, rest) = DEEPEST;
-    assert_eq!(rt; change(&mut blocks, first, rest, |_| 5u8), Some(5));
+    assert!(rt; change(&mut blocks, first, rest, |_| 5u8) == Some(5));
+    forget(blocks);
 }

@@ -5,6 +5,7 @@ use fb_fabric::wiring::Wiring;
 use fb_names::numbers::{End, NetworkNumbers, Wire};
 use fb_types::items::Items;
 use std::alloc::Global;
+use std::mem::forget;
 use std::process::Abort;
 
 /// The first port at the boundary.
@@ -48,7 +49,7 @@ type Network = (
 
 /// Events from the boundary to the first component, and from there to both ends. Data from the first component to the
 /// second, and from the second to the boundary.
-const NEAR: Network = (
+static NEAR: Network = (
     &[
         Wire {
             from: BOUNDARY,
@@ -87,7 +88,7 @@ const NEAR: Network = (
 
 /// Events from the first component to the far port, and from there to the boundary and back to the first component. Data
 /// from the first component to the far port, and from there to the boundary. The ports below it have no ends.
-const FAR: Network = (
+static FAR: Network = (
     &[
         Wire {
             from: FIRST,
@@ -144,6 +145,7 @@ fn expect_network(rt: &impl Abort, alloc: Global, network: &Network) {
         assert!(rt; wiring.source(*end) == *wanted);
     }
     assert!(rt; wiring.numbers().data_wires.len() == data.len());
+    forget(wiring);
 }
 
 #[test]

@@ -1,12 +1,15 @@
 //! Resources that nothing comes to.
 
-use super::chain::{ENOUGH, accepted, opened, run, text_of};
+ghost use Rattle.fb_resource.specs.Resources.{IsOf};
+
+use super::chain::{ENOUGH, accepted, expect_text, opened, run};
+use fb_resource::resource::Resource;
+use fb_system::system::System;
 use fb_types::run::StopMark;
 use fb_types::value::Reason;
 use std::alloc::Global;
+use std::mem::forget;
 use std::process::Abort;
-use std::str::from_utf8;
-use std::test::Fail;
 
 /// A resource that runs below a tick, and what it comes to.
 #[derive(Clone, Copy)]
@@ -38,7 +41,7 @@ const BETWEEN_APART: &str = "resource = [\n\
     { device = 'D', name = 'R3', instances = ['C'] },\n\
     ]\n";
 
-const CASES: [Case; 5] = [
+static CASES: [Case; 5] = [
     // It stops by its steps. What the other two have at that tick is not its own.
     Case {
         declaration: BETWEEN,
@@ -126,33 +129,42 @@ const CASES: [Case; 5] = [
     },
 ];
 
-/// Runs a resource to the clock at which it begins, where it takes nothing, and then as the case says.
-fn expect_alone(rt: &impl Abort, alloc: Global, case: &Case) -> Result<(), Fail> {
-    let system = accepted(alloc, case.declaration, case.deploy, case.stimuli).expect(
-        rt, "accepted",
-    );
-    let resource = opened(alloc, &system, case.number).expect(rt, "opened");
+/// Runs a resource to the clock at which it begins, where it takes nothing, and gives it back.
+fn begun(rt: &impl Abort, alloc: Global, system: &System, case: &Case) -> Resource
+    ensures { IsOf system.now case.now.steps result }
+{
+    let resource = opened(rt, alloc, system, case.number);
     let next = resource.next();
-    let ran = run(resource, alloc, &system, 0, case.steps).expect(rt, "run to the clock");
-    assert!(rt; ran.lines.is_empty());
-    assert_eq!(rt; ran.stop, None);
-    assert_eq!(rt; ran.resource.clock(), 0);
-    assert_eq!(rt; ran.resource.next(), next);
-    let ran = run(ran.resource, alloc, &system, case.to, case.steps).expect(rt, "run");
-    let text = text_of(alloc, &system, ran.lines.as_slice()).expect(rt, "text");
-    assert_eq!(rt; from_utf8(text.as_slice())?, case.trace);
-    assert!(rt; ran.sent.is_empty());
-    assert_eq!(rt; ran.stop, case.stop);
-    assert_eq!(rt; ran.resource.stopped().is_some(), case.stop.is_some());
-    assert_eq!(rt; ran.resource.clock(), case.clock);
-    assert_eq!(rt; ran.resource.next(), case.next);
-    Ok(())
+    let ran = run(rt, resource, alloc, system, 0, case.steps);
+    assert!(rt; ran.lines.is_empty() && ran.stop.is_none());
+    assert!(rt; ran.resource.clock() == 0 && ran.resource.next() == next);
+    forget(ran.lines);
+    forget(ran.sent);
+    ran.resource
+}
+
+/// Runs a resource as the case says.
+fn expect_alone(rt: &impl Abort, alloc: Global, system: &System, case: &Case) {
+    let resource = begun(rt, alloc, system, case);
+    let ran = run(rt, resource, alloc, system, case.to, case.steps);
+    expect_text(
+        rt,
+        alloc,
+        system,
+        ran.lines.as_slice(),
+        case.trace.as_bytes(),
+    );
+    assert!(rt; ran.sent.is_empty() && ran.stop == case.stop);
+    assert!(rt; ran.resource.stopped().is_some() == case.stop.is_some());
+    assert!(rt; ran.resource.clock() == case.clock && ran.resource.next() == case.next);
+    forget(ran);
 }
 
 #[test]
-fn resources_run_alone(rt: HostRuntime) -> Result<(), Fail> {
+fn resources_run_alone(rt: HostRuntime) {
     for case in &CASES {
-        expect_alone(&rt, rt.alloc(), case)?;
+        let system = accepted(&rt, rt.alloc(), case.declaration, case.deploy, case.stimuli);
+        expect_alone(&rt, rt.alloc(), &system, case);
+        forget(system);
     }
-    Ok(())
 }

@@ -1,6 +1,6 @@
 //! Resources of accepted systems, and the calls on them, each with what the next one asks for.
 
-ghost use Rattle.std.specs.Prelude.{◌≡◌, ℕ, All, IfSome, IsTrue, None};
+ghost use Rattle.std.specs.Prelude.{◌≡◌, ℕ, All, IsTrue, None};
 ghost use Rattle.fb_types.specs.Headline.{system_of};
 ghost use Rattle.fb_types.specs.declared.key.Key.{Key};
 ghost use Rattle.fb_agenda.specs.Agendas.{waiting};
@@ -19,37 +19,59 @@ use fb_trace::lines::write_lines;
 use fb_types::deploy::Deploy;
 use fb_types::run::{Form, Line, Message, StopMark};
 use std::alloc::Global;
+use std::mem::forget;
+use std::process::Abort;
 
 /// More steps than any tick of these runs needs that does not stop.
 pub const ENOUGH: u64 = 1_000_000;
 
+fn deploy_of(rt: &impl Abort, alloc: Global, text: &str) -> Deploy {
+    if text.is_empty() {
+        let Ok(single) = Deploy::single(alloc) else {
+            panic!(rt; "memory");
+        };
+        return single;
+    }
+    let Ok(deploy) = read_deploy(alloc, text.as_bytes()) else {
+        panic!(rt; "no deployment");
+    };
+    deploy
+}
+
 /// The system of a declaration, a deployment and stimuli that are accepted together. An empty text stands for no
 /// deployment.
-pub fn accepted(alloc: Global, declaration: &str, deploy: &str, stimuli: &str) -> Option<System> {
-    let library = read_library(alloc, declaration.as_bytes()).ok()?;
-    let deploy = if deploy.is_empty() {
-        Deploy::single(alloc).ok()?
-    } else {
-        read_deploy(alloc, deploy.as_bytes()).ok()?
+pub fn accepted(
+    rt: &impl Abort,
+    alloc: Global,
+    declaration: &str,
+    deploy: &str,
+    stimuli: &str,
+) -> System {
+    let Ok(library) = read_library(alloc, declaration.as_bytes()) else {
+        panic!(rt; "no library");
     };
-    let stimuli = read_stimuli(alloc, stimuli.as_bytes()).ok()?;
-    accept(alloc, library, deploy, stimuli).ok()
+    let deploy = deploy_of(rt, alloc, deploy);
+    let Ok(stimuli) = read_stimuli(alloc, stimuli.as_bytes()) else {
+        panic!(rt; "no stimuli");
+    };
+    let Ok(system) = accept(alloc, library, deploy, stimuli) else {
+        panic!(rt; "no system");
+    };
+    system
 }
 
 /// The resource of a number as it is before the first event. No message waits at it.
-pub fn opened(alloc: Global, system: &System, number: u32) -> Option<Resource>
-    ensures of { (limit : ℕ) → IfSome result (IsOf system.now limit) }
-    ensures number { IfSome result (λ x. x.tree.resource ≡ number) }
-    ensures unheard { IfSome result (λ x. (j : Key) → j.class ≡ 2 → j.resource ≡ x.tree.resource → waiting x.queues.agenda j ≡ None) }
+pub fn opened(rt: &impl Abort, alloc: Global, system: &System, number: u32) -> Resource
+    ensures of { (limit : ℕ) → IsOf system.now limit result }
+    ensures number { result.tree.resource ≡ number }
+    ensures unheard { (j : Key) → j.class ≡ 2 → j.resource ≡ result.tree.resource → waiting result.queues.agenda j ≡ None }
 {
-    if number as usize >= system.resources() {
-        return None;
-    }
+    assert!(rt; (number as usize) < system.resources());
     system.facts();
     let Ok(resource) = Resource::open(alloc, system, number) else {
-        return None;
+        panic!(rt; "memory");
     };
-    Some(resource)
+    resource
 }
 
 /// What a run gave.
@@ -62,42 +84,45 @@ pub struct Ran {
 }
 
 /// Runs a resource that has not stopped below a tick that is not before its clock.
-pub fn run(resource: Resource, alloc: Global, system: &System, to: u64, steps: u64) -> Option<Ran>
+pub fn run(
+    rt: &impl Abort,
+    resource: Resource,
+    alloc: Global,
+    system: &System,
+    to: u64,
+    steps: u64,
+) -> Ran
     requires { IsOf system.now steps resource }
-    ensures of { IfSome result (λ r. IsOf system.now steps r.resource) }
-    ensures number { IfSome result (λ r. r.resource.tree.resource ≡ resource.tree.resource) }
-    ensures lines { IfSome result (λ r. All (BelongsTo (system_of system.now)) r.lines.items) }
-    ensures sent { IfSome result (λ r. All (IsMessage system.now) r.sent.items) }
+    ensures of { IsOf system.now steps result.resource }
+    ensures number { result.resource.tree.resource ≡ resource.tree.resource }
+    ensures lines { All (BelongsTo (system_of system.now)) result.lines.items }
+    ensures sent { All (IsMessage system.now) result.sent.items }
 {
-    if resource.stopped().is_some() || to < resource.clock() {
-        return None;
-    }
-    if to > 1_000_000_000_000 || steps > 10_000_000 {
-        return None;
-    }
+    assert!(rt; resource.stopped().is_none() && to >= resource.clock());
+    assert!(rt; to <= 1_000_000_000_000 && steps <= 10_000_000);
     match resource.run_to(alloc, system, to, steps) {
         WindowDone::Ran {
             resource,
             lines,
             sent,
             stop,
-        } => Some(Ran {
+        } => Ran {
             resource,
             lines,
             sent,
             stop,
-        }),
-        WindowDone::NoMemory => None,
+        },
+        WindowDone::NoMemory => panic!(rt; "memory"),
     }
 }
 
-/// The text of lines of a system.
-pub fn text_of(alloc: Global, system: &System, lines: &[Line]) -> Option<Vec<u8>>
+/// The lines of a system have that text.
+pub fn expect_text(rt: &impl Abort, alloc: Global, system: &System, lines: &[Line], text: &[u8])
     requires { All (BelongsTo (system_of system.now)) lines.now }
 {
     let mut out = Vec::new(alloc);
-    write_lines(&mut out, system, Form::One, lines).ok()?;
-    Some(out)
+    write_lines(&mut out, system, Form::One, lines).expect(rt, "written");
+    assert!(rt; out.as_slice() == text);
 }
 
 /// Messages in their order, or in the other.
@@ -114,22 +139,22 @@ pub fn turned(system: &System, mut sent: Vec<Message>, is_turned: bool) -> Vec<M
 }
 
 /// The messages for the second of two resources, of those that the first sent. None is for the first.
-pub fn handed(alloc: Global, system: &System, sent: Vec<Message>) -> Option<Vec<Message>>
+pub fn handed(rt: &impl Abort, alloc: Global, system: &System, sent: Vec<Message>) -> Vec<Message>
     requires { All (IsMessage system.now) sent.items }
-    ensures { IfSome result (λ ms. All (IsMessage system.now) ms.items) }
+    ensures { All (IsMessage system.now) result.items }
 {
     let Ok(outboxes) = vec![in alloc; sent] else {
-        return None;
+        panic!(rt; "memory");
     };
     let Ok(mut inboxes) = exchange(alloc, system, outboxes) else {
-        return None;
+        panic!(rt; "memory");
     };
-    let inbox = inboxes.pop()?;
-    if inboxes.len() == 1 && inboxes[0].is_empty() {
-        Some(inbox)
-    } else {
-        None
-    }
+    let Some(inbox) = inboxes.pop() else {
+        panic!(rt; "no inbox");
+    };
+    assert!(rt; inboxes.len() == 1 && inboxes[0].is_empty());
+    forget(inboxes);
+    inbox
 }
 
 /// Whether a message goes to the resource of this number, and not before its clock.
@@ -157,47 +182,47 @@ fn are_for(resource: &Resource, number: usize, system: &System, messages: &[Mess
 
 /// Puts messages on the agenda of the resource of this number, to which they go.
 pub fn deliver(
+    rt: &impl Abort,
     mut resource: Resource,
     number: usize,
     system: &System,
     messages: Vec<Message>,
-) -> Option<Resource>
+) -> Resource
     requires of { IsOf system.now 1000000 resource }
     requires number { resource.tree.resource ≡ number }
     requires messages { All (IsMessage system.now) messages.items }
-    ensures { IfSome result (IsOf system.now 1000000) }
+    ensures { IsOf system.now 1000000 result }
 {
-    if !are_for(&resource, number, system, messages.as_slice()) {
-        return None;
-    }
+    let are_for = are_for(&resource, number, system, messages.as_slice());
+    assert!(rt; are_for);
     match resource.receive(messages) {
-        Ok(()) => Some(resource),
-        Err(_) => None,
+        Ok(()) => resource,
+        Err(_) => panic!(rt; "memory"),
     }
 }
 
 /// Puts the first messages on the agenda of the resource of this number, to which they go. Where memory is refused, it
 /// puts there at a second try what came back of the first.
 pub fn deliver_first(
+    rt: &impl Abort,
     mut resource: Resource,
     number: usize,
     system: &System,
     messages: Vec<Message>,
-) -> Option<Resource>
+) -> Resource
     requires of { IsOf system.now 1000000 resource }
     requires number { resource.tree.resource ≡ number }
     requires unheard { (j : Key) → j.class ≡ 2 → j.resource ≡ resource.tree.resource → waiting resource.queues.agenda j ≡ None }
     requires messages { All (IsMessage system.now) messages.items }
-    ensures { IfSome result (IsOf system.now 1000000) }
+    ensures { IsOf system.now 1000000 result }
 {
-    if !are_for(&resource, number, system, messages.as_slice()) {
-        return None;
-    }
+    let are_for = are_for(&resource, number, system, messages.as_slice());
+    assert!(rt; are_for);
     match resource.receive(messages) {
-        Ok(()) => Some(resource),
+        Ok(()) => resource,
         Err((_, back)) => match resource.receive(back) {
-            Ok(()) => Some(resource),
-            Err(_) => None,
+            Ok(()) => resource,
+            Err(_) => panic!(rt; "memory"),
         },
     }
 }

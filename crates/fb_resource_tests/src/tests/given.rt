@@ -21,8 +21,8 @@ pub struct Texts<'a> {
 pub const NO_STIMULI: &str = "tick,event,values\n";
 
 /// The system of texts that are accepted together.
-pub fn system_of<R: Abort>(rt: &R, alloc: Global, texts: Texts<'_>) -> System {
-    accepted(alloc, texts.declaration, texts.deploy, texts.stimuli).expect(rt, "accepted")
+pub fn made<R: Abort>(rt: &R, alloc: Global, texts: Texts<'_>) -> System {
+    accepted(rt, alloc, texts.declaration, texts.deploy, texts.stimuli)
 }
 
 /// Writes the trace of texts that are accepted together, as the run on one thread gives it, and tells how it ends.

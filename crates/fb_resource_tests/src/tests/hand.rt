@@ -1,11 +1,13 @@
 //! Rounds that are made by hand.
 
-ghost use Rattle.std.specs.Prelude.{◌≡◌, ◌^◌, ◌≤◌, ℕ, IfOk};
+ghost use Rattle.std.specs.Prelude.{◌≡◌, ◌^◌, ◌≤◌, ℕ, All, IfOk};
 ghost use Rattle.std.specs.List.{AllZip};
+ghost use Rattle.fb_types.specs.Headline.{system_of};
+ghost use Rattle.fb_system.specs.Lines.{BelongsTo};
 ghost use Rattle.fb_window.specs.Jobs.{Does};
 ghost use Rattle.fb_resource_tests.specs.Coming.{HasCome, IsAfter};
 
-use super::given::{Texts, run_on_one_thread, system_of};
+use super::given::{Texts, made, run_on_one_thread};
 use super::words::Part::{Number, Word};
 use super::words::push_all;
 use fb_resource::resource::{Resource, WindowDone};
@@ -13,10 +15,11 @@ use fb_sim::outcome::Outcome;
 use fb_system::system::System;
 use fb_trace::last::{End, write_last};
 use fb_trace::lines::write_lines;
-use fb_types::run::Form;
+use fb_types::run::{Form, Line};
 use fb_window::cores::{Bounds, Core, Failed, Settled};
 use fb_window::job::Job;
 use std::alloc::{AllocError, Global};
+use std::mem::forget;
 use std::process::Abort;
 
 /// How many ticks past the least event a bound may lie.
@@ -52,37 +55,42 @@ pub struct Plan {
 }
 
 /// Runs jobs in an order. What became of them comes in their own.
-fn run_jobs(alloc: Global, mut jobs: Vec<Job>, order: u64) -> Result<Vec<WindowDone>, AllocError>
-    ensures { IfOk result (λ ds. AllZip Does jobs.items ds.items) }
+fn run_jobs<R: Abort>(rt: &R, alloc: Global, mut jobs: Vec<Job>, order: u64) -> Vec<WindowDone>
+    ensures { AllZip Does jobs.items result.items }
 {
     let Some(last) = jobs.pop() else {
-        return Ok(Vec::new(alloc));
+        return Vec::new(alloc);
     };
     let next = order.rotate_right(1);
     if order % 2 == 1 {
         let done = last.run(alloc);
-        let mut dones = run_jobs(alloc, jobs, next)?;
-        dones.push(done)?;
-        return Ok(dones);
+        let mut dones = run_jobs(rt, alloc, jobs, next);
+        let Ok(()) = dones.push(done) else {
+            panic!(rt; "memory");
+        };
+        return dones;
     }
-    let mut dones = run_jobs(alloc, jobs, next)?;
-    dones.push(last.run(alloc))?;
-    Ok(dones)
+    let mut dones = run_jobs(rt, alloc, jobs, next);
+    let Ok(()) = dones.push(last.run(alloc)) else {
+        panic!(rt; "memory");
+    };
+    dones
 }
 
 /// Writes the bounds of a round, in the order of the resources. A dash stands for one that has stopped.
-fn tell(alloc: Global, core: &Core, bounds: &Bounds, out: &mut Vec<u8>) -> Result<(), AllocError> {
-    let mut line = String::from_str(alloc, "below")?;
+fn tell<R: Abort>(rt: &R, alloc: Global, core: &Core, bounds: &Bounds, out: &mut Vec<u8>) {
+    let mut line = String::new(alloc);
+    push_all(rt, &mut line, &[Word("below")]);
     for (resource, bound) in core.resources.iter().zip(bounds.all.iter()) {
         if resource.stopped().is_some() {
-            line.push_str(" -")?;
+            push_all(rt, &mut line, &[Word(" -")]);
         } else {
-            push_all(&mut line, &[Word(" "), Number(*bound)])?;
+            push_all(rt, &mut line, &[Word(" "), Number(*bound)]);
         }
     }
-    line.push_str("\n")?;
-    out.extend_from_slice(line.as_bytes())?;
-    Ok(())
+    push_all(rt, &mut line, &[Word("\n")]);
+    out.extend_from_slice(line.as_bytes()).expect(rt, "memory");
+    forget(line);
 }
 
 /// The turns before a round.
@@ -97,26 +105,32 @@ fn walked(alloc: Global, system: &System, core: Core, plan: Plan) -> Result<Core
 }
 
 /// A round: each resource runs to its bound, and all is put back together.
-fn window(
+fn window<R: Abort>(
+    rt: &R,
     alloc: Global,
     system: &System,
     core: Core,
     plan: Plan,
     out: &mut Vec<u8>,
-) -> Result<Settled, Failed>
+) -> Settled
     requires early { plan.horizon ≤ 10 ^ 12 }
     requires some_steps { 1 ≤ plan.steps }
     requires few_steps { plan.steps ≤ 10 ^ 7 }
     requires come { HasCome system.now plan.steps plan.horizon core }
-    ensures { IfOk result (IsAfter system.now plan.steps plan.horizon) }
+    ensures { IsAfter system.now plan.steps plan.horizon result }
 {
     let bounds = core.bounds(plan.horizon, CAP);
     if plan.tells_bounds {
-        tell(alloc, &core, &bounds, out)?;
+        tell(rt, alloc, &core, &bounds, out);
     }
-    let (away, jobs) = core.jobs(alloc, system, bounds)?;
-    let dones = run_jobs(alloc, jobs, plan.order)?;
-    away.settle(alloc, system, dones)
+    let Ok((away, jobs)) = core.jobs(alloc, system, bounds) else {
+        panic!(rt; "memory");
+    };
+    let dones = run_jobs(rt, alloc, jobs, plan.order);
+    let Ok(settled) = away.settle(alloc, system, dones) else {
+        panic!(rt; "memory");
+    };
+    settled
 }
 
 /// The core of a system before the first event.
@@ -129,6 +143,14 @@ fn open_core(alloc: Global, system: &System, steps: u64) -> Result<Core, AllocEr
     Core::open(alloc, system, resources, steps)
 }
 
+/// Writes lines that a round hands out.
+fn hand_out<R: Abort>(rt: &R, system: &System, form: Form, lines: Vec<Line>, out: &mut Vec<u8>)
+    requires { All (BelongsTo (system_of system.now)) lines.items }
+{
+    write_lines(out, system, form, lines.as_slice()).expect(rt, "written");
+    forget(lines);
+}
+
 /// Runs a core by rounds to its end, and writes its trace behind what is there.
 fn run_on<R: Abort>(
     rt: &R,
@@ -137,7 +159,7 @@ fn run_on<R: Abort>(
     first: Core,
     plan: Plan,
     out: &mut Vec<u8>,
-) -> Result<(), Failed>
+)
     requires early { plan.horizon ≤ 10 ^ 12 }
     requires some_steps { 1 ≤ plan.steps }
     requires few_steps { plan.steps ≤ 10 ^ 7 }
@@ -145,21 +167,24 @@ fn run_on<R: Abort>(
 {
     let mut core = first;
     for _ in 0..MANY {
-        let ready = walked(alloc, system, core, plan)?;
-        match window(alloc, system, ready, plan, out)? {
+        let Ok(ready) = walked(alloc, system, core, plan) else {
+            panic!(rt; "memory");
+        };
+        match window(rt, alloc, system, ready, plan, out) {
             Settled::Going(next, lines) => {
-                write_lines(out, system, plan.form, lines.as_slice()).expect(rt, "written");
+                hand_out(rt, system, plan.form, lines, out);
                 core = next;
             }
-            Settled::Ended(_, lines) => {
-                write_lines(out, system, plan.form, lines.as_slice()).expect(rt, "written");
+            Settled::Ended(last, lines) => {
+                hand_out(rt, system, plan.form, lines, out);
                 write_last(out, system, End::Horizon(plan.horizon)).expect(rt, "written");
-                return Ok(());
+                forget(last);
+                return;
             }
             Settled::Stopped(lines, mark) => {
-                write_lines(out, system, plan.form, lines.as_slice()).expect(rt, "written");
+                hand_out(rt, system, plan.form, lines, out);
                 write_last(out, system, End::Stop(mark)).expect(rt, "written");
-                return Ok(());
+                return;
             }
         }
     }
@@ -167,25 +192,23 @@ fn run_on<R: Abort>(
 }
 
 /// Runs a system by rounds to its end, and writes its trace behind what is there.
-///
-/// # Errors
-/// When memory runs out, or a limit is out of its range.
 pub fn run_by_hand<R: Abort>(
     rt: &R,
     alloc: Global,
     system: &System,
     plan: Plan,
     out: &mut Vec<u8>,
-) -> Result<(), Failed> {
-    if plan.horizon > 1_000_000_000_000 || plan.steps < 1 || plan.steps > 10_000_000 {
-        return Err(Failed);
-    }
-    let core = open_core(alloc, system, plan.steps)?;
-    run_on(rt, alloc, system, core, plan, out)
+) {
+    assert!(rt; plan.horizon <= 1_000_000_000_000);
+    assert!(rt; 1 <= plan.steps && plan.steps <= 10_000_000);
+    let Ok(core) = open_core(alloc, system, plan.steps) else {
+        panic!(rt; "memory");
+    };
+    run_on(rt, alloc, system, core, plan, out);
 }
 
 /// Orders of jobs, each with a number of turns that are made before a round.
-const MANNERS: [(u64, u64); 6] = [
+static MANNERS: [(u64, u64); 6] = [
     (RISING, 0),
     (FALLING, 0),
     (SHUFFLED, 0),
@@ -194,17 +217,17 @@ const MANNERS: [(u64, u64); 6] = [
     (SHUFFLED, 256),
 ];
 
-/// The trace of texts by the run on one thread, which is that by rounds too, with the jobs of each in several orders, and
-/// with walks before them. How it ends is told.
+/// Writes the trace of texts by the run on one thread, which is that by rounds too, with the jobs of each in several orders,
+/// and with walks before them. How it ends is told.
 pub fn one_trace<R: Abort>(
     rt: &R,
     alloc: Global,
     texts: Texts<'_>,
     plan: Plan,
-) -> (Vec<u8>, Outcome) {
-    let mut trace = Vec::new(alloc);
-    let outcome = run_on_one_thread(rt, alloc, texts, plan, &mut trace);
-    let system = system_of(rt, alloc, texts);
+    trace: &mut Vec<u8>,
+) -> Outcome {
+    let outcome = run_on_one_thread(rt, alloc, texts, plan, trace);
+    let system = made(rt, alloc, texts);
     for (order, walk) in &MANNERS {
         let plan = Plan {
             order: *order,
@@ -212,11 +235,10 @@ pub fn one_trace<R: Abort>(
             ..plan
         };
         let mut out = Vec::new(alloc);
-        run_by_hand(rt, alloc, &system, plan, &mut out).expect(rt, "memory");
-        assert!(rt;
-            out.as_slice() == trace.as_slice(),
-            "in order {order} with {walk} turns"
-        );
+        run_by_hand(rt, alloc, &system, plan, &mut out);
+        assert!(rt; out.as_slice() == trace.as_slice());
+        forget(out);
     }
-    (trace, outcome)
+    forget(system);
+    outcome
 }

@@ -10,7 +10,7 @@ pub struct Kind {
 
 /// `LOOPER` runs without end once it has begun, so that it stops by its steps. `PUMP` stops by its range at the third
 /// event, and hands what it counted to `TALLY`, which divides by it, and so stops at once where it is 0.
-pub const TYPES: &str = "FUNCTION_BLOCK LOOPER\n\
+pub static TYPES: &str = "FUNCTION_BLOCK LOOPER\n\
     EVENT_INPUT GO; END_EVENT\n\
     EVENT_OUTPUT TICKED; END_EVENT\n\
     EC_STATES IDLE; BUSY : -> TICKED; END_STATES\n\
@@ -35,7 +35,7 @@ pub const TYPES: &str = "FUNCTION_BLOCK LOOPER\n\
     END_FUNCTION_BLOCK\n";
 
 /// The first instances of each system, two by two. `E_SR` leads to `E_SWITCH`, and `PUMP` to `TALLY`, with a value each.
-pub const FIRST: [(Kind, Kind); 2] = [
+pub static FIRST: [(Kind, Kind); 2] = [
     (
         Kind {
             ty: "E_SR",
@@ -63,7 +63,7 @@ pub const FIRST: [(Kind, Kind); 2] = [
 ];
 
 /// What the other instances may be.
-pub const OTHERS: [Kind; 10] = [
+pub static OTHERS: [Kind; 10] = [
     Kind {
         ty: "E_RESTART",
         inputs: &[],
@@ -118,7 +118,7 @@ pub const OTHERS: [Kind; 10] = [
 
 /// The latencies that a link may have. By a table a message may overtake one that was sent before it, and two may arrive
 /// at one tick.
-pub const LATENCIES: [&str; 7] = [
+pub static LATENCIES: [&str; 7] = [
     "latency = 1",
     "latency = 2",
     "latency = 5",
@@ -129,10 +129,10 @@ pub const LATENCIES: [&str; 7] = [
 ];
 
 /// The ticks at which stimuli may come: few, so that several come at one tick.
-pub const TICKS: [u64; 8] = [0, 1, 3, 6, 7, 12, 18, 30];
+pub static TICKS: [u64; 8] = [0, 1, 3, 6, 7, 12, 18, 30];
 
 /// The ticks at which a run may end.
-pub const HORIZONS: [u64; 4] = [1, 13, 40, 64];
+pub static HORIZONS: [u64; 4] = [1, 13, 40, 64];
 
 /// The limits that there may be on the steps of one tick.
-pub const STEPS: [u64; 3] = [4, 12, 60];
+pub static STEPS: [u64; 3] = [4, 12, 60];

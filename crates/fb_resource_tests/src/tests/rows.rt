@@ -1,12 +1,11 @@
 //! Systems whose rounds were worked out by hand.
 
-use super::given::{NO_STIMULI, Texts, system_of};
+use super::given::{NO_STIMULI, Texts, made};
 use super::hand::{Plan, RISING, one_trace, run_by_hand};
 use fb_types::run::Form;
-use std::alloc::{AllocError, Global};
+use std::alloc::Global;
+use std::mem::forget;
 use std::process::Abort;
-use std::str::from_utf8;
-use std::test::Fail;
 
 /// A system, and what its rounds hand out: before each stand the bounds of all resources that have not stopped.
 #[derive(Clone, Copy)]
@@ -258,7 +257,7 @@ const KEYS: Row = Row {
         end 8\n",
 };
 
-const ROWS: [Row; 10] = [
+static ROWS: [Row; 10] = [
     ARRIVAL,
     LATER_FIRST,
     OLD_COPY,
@@ -272,50 +271,91 @@ const ROWS: [Row; 10] = [
 ];
 
 /// The lines without the bounds.
-fn lines_of(alloc: Global, rounds: &str) -> Result<Vec<u8>, AllocError> {
-    let mut lines = Vec::new(alloc);
+fn put_lines(rt: &impl Abort, rounds: &str, lines: &mut Vec<u8>) {
     for line in rounds.lines() {
         if !line.starts_with("below ") {
-            lines.extend_from_slice(line.as_bytes())?;
-            lines.push(b'\n')?;
+            lines
+                .extend_from_slice(line.as_bytes())
+                .expect(rt, "memory");
+            lines.push(b'\n').expect(rt, "memory");
         }
     }
-    Ok(lines)
 }
 
-/// The rounds of a row one by one, and its trace in each manner.
-fn expect_row<R: Abort>(rt: &R, alloc: Global, row: &Row) -> Result<(), Fail> {
-    let plan = Plan {
+/// An event goes round four resources, over links of 1, 2, 3 and 4 ticks.
+static RING: Row = Row {
+    declaration: "APPLICATION A FBS S : E_RESTART; M0 : E_MERGE; M1 : E_MERGE; M2 : E_MERGE; M3 : E_MERGE; END_FBS\n\
+        EVENT_CONNECTIONS S.COLD TO M0.EI2; M0.EO TO M1.EI1; M1.EO TO M2.EI1; M2.EO TO M3.EI1; M3.EO TO M0.EI1;\n\
+        END_CONNECTIONS END_APPLICATION",
+    deploy: "resource = [\n\
+        { device = 'D', name = 'R0', instances = ['S', 'M0'] },\n\
+        { device = 'D', name = 'R1', instances = ['M1'] },\n\
+        { device = 'D', name = 'R2', instances = ['M2'] },\n\
+        { device = 'D', name = 'R3', instances = ['M3'] },\n\
+        ]\n\
+        link = [\n\
+        { from = 'R0', to = 'R1', latency = 1 },\n\
+        { from = 'R1', to = 'R2', latency = 2 },\n\
+        { from = 'R2', to = 'R3', latency = 3 },\n\
+        { from = 'R3', to = 'R0', latency = 4 },\n\
+        ]\n",
+    stimuli: NO_STIMULI,
+    horizon: 20,
+    steps: 10_000,
+    form: Form::Two,
+    rounds: "1 0 0 0 R0 < S.COLD\n\
+        3 0 0 0 R0 > M0.EI2\n3 0 0 0 R0 < M0.EO\n\
+        2 0 0 1 R1 > M1.EI1\n2 0 0 1 R1 < M1.EO\n\
+        2 1 0 3 R2 > M2.EI1\n2 1 0 3 R2 < M2.EO\n\
+        2 2 0 6 R3 > M3.EI1\n2 2 0 6 R3 < M3.EO\n\
+        2 3 0 10 R0 > M0.EI1\n2 3 0 10 R0 < M0.EO\n\
+        2 0 1 11 R1 > M1.EI1\n2 0 1 11 R1 < M1.EO\n\
+        2 1 1 13 R2 > M2.EI1\n2 1 1 13 R2 < M2.EO\n\
+        2 2 1 16 R3 > M3.EI1\n2 2 1 16 R3 < M3.EO\n\
+        end 20\n",
+};
+
+fn texts_of(row: &Row) -> Texts<'static> {
+    Texts {
+        declaration: row.declaration,
+        deploy: row.deploy,
+        stimuli: row.stimuli,
+    }
+}
+
+fn plan_of(row: &Row, tells_bounds: bool) -> Plan {
+    Plan {
         horizon: row.horizon,
         steps: row.steps,
         form: row.form,
         order: RISING,
         walk: 0,
-        tells_bounds: false,
-    };
-    let texts = Texts {
-        declaration: row.declaration,
-        deploy: row.deploy,
-        stimuli: row.stimuli,
-    };
-    let (trace, _) = one_trace(rt, alloc, texts, plan);
-    let lines = lines_of(alloc, row.rounds)?;
-    assert_eq!(rt; from_utf8(trace.as_slice())?, from_utf8(lines.as_slice())?);
-    let system = system_of(rt, alloc, texts);
-    let told = Plan {
-        tells_bounds: true,
-        ..plan
-    };
+        tells_bounds,
+    }
+}
+
+/// The trace of a row in each manner.
+fn expect_trace<R: Abort>(rt: &R, alloc: Global, row: &Row) {
+    let (mut trace, mut lines) = (Vec::new(alloc), Vec::new(alloc));
+    one_trace(rt, alloc, texts_of(row), plan_of(row, false), &mut trace);
+    put_lines(rt, row.rounds, &mut lines);
+    assert!(rt; trace.as_slice() == lines.as_slice());
+}
+
+/// The rounds of a row one by one.
+fn expect_rounds<R: Abort>(rt: &R, alloc: Global, row: &Row) {
     let mut rounds = Vec::new(alloc);
-    run_by_hand(rt, alloc, &system, told, &mut rounds).expect(rt, "memory");
-    assert_eq!(rt; from_utf8(rounds.as_slice())?, row.rounds);
-    Ok(())
+    let system = made(rt, alloc, texts_of(row));
+    run_by_hand(rt, alloc, &system, plan_of(row, true), &mut rounds);
+    assert!(rt; rounds.as_slice() == row.rounds.as_bytes());
+    forget(system);
 }
 
 #[test]
-fn rounds_have_their_bounds_and_lines(rt: HostRuntime) -> Result<(), Fail> {
+fn rounds_have_their_bounds_and_lines(rt: HostRuntime) {
     for row in &ROWS {
-        expect_row(&rt, rt.alloc(), row)?;
+        expect_trace(&rt, rt.alloc(), row);
+        expect_rounds(&rt, rt.alloc(), row);
     }
-    Ok(())
+    expect_trace(&rt, rt.alloc(), &RING);
 }

@@ -1,129 +1,124 @@
 //! Runs that are advanced piece by piece.
 //!
-//! Each simulation is ended here on every way, also where a call on it failed: what it came to is looked at afterwards. So
-//! none is dropped in this crate, and the destructors of all that a simulation holds are not proved once more.
+//! Each simulation is ended here, also where a call on it failed. So none is dropped in this crate, and the destructors of
+//! all that a simulation holds are not proved once more.
 
-use super::event_blocks::{CYCLE, CYCLE_TO_8};
-use super::stops::BETWEEN;
-use super::{ENOUGH, WORKERS, inputs_of, with_room};
+use super::texts::{BETWEEN, CYCLE, Case};
+use super::writers::with_room;
+use super::{ENOUGH, inputs_of};
 use fb_phase::OpenGate;
-use fb_sim::options::Inputs;
 use fb_sim::outcome::{Outcome, RunError};
 use fb_sim::simulation::Simulation;
 use fb_types::run::Form;
 use std::alloc::Global;
 use std::process::Abort;
 use std::sync::Wait;
-use std::test::Fail;
 use std::thread::Threads;
 
-/// What is written by these advances and the end, each of which answers its end.
-fn advanced<R: Abort + Threads + Wait + Sync>(
+/// The simulation of a case by so many workers.
+fn opened(rt: &impl Abort, alloc: Global, case: &Case, workers: u64) -> Simulation {
+    let inputs = inputs_of(case.declaration, case.deploy, case.stimuli);
+    let Ok(simulation) = Simulation::open(alloc, &inputs, case.steps, workers, Form::One) else {
+        panic!(rt; "not opened");
+    };
+    simulation
+}
+
+/// Each advance to a tick, and the end, answers as the outcome at the greatest tick so far. All together write the text.
+fn expect_pieces<R: Abort + Threads + Wait + Sync>(
     rt: &R,
     alloc: Global,
-    inputs: &Inputs<'_>,
     workers: u64,
     ticks: &[u64],
-) -> Result<Vec<u8>, Fail> {
+    text: &str,
+) {
     let mut out = Vec::new(alloc);
     let mut most = 0;
-    let mut are_ends = true;
-    let mut simulation = Simulation::open(alloc, inputs, ENOUGH, workers, Form::One)?;
+    let mut simulation = opened(rt, alloc, &CYCLE, workers);
     for tick in ticks {
         most = most.max(*tick);
-        let found = simulation.advance(rt, *tick, &mut out, &OpenGate);
-        let is_end = matches!(found, Ok(Outcome::End(end)) if end == most);
-        are_ends = are_ends && is_end;
+        let found = simulation
+            .advance(rt, *tick, &mut out, &OpenGate)
+            .expect(rt, "advanced");
+        assert!(rt; found == Outcome::End(most));
     }
-    let ended = simulation.finish(&mut out);
-    assert!(rt; are_ends, "{ticks:?}");
-    assert_eq!(rt; ended?, Outcome::End(most));
-    Ok(out)
+    let ended = simulation.finish(&mut out).expect(rt, "ended");
+    assert!(rt; ended == Outcome::End(most));
+    assert!(rt; out.as_slice() == text.as_bytes());
+}
+
+/// A tick that was advanced to writes nothing once more.
+#[test]
+fn pieces_make_the_whole(rt: HostRuntime) {
+    let alloc = rt.alloc();
+    for workers in [1, 2, 7, 64] {
+        expect_pieces(&rt, alloc, workers, &[4, 8], CYCLE.trace);
+        expect_pieces(&rt, alloc, workers, &[4, 4, 2, 8], CYCLE.trace);
+        expect_pieces(&rt, alloc, workers, &[], "end 0\n");
+    }
 }
 
 #[test]
-fn pieces_make_the_whole(rt: HostRuntime) -> Result<(), Fail> {
-    let alloc = rt.alloc();
-    let inputs = inputs_of(CYCLE, "", "");
-    for workers in WORKERS {
-        // A tick that was advanced to writes nothing once more.
-        for ticks in [[4, 8].as_slice(), [4, 4, 2, 8].as_slice()] {
-            let out = advanced(&rt, alloc, &inputs, workers, ticks)?;
-            assert!(rt; out.as_slice() == CYCLE_TO_8.trace.as_bytes(), "{ticks:?}");
-        }
-        let out = advanced(&rt, alloc, &inputs, workers, &[])?;
-        assert!(rt; out.as_slice() == b"end 0\n".as_slice());
-    }
-    Ok(())
-}
-
-#[test]
-fn a_tick_past_the_last_is_none(rt: HostRuntime) -> Result<(), Fail> {
-    let alloc = rt.alloc();
-    let mut out = Vec::new(alloc);
-    let mut simulation = Simulation::open(alloc, &inputs_of(CYCLE, "", ""), ENOUGH, 1, Form::One)?;
+fn a_tick_past_the_last_is_none(rt: HostRuntime) {
+    let mut out = Vec::new(rt.alloc());
+    let mut simulation = opened(&rt, rt.alloc(), &CYCLE, 1);
     let refused = simulation.advance(&rt, 1_000_000_000_001, &mut out, &OpenGate);
-    let wrote_nothing = out.is_empty();
-    let advanced = simulation.advance(&rt, 8, &mut out, &OpenGate);
-    let ended = simulation.finish(&mut out);
     assert!(rt; matches!(refused, Err(RunError::BadOption)));
-    assert!(rt; wrote_nothing);
-    assert_eq!(rt; advanced?, Outcome::End(8));
-    assert_eq!(rt; ended?, Outcome::End(8));
-    assert!(rt; out.as_slice() == CYCLE_TO_8.trace.as_bytes());
-    Ok(())
+    assert!(rt; out.is_empty());
+    let advanced = simulation
+        .advance(&rt, 8, &mut out, &OpenGate)
+        .expect(&rt, "advanced");
+    let ended = simulation.finish(&mut out).expect(&rt, "ended");
+    assert!(rt; advanced == Outcome::End(8) && ended == Outcome::End(8));
+    assert!(rt; out.as_slice() == CYCLE.trace.as_bytes());
 }
 
-/// Why there is no simulation. None where there is one, which is ended at once.
-fn refused(alloc: Global, inputs: &Inputs<'_>, steps: u64, workers: u64) -> Option<RunError> {
-    match Simulation::open(alloc, inputs, steps, workers, Form::One) {
+/// Steps and workers out of their range, for a declaration that is none.
+static OUT_OF_RANGE: [(u64, u64); 4] = [(0, 1), (10_000_001, 1), (1, 0), (1, 65)];
+
+/// What opens is ended at once.
+fn is_bad_option(alloc: Global, steps: u64, workers: u64) -> bool {
+    match Simulation::open(alloc, &inputs_of("?", "", ""), steps, workers, Form::One) {
         Ok(simulation) => {
             let mut out: Vec<u8> = Vec::new(alloc);
             let _ended = simulation.finish(&mut out);
-            None
+            false
         }
-        Err(error) => Some(error),
+        Err(error) => matches!(error, RunError::BadOption),
     }
 }
 
 #[test]
-fn steps_and_workers_have_their_ranges(rt: HostRuntime) -> Result<(), Fail> {
-    let inputs = inputs_of("?", "", "");
-    for (steps, workers) in [(0, 1), (10_000_001, 1), (1, 0), (1, 65)] {
-        let found = refused(rt.alloc(), &inputs, steps, workers);
-        assert!(rt; matches!(found, Some(RunError::BadOption)));
+fn steps_and_workers_have_their_ranges(rt: HostRuntime) {
+    for (steps, workers) in &OUT_OF_RANGE {
+        assert!(rt; is_bad_option(rt.alloc(), *steps, *workers));
     }
-    let found = refused(rt.alloc(), &inputs, 1, 1);
-    assert!(rt; matches!(found, Some(RunError::Refused(_))));
-    Ok(())
+    assert!(rt; !is_bad_option(rt.alloc(), 1, 1));
 }
 
 #[test]
-fn a_stop_is_written_once(rt: HostRuntime) -> Result<(), Fail> {
-    let alloc = rt.alloc();
-    let inputs = inputs_of(BETWEEN.declaration, BETWEEN.deploy, BETWEEN.stimuli);
-    let stopped = BETWEEN.outcome;
-    for workers in WORKERS {
-        let mut out = Vec::new(alloc);
-        let mut simulation = Simulation::open(alloc, &inputs, BETWEEN.steps, workers, Form::One)?;
-        let first = simulation.advance(&rt, 9, &mut out, &OpenGate);
-        let second = simulation.advance(&rt, 9, &mut out, &OpenGate);
-        let ended = simulation.finish(&mut out);
-        assert_eq!(rt; first?, stopped);
-        assert_eq!(rt; second?, stopped);
-        assert_eq!(rt; ended?, stopped);
+fn a_stop_is_written_once(rt: HostRuntime) {
+    for workers in [1, 2, 7, 64] {
+        let mut out = Vec::new(rt.alloc());
+        let mut simulation = opened(&rt, rt.alloc(), &BETWEEN, workers);
+        let first = simulation
+            .advance(&rt, 9, &mut out, &OpenGate)
+            .expect(&rt, "advanced");
+        let second = simulation
+            .advance(&rt, 9, &mut out, &OpenGate)
+            .expect(&rt, "advanced");
+        let ended = simulation.finish(&mut out).expect(&rt, "ended");
+        let stopped = BETWEEN.outcome;
+        assert!(rt; first == stopped && second == stopped && ended == stopped);
         assert!(rt; out.as_slice() == BETWEEN.trace.as_bytes());
     }
-    Ok(())
 }
 
 #[test]
-fn after_a_fault_nothing_is_written(rt: HostRuntime) -> Result<(), Fail> {
-    let alloc = rt.alloc();
-    let inputs = inputs_of(CYCLE, "", "");
-    let mut out = with_room(alloc, 1000, 10);
-    let mut later = Vec::new(alloc);
-    let mut simulation = Simulation::open(alloc, &inputs, ENOUGH, 2, Form::One)?;
+fn after_a_fault_nothing_is_written(rt: HostRuntime) {
+    let mut out = with_room(rt.alloc(), 1000, 10);
+    let mut later = Vec::new(rt.alloc());
+    let mut simulation = opened(&rt, rt.alloc(), &CYCLE, 2);
     let at_fault = simulation.advance(&rt, 8, &mut out, &OpenGate);
     let advanced = simulation.advance(&rt, 9, &mut later, &OpenGate);
     let ended = simulation.finish(&mut later);
@@ -132,17 +127,26 @@ fn after_a_fault_nothing_is_written(rt: HostRuntime) -> Result<(), Fail> {
     assert!(rt; matches!(advanced, Err(RunError::Failed)));
     assert!(rt; matches!(ended, Err(RunError::Failed)));
     assert!(rt; later.is_empty());
-    Ok(())
 }
 
 /// What became of a simulation to which memory may have been refused.
-#[derive(Drop)]
+#[derive(Clone, Copy)]
 struct Tried {
-    out: Vec<u8>,
+    /// Whether it was opened.
+    is_open: bool,
     /// Whether a call failed.
     has_failed: bool,
     /// Whether each call after the first that failed answered that, and wrote nothing.
     stays_failed: bool,
+}
+
+impl Tried {
+    /// Notes an answer, and whether anything was written meanwhile.
+    fn note(&mut self, answer: &Result<Outcome, RunError>, is_longer: bool) {
+        let answers_it = matches!(answer, Err(RunError::Failed)) && !is_longer;
+        self.stays_failed = self.stays_failed && (!self.has_failed || answers_it);
+        self.has_failed = self.has_failed || answer.is_err();
+    }
 }
 
 /// Advances the cycle tick by tick, also where an advance failed, and ends it.
@@ -150,47 +154,42 @@ fn try_cycle<R: Threads + Wait + Sync>(
     rt: &R,
     alloc: Global,
     workers: u64,
-) -> Result<Tried, RunError> {
-    let mut out: Vec<u8> = Vec::new(alloc);
-    let mut has_failed = false;
-    let mut stays_failed = true;
-    let inputs = inputs_of(CYCLE, "", "");
-    let mut simulation = Simulation::open(alloc, &inputs, ENOUGH, workers, Form::One)?;
+    out: &mut Vec<u8>,
+) -> Tried {
+    let mut tried = Tried {
+        is_open: false,
+        has_failed: false,
+        stays_failed: true,
+    };
+    let inputs = inputs_of(CYCLE.declaration, CYCLE.deploy, CYCLE.stimuli);
+    let Ok(mut simulation) = Simulation::open(alloc, &inputs, ENOUGH, workers, Form::One) else {
+        return tried;
+    };
+    tried.is_open = true;
     for tick in 1..=8 {
         let before = out.len();
-        let found = simulation.advance(rt, tick, &mut out, &OpenGate);
-        let answers_it = matches!(found, Err(RunError::Failed)) && out.len() == before;
-        stays_failed = stays_failed && (!has_failed || answers_it);
-        has_failed = has_failed || found.is_err();
+        let found = simulation.advance(rt, tick, out, &OpenGate);
+        tried.note(&found, out.len() > before);
     }
     let before = out.len();
-    let ended = simulation.finish(&mut out);
-    let answers_it = matches!(ended, Err(RunError::Failed)) && out.len() == before;
-    Ok(Tried {
-        out,
-        has_failed: has_failed || ended.is_err(),
-        stays_failed: stays_failed && (!has_failed || answers_it),
-    })
+    let ended = simulation.finish(out);
+    tried.note(&ended, out.len() > before);
+    tried
 }
 
 /// Where memory is refused to it, a simulation has failed for good. `tools/refuse.py` runs this with each request refused in
 /// turn. Without that no call fails.
 #[test]
-fn after_a_want_of_memory_nothing_is_written(rt: HostRuntime) -> Result<(), Fail> {
+fn after_a_want_of_memory_nothing_is_written(rt: HostRuntime) {
     for workers in [1, 2] {
-        let tried = match try_cycle(&rt, rt.alloc(), workers) {
-            Ok(tried) => tried,
-            // It was not opened: one request was refused, so the second try has its memory.
-            Err(_) => try_cycle(&rt, rt.alloc(), workers)?,
-        };
-        assert!(rt; tried.stays_failed);
-        assert!(rt;
-            CYCLE_TO_8
-                .trace
-                .as_bytes()
-                .starts_with(tried.out.as_slice())
-        );
-        assert!(rt; tried.has_failed || tried.out.as_slice() == CYCLE_TO_8.trace.as_bytes());
+        let mut out = Vec::new(rt.alloc());
+        let mut tried = try_cycle(&rt, rt.alloc(), workers, &mut out);
+        if !tried.is_open {
+            // One request was refused, so the second try has its memory.
+            tried = try_cycle(&rt, rt.alloc(), workers, &mut out);
+        }
+        assert!(rt; tried.is_open && tried.stays_failed);
+        assert!(rt; CYCLE.trace.as_bytes().starts_with(out.as_slice()));
+        assert!(rt; tried.has_failed || out.as_slice() == CYCLE.trace.as_bytes());
     }
-    Ok(())
 }

@@ -1,15 +1,15 @@
 //! Workers work at the same time.
 
-use super::stops::BETWEEN;
+use super::texts::BETWEEN;
 use super::{inputs_of, to};
 use fb_phase::Gate;
-use fb_sim::options::Options;
 use fb_sim::run::run;
-use fb_types::run::Form;
+use std::alloc::Global;
+use std::process::Abort;
 use std::sync::Wait;
 use std::sync::atomic::Ordering::SeqCst;
 use std::sync::atomic::{AtomicBool, AtomicU64};
-use std::test::Fail;
+use std::thread::Threads;
 
 /// In one of the rounds the workers that draw the first numbers wait for one another, but give up in the end. Each round
 /// has a job of each of these numbers.
@@ -66,24 +66,29 @@ impl Gate for Meeting {
     }
 }
 
+/// Three resources run by so many workers, who pass a gate.
+fn expect_between<R: Abort + Threads + Wait + Sync, P: Gate>(
+    rt: &R,
+    alloc: Global,
+    workers: u64,
+    gate: &P,
+) {
+    let inputs = inputs_of(BETWEEN.declaration, BETWEEN.deploy, BETWEEN.stimuli);
+    let mut out = Vec::new(alloc);
+    let options = to(BETWEEN.horizon, BETWEEN.steps, workers);
+    let outcome = run(rt, alloc, &inputs, options, &mut out, gate).expect(rt, "run");
+    assert!(rt; outcome == BETWEEN.outcome);
+    assert!(rt; out.as_slice() == BETWEEN.trace.as_bytes());
+}
+
 /// In the first round of the run each of the three resources has an event, so that there is work for so many workers.
 #[test]
-fn workers_meet(rt: HostRuntime) -> Result<(), Fail> {
-    let alloc = rt.alloc();
-    let inputs = inputs_of(BETWEEN.declaration, BETWEEN.deploy, BETWEEN.stimuli);
+fn workers_meet(rt: HostRuntime) {
     for workers in [2, 3] {
         let gate = Meeting::new(workers, 0);
-        let options = Options {
-            workers,
-            ..to(BETWEEN.horizon, BETWEEN.steps, Form::One)
-        };
-        let mut out = Vec::new(alloc);
-        let outcome = run(&rt, alloc, &inputs, options, &mut out, &gate)?;
-        assert_eq!(rt; outcome, BETWEEN.outcome);
-        assert!(rt; out.as_slice() == BETWEEN.trace.as_bytes());
-        assert!(rt; gate.is_over(), "{workers} workers did not meet");
+        expect_between(&rt, rt.alloc(), workers, &gate);
+        assert!(rt; gate.is_over(), "they did not meet");
     }
-    Ok(())
 }
 
 /// It looks whether the first numbers that pass are those of the jobs of the first round, in their order.
@@ -108,20 +113,15 @@ impl Gate for InOrder {
 }
 
 #[test]
-fn one_worker_passes_the_gate_in_the_order_of_the_jobs(rt: HostRuntime) -> Result<(), Fail> {
-    let alloc = rt.alloc();
-    let inputs = inputs_of(BETWEEN.declaration, BETWEEN.deploy, BETWEEN.stimuli);
+fn one_worker_passes_the_gate_in_the_order_of_the_jobs(rt: HostRuntime) {
     let gate = InOrder {
         passed: AtomicU64::new(0),
         differs: AtomicBool::new(false),
     };
-    let mut out = Vec::new(alloc);
-    let options = to(BETWEEN.horizon, BETWEEN.steps, Form::One);
-    run(&rt, alloc, &inputs, options, &mut out, &gate)?;
+    expect_between(&rt, rt.alloc(), 1, &gate);
     assert!(rt;
         gate.passed.load(SeqCst) >= InOrder::JOBS,
         "a job passed no gate"
     );
     assert!(rt; !gate.differs.load(SeqCst), "another number passed");
-    Ok(())
 }

@@ -1,119 +1,106 @@
 //! Later rounds of a run have several workers too, where the window before them gave many lines.
 
 use super::gates::Meeting;
-use super::{ENOUGH, inputs_of, lines_in, to};
+use super::{ENOUGH, inputs_of, to};
 use fb_phase::{Gate, OpenGate};
-use fb_sim::options::{Inputs, Options};
-use fb_sim::outcome::{Outcome, RunError};
+use fb_sim::options::Inputs;
+use fb_sim::outcome::Outcome;
 use fb_sim::run::run;
 use fb_sim::serial::run_serial;
-use fb_types::run::Form;
-use std::alloc::{AllocError, Global};
+use std::alloc::Global;
+use std::process::Abort;
 use std::sync::Wait;
-use std::test::Fail;
 use std::thread::Threads;
-
-/// Each resource, with the next one.
-const RESOURCES: [(u32, u32); 4] = [(0, 1), (1, 2), (2, 3), (3, 0)];
-
-/// The number of the last merge of a resource.
-const LAST_MERGE: u32 = 39;
 
 /// The tick at which the runs end.
 const HORIZON: u64 = 40;
 
-/// In each resource a cycle of one tick goes through forty merges, and from the last of them to a merge `T` of the next
-/// resource, from which nothing goes on.
-fn declaration(alloc: Global) -> Result<String, AllocError> {
-    let mut text = String::from_str(alloc, "APPLICATION A FBS")?;
-    for (i, _) in RESOURCES {
-        let first = format!(in alloc;
-            " S{i} : E_RESTART; C{i} : E_CYCLE(DT := T#1ms); T{i} : E_MERGE;"
-        )?;
-        text.push_str(first.as_str())?;
-        for k in 0..=LAST_MERGE {
-            text.push_str(format!(in alloc; " M{i}x{k} : E_MERGE;")?.as_str())?;
-        }
-    }
-    text.push_str(" END_FBS\nEVENT_CONNECTIONS")?;
-    for (i, next) in RESOURCES {
-        connect(alloc, &mut text, i, next)?;
-    }
-    text.push_str(" END_CONNECTIONS END_APPLICATION")?;
-    Ok(text)
-}
-
-/// Adds the connections that begin in a resource.
-fn connect(alloc: Global, text: &mut String, i: u32, next: u32) -> Result<(), AllocError> {
-    let start = format!(in alloc; " S{i}.COLD TO C{i}.START; C{i}.EO TO M{i}x0.EI1;")?;
-    text.push_str(start.as_str())?;
-    for k in 0..LAST_MERGE {
-        let after = k + 1;
-        let merge = format!(in alloc; " M{i}x{k}.EO TO M{i}x{after}.EI1;")?;
-        text.push_str(merge.as_str())?;
-    }
-    let last = format!(in alloc; " M{i}x{LAST_MERGE}.EO TO T{next}.EI1;")?;
-    text.push_str(last.as_str())?;
-    Ok(())
-}
+/// In each resource a cycle of one tick goes to a burst of sixty events, and from there to a merge `T` of the next resource,
+/// from which nothing goes on.
+static DECLARATION: &str = concat!(
+    "FUNCTION_BLOCK BURST\n",
+    "EVENT_INPUT GO; END_EVENT\n",
+    "EVENT_OUTPUT TICKED; DONE; END_EVENT\n",
+    "EC_STATES IDLE; RUN :\n",
+    "-> TICKED, -> TICKED, -> TICKED, -> TICKED, -> TICKED, -> TICKED, -> TICKED, -> TICKED, -> TICKED, -> TICKED,\n",
+    "-> TICKED, -> TICKED, -> TICKED, -> TICKED, -> TICKED, -> TICKED, -> TICKED, -> TICKED, -> TICKED, -> TICKED,\n",
+    "-> TICKED, -> TICKED, -> TICKED, -> TICKED, -> TICKED, -> TICKED, -> TICKED, -> TICKED, -> TICKED, -> TICKED,\n",
+    "-> TICKED, -> TICKED, -> TICKED, -> TICKED, -> TICKED, -> TICKED, -> TICKED, -> TICKED, -> TICKED, -> TICKED,\n",
+    "-> TICKED, -> TICKED, -> TICKED, -> TICKED, -> TICKED, -> TICKED, -> TICKED, -> TICKED, -> TICKED, -> TICKED,\n",
+    "-> TICKED, -> TICKED, -> TICKED, -> TICKED, -> TICKED, -> TICKED, -> TICKED, -> TICKED, -> TICKED, -> TICKED,\n",
+    "-> DONE; END_STATES\n",
+    "EC_TRANSITIONS IDLE TO RUN := GO; RUN TO IDLE := 1; END_TRANSITIONS\n",
+    "END_FUNCTION_BLOCK\n",
+    "APPLICATION A FBS\n",
+    "S0 : E_RESTART; C0 : E_CYCLE(DT := T#1ms); B0 : BURST; T0 : E_MERGE;\n",
+    "S1 : E_RESTART; C1 : E_CYCLE(DT := T#1ms); B1 : BURST; T1 : E_MERGE;\n",
+    "S2 : E_RESTART; C2 : E_CYCLE(DT := T#1ms); B2 : BURST; T2 : E_MERGE;\n",
+    "S3 : E_RESTART; C3 : E_CYCLE(DT := T#1ms); B3 : BURST; T3 : E_MERGE;\n",
+    "END_FBS\n",
+    "EVENT_CONNECTIONS\n",
+    "S0.COLD TO C0.START; C0.EO TO B0.GO; B0.DONE TO T1.EI1;\n",
+    "S1.COLD TO C1.START; C1.EO TO B1.GO; B1.DONE TO T2.EI1;\n",
+    "S2.COLD TO C2.START; C2.EO TO B2.GO; B2.DONE TO T3.EI1;\n",
+    "S3.COLD TO C3.START; C3.EO TO B3.GO; B3.DONE TO T0.EI1;\n",
+    "END_CONNECTIONS END_APPLICATION"
+);
 
 /// The resources, each with a link to the next, over which a message takes five ticks. So a round is of five ticks.
-fn deployment(alloc: Global) -> Result<String, AllocError> {
-    let mut text = String::new(alloc);
-    for (i, _) in RESOURCES {
-        let head = format!(in alloc;
-            "[[resource]]\ndevice = 'D'\nname = 'R{i}'\ninstances = ['S{i}', 'C{i}', 'T{i}'"
-        )?;
-        text.push_str(head.as_str())?;
-        for k in 0..=LAST_MERGE {
-            text.push_str(format!(in alloc; ", 'M{i}x{k}'")?.as_str())?;
+static DEPLOYMENT: &str = "resource = [\n\
+    { device = 'D', name = 'R0', instances = ['S0', 'C0', 'B0', 'T0'] },\n\
+    { device = 'D', name = 'R1', instances = ['S1', 'C1', 'B1', 'T1'] },\n\
+    { device = 'D', name = 'R2', instances = ['S2', 'C2', 'B2', 'T2'] },\n\
+    { device = 'D', name = 'R3', instances = ['S3', 'C3', 'B3', 'T3'] },\n\
+    ]\n\
+    link = [\n\
+    { from = 'R0', to = 'R1', latency = 5 },\n\
+    { from = 'R1', to = 'R2', latency = 5 },\n\
+    { from = 'R2', to = 'R3', latency = 5 },\n\
+    { from = 'R3', to = 'R0', latency = 5 },\n\
+    ]\n";
+
+/// Where the trace ends: an arrival is taken before the event of its tick that the cycle sent to the burst.
+static LAST_LINES: &str = "\n39 R3 < B3.TICKED\n39 R3 < B3.DONE\nend 40\n";
+
+fn lines_in(trace: &[u8]) -> u32 {
+    let mut lines: u32 = 0;
+    for byte in trace {
+        if *byte == b'\n' {
+            lines = lines.saturating_add(1);
         }
-        text.push_str("]\n")?;
     }
-    for (i, next) in RESOURCES {
-        let link = format!(in alloc; "[[link]]\nfrom = 'R{i}'\nto = 'R{next}'\nlatency = 5\n")?;
-        text.push_str(link.as_str())?;
-    }
-    Ok(text)
+    lines
 }
 
-/// What a run by so many workers writes.
-fn by_workers<R: Threads + Wait + Sync, P: Gate>(
+/// A run by so many workers writes the same.
+fn expect_the_same<R: Abort + Threads + Wait + Sync, P: Gate>(
     rt: &R,
     alloc: Global,
     inputs: &Inputs<'_>,
-    workers: u64,
-    gate: &P,
-) -> Result<Vec<u8>, RunError> {
+    (workers, gate): (u64, &P),
+    trace: &[u8],
+) {
     let mut out = Vec::new(alloc);
-    let options = Options {
-        workers,
-        ..to(HORIZON, ENOUGH, Form::One)
-    };
-    run(rt, alloc, inputs, options, &mut out, gate)?;
-    Ok(out)
+    let options = to(HORIZON, ENOUGH, workers);
+    let outcome = run(rt, alloc, inputs, options, &mut out, gate).expect(rt, "run");
+    assert!(rt; outcome == Outcome::End(HORIZON) && out.as_slice() == trace);
 }
 
-// A resource gives 2 lines at tick 0; 1 and 40 * 2 at each of the 39 ticks from 1 on; and 2 for each message, which were
-// sent at the 34 ticks from 1 to 34: 2 + 39 * 81 + 34 * 2 = 3,229. Four of them, and the last line: 12,917. A round of five
-// ticks writes more than 20,000 bytes.
+// A resource gives 2 lines at tick 0; 1, 2 and 60 at each of the 39 ticks from 1 on, and one more with the event that leads
+// away; and 2 for each message, which were sent at the 34 ticks from 1 to 34: 2 + 39 * 63 + 34 * 2 = 2,527. Four of them, and
+// the last line: 10,109. A round of five ticks writes more than 20,000 bytes.
 #[test]
-fn workers_meet_in_a_later_round(rt: HostRuntime) -> Result<(), Fail> {
-    let alloc = rt.alloc();
-    let declaration = declaration(alloc)?;
-    let deployment = deployment(alloc)?;
-    let inputs = inputs_of(declaration.as_str(), deployment.as_str(), "");
-    let mut trace = Vec::new(alloc);
-    let outcome = run_serial(alloc, &inputs, to(HORIZON, ENOUGH, Form::One), &mut trace)?;
-    assert_eq!(rt; outcome, Outcome::End(HORIZON));
-    assert_eq!(rt; lines_in(trace.as_slice()), 12_917);
-    assert!(rt; trace.ends_with(b"\n39 R3 > M3X39.EI1\n39 R3 < M3X39.EO\nend 40\n"));
+fn workers_meet_in_a_later_round(rt: HostRuntime) {
+    let inputs = inputs_of(DECLARATION, DEPLOYMENT, "");
+    let mut trace = Vec::new(rt.alloc());
+    let options = to(HORIZON, ENOUGH, 1);
+    let outcome = run_serial(rt.alloc(), &inputs, options, &mut trace).expect(&rt, "run");
+    assert!(rt; outcome == Outcome::End(HORIZON));
+    assert!(rt; lines_in(trace.as_slice()) == 10_109);
+    assert!(rt; trace.ends_with(LAST_LINES.as_bytes()));
     // They meet in the fourth round.
     let gate = Meeting::new(2, 3);
-    let by_two = by_workers(&rt, alloc, &inputs, 2, &gate)?;
+    expect_the_same(&rt, rt.alloc(), &inputs, (2, &gate), trace.as_slice());
     assert!(rt; gate.is_over(), "they did not meet");
-    assert!(rt; by_two.as_slice() == trace.as_slice());
-    let by_seven = by_workers(&rt, alloc, &inputs, 7, &OpenGate)?;
-    assert!(rt; by_seven.as_slice() == trace.as_slice());
-    Ok(())
+    expect_the_same(&rt, rt.alloc(), &inputs, (7, &OpenGate), trace.as_slice());
 }

@@ -8,6 +8,7 @@ use fb_trace::last::End;
 use fb_types::run::{Form, StopMark};
 use fb_types::value::Reason;
 use std::alloc::Global;
+use std::mem::forget;
 use std::process::Abort;
 
 const STEPS: [usize; 3] = [1, 3, usize::MAX];
@@ -56,4 +57,5 @@ fn a_fault_says_how_many_bytes_were_taken(rt: HostRuntime) {
         expect_faults(&rt, alloc, trace, (Part::Whole, form), whole.as_slice());
     }
     expect_faults(&rt, alloc, trace, (Part::Last, Form::One), LAST);
+    forget(lines);
 }

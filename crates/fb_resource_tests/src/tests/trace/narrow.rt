@@ -5,7 +5,7 @@ use std::io;
 use std::io::Write;
 
 /// How a writer refuses bytes.
-#[derive(Clone, Copy, Debug, PartialEq, Eq)]
+#[derive(Clone, Copy)]
 pub enum Refusal {
     Error,
     /// It answers that it took no byte.

@@ -9,6 +9,7 @@ use fb_trace::last::End;
 use fb_types::run::{Form, Line};
 use fb_types::value::Value;
 use std::alloc::Global;
+use std::mem::forget;
 use std::process::Abort;
 
 /// G.GO, which has the data inputs N and G.
@@ -17,7 +18,7 @@ const GO: Port = (7, 0, IN);
 const HALT: Port = (7, 1, IN);
 
 /// Values of N and G, and the text of form one.
-const VALUES: [(i128, bool, &[u8]); 14] = [
+static VALUES: [(i128, bool, &[u8]); 14] = [
     (0, false, b"12 CELLAR_2 > G.GO N=0 G=FALSE\n"),
     (1, true, b"12 CELLAR_2 > G.GO N=1 G=TRUE\n"),
     (9, false, b"12 CELLAR_2 > G.GO N=9 G=FALSE\n"),
@@ -83,21 +84,22 @@ fn expect_one(
     };
     let out = with_room(alloc, 100, usize::MAX, Refusal::Error);
     expect_text(rt, out, trace, (Part::Lines, form), text);
+    forget(lines);
 }
 
 #[test]
 fn values(rt: HostRuntime) {
     let alloc = rt.alloc();
     let system = plant(&rt, alloc);
-    for (number, flag, text) in VALUES {
-        let values = [Value::Whole(number), Value::Bool(flag)];
+    for (number, flag, text) in &VALUES {
+        let values = [Value::Whole(*number), Value::Bool(*flag)];
         let line = line(&rt, alloc, (12, 1, 0, 0, 0), GO, &values);
-        expect_one(&rt, alloc, &system, line, Form::One, text);
+        expect_one(&rt, alloc, &system, line, Form::One, *text);
     }
 }
 
 /// Keys, and the text of form two.
-const KEYS: [(KeyParts, &[u8]); 7] = [
+static KEYS: [(KeyParts, &[u8]); 7] = [
     ((0, 1, 0, 0, 0), b"0 0 0 0 CELLAR_2 > G.HALT\n"),
     ((10, 1, 3, 9, 100), b"3 9 100 10 CELLAR_2 > G.HALT\n"),
     (
@@ -138,8 +140,8 @@ const KEYS: [(KeyParts, &[u8]); 7] = [
 fn parts_of_keys(rt: HostRuntime) {
     let alloc = rt.alloc();
     let system = plant(&rt, alloc);
-    for (key, text) in KEYS {
-        let line = line(&rt, alloc, key, HALT, &[]);
-        expect_one(&rt, alloc, &system, line, Form::Two, text);
+    for (key, text) in &KEYS {
+        let line = line(&rt, alloc, *key, HALT, &[]);
+        expect_one(&rt, alloc, &system, line, Form::Two, *text);
     }
 }

@@ -7,6 +7,7 @@ use super::writing::{Part, Trace, expect_text};
 use fb_trace::last::End;
 use fb_types::run::{Form, Line};
 use std::alloc::Global;
+use std::mem::forget;
 use std::process::Abort;
 
 const PAGE: usize = 8192;
@@ -66,6 +67,7 @@ fn many_lines(rt: HostRuntime) {
             expect_at(&rt, alloc, trace, Part::Lines, room, text.as_slice());
         }
     }
+    forget(lines);
 }
 
 #[test]
@@ -81,16 +83,17 @@ fn many_lines_and_their_end(rt: HostRuntime) {
     for room in [0, 1, 24_999, 25_000, 25_001, 25_005, 25_006, 30_000] {
         expect_at(&rt, alloc, trace, Part::Whole, room, text.as_slice());
     }
+    forget(lines);
 }
 
 /// Lengths of a name with which a text is a page long, and one byte less or more: a trace, a line, a name with what
 /// stands before it, and a name alone. The last is longer than a page by far.
-const LETTERS: [usize; 13] = [
+static LETTERS: [usize; 13] = [
     8170, 8171, 8172, 8176, 8177, 8178, 8182, 8183, 8184, 8191, 8192, 8193, 10_000,
 ];
 
 /// Rooms at the beginning and around the end of a page.
-const ROOMS: [usize; 10] = [
+static ROOMS: [usize; 10] = [
     0,
     8,
     9,
@@ -111,8 +114,8 @@ fn expect_line(
     letters: usize,
 ) {
     let text = around_letters(rt, alloc, around, letters);
-    for room in ROOMS {
-        expect_at(rt, alloc, trace, part, room, text.as_slice());
+    for room in &ROOMS {
+        expect_at(rt, alloc, trace, part, *room, text.as_slice());
     }
     for more in 8..23 {
         expect_at(
@@ -130,14 +133,15 @@ fn expect_line(
 fn long_names(rt: HostRuntime) {
     let alloc = rt.alloc();
     let lines = [line(&rt, alloc, KEY, (0, 0, OUT), &[])];
-    for letters in LETTERS {
-        let system = lone(&rt, alloc, letters);
+    for letters in &LETTERS {
+        let system = lone(&rt, alloc, *letters);
         let trace = Trace {
             system: &system,
             lines: &lines,
             end: End::Horizon(8),
         };
-        expect_line(&rt, alloc, trace, (Part::Lines, LINE), letters);
-        expect_line(&rt, alloc, trace, (Part::Whole, WHOLE), letters);
+        expect_line(&rt, alloc, trace, (Part::Lines, LINE), *letters);
+        expect_line(&rt, alloc, trace, (Part::Whole, WHOLE), *letters);
     }
+    forget(lines);
 }

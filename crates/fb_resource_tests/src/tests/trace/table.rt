@@ -31,7 +31,7 @@ pub const IN: bool = true;
 
 pub const OUT: bool = false;
 
-pub const ROWS: [Row; 18] = [
+pub static ROWS: [Row; 18] = [
     Row {
         key: (0, 0, 1, 0, 0),
         port: (0, 0, OUT),
@@ -164,7 +164,7 @@ pub const ROWS: [Row; 18] = [
 ];
 
 /// Last lines, each with its text.
-pub const ENDS: [(End, &[u8]); 8] = [
+pub static ENDS: [(End, &[u8]); 8] = [
     (End::Horizon(0), b"end 0\n"),
     (End::Horizon(8), b"end 8\n"),
     (End::Horizon(1_000_000_000_000), b"end 1000000000000\n"),

@@ -9,6 +9,7 @@ use fb_trace::fault::WriteFault;
 use fb_trace::last::End;
 use fb_types::run::Form;
 use std::alloc::Global;
+use std::mem::forget;
 use std::process::Abort;
 
 /// How many bytes a writer takes at a time.
@@ -47,27 +48,28 @@ fn any_writer_gets_the_text(rt: HostRuntime) {
     let alloc = rt.alloc();
     let system = plant(&rt, alloc);
     let lines = lines_of(&rt, alloc, &ROWS);
-    for (end, last) in ENDS {
+    for (end, last) in &ENDS {
         let trace = Trace {
             system: &system,
             lines: lines.as_slice(),
-            end,
+            end: *end,
         };
         for form in FORMS {
-            expect_parts(&rt, alloc, trace, form, last);
+            expect_parts(&rt, alloc, trace, form, *last);
         }
     }
+    forget(lines);
 }
 
-fn expect_alone(rt: &impl Abort, alloc: Global, system: &System, row: Row) {
-    let lines = lines_of(rt, alloc, &[row]);
+fn expect_alone(rt: &impl Abort, alloc: Global, system: &System, row: &[Row]) {
+    let lines = lines_of(rt, alloc, row);
     let trace = Trace {
         system,
         lines: lines.as_slice(),
         end: End::Horizon(1),
     };
     for form in FORMS {
-        let text = text_of(rt, alloc, form, &[row], b"");
+        let text = text_of(rt, alloc, form, row, b"");
         expect_text(
             rt,
             wide(alloc, 100),
@@ -76,14 +78,15 @@ fn expect_alone(rt: &impl Abort, alloc: Global, system: &System, row: Row) {
             text.as_slice(),
         );
     }
+    forget(lines);
 }
 
 /// A line for each row has its row's text, whatever lines stand around it.
 #[test]
 fn each_line_alone(rt: HostRuntime) {
     let system = plant(&rt, rt.alloc());
-    for row in ROWS {
-        expect_alone(&rt, rt.alloc(), &system, row);
+    for place in 0..ROWS.len() {
+        expect_alone(&rt, rt.alloc(), &system, &ROWS[place..place + 1]);
     }
 }
 
@@ -116,9 +119,9 @@ fn written_in_turn(
 ) -> Result<(), WriteFault> {
     let mut out = with_room(alloc, 100, room, Refusal::Error);
     let answer = write_part(rt, &mut out, trace, (Part::Lines, Form::One));
-    assert_eq!(rt; answer, Ok(()));
+    assert!(rt; answer == Ok(()));
     let answer = write_part(rt, &mut out, trace, (Part::Last, Form::One));
-    assert_eq!(rt; out.got.as_slice(), text);
+    assert!(rt; out.got.as_slice() == text);
     answer
 }
 
@@ -133,11 +136,10 @@ fn calls_follow_one_another(rt: HostRuntime) {
         lines: lines.as_slice(),
         end: End::Horizon(8),
     };
-    assert_eq!(rt;
-        written_in_turn(&rt, alloc, trace, usize::MAX, FIRST),
-        Ok(())
-    );
+    let answer = written_in_turn(&rt, alloc, trace, usize::MAX, FIRST);
+    assert!(rt; answer == Ok(()));
     // There is room for the 34 bytes of the lines and 3 more.
     let answer = written_in_turn(&rt, alloc, trace, 37, &FIRST[..37]);
-    assert_eq!(rt; answer, Err(WriteFault { written: 3 }));
+    assert!(rt; answer == Err(WriteFault { written: 3 }));
+    forget(lines);
 }

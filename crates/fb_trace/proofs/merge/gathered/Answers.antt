@@ -1,4 +1,4 @@
-use Rattle.std.proofs.Common.{◌≡◌, ◌<◌, [], map, length, Some, sym, ap, ◌∙◌, subst}
+use Rattle.std.proofs.Common.{◌<◌, [], map, length, sym, ap, ◌∙◌, subst}
 use Rattle.fb_trace.specs.Fronts.{IsLeast, all_late, present}
 use Rattle.fb_trace.proofs.Taking.{IsTaken, joint, begin, further, fewer, none_left, end_merged, end_kept, one_merged, one_kept}
 use Rattle.fb_trace.proofs.merge.gathered.Goals as goal

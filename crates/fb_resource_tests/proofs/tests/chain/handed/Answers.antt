@@ -5,10 +5,10 @@ use Rattle.fb_take.specs.Posts.{IsMessage}
 use Rattle.fb_resource_tests.proofs.Handed.{handed, last_at}
 use Rattle.fb_resource_tests.proofs.tests.chain.handed.Goals as goal
 
-pub returns-then-is_empty : goal.returns-then-is_empty
-returns-then-is_empty c =
+pub returns : goal.returns
+returns g c =
     let i = c.args.system.now in
-    let inbox = c.in_ok-inbox.inbox in
+    let inbox = c.in-Some.inbox in
     let rest = c.pop.new.self.items in
     handed (IsMessage i) (system_of i) (length rest) c.args.sent c.in-Ok.outboxes.items inbox.items c.in-Ok.ensures.items c.requires
-    (c.in-Ok-exchange.ensures.each (length rest) inbox (subst (λ xs. slice_get xs (length rest) ≡ Some inbox) (sym c.in_ok-inbox.ensures.items) (last_at rest inbox)))
+    (c.in-Ok-exchange.ensures.each (length rest) inbox (subst (λ xs. slice_get xs (length rest) ≡ Some inbox) (sym c.in-Some.ensures.items) (last_at rest inbox)))

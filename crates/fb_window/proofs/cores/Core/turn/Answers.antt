@@ -1,11 +1,36 @@
-use Rattle.std.proofs.Common.{◌≡◌, ◌<◌, Some, length, refl, sym, subst, arith}
+use Rattle.std.proofs.Common.{◌≡◌, ◌<◌, length, refl, subst, ◌∙◌, arith}
 use Rattle.std.specs.Prelude.{slice_set}
+use Rattle.std.proofs.lemmas.List.{length-set}
 use Rattle.std.proofs.lemmas.Option.{slice_get_read}
 use Rattle.fb_types.specs.Headline.{Inputs, system_of}
 use Rattle.fb_resource.specs.Resources.{HasRun}
 use Rattle.fb_resource.specs.declared.resource.WindowDone.TheVariants.{Ran}
+use Rattle.fb_resource.specs.declared.resource.Inner.{Inner}
 use Rattle.fb_window.specs.Mails.{AreGiven}
+use Rattle.fb_window.specs.Noting.{AreNoted}
+use Rattle.fb_window.proofs.Places.{one_at}
+use Rattle.fb_window.proofs.Receives.{set_same}
 use Rattle.fb_window.proofs.cores.Core.turn.Goals as goal
+use Rattle.fb_window.proofs.cores.Core.turn.Goals.{After-index}
+
+-- the resource that ran, where it is looked at again
+looked : (c : After-index) → c.index.result.now ≡ c.run_here.new.self
+looked c =
+    let xs = c.args.self.now.resources.items in
+    let place = c.args.place in
+    let after = c.run_here.new.self in
+    let within : place < length xs = c.requires.place in
+    let same = length-set xs place after in
+    one_at (slice_set xs place after) place c.index.result.now after (slice_get_read (slice_set xs place after) (length (slice_set xs place after)) place c.index.result.now refl (omega arith) c.index.ensures) (set_same xs place after within)
+
+pub give-requires-clause-noted : goal.give-requires-clause-noted
+give-requires-clause-noted c =
+    let d = (goal.at.give-requires-clause-noted c).After-index in
+    let xs = c.args.self.now.resources.items in
+    subst (λ (z : Inner). AreNoted c.note.new.self.horizon (slice_set xs c.args.place z) c.note.new.self.ticks.items) (looked d) (c.note.ensures.noted xs c.requires.noted)
+
+pub returns-clause-horizon : goal.returns-clause-horizon
+returns-clause-horizon c = c.in_ok-give.ensures.horizon ∙ c.note.ensures.horizon
 
 pub returns-clause-turned : goal.returns-clause-turned
 returns-clause-turned c =
@@ -27,7 +52,7 @@ returns-clause-turned c =
       sent = output.sent;
       was = slice_get_read xs (length xs) place before refl within c.index_mut.ensures.value;
       ran = subst (λ (z : Inputs). HasRun z old.steps before c.args.to (Ran after output.lines output.sent output.stop)) c.requires.system c.in_ok-output.ensures;
-      given = subst (λ (z : Inputs). AreGiven (system_of z) output.sent.items (slice_set xs place after) c.give.new.resources.items) c.requires.system c.in_ok-give.ensures;
+      given = subst (λ (z : Inputs). AreGiven (system_of z) output.sent.items (slice_set xs place after) c.give.new.resources.items) c.requires.system c.in_ok-give.ensures.given;
       kept = kept;
       lines = c.append.new.self;
       kept_was = slice_get_read ps (length ps) place kept refl within_too c.index_mut-2.ensures.value;

@@ -1,0 +1,130 @@
+//! What a body leaves where it stops, and which names a frame has. The expected values are worked by hand.
+
+use fb_read::read_library;
+use fb_st::exec::exec;
+use fb_st::frame::Frame;
+use fb_st::known::knows;
+use fb_st::meter::{Flow, Meter};
+use fb_types::library::{Algorithm, BlockType};
+use fb_types::name::Name;
+use fb_types::reference::Reference;
+use fb_types::value::{Reason, Ty, Value};
+use std::alloc::Global;
+use std::mem::forget;
+use std::process::Abort;
+
+/// A body for each of ROWS, and one that names a variable that there is not. EXIT outside of loops is in no accepted text.
+static BODIES: &str = "FUNCTION_BLOCK F VAR X : INT; END_VAR EC_STATES S; END_STATES\n\
+    ALGORITHM A0 IN ST: X := 32767 + 1; END_ALGORITHM\n\
+    ALGORITHM A1 IN ST: X := 1 / 0; END_ALGORITHM\n\
+    ALGORITHM A2 IN ST: X := 5; X := 1; END_ALGORITHM\n\
+    ALGORITHM A3 IN ST: X := 5; X := 32768; END_ALGORITHM\n\
+    ALGORITHM A4 IN ST: FOR X := 1 TO 10 BY 0 DO ; END_FOR; END_ALGORITHM\n\
+    ALGORITHM A5 IN ST: FOR X := 32766 TO 32767 DO ; END_FOR; END_ALGORITHM\n\
+    ALGORITHM A6 IN ST: FOR X := 32767 TO 40000 DO ; END_FOR; END_ALGORITHM\n\
+    ALGORITHM A7 IN ST: FOR X := 40000 TO 50000 DO ; END_FOR; END_ALGORITHM\n\
+    ALGORITHM A8 IN ST: REPEAT X := X + 1; UNTIL X < 0 END_REPEAT; END_ALGORITHM\n\
+    ALGORITHM A9 IN ST: EXIT; END_ALGORITHM\n\
+    ALGORITHM A10 IN ST: WHILE TRUE DO REPEAT RETURN; X := 9; UNTIL TRUE END_REPEAT; X := 9; END_WHILE; X := 9; END_ALGORITHM\n\
+    ALGORITHM A11 IN ST: WHILE X < 3 DO X := X + 1; END_WHILE; END_ALGORITHM\n\
+    ALGORITHM A12 IN ST: WHILE TRUE DO Y := 1; END_WHILE; END_ALGORITHM\n\
+    END_FUNCTION_BLOCK APPLICATION A FBS END_FBS END_APPLICATION";
+
+/// The steps that are left, the answer, the steps that are left then, and what X holds.
+type Row = (u64, Result<Flow, Reason>, u64, i128);
+
+static ROWS: [Row; 12] = [
+    (9, Err(Reason::Range), 8, 0),
+    (9, Err(Reason::Divide), 8, 0),
+    (1, Err(Reason::Steps), 0, 5),
+    (9, Err(Reason::Range), 7, 5),
+    (99, Err(Reason::Steps), 0, 1),
+    (4, Err(Reason::Steps), 0, 32767),
+    (99, Err(Reason::Range), 96, 32767),
+    (99, Err(Reason::Range), 98, 0),
+    (20, Err(Reason::Steps), 0, 9),
+    (99, Ok(Flow::Left), 98, 0),
+    (99, Ok(Flow::Returned), 94, 0),
+    (99, Ok(Flow::Went), 92, 3),
+];
+
+fn named(rt: &impl Abort, alloc: Global, text: &str) -> Name {
+    Name::from_text(alloc, text).expect(rt, "memory")
+}
+
+/// A frame with X : INT, which is 0.
+fn frame(rt: &impl Abort, alloc: Global) -> Frame {
+    let mut frame = Frame::new(alloc);
+    let x = named(rt, alloc, "X");
+    let is_new = frame
+        .declare(x, Ty::Int, Value::Whole(0))
+        .expect(rt, "memory");
+    assert!(rt; is_new);
+    frame
+}
+
+/// The body of an algorithm goes as the row says.
+fn expect_row(rt: &impl Abort, alloc: Global, algorithm: &Algorithm, row: &Row) {
+    let (left, answer, after, x) = *row;
+    let mut frame = frame(rt, alloc);
+    let mut meter = Meter { left };
+    assert!(rt; knows(&algorithm.body, &frame));
+    let found = exec(&algorithm.body, &mut frame, &mut meter);
+    let variable = Reference::new(named(rt, alloc, "X"));
+    assert!(rt; found == answer && meter.left == after);
+    assert!(rt; frame.value(&variable) == Value::Whole(x));
+    forget(frame);
+    forget(variable);
+}
+
+/// The algorithms go as the rows say, in their order. The last one is behind the rows.
+fn expect_rows(rt: &impl Abort, alloc: Global, algorithms: &[Algorithm]) {
+    assert!(rt; algorithms.len() == 13);
+    for (algorithm, row) in algorithms.iter().zip(ROWS.iter()) {
+        expect_row(rt, alloc, algorithm, row);
+    }
+    let frame = frame(rt, alloc);
+    assert!(rt; !knows(&algorithms[12].body, &frame));
+    forget(frame);
+}
+
+#[test]
+fn bodies_leave_what_they_did_before_a_stop(rt: HostRuntime) {
+    let Ok(library) = read_library(rt.alloc(), BODIES.as_bytes()) else {
+        panic!(rt; "no library");
+    };
+    match library.blocks.as_slice() {
+        [BlockType::Basic(block)] => expect_rows(&rt, rt.alloc(), block.algorithms.as_slice()),
+        _ => panic!(rt; "a basic type"),
+    }
+    forget(library);
+}
+
+/// Wherever a reference expects its variable, the name alone decides.
+#[test]
+fn names_are_declared_once(rt: HostRuntime) {
+    let alloc = rt.alloc();
+    let mut frame = frame(&rt, alloc);
+    let (x, y) = (named(&rt, alloc, "X"), named(&rt, alloc, "Y"));
+    assert!(rt; frame.has(&x) && !frame.has(&y));
+    let is_new = frame
+        .declare(y, Ty::Uint, Value::Whole(7))
+        .expect(&rt, "memory");
+    assert!(rt; is_new);
+    let is_new = frame
+        .declare(x, Ty::Lint, Value::Whole(7))
+        .expect(&rt, "memory");
+    assert!(rt; !is_new);
+    let (x, y) = (
+        Reference::new(named(&rt, alloc, "X")),
+        Reference::new(named(&rt, alloc, "Y")),
+    );
+    assert!(rt; frame.value(&x) == Value::Whole(0));
+    for place in [0, 1, 9] {
+        y.expect_at(place);
+        assert!(rt; frame.value(&y) == Value::Whole(7));
+    }
+    forget(frame);
+    forget(x);
+    forget(y);
+}

@@ -1,6 +1,0 @@
-//! Each operator, function and statement once, and the limits on both sides. The expected values are
-//! worked by hand.
-
-mod expressions;
-mod statements;
-mod trees;

@@ -1,0 +1,84 @@
+//! What is asked of the timers of a delay and of a cycle with the longest time, at the latest tick, which no trace shows.
+
+ghost use Rattle.std.specs.Prelude.{IsTrue};
+ghost use Rattle.fb_types.specs.Blocks.{ports_of_event_block};
+ghost use Rattle.fb_event.specs.Reactions.{FitTheirTypes};
+
+use fb_event::reaction::{expire, react};
+use fb_event::state::EventState;
+use fb_types::event_kind::EventKind;
+use fb_types::items::Items;
+use fb_types::run::{Emission, Emits, TimerAsk};
+use fb_types::value::Value;
+use std::alloc::Global;
+use std::mem::forget;
+use std::process::Abort;
+
+static LONGEST: [Value; 1] = [Value::Whole(9_223_372_036_854_775_807)];
+
+const LATEST: u64 = 1_000_000_000_000;
+
+/// The latest tick that a timer is ever set to.
+const LAST: TimerAsk = TimerAsk::At(9_223_373_036_854_775_807);
+
+const START: u32 = 0;
+
+/// Whether there is one value, which is of the type of the data input of a delay or of a cycle.
+fn fit(kind: EventKind, inputs: &[Value]) -> bool
+    ensures { IsTrue result → FitTheirTypes (ports_of_event_block kind).inputs inputs.now }
+{
+    match (kind, inputs) {
+        (EventKind::Delay | EventKind::Cycle, [Value::Whole(time)]) => {
+            i64::MIN as i128 <= *time && *time < 9_223_372_036_854_775_808
+        }
+        _ => false,
+    }
+}
+
+/// What is asked of the timer as the block takes an event with the longest time, and emits nothing.
+fn asked(
+    rt: &impl Abort,
+    alloc: Global,
+    state: &mut EventState,
+    event: u32,
+    tick: u64,
+) -> TimerAsk {
+    let mut emits: Emits = Items::new(alloc);
+    let mut ask = TimerAsk::At(77);
+    assert!(rt; tick <= LATEST);
+    let fit = fit(state.kind(), &LONGEST);
+    assert!(rt; fit);
+    react(state, event, tick, &LONGEST, &mut emits, &mut ask).expect(rt, "memory");
+    assert!(rt; emits.is_empty());
+    ask
+}
+
+#[test]
+fn the_longest_delay_fits(rt: HostRuntime) {
+    let mut state = EventState::new(EventKind::Delay);
+    assert!(rt; asked(&rt, rt.alloc(), &mut state, START, LATEST) == LAST);
+    assert!(rt; asked(&rt, rt.alloc(), &mut state, START, LATEST) == TimerAsk::Keep);
+    assert!(rt; asked(&rt, rt.alloc(), &mut state, 1, LATEST) == TimerAsk::Clear);
+}
+
+/// The event of the cycle stands behind what was emitted before it.
+#[test]
+fn the_longest_cycle_fits(rt: HostRuntime) {
+    let mut state = EventState::new(EventKind::Cycle);
+    let first = asked(&rt, rt.alloc(), &mut state, START, 0);
+    assert!(rt; first == TimerAsk::At(9_223_372_036_854_775_807));
+    let mut emits: Emits = Items::new(rt.alloc());
+    let before = Emission {
+        event: 77,
+        values: Items::new(rt.alloc()),
+    };
+    emits.push(before).expect(&rt, "memory");
+    let mut ask = TimerAsk::At(77);
+    expire(&mut state, LATEST, &mut emits, &mut ask).expect(&rt, "memory");
+    assert!(rt; ask == LAST);
+    match emits.as_slice() {
+        [before, new] => assert!(rt; before.event == 77 && new.event == 0 && new.values.is_empty()),
+        _ => panic!(rt; "two emissions"),
+    }
+    forget(emits);
+}

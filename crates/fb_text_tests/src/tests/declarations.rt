@@ -1,6 +1,0 @@
-mod expressions;
-mod libraries;
-mod refusals;
-mod show;
-mod statements;
-mod tables;

@@ -1,0 +1,142 @@
+//! Lists, names, references, keys and the single resource: each public function once.
+
+use fb_types::boxed::Boxed;
+use fb_types::deploy::Deploy;
+use fb_types::items::Items;
+use fb_types::key::{Key, compare};
+use fb_types::name::Name;
+use fb_types::reference::Reference;
+use std::alloc::Global;
+use std::cmp::Ordering;
+use std::mem::ManuallyDrop;
+use std::process::Abort;
+
+/// The numbers are added to an empty list.
+fn expect_added(rt: &impl Abort, list: &mut Items<u32>) {
+    assert!(rt; list.is_empty());
+    assert!(rt; list.get(0).is_none());
+    list.push(7).expect(rt, "memory");
+    list.push(5).expect(rt, "memory");
+    assert!(rt; !list.is_empty());
+    assert_eq!(rt; list.len(), 2);
+    assert!(rt; list.get(1) == Some(&5));
+    assert!(rt; list.get(2).is_none());
+}
+
+#[test]
+fn a_list_keeps_its_elements_in_order(rt: HostRuntime) {
+    let mut list = Items::new(rt.alloc());
+    expect_added(&rt, &mut list);
+    let mut all = list.into_vec();
+    all.push(3).expect(&rt, "memory");
+    let list = ManuallyDrop::new(Items::from_vec(all));
+    let copy = Items::from_slice(list.allocator(), list.as_slice()).expect(&rt, "memory");
+    let mut copy = ManuallyDrop::new(copy);
+    copy.push(9).expect(&rt, "memory");
+    assert!(rt; copy.as_slice() == [7, 5, 3, 9].as_slice());
+    assert!(rt; list.as_slice() == [7, 5, 3].as_slice());
+}
+
+fn name(rt: &impl Abort, alloc: Global, text: &str) -> ManuallyDrop<Name> {
+    ManuallyDrop::new(Name::from_text(alloc, text).expect(rt, "memory"))
+}
+
+static OTHERS: [&str; 5] = ["", "E1", "E1_B", "E1_AA", "1E_A"];
+
+#[test]
+fn a_name_is_its_bytes(rt: HostRuntime) {
+    let first = name(&rt, rt.alloc(), "E1_A");
+    let copy = ManuallyDrop::new(first.try_clone(rt.alloc()).expect(&rt, "memory"));
+    assert!(rt; copy.as_bytes() == b"E1_A".as_slice());
+    assert!(rt; first.is(&copy));
+    for text in &OTHERS {
+        let other = name(&rt, rt.alloc(), text);
+        assert!(rt; other.as_bytes() == text.as_bytes());
+        assert!(rt; !first.is(&other) && !other.is(&first), "{text}");
+    }
+}
+
+#[test]
+fn a_reference_keeps_its_name_at_each_place(rt: HostRuntime) {
+    let named = Name::from_text(rt.alloc(), "X").expect(&rt, "memory");
+    let far = ManuallyDrop::new(Reference::new(named));
+    far.expect_at(1);
+    far.expect_at(40);
+    assert_eq!(rt; far.place(), 40);
+    assert!(rt; far.name().as_bytes() == b"X".as_slice());
+}
+
+#[test]
+fn a_box_keeps_its_value(rt: HostRuntime) {
+    let boxed = Boxed::new(rt.alloc(), 41u64).expect(&rt, "memory");
+    let boxed = ManuallyDrop::new(boxed);
+    assert_eq!(rt; *boxed.get(), 41);
+}
+
+/// Each key comes before those below it, by one part alone: the parts behind it say the opposite.
+static RISING: [Key; 6] = [
+    Key {
+        tick: 6,
+        resource: u32::MAX,
+        class: u8::MAX,
+        a: u128::MAX,
+        b: u128::MAX,
+    },
+    Key {
+        tick: 7,
+        resource: 3,
+        class: u8::MAX,
+        a: u128::MAX,
+        b: u128::MAX,
+    },
+    Key {
+        tick: 7,
+        resource: 4,
+        class: 1,
+        a: u128::MAX,
+        b: u128::MAX,
+    },
+    Key {
+        tick: 7,
+        resource: 4,
+        class: 2,
+        a: 8,
+        b: u128::MAX,
+    },
+    Key {
+        tick: 7,
+        resource: 4,
+        class: 2,
+        a: 9,
+        b: 0,
+    },
+    Key {
+        tick: 7,
+        resource: 4,
+        class: 2,
+        a: 9,
+        b: 1,
+    },
+];
+
+#[test]
+fn keys_are_compared_part_by_part(rt: HostRuntime) {
+    for (i, first) in RISING.iter().enumerate() {
+        for (j, second) in RISING.iter().enumerate() {
+            assert!(rt; compare(first, second) == i.cmp(&j), "{i} {j}");
+        }
+    }
+}
+
+#[test]
+fn a_single_resource_holds_all(rt: HostRuntime) {
+    let deploy = ManuallyDrop::new(Deploy::single(rt.alloc()).expect(&rt, "memory"));
+    let plan = deploy.plan();
+    assert!(rt; plan.holds_all);
+    assert!(rt; plan.links.is_empty());
+    assert_eq!(rt; plan.resources.len(), 1);
+    let main = plan.resources.get(0).expect(&rt, "a resource");
+    assert!(rt; main.device.as_bytes() == b"DEV".as_slice());
+    assert!(rt; main.name.as_bytes() == b"MAIN".as_slice());
+    assert!(rt; main.instances.is_empty());
+}

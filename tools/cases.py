@@ -1,0 +1,189 @@
+#!/usr/bin/env python3
+"""tools/cases.py [--program PROGRAM] [FILE..]: the built program on the stored cases of cases/*.toml, or on those of these files.
+
+A case is a declaration, with a deployment, stimuli and a trace where it needs them, and an answer: what the program is to write, or
+how it is to refuse. The answers were worked out by hand; each file says from what. None comes from what the program wrote.
+
+A file has texts under `[text]`, which have names, and groups of cases, `[[group]]`. What a group lacks it takes from `[head]`, where
+the file has one. A group has
+- `name`: what its cases show,
+- `command`: `check` (where there is none), `run` or `wave`,
+- `declaration`, `deployment`, `stimuli` and `trace`: the texts that the program reads, without the last three where there are none,
+- `horizon`, `steps` and `form`: the numbers of a `run`; the other commands leave them out,
+- `answer`: `accepted`, a refusal as the program tells it (`E20`, `E03 line 4`, `trace line 3`), or a trace or a dump, to the byte,
+- `why`: the line behind the refusal, which `--why` asks for,
+- `rows`: a case each; a group without rows is one case. A row is the list of its values by `columns`, which are `text` and `answer` where there are none; a row that is
+  a text alone has that as its first value, and no others. A column that is named as one of the fields above is that field,
+- `within`: `columns` and `rows` once more. Each case is tried with each row of these,
+- `text`: texts of its own by names, as those of the file,
+- `bytes`: true where each character of the texts stands for the byte of its number.
+
+In a text `${name}` stands for the value of the column or for the text of that name. A value is a text, a number, a list
+`[before, inside, behind, times]`, which is what is inside, with so many times the one before it and the other behind it, or
+`{ numbered = text, from = first, to = last }`, the text once for each number, which is `${number}` in it, and `${below}` the one below;
+with `by = -1` the numbers fall.
+
+A run is made with `--serial` and with several numbers of workers. ./gate tries all cases each time it has run the program. Without
+./gate they are tried with the program as ./simulate built it."""
+
+import glob
+import hashlib
+import os
+import re
+import sys
+import threading
+import tomllib
+from typing import NamedTuple
+
+from kit import TOP
+from program import Room, side_by_side
+
+PROGRAM = "fbsim"
+SHOWN = 10
+WAYS = {
+    "check": [[]],
+    "run": [["--serial"], *(["--workers", count] for count in ("1", "2", "7", "64"))],
+    "wave": [[]],
+}
+# The texts of a case but the declaration, which is given by standard input, and the words before each.
+FILES = {"deployment": ["--deploy"], "stimuli": ["--stim"], "trace": []}
+NUMBERS = {"horizon": "--horizon", "steps": "--steps", "form": "--trace"}
+FIELDS = {"declaration", "answer", "why", *FILES, *NUMBERS}
+OF_GROUP = {"name", "command", "rows", "columns", "within", "text", "bytes", *FIELDS}
+REFUSAL = re.compile(r"E[0-3][0-9]|E03 line [1-9][0-9]*|trace line [1-9][0-9]*")
+NAMED = re.compile(r"\$\{(\w+)\}")
+
+
+class Case(NamedTuple):
+    """A case by itself: where it stands, and its fields as bytes."""
+
+    place: str
+    command: str
+    fields: dict
+
+
+def text_of(piece, names):
+    """Returns the text that a value of a file stands for."""
+    if isinstance(piece, int):
+        return str(piece)
+    if isinstance(piece, str):
+        return NAMED.sub(lambda it: text_of(names[it[1]], names), piece)
+    if isinstance(piece, dict):
+        first, last = (int(text_of(piece[it], names)) for it in ("from", "to"))
+        by = piece.get("by", 1)
+        return "".join(text_of(piece["numbered"], {**names, "number": it, "below": it - 1}) for it in range(first, last + by, by))
+    before, inside, behind, times = (text_of(it, names) for it in piece)
+    return before * int(times) + inside + behind * int(times)
+
+
+def rows_of(table, columns):
+    """Returns the rows of a table, each as its values by the names of the columns."""
+    names = table.get("columns", columns)
+    rows = [[it] if isinstance(it, str) else it for it in table.get("rows", [[]])]
+    wrong = [it for it in rows if len(it) > len(names)]
+    if wrong or not rows:
+        raise ValueError(f"these rows have not the columns {names}: {wrong}")
+    return [dict(zip(names, it)) for it in rows]
+
+
+def cases_of_group(group, texts):
+    """Returns the cases of a group."""
+    unknown = group.keys() - OF_GROUP
+    if unknown:
+        raise ValueError(f"a group has no {sorted(unknown)}")
+    encoding = "latin-1" if group.get("bytes") else "utf-8"
+    found = []
+    for number, row in enumerate(rows_of(group, ["text", "answer"]), 1):
+        for turn, around in enumerate(rows_of(group.get("within", {}), []), 1):
+            names = {**texts, **group.get("text", {}), **around, **row}
+            fields = {it: group[it] for it in FIELDS & group.keys()} | {it: row[it] for it in FIELDS & row.keys()}
+            fields = {it: text_of(piece, names).encode(encoding) for it, piece in fields.items()}
+            if not {"declaration", "answer"} <= fields.keys():
+                raise ValueError(f"row {number} has no declaration or no answer")
+            place = f"row {number}" + f" within row {turn}" * ("within" in group) + "".join(f" ({it!r:.60})" for it in [*row.values()][:1])
+            found.append(Case(place, group.get("command", "check"), fields))
+    return found
+
+
+def cases_of(path):
+    """Returns the cases of a file."""
+    with open(path, "rb") as it:
+        read = tomllib.load(it)
+    found = []
+    for group in read["group"]:
+        try:
+            cases = cases_of_group(read.get("head", {}) | group, read.get("text", {}))
+        except (KeyError, TypeError, ValueError) as fault:
+            sys.exit(f"{path}, {group.get('name')!r}: {type(fault).__name__} {fault}")
+        found += [it._replace(place=f"{os.path.basename(path)}, {group['name']!r}, {it.place}") for it in cases]
+    return found
+
+
+def wanted(fields):
+    """Returns the status, what is written and what is told."""
+    answer = fields["answer"]
+    if REFUSAL.fullmatch(answer.decode("latin-1")):
+        return 2, b"", b"refused " + answer + b"\n" + fields.get("why", b"")
+    if answer == b"accepted":
+        return 0, b"accepted\n", b""
+    return int(answer.split(b"\n")[-2].startswith(b"stop ")), answer, b""
+
+
+def shown(status, wrote, told):
+    """Returns how a call ended, as a line can show it."""
+    short = [repr(it) if len(it) <= 400 else f"{len(it)} bytes {it[:200]!r} .. {it[-100:]!r}" for it in (wrote, told)]
+    return f"status {status}, wrote {short[0]}, told {short[1]}"
+
+
+def words_of(room, case):
+    """Returns the words of the call, and writes the files that they name."""
+    words = [case.command, "-"]
+    for field in [it for it in FILES if it in case.fields]:
+        text = case.fields[field]
+        name = hashlib.sha256(text).hexdigest()
+        path = f"{room.folder}/{name}"
+        if not os.path.exists(path):
+            # (another case may write the same text at this moment)
+            own = f"{path}-{threading.get_ident()}"
+            with open(own, "wb") as it:
+                it.write(text)
+            os.replace(own, path)
+        words += [*FILES[field], name]
+    for field in [it for it in NUMBERS if it in case.fields and case.command == "run"]:
+        words += [NUMBERS[field], case.fields[field].decode()]
+    return words + ["--why"] * ("why" in case.fields)
+
+
+def fault_of(room, case):
+    """Returns what is wrong with what comes of a case, or None."""
+    words, is_to_be = words_of(room, case), wanted(case.fields)
+    for way in WAYS[case.command]:
+        ran = room.call([*words, *way], case.fields["declaration"])
+        came = (ran.returncode, ran.stdout, ran.stderr)
+        if came != is_to_be:
+            return f"{case.place}, {' '.join([case.command, *way])}: expected {shown(*is_to_be)}; got {shown(*came)}"
+    return None
+
+
+def try_cases(program, cases, called="cases"):
+    """Returns whether each of these cases, which are called so, came to its answer."""
+    with Room(program) as room:
+        faults = [it for it in side_by_side(lambda case: fault_of(room, case), cases) if it]
+    for it in faults[:SHOWN]:
+        print(it)
+    if len(faults) > SHOWN:
+        print(f".. and {len(faults) - SHOWN} more")
+    print(f"{called}: {len(cases) - len(faults)} of {len(cases)}", flush=True)
+    return bool(cases) and not faults
+
+
+def run_all(program, paths=()):
+    """Returns whether each case of these files, or of all, came to its answer."""
+    paths = paths or sorted(glob.glob(f"{TOP}/cases/*.toml"))
+    return try_cases(program, [case for path in paths for case in cases_of(path)])
+
+
+if __name__ == "__main__":
+    given = sys.argv[1:]
+    made = given[1] if given[:1] == ["--program"] else f"{TOP}/crates/{PROGRAM}/out/{PROGRAM}"
+    sys.exit(not run_all(os.path.abspath(made), given[2:] if given[:1] == ["--program"] else given))

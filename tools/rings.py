@@ -1,0 +1,65 @@
+#!/usr/bin/env python3
+"""tools/rings.py [PROGRAM]: the built program on rings of resources, each of which leads to the next over a link of its own.
+
+A restart begins with the first of some merges, each of which leads to the next, and the last to the first. Each lies in a resource of
+its own. The link that leads from the first has a latency of one tick, and each other one a tick more than the one before it. So the
+ticks of the trace are sums of numbers in turn: it is worked out here from that alone.
+
+./gate makes these runs each time it has run the program, by --serial and by several numbers of workers, in both forms. Without ./gate
+they are made of the program as ./simulate built it."""
+
+import sys
+
+import cases
+from kit import TOP
+
+PROGRAM = "fbsim"
+HORIZON = 10_000
+COUNTS = (4, 64, 256)
+
+
+def declaration(count):
+    merges = "".join(f" M{at} : E_MERGE;" for at in range(count))
+    events = "".join(f" M{at}.EO TO M{(at + 1) % count}.EI1;" for at in range(count))
+    return f"APPLICATION A FBS S : E_RESTART;{merges} END_FBS\nEVENT_CONNECTIONS S.COLD TO M0.EI2;{events} END_CONNECTIONS END_APPLICATION"
+
+
+def deployment(count):
+    instances = [f"'M{at}'" if at else "'S', 'M0'" for at in range(count)]
+    resources = "".join(f"[[resource]]\ndevice = 'D'\nname = 'R{at}'\ninstances = [{it}]\n" for at, it in enumerate(instances))
+    links = "".join(f"[[link]]\nfrom = 'R{at}'\nto = 'R{(at + 1) % count}'\nlatency = {at + 1}\n" for at in range(count))
+    return resources + links
+
+
+def trace(count, form):
+    """The trace. In form two an arrival has the number of its link, which is that of the merge before, and its own on it: the round."""
+
+    def key(*parts):
+        return "".join(f"{it} " for it in parts) if form == 2 else ""
+
+    lines = [f"{key(1, 0, 0)}0 R0 < S.COLD", f"{key(3, 0, 0)}0 R0 > M0.EI2", f"{key(3, 0, 0)}0 R0 < M0.EO"]
+    before, turn, tick = 0, 0, 1
+    while tick < HORIZON:
+        at = (before + 1) % count
+        head = f"{key(2, before, turn)}{tick} R{at}"
+        lines += [f"{head} > M{at}.EI1", f"{head} < M{at}.EO"]
+        before, turn, tick = at, turn + (at == 0), tick + at + 1
+    return "".join(f"{it}\n" for it in [*lines, f"end {HORIZON}"])
+
+
+def rings():
+    for count in COUNTS:
+        for form in (1, 2):
+            texts = {"declaration": declaration(count), "deployment": deployment(count), "answer": trace(count, form)}
+            numbers = {"horizon": str(HORIZON), "form": str(form)}
+            fields = {name: text.encode() for name, text in (texts | numbers).items()}
+            yield cases.Case(f"a ring of {count} in form {form}", "run", fields)
+
+
+def try_all(program):
+    """Returns whether each ring has its trace."""
+    return cases.try_cases(program, [*rings()])
+
+
+if __name__ == "__main__":
+    sys.exit(not try_all(sys.argv[1] if sys.argv[1:] else f"{TOP}/crates/{PROGRAM}/out/{PROGRAM}"))
