@@ -32,6 +32,8 @@ CYCLE = b"""APPLICATION A FBS S : E_RESTART; C : E_CYCLE(DT := T#3ms); END_FBS
 EVENT_CONNECTIONS S.COLD TO C.START; END_CONNECTIONS END_APPLICATION
 """
 TO_8 = b"0 MAIN < S.COLD\n0 MAIN > C.START DT=3\n3 MAIN < C.EO\n6 MAIN < C.EO\nend 8\n"
+# The ticks 1 to 8 are hundredths of 8, each once: there are two lines at tick 0, one at 3 and one at 6.
+TOLD_TO_8 = b"".join(b"progress: tick %d of 8, %d lines\n" % at for at in zip(range(1, 9), (2, 2, 2, 3, 3, 3, 4, 4)))
 KEYED_TO_8 = b"1 0 0 0 MAIN < S.COLD\n3 0 0 0 MAIN > C.START DT=3\n1 1 0 3 MAIN < C.EO\n1 1 0 6 MAIN < C.EO\nend 8\n"
 RING = b"""APPLICATION A FBS S : E_RESTART; M : E_MERGE; END_FBS
 EVENT_CONNECTIONS S.COLD TO M.EI1; M.EO TO M.EI2; END_CONNECTIONS END_APPLICATION
@@ -136,7 +138,8 @@ HELP_OF_FILES = (
 )
 HELP_OF_RUN = (
     *HELP_OF_FILES, "--horizon", "in milliseconds, at which the run ends, 1 to 1000000000000", "--steps", "most steps", "1 to 10000000",
-    "--workers", "How many workers", "1 to 64", "--serial", "on one thread", "--trace", "form of the trace", "Example: fbsim run ",
+    "--workers", "How many workers", "1 to 64", "--serial", "on one thread", "--progress", "each hundredth of the horizon", "--trace", "form of the trace",
+    "Example: fbsim run ",
 )
 HELP_OF_CHECK = (*HELP_OF_FILES, "Example: fbsim check ")
 HELP_OF_WAVE = (
@@ -223,8 +226,19 @@ CALLS = [
     Call(["run", "ring", "--horizon", "1", "--steps", "3"], 1, out=STOPPED),
     Call(["run", "ring", "--horizon", "1", "--steps", "3", "--workers", "2"], 1, out=STOPPED),
     Call(["run", "ring", "--horizon", "1", "--steps", "3", "--serial"], 1, out=STOPPED),
+    # How far a run is, told by a run with workers alone.
+    Call(["run", "cycle", "--horizon", "8", "--progress"], 0, out=TO_8, err=TOLD_TO_8),
+    Call(["run", "-", "--horizon", "8", "--progress", "--workers", "7", "--trace", "2"], 0, out=KEYED_TO_8, err=TOLD_TO_8, given=CYCLE),
+    Call(["run", "cycle", "--horizon", "8", "--progress", "--serial"], 0, out=TO_8),
+    Call(["run", "ring", "--horizon", "1", "--steps", "3", "--progress"], 1, out=STOPPED),
+    Call(["run", "twice", "--horizon", "8", "--progress"], 2, err=b"refused E20\n"),
+    Call(["run", "cycle", "--horizon", "8", "--progress"], 3, err=b"write fault after 0 bytes\n", to="full"),
+    Call(["run", "cycle", "--horizon", "8", "--progress"], 3, out=TO_8[:ROOM], err=b"write fault after 10 bytes\n", to="short"),
+    *(Call(["run", "cycle", "--horizon", "8", "--progress"], 0, out=TO_8, tells=it) for it in OUTPUTS[:3]),
+    Call(["check", "cycle", "--progress"], 5, err=None),
     Call(["check", "twice"], 2, err=b"refused E20\n"),
-    Call(["check", "twice", "--why"], 2, err=b"refused E20\n"),
+    Call(["check", "twice", "--why"], 2, err=b"refused E20\napplication A: instance S is given twice\n"),
+    Call(["check", "-", "--why"], 2, err=b"refused E03 line 1\nline 1, column 41: found the end of the text, expected one of ; (\n", given=CYCLE[:40]),
     Call(["check", "slip"], 2, err=b"refused E21\n"),
     Call(["check", "slip", "--why"], 2, err=b"refused E21\n" + AT_THE_SLIP),
     Call(["run", "-", "--horizon", "8", "--why"], 2, err=b"refused E21\n" + AT_THE_SLIP, given=FILES["slip"]),

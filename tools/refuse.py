@@ -12,7 +12,8 @@ known and memory is wanted, the output ends where a round ends.
 
 ./gate does this when it has run the program, for the runs in RUNS by --serial, one worker and two; without ./gate and without words
 it is done to the program as ./simulate built it. A test that the kit built is a program too: its name is the word, and its status
-for want of memory is 101 where it answers that as a failure. ./gate does this to the tests in TESTS, for calls by themselves; by hand:
+for want of memory is 101 where it answers that as a failure, or where it ends itself and says so (GAVE_UP), which an assertion that
+fails does not. ./gate does this to the tests in TESTS, for calls by themselves; by hand:
 
     (cd crates/fb_resource_tests && ../../tools/rt test)
     tools/refuse.py --memory 101 crates/fb_resource_tests/out/fb_resource_tests_tests tests::messages::messages_come_after_a_want_of_memory
@@ -20,6 +21,8 @@ for want of memory is 101 where it answers that as a failure. ./gate does this t
 (The kit's `rt try --fail-alloc N` does the same for one N, to a program that is not proved, and builds it anew for each.)"""
 
 import os
+import re
+import signal
 import subprocess
 import sys
 from typing import NamedTuple
@@ -33,6 +36,9 @@ PROGRAM = "fbsim"
 WANT_OF_MEMORY = 4
 # The status of a test that answers a failure.
 FAILED_TEST = 101
+# What a test says that ends itself because a call wanted memory, and what the kit writes then. An assertion that fails says another thing.
+GAVE_UP = re.compile(rb"(memory|written|no (library|deployment|stimuli|system))\b.*\n")
+STOPPED = re.compile(rb"\ntest stopped at \S+\n")
 # The tests that are written for this, by their crates: each looks, where a call wanted memory, at what the calls behind it do.
 TESTS = {
     "fb_resource_tests": ["tests::messages::messages_come_after_a_want_of_memory"],
@@ -154,6 +160,8 @@ class Refusals:
         refused = os.path.exists(told)
         if refused:
             os.remove(told)
+        if ran.returncode == -signal.SIGABRT and GAVE_UP.fullmatch(ran.stderr) and STOPPED.fullmatch(ran.stdout):
+            return FAILED_TEST, b"", refused
         return ran.returncode, ran.stdout, refused
 
     def is_beginning(self, part, whole):

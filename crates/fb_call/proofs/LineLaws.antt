@@ -32,22 +32,22 @@ some_is {T} {x} {y} e = ap (unwrap_or_of x) e
 pub no_horizon : (rows : List Row) (name : Text) → name ≡ codes "run" → ((n : ℕ) → IsNumber rows (codes "horizon") n → ⊥)
     → (o : Order) → name ≡ command_name o → IsOrder rows o → ⊥
 no_horizon rows name is none Check named order = let bad : codes "run" ≡ codes "check" = sym is ∙ named in cc
-no_horizon rows name is none (Run horizon steps workers serial form) named order = none horizon order.horizon_is
+no_horizon rows name is none (Run horizon steps workers serial form progress) named order = none horizon order.horizon_is
 
 pub no_steps : (rows : List Row) (name : Text) → name ≡ codes "run" → ((n : ℕ) → IsNumber rows (codes "steps") n → ⊥)
     → (o : Order) → name ≡ command_name o → IsOrder rows o → ⊥
 no_steps rows name is none Check named order = let bad : codes "run" ≡ codes "check" = sym is ∙ named in cc
-no_steps rows name is none (Run horizon steps workers serial form) named order = none steps order.steps_is
+no_steps rows name is none (Run horizon steps workers serial form progress) named order = none steps order.steps_is
 
 pub no_workers : (rows : List Row) (name : Text) → name ≡ codes "run" → ((n : ℕ) → IsNumber rows (codes "workers") n → ⊥)
     → (o : Order) → name ≡ command_name o → IsOrder rows o → ⊥
 no_workers rows name is none Check named order = let bad : codes "run" ≡ codes "check" = sym is ∙ named in cc
-no_workers rows name is none (Run horizon steps workers serial form) named order = none workers order.workers_is
+no_workers rows name is none (Run horizon steps workers serial form progress) named order = none workers order.workers_is
 
 pub no_form : (rows : List Row) (name : Text) → name ≡ codes "run" → ((f : Form) → IsForm rows f → ⊥)
     → (o : Order) → name ≡ command_name o → IsOrder rows o → ⊥
 no_form rows name is none Check named order = let bad : codes "run" ≡ codes "check" = sym is ∙ named in cc
-no_form rows name is none (Run horizon steps workers serial form) named order = none form order.form_is
+no_form rows name is none (Run horizon steps workers serial form progress) named order = none form order.form_is
 
 -- ---- The word of the form
 
@@ -76,7 +76,7 @@ no_declaration rows name none c named is = let given = is.declaration in absurd 
 
 not_explain : (o : Order) → codes "explain" ≡ command_name o → ⊥
 not_explain Check same = cc
-not_explain (Run horizon steps workers serial form) same = cc
+not_explain (Run horizon steps workers serial form progress) same = cc
 
 pub no_name : (rows : List Row) (name : Text) → name ≡ codes "explain" → first_of (codes "NAME") rows ≡ None → (r : Request) → name ≡ request_name r → IsRequest rows r → ⊥
 no_name rows name is none (request.Explain word) named given = let bad : None ≡ Some word.now = sym none ∙ given in cc
@@ -85,7 +85,7 @@ no_name rows name is none (request.Wave w) named given = let bad : codes "explai
 
 not_wave : (o : Order) → codes "wave" ≡ command_name o → ⊥
 not_wave Check same = cc
-not_wave (Run horizon steps workers serial form) same = cc
+not_wave (Run horizon steps workers serial form progress) same = cc
 
 pub no_wave : (rows : List Row) (name : Text) → name ≡ codes "wave" → ((w : Wave) → AsksWave rows w → ⊥) → (r : Request) → name ≡ request_name r → IsRequest rows r → ⊥
 no_wave rows name is none (request.Explain word) named given = let bad : codes "wave" ≡ codes "explain" = sym is ∙ named in cc

@@ -77,10 +77,11 @@ with_numbers a = with_rule (with_rule (with_rule a
     (record (limited (codes "steps") (up_to 10000000)) { defaults = codes "10000" ∷ [] }))
     (record (limited (codes "workers") (up_to 64)) { defaults = codes "1" ∷ [] })
 
--- these, whether it is made by one queue, and the form of its trace
+-- these, whether it is made by one queue, whether it tells how far it is, and the form of its trace
 abbrev pub with_run_options : ValueParser → App → App
-with_run_options values a = with_rule (with_rule (with_numbers a)
+with_run_options values a = with_rule (with_rule (with_rule (with_numbers a)
     (flag (codes "serial")))
+    (flag (codes "progress")))
     (record (limited (codes "trace") values) { defaults = word_of One ∷ [] })
 
 -- a command with the names of a declaration, of its deployment and of its trace
@@ -111,7 +112,7 @@ simulator = simulator_with forms
 
 abbrev pub command_name : Order → Text
 command_name Check = codes "check"
-command_name (Run horizon steps workers serial form) = codes "run"
+command_name (Run horizon steps workers serial form progress) = codes "run"
 
 abbrev pub request_name : Request → Text
 request_name (request.Explain name) = codes "explain"
@@ -134,16 +135,17 @@ IsForm rows form = first_of (codes "trace") rows ≡ Some (word_of form)
 abbrev pub IsFlag : List Row → Text → Bool → Type 0
 IsFlag rows id here = IsTrue here ↔ (first_of id rows ≡ Some (codes "true"))
 
-pub record IsRun (rows : List Row) (horizon steps workers : ℕ) (serial : Bool) (form : Form) : Type 0 where
+pub record IsRun (rows : List Row) (horizon steps workers : ℕ) (serial : Bool) (form : Form) (progress : Bool) : Type 0 where
   pub horizon_is : IsNumber rows (codes "horizon") horizon
   pub steps_is : IsNumber rows (codes "steps") steps
   pub workers_is : IsNumber rows (codes "workers") workers
   pub serial_is : IsFlag rows (codes "serial") serial
   pub form_is : IsForm rows form
+  pub progress_is : IsFlag rows (codes "progress") progress
 
 abbrev pub IsOrder : List Row → Order → Type 0
 IsOrder rows Check = Unit {0}
-IsOrder rows (Run horizon steps workers serial form) = IsRun rows horizon steps workers serial form
+IsOrder rows (Run horizon steps workers serial form progress) = IsRun rows horizon steps workers serial form progress
 
 -- the call has what the rows of its command say
 pub record IsCall (rows : List Row) (c : Call) : Type 0 where

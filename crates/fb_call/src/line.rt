@@ -70,6 +70,8 @@ pub enum Order {
         serial: bool,
         /// The form of the trace.
         form: Form,
+        /// Whether it is told how far the run is.
+        progress: bool,
     },
 }
 
@@ -146,6 +148,9 @@ const WORKERS_HELP: &str =
 
 const SERIAL_HELP: &str =
     "Runs all resources by one queue of events on one thread; the trace is the same.";
+
+const PROGRESS_HELP: &str =
+    "Tells on standard error each hundredth of the horizon that the run reaches, with the lines so far; with --serial nothing.";
 
 const TRACE_HELP: &str =
     "The form of the trace; with 2 each line but the last begins with its event's class, a and b.";
@@ -261,6 +266,7 @@ fn with_run_options<'a>(
 {
     let command = with_numbers(alloc, command);
     let command = with_arg(command, flag(alloc, "serial", SERIAL_HELP));
+    let command = with_arg(command, flag(alloc, "progress", PROGRESS_HELP));
     let trace = limited(alloc, "trace", forms, TRACE_HELP).default_value("1");
     with_arg(command, trace)
 }
@@ -377,6 +383,7 @@ fn order_of(name: &str, found: &ArgMatches<'_>) -> Option<Order>
             workers: number(found, "workers")?,
             serial: has_flag(found, "serial"),
             form: form_of(found)?,
+            progress: has_flag(found, "progress"),
         });
     }
     None

@@ -1,2 +1,4 @@
 mod Explaining
 mod Showing
+mod Noting
+mod Reporting

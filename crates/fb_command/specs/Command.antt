@@ -1,5 +1,5 @@
 -- What a call of the program does (this project's own).
-use Rattle.std.specs.Prelude.{◌≡◌, ◌⊎◌, ℕ, Bool, true, false, List, Option, None, Ok, Err, codes, string_bytes}
+use Rattle.std.specs.Prelude.{◌≡◌, ◌⊎◌, ℕ, Bool, true, false, List, [], Option, None, Ok, Err, codes, string_bytes}
 use Rattle.std.specs.Borrow.{Bor}
 use Rattle.std.specs.List.{list_any}
 use Rattle.std.specs.Io.KnownBytes.{Appends}
@@ -14,6 +14,7 @@ use Rattle.fb_sim.specs.Serial.{AreWithin, IsDeclared, Writes}
 use Rattle.fb_sim.specs.declared.options.Options.{Options}
 use Rattle.fb_sim.specs.declared.outcome.Outcome.{Outcome}
 use Rattle.fb_sim.specs.declared.outcome.Outcome.TheVariants as sim_end
+use Rattle.fb_progress.specs.Reports.{AreReports}
 use Rattle.fb_why.specs.Explained.{explained}
 use Rattle.fb_why.specs.declared.table.Explanation.{Explanation}
 use Rattle.fb_call.specs.Line.{AreRequest, AreNoCall, AskHelp, IsTaken}
@@ -75,8 +76,29 @@ Runs serial given o old new (Err (Line message)) = ⊥
 -- what a call asks for is done with the inputs
 abbrev pub Meets : Given → Order → (old new : Held) → End → Type 0
 Meets given Check old new end = Checks given old new end
-Meets given (Run horizon steps workers serial form) old new end =
+Meets given (Run horizon steps workers serial form progress) old new end =
     Runs serial given (record { horizon = horizon; steps = steps; workers = workers; form = form }) old new end
+
+-- whether a run has come to its horizon
+abbrev pub is_ended : End → Bool
+is_ended (Ok Ended) = true
+is_ended (Ok Stopped) = false
+is_ended (Ok Helped) = false
+is_ended (Ok Explained) = false
+is_ended (Ok Accepted) = false
+is_ended (Ok Shown) = false
+is_ended (Err failure) = false
+
+-- what is told meanwhile: of a run by workers, where it is asked for, how far it is, and else nothing
+abbrev pub ReportsOn : (serial progress : Bool) → Given → Options → End → (reports : Text) → Type 0
+ReportsOn false true given o end reports = AreReports given o (is_ended end) reports
+ReportsOn true true given o end reports = reports ≡ []
+ReportsOn serial false given o end reports = reports ≡ []
+
+abbrev pub Reports : Given → Order → End → (reports : Text) → Type 0
+Reports given Check end reports = reports ≡ []
+Reports given (Run horizon steps workers serial form progress) end reports =
+    ReportsOn serial progress given (record { horizon = horizon; steps = steps; workers = workers; form = form }) end reports
 
 -- ---- The call
 
@@ -86,23 +108,25 @@ NotesOf given why (Ok d) note = note ≡ None
 NotesOf given why (Err failure) note = Notes why (IsNote given failure) note
 
 -- The files are read, and what the call asks for is done with them.
-pub record AreReadAndDone {S : Type 0} (reads : Reading S) (from to : S) (c : Call) (old new : Held) (end : End) (note : Option Text) : Type 0 where
+pub record AreReadAndDone {S : Type 0} (reads : Reading S) (from to : S) (c : Call) (old new : Held) (end : End) (reports : Text) (note : Option Text) : Type 0 where
   pub given : Given
   pub read : AreRead reads c from to given
   pub done : Meets given c.order old new end
+  pub reported : Reports given c.order end reports
   pub noted : NotesOf given c.why end note
 
 -- A file is not read.
-pub record IsFileFault {S : Type 0} (reads : Reading S) (from to : S) (c : Call) (old new : Held) (end : End) (note : Option Text) : Type 0 where
+pub record IsFileFault {S : Type 0} (reads : Reading S) (from to : S) (c : Call) (old new : Held) (end : End) (reports : Text) (note : Option Text) : Type 0 where
   pub part : Part
   pub fault : SourceFault
   pub unread : IsUnread reads c from to part fault
   pub failed : end ≡ Err (failure_of_source fault)
   pub same : new ≡ old
+  pub reported : reports ≡ []
   pub noted : Notes c.why (IsFileNote c part fault) note
 
-abbrev pub Performs : {S : Type 0} → Reading S → (from to : S) → Call → (old new : Held) → End → (note : Option Text) → Type 0
-Performs reads from to c old new end note = AreReadAndDone reads from to c old new end note ⊎ IsFileFault reads from to c old new end note
+abbrev pub Performs : {S : Type 0} → Reading S → (from to : S) → Call → (old new : Held) → End → (reports : Text) → (note : Option Text) → Type 0
+Performs reads from to c old new end reports note = AreReadAndDone reads from to c old new end reports note ⊎ IsFileFault reads from to c old new end reports note
 
 -- the words ask what a refusal means
 abbrev pub ExplainsRefusal : (name : Text) → (old new : Held) → End → Type 0
@@ -138,13 +162,13 @@ Explains words old new (Err File) = ⊥
 Explains words old new (Err BadOption) = ⊥
 
 -- nothing is read, and nothing is told but how it ends
-abbrev pub TellsNoMore : {S : Type 0} → (from to : S) → (note : Option Text) → Type 0
-TellsNoMore from to note = (to ≡ from) × (note ≡ None)
+abbrev pub TellsNoMore : {S : Type 0} → (from to : S) → (reports : Text) → (note : Option Text) → Type 0
+TellsNoMore from to reports note = (to ≡ from) × (reports ≡ []) × (note ≡ None)
 
 -- The words are done as the call that they name, or a trace is shown, or a refusal is explained, or the words are.
-abbrev pub Does : {S : Type 0} → Reading S → Opening S → (from to : S) → List Text → (old new : Held) → End → (note : Option Text) → Type 0
-Does reads opens from to words old new end note =
-    ((c : Call) × AreRequest words (request.Call c) × IsTaken words × Performs reads from to c old new end note)
-    ⊎ ((w : Wave) × AreRequest words (request.Wave w) × IsTaken words × Shows reads opens from to w old new end × (note ≡ None))
-    ⊎ ((name : Bor Text) × AreRequest words (request.Explain name) × IsTaken words × ExplainsRefusal name.now old new end × TellsNoMore from to note)
-    ⊎ (Explains words old new end × TellsNoMore from to note)
+abbrev pub Does : {S : Type 0} → Reading S → Opening S → (from to : S) → List Text → (old new : Held) → End → (reports : Text) → (note : Option Text) → Type 0
+Does reads opens from to words old new end reports note =
+    ((c : Call) × AreRequest words (request.Call c) × IsTaken words × Performs reads from to c old new end reports note)
+    ⊎ ((w : Wave) × AreRequest words (request.Wave w) × IsTaken words × Shows reads opens from to w old new end × (reports ≡ []) × (note ≡ None))
+    ⊎ ((name : Bor Text) × AreRequest words (request.Explain name) × IsTaken words × ExplainsRefusal name.now old new end × TellsNoMore from to reports note)
+    ⊎ (Explains words old new end × TellsNoMore from to reports note)

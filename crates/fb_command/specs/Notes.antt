@@ -3,10 +3,10 @@ use Rattle.std.specs.Prelude.{◌≡◌, ◌≢◌, ℕ, List, ◌++◌, Bool, I
 use Rattle.fb_call.specs.declared.line.Call.{Call}
 use Rattle.fb_sim.specs.Given.{Given}
 use Rattle.fb_why.specs.Reasons.{Tells}
-use Rattle.fb_why.specs.declared.reason.Reason.{Reason}
+use Rattle.fb_why.specs.declared.spot.Reason.{Reason}
 use Rattle.fb_command.specs.declared.failure.Failure.{Failure}
 use Rattle.fb_command.specs.declared.failure.Failure.TheVariants.{Refused}
-use Rattle.fb_command.specs.declared.failure.Refusal.TheVariants.{Numbered}
+use Rattle.fb_command.specs.declared.failure.Refusal.TheVariants.{Numbered, Syntax}
 use Rattle.fb_command.specs.declared.source.SourceFault.{SourceFault}
 use Rattle.fb_command.specs.declared.source.SourceFault.TheVariants.{File}
 use Rattle.fb_command.specs.declared.texts.Part.{Part}
@@ -45,10 +45,19 @@ pub record IsFileNote (c : Call) (part : Part) (fault : SourceFault) (note : Lis
 
 -- ---- Refusals
 
--- The note is the text of a place at which the refusal applies.
+-- the number of a refusal of the inputs
+abbrev pub number_of : Failure → Option ℕ
+number_of (Refused (Numbered n)) = Some n
+number_of (Refused (Syntax line)) = Some 3
+number_of _ = None
+
+-- The note is the text of a place at which the refusal of this number applies.
+abbrev pub IsNoteOfNumber : Given → (number : ℕ) → List ℕ → Type 0
+IsNoteOfNumber given number note = (r : Reason) × (string_bytes r.text ≡ note) × Tells given.declaration given.deploy given.stimuli number r.place
+
+-- The note is that of the number of the refusal.
 abbrev pub IsNote : Given → Failure → List ℕ → Type 0
-IsNote given (Refused (Numbered n)) note = (r : Reason) × (string_bytes r.text ≡ note) × Tells given.declaration given.deploy n r.place
-IsNote given _ note = ⊥
+IsNote given failure note = (number : ℕ) × (number_of failure ≡ Some number) × IsNoteOfNumber given number note
 
 -- A note is given only where one is asked for, and then it is such a one.
 abbrev pub Notes : (why : Bool) → (List ℕ → Type 0) → Option (List ℕ) → Type 0

@@ -1,8 +1,9 @@
 //! One call of the program, over any files and any outputs.
 
 ghost use Rattle.std.specs.Io.KnownBytes.{Appends};
-ghost use Rattle.std.specs.Prelude.{◌≡◌, ℕ, List, Option, None, map, option_map, Result, IfOk, IfErr, IsTrue, OnOk, string_bytes};
-ghost use Rattle.fb_command.specs.Command.{Checks, Does, ExplainsRefusal, IsDoneOf, Meets, NotesOf, Performs, Runs};
+ghost use Rattle.std.specs.Prelude.{◌≡◌, ◌++◌, ℕ, List, [], Option, None, false, true, map, option_map, Result, IfOk, IfErr, IsTrue, OnOk, string_bytes};
+ghost use Rattle.fb_progress.specs.Reports.{AreReports, Hears};
+ghost use Rattle.fb_command.specs.Command.{Checks, Does, ExplainsRefusal, IsDoneOf, Meets, NotesOf, Performs, Reports, Runs, is_ended};
 ghost use Rattle.fb_command.specs.Texts.{given_of};
 ghost use Rattle.fb_command.specs.Failures.{WritesPart, explained_text, status_of, told, told_of};
 ghost use Rattle.fb_command.specs.declared.failure.Failure.{Failure};
@@ -18,6 +19,7 @@ use crate::texts::{Texts, read_files};
 use crate::wave::show;
 use fb_call::line::{Call, LineFault, Order, Request, parse};
 use fb_phase::OpenGate;
+use fb_progress::run::{Told, run_told};
 use fb_sim::options::{Inputs, Options};
 use fb_sim::outcome::Outcome;
 use fb_sim::run::run;
@@ -65,33 +67,70 @@ fn run_inputs<R: Threads + Wait + Sync, W: Write>(
     Ok(done_of(run(rt, alloc, inputs, options, out, &OpenGate)?))
 }
 
+/// Writes the trace of the inputs by workers, and tells meanwhile how far the run is. It says how that ends, and
+/// whether standard error took all that was told.
+fn run_and_tell<R: Threads + Wait + Sync, W: Write, E: Write>(
+    rt: &R,
+    alloc: Global,
+    inputs: &Inputs<'_>,
+    options: Options,
+    out: &mut W,
+    err: &mut E,
+) -> (Result<Done, Failure>, bool)
+    ensures run { Runs false inputs.now options (W.contents out.old) (W.contents out.new) result.0 }
+    ensures told { (reports : List ℕ) × AreReports inputs.now options (is_ended result.0) reports × Hears result.1 (E.contents err.old) (E.contents err.new) reports }
+{
+    let Told { end, is_heard } = run_told(rt, alloc, inputs, options, out, err);
+    match end {
+        Ok(outcome) => (Ok(done_of(outcome)), is_heard),
+        Err(error) => (Err(Failure::from(error)), is_heard),
+    }
+}
+
 /// What came of a call.
 #[derive(Drop)]
 struct Answer {
     end: Result<Done, Failure>,
+    /// Whether standard error took what was told before the end.
+    is_heard: bool,
     /// What is told behind the line of the failure.
     note: Option<String>,
 }
 
-/// Does with the files what a call asks for.
-fn meet<R: Threads + Wait + Sync, W: Write>(
+/// The answer of what ended so, with nothing else to tell.
+fn ended(end: Result<Done, Failure>) -> Answer
+    ensures { result ≡ record { end = end; is_heard = true; note = None } }
+{
+    Answer {
+        end,
+        is_heard: true,
+        note: None,
+    }
+}
+
+/// Does with the files what a call asks for. It says how that ends, and whether standard error took all that was told
+/// meanwhile.
+fn meet<R: Threads + Wait + Sync, W: Write, E: Write>(
     rt: &R,
     alloc: Global,
     order: Order,
     texts: &Texts,
     out: &mut W,
-) -> Result<Done, Failure>
-    ensures { Meets (given_of texts.now) order (W.contents out.old) (W.contents out.new) result }
+    err: &mut E,
+) -> (Result<Done, Failure>, bool)
+    ensures done { Meets (given_of texts.now) order (W.contents out.old) (W.contents out.new) result.0 }
+    ensures told { (reports : List ℕ) × Reports (given_of texts.now) order result.0 reports × Hears result.1 (E.contents err.old) (E.contents err.new) reports }
 {
     let inputs = texts.inputs();
     match order {
-        Order::Check => check_inputs(alloc, &inputs, out),
+        Order::Check => (check_inputs(alloc, &inputs, out), true),
         Order::Run {
             horizon,
             steps,
             workers,
             serial,
             form,
+            progress,
         } => {
             let options = Options {
                 horizon,
@@ -99,7 +138,11 @@ fn meet<R: Threads + Wait + Sync, W: Write>(
                 workers,
                 form,
             };
-            run_inputs(rt, alloc, &inputs, options, serial, out)
+            if progress && !serial {
+                return run_and_tell(rt, alloc, &inputs, options, out, err);
+            }
+            let end = run_inputs(rt, alloc, &inputs, options, serial, out);
+            (end, true)
         }
     }
 }
@@ -115,23 +158,30 @@ fn note_to(alloc: Global, why: bool, end: &Result<Done, Failure>, texts: &Texts)
 }
 
 /// Does what a call asks for.
-fn perform<R: Threads + Wait + Sync, S: Source, W: Write>(
+fn perform<R: Threads + Wait + Sync, S: Source, W: Write, E: Write>(
     rt: &R,
     alloc: Global,
     call: &Call<'_>,
     source: &mut S,
     out: &mut W,
+    err: &mut E,
 ) -> Answer
-    ensures { Performs S.gives source.old source.new call.now (W.contents out.old) (W.contents out.new) result.end (option_map string_bytes result.note) }
+    ensures { (reports : List ℕ) × Hears result.is_heard (E.contents err.old) (E.contents err.new) reports
+        × Performs S.gives source.old source.new call.now (W.contents out.old) (W.contents out.new) result.end reports (option_map string_bytes result.note) }
 {
     match read_files(alloc, call, source) {
         Ok(texts) => {
-            let end = meet(rt, alloc, call.order, &texts, out);
+            let (end, is_heard) = meet(rt, alloc, call.order, &texts, out, err);
             let note = note_to(alloc, call.why, &end, &texts);
-            Answer { end, note }
+            Answer {
+                end,
+                is_heard,
+                note,
+            }
         }
         Err(unread) => Answer {
             end: Err(Failure::from(unread.fault)),
+            is_heard: true,
             note: note_of_file(alloc, call, unread),
         },
     }
@@ -182,37 +232,24 @@ fn help_to<W: Write>(help: &str, out: &mut W) -> Result<Done, Failure>
 }
 
 /// Does what the words ask for.
-fn obey<'w, R: Threads + Wait + Sync, S: Source, W: Write>(
+fn obey<'w, R: Threads + Wait + Sync, S: Source, W: Write, E: Write>(
     rt: &R,
     alloc: Global,
     words: &'w [&'w str],
     source: &mut S,
     out: &mut W,
+    err: &mut E,
 ) -> Answer
-    ensures { Does S.gives S.opens source.old source.new (map (λ w. w.now) words.entry.now) (W.contents out.old) (W.contents out.new) result.end (option_map string_bytes result.note) }
+    ensures { (reports : List ℕ) × Hears result.is_heard (E.contents err.old) (E.contents err.new) reports
+        × Does S.gives S.opens source.old source.new (map (λ w. w.now) words.entry.now) (W.contents out.old) (W.contents out.new) result.end reports (option_map string_bytes result.note) }
 {
     match parse(alloc, words) {
-        Ok(Request::Call(call)) => perform(rt, alloc, &call, source, out),
-        Ok(Request::Explain(name)) => Answer {
-            end: explain_to(alloc, name, out),
-            note: None,
-        },
-        Ok(Request::Wave(wave)) => Answer {
-            end: show(alloc, &wave, source, out),
-            note: None,
-        },
-        Err(LineFault::Help(text)) => Answer {
-            end: help_to(text.as_str(), out),
-            note: None,
-        },
-        Err(LineFault::Fault(text)) => Answer {
-            end: Err(Failure::Line(text)),
-            note: None,
-        },
-        Err(LineFault::Memory) => Answer {
-            end: Err(Failure::Memory),
-            note: None,
-        },
+        Ok(Request::Call(call)) => perform(rt, alloc, &call, source, out, err),
+        Ok(Request::Explain(name)) => ended(explain_to(alloc, name, out)),
+        Ok(Request::Wave(wave)) => ended(show(alloc, &wave, source, out)),
+        Err(LineFault::Help(text)) => ended(help_to(text.as_str(), out)),
+        Err(LineFault::Fault(text)) => ended(Err(Failure::Line(text))),
+        Err(LineFault::Memory) => ended(Err(Failure::Memory)),
     }
 }
 
@@ -248,7 +285,8 @@ fn tell_end<E: Write>(err: &mut E, end: &Result<Done, Failure>, note: &Option<St
 }
 
 /// Does what the words ask for, the program's own name first, and answers the status of the program. What is asked
-/// for goes to `out`, and a failure is told to `err`. A run with workers waits for them.
+/// for goes to `out`, and a failure is told to `err`, behind how far a run is, where that is asked for. A run with
+/// workers waits for them.
 pub fn command<'w, R: Threads + Wait + Sync, S: Source, W: Write, E: Write>(
     rt: &R,
     alloc: Global,
@@ -257,16 +295,16 @@ pub fn command<'w, R: Threads + Wait + Sync, S: Source, W: Write, E: Write>(
     out: &mut W,
     err: &mut E,
 ) -> Exit
-    ensures { (end : Result Done Failure) × (note : Option (List ℕ)) × (result.status ≡ status_of end)
-        × Does S.gives S.opens source.old source.new (map (λ w. w.now) words.entry.now) (W.contents out.old) (W.contents out.new) end note
-        × (IsTrue result.is_told → Appends (E.contents err.old) (E.contents err.new) (told_of end note))
-        × OnOk end (E.contents err.new ≡ E.contents err.old) }
+    ensures { (end : Result Done Failure) × (reports : List ℕ) × (note : Option (List ℕ)) × (result.status ≡ status_of end)
+        × Does S.gives S.opens source.old source.new (map (λ w. w.now) words.entry.now) (W.contents out.old) (W.contents out.new) end reports note
+        × (IsTrue result.is_told → Appends (E.contents err.old) (E.contents err.new) (reports ++ told_of end note))
+        × OnOk end (reports ≡ [] → E.contents err.new ≡ E.contents err.old) }
 {
-    let answer = obey(rt, alloc, words, source, out);
+    let answer = obey(rt, alloc, words, source, out, err);
     // Where it can't be told, the status alone tells of it.
     let is_told = tell_end(err, &answer.end, &answer.note);
     Exit {
         status: status(&answer.end),
-        is_told,
+        is_told: answer.is_heard && is_told,
     }
 }

@@ -1,7 +1,7 @@
 //! What is told behind the line of a failure: where it is.
 
 ghost use Rattle.std.specs.Prelude.{◌≡◌, IfSome, option_map, string_bytes};
-ghost use Rattle.fb_command.specs.Notes.{IsFileNote, IsMatter, IsNote, IsNoteOfName, Notes, file_word, name_of};
+ghost use Rattle.fb_command.specs.Notes.{IsFileNote, IsMatter, IsNote, IsNoteOfName, IsNoteOfNumber, Notes, file_word, name_of, number_of};
 ghost use Rattle.fb_command.specs.Texts.{given_of};
 
 use crate::failure::{Failure, Refusal};
@@ -10,6 +10,9 @@ use crate::texts::{Part, Texts, Unread};
 use fb_call::line::Call;
 use fb_why::reason::reason_of;
 use std::alloc::Global;
+
+/// The number of a fault of the grammar, whose line says where it is besides.
+const SYNTAX: u8 = 3;
 
 /// What a file is called.
 fn word_for(part: Part) -> &'static str
@@ -70,20 +73,35 @@ pub fn note_of_file(alloc: Global, call: &Call<'_>, unread: Unread) -> Option<St
     Some(note_of_name(alloc, unread.part, name)?)
 }
 
-/// Where a failure applies, for those of which that is known, where it is asked for. Without memory for it nothing is
-/// told.
+/// The number of a refusal of the inputs.
+fn number_of(failure: &Failure) -> Option<u8>
+    ensures { result ≡ number_of failure.now }
+{
+    match failure {
+        Failure::Refused(Refusal::Numbered(number)) => Some(*number),
+        Failure::Refused(Refusal::Syntax(_)) => Some(SYNTAX),
+        _ => None,
+    }
+}
+
+/// Where the refusal of this number applies. Without memory for it nothing is told.
+fn note_of_number(alloc: Global, number: u8, texts: &Texts) -> Option<String>
+    ensures { IfSome result (λ note. IsNoteOfNumber (given_of texts.now) number (string_bytes note)) }
+{
+    let declaration = texts.declaration.as_slice();
+    match reason_of(alloc, number, declaration, texts.deployment(), texts.rows()) {
+        Ok(Some(reason)) => Some(reason.text),
+        Ok(None) | Err(_) => None,
+    }
+}
+
+/// Where a failure applies, for those of which that is known, where it is asked for.
 pub fn note_of(alloc: Global, why: bool, failure: &Failure, texts: &Texts) -> Option<String>
     ensures { Notes why (IsNote (given_of texts.now) failure.now) (option_map string_bytes result) }
 {
     if !why {
         return None;
     }
-    let Failure::Refused(Refusal::Numbered(number)) = failure else {
-        return None;
-    };
-    let declaration = texts.declaration.as_slice();
-    match reason_of(alloc, *number, declaration, texts.deployment()) {
-        Ok(Some(reason)) => Some(reason.text),
-        Ok(None) | Err(_) => None,
-    }
+    let number = number_of(failure)?;
+    note_of_number(alloc, number, texts)
 }

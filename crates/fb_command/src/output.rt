@@ -1,26 +1,12 @@
-//! Bytes that are written, with a count of them where the writer fails.
+//! Texts that are written, with a count of their bytes where the writer fails.
 
-ghost use Rattle.std.specs.Prelude.{◌≡◌, ◌≤◌, length, take, OnOk, IfErr};
+ghost use Rattle.std.specs.Prelude.{◌≡◌, OnOk, IfErr};
 ghost use Rattle.std.specs.Io.KnownBytes.{Appends};
 ghost use Rattle.fb_command.specs.Failures.{WritesPart};
 
 use crate::failure::Failure;
+use fb_progress::output::write_front;
 use std::io::Write;
-
-/// Writes as many of the bytes as the writer takes before it fails, and tells how many.
-fn write_front<W: Write>(out: &mut W, bytes: &[u8]) -> usize
-    ensures within { result ≤ length bytes.now }
-    ensures got { Appends (W.contents out.old) (W.contents out.new) (take result bytes.now) }
-{
-    let mut taken = 0;
-    while taken < bytes.len() {
-        match out.write(&bytes[taken..]) {
-            Ok(0) | Err(_) => return taken,
-            Ok(count) => taken += count,
-        }
-    }
-    taken
-}
 
 /// Writes a text.
 ///

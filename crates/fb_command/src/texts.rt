@@ -30,10 +30,7 @@ impl Texts {
         Inputs {
             declaration: self.declaration.as_slice(),
             deploy: self.deployment(),
-            stimuli: match &self.stimuli {
-                Some(bytes) => Some(bytes.as_slice()),
-                None => None,
-            },
+            stimuli: self.rows(),
         }
     }
 
@@ -42,6 +39,16 @@ impl Texts {
         ensures { option_map (λ b. b.now) result ≡ (given_of self.now).deploy }
     {
         match &self.deploy {
+            Some(bytes) => Some(bytes.as_slice()),
+            None => None,
+        }
+    }
+
+    /// The bytes of the stimuli, where some were read.
+    pub fn rows(&self) -> Option<&[u8]>
+        ensures { option_map (λ b. b.now) result ≡ (given_of self.now).stimuli }
+    {
+        match &self.stimuli {
             Some(bytes) => Some(bytes.as_slice()),
             None => None,
         }

@@ -8,7 +8,7 @@ use crate::source::Source;
 use crate::status::Done;
 use crate::texts::read_files;
 use fb_call::line::{Call, Order, Wave};
-use fb_open::open::open;
+use fb_open::open::{let_go, open};
 use fb_sim::options::Inputs;
 use fb_wave::wave::write_wave;
 use std::alloc::Global;
@@ -39,7 +39,7 @@ fn dump<R: BufRead, W: Write>(
     let system = open(alloc, inputs)?;
     let written = write_wave(alloc, &system, trace, out);
     // Given away, the system is proved to be let go in one step, and at the end of its scope part by part.
-    drop(system);
+    let_go(system);
     written?;
     Ok(Done::Shown)
 }

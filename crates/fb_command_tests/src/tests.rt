@@ -6,6 +6,7 @@ mod files;
 mod lines;
 mod notes;
 mod outputs;
+mod progress;
 mod readers;
 mod refusals;
 mod runs;

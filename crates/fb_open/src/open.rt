@@ -68,6 +68,11 @@ fn accepted(alloc: Global, inputs: &Inputs<'_>) -> Option<System>
     Some(system)
 }
 
+/// Lets a system go. What it owns is proved to be let go here, and so not once more in a crate above.
+pub fn let_go(system: System) {
+    drop(system);
+}
+
 /// The system that stands for a declaration, a deployment and stimuli.
 ///
 /// # Errors

@@ -4,3 +4,4 @@ mod TypePorts
 mod DeploymentPlaces
 mod AllPlaces
 mod Options
+mod Reading

@@ -1,13 +1,47 @@
 -- Where a refusal applies, of the bytes that were given (this project's own).
-use Rattle.std.specs.Prelude.{◌≡◌, ◌⊎◌, ℕ, List, Option, Some, None, Ok, Err}
+use Rattle.std.specs.Prelude.{◌≡◌, ◌⊎◌, ℕ, List, Option, Some, None, Ok, Err, [], IfSome}
+use Rattle.fb_inputs.specs.Deployments.{deploy_of}
+use Rattle.fb_inputs.specs.Stimuli as inputs
+use Rattle.fb_read.specs.Whole.{IsLibraryText}
+use Rattle.fb_read.specs.declared.error.ReadError.{ReadError}
+use Rattle.fb_types.specs.Accepted.{IsLeastFault}
+use Rattle.fb_types.specs.Joined.{OutOfRange}
+use Rattle.fb_types.specs.Joined.{TooHigh}
+use Rattle.fb_types.specs.Joined.{TwoSources}
+use Rattle.fb_types.specs.Kinds.{KindWrong}
 use Rattle.fb_types.specs.Limits.{single}
+use Rattle.fb_types.specs.Mapped.{NoEvent}
+use Rattle.fb_types.specs.Mapped.{NoLink}
+use Rattle.fb_types.specs.Mapped.{NotMapped}
+use Rattle.fb_types.specs.Repeated.{NameTwice}
 use Rattle.fb_types.specs.Unknown.{NameUnknown}
 use Rattle.fb_types.specs.declared.deploy.Plan.{Plan}
+use Rattle.fb_types.specs.declared.deploy.Stimulus.{Stimulus}
 use Rattle.fb_types.specs.declared.library.Library.{Library}
-use Rattle.fb_read.specs.Whole.{IsLibraryText}
-use Rattle.fb_inputs.specs.Deployments.{deploy_of}
+use Rattle.fb_why.specs.Causes.{IsCause}
 use Rattle.fb_why.specs.Unknown.{IsUnknownAt}
-use Rattle.fb_why.specs.declared.place.Place.{Place}
+use Rattle.fb_why.specs.declared.cause.Cause.TheVariants as cause
+use Rattle.fb_why.specs.declared.cause.Cause.{Cause}
+use Rattle.fb_why.specs.declared.cause.Excess.TheVariants as excess
+use Rattle.fb_why.specs.declared.cause.Excess.{Excess}
+use Rattle.fb_why.specs.declared.cause.Flaw.TheVariants as flaw
+use Rattle.fb_why.specs.declared.cause.Flaw.{Flaw}
+use Rattle.fb_why.specs.declared.spot.Spot.TheVariants as spot
+use Rattle.fb_why.specs.declared.spot.Spot.{Spot}
+use Rattle.fb_why_names.specs.Heights.{IsTooHighAt}
+use Rattle.fb_why_names.specs.Sources.{IsJoinedAt}
+use Rattle.fb_why_names.specs.Twice.{IsTwiceAt}
+use Rattle.fb_why_names.specs.Unlinked.{IsUnlinkedAt}
+use Rattle.fb_why_names.specs.Unmapped.{IsUnmappedAt}
+use Rattle.fb_why_names.specs.Unserved.{IsUnservedAt}
+use Rattle.fb_why_rows.specs.Rows as rows
+use Rattle.fb_why_rows.specs.Rows.{AreTaken}
+use Rattle.fb_why_rows.specs.Tables as tables
+use Rattle.fb_why_rows.specs.Tables.{IsShaped}
+use Rattle.fb_why_stimuli.specs.Stimuli.{IsBadAt, IsOver}
+use Rattle.fb_why_texts.specs.Faults.{TellsFault}
+use Rattle.fb_why_values.specs.Misfits.{IsMisfitAt}
+use Rattle.fb_why_values.specs.Misjoins.{IsMisjoinedAt}
 
 -- ---- What is read
 
@@ -25,34 +59,156 @@ abbrev pub IsNoPlan : Option (List ℕ) → Type 0
 IsNoPlan None = ⊥
 IsNoPlan (Some bytes) = (n : ℕ) × (deploy_of bytes ≡ Err n)
 
--- ---- Names that stand for nothing
+-- ---- A declaration and a deployment that are read
 
--- A declaration and a deployment were read, and something is unknown at this place.
-pub record TellsUnknown (declaration : List ℕ) (deploy : Option (List ℕ)) (place : Place) : Type 0 where
+-- The refusal applies at this place.
+abbrev pub AppliesAt : Flaw → Library → Plan → Spot → Type 0
+AppliesAt flaw.Twice lib plan (spot.Twice p) = IsTwiceAt lib plan p
+AppliesAt flaw.Unknown lib plan (spot.Unknown p) = IsUnknownAt lib plan p
+AppliesAt flaw.Misfit lib plan (spot.Misfit p) = IsMisfitAt lib p
+AppliesAt flaw.Misjoin lib plan (spot.Misjoin p) = IsMisjoinedAt lib p
+AppliesAt flaw.Joined lib plan (spot.Joined p) = IsJoinedAt lib p
+AppliesAt flaw.TooHigh lib plan (spot.TooHigh p) = IsTooHighAt lib p
+AppliesAt flaw.Unmapped lib plan (spot.Unmapped p) = IsUnmappedAt lib plan p
+AppliesAt flaw.Unlinked lib plan (spot.Unlinked p) = IsUnlinkedAt lib plan p
+AppliesAt flaw.Unserved lib plan (spot.Unserved p) = IsUnservedAt lib plan p
+AppliesAt _ lib plan _ = ⊥
+
+-- The refusal applies nowhere.
+abbrev pub AppliesNowhere : Flaw → Library → Plan → Type 0
+AppliesNowhere flaw.Twice lib plan = ¬ (NameTwice lib plan)
+AppliesNowhere flaw.Unknown lib plan = ¬ (NameUnknown lib plan)
+AppliesNowhere flaw.Misfit lib plan = ¬ (KindWrong lib)
+AppliesNowhere flaw.Misjoin lib plan = ¬ (OutOfRange lib)
+AppliesNowhere flaw.Joined lib plan = ¬ (TwoSources lib)
+AppliesNowhere flaw.TooHigh lib plan = ¬ (TooHigh lib)
+AppliesNowhere flaw.Unmapped lib plan = ¬ (NotMapped lib plan)
+AppliesNowhere flaw.Unlinked lib plan = ¬ (NoLink lib plan)
+AppliesNowhere flaw.Unserved lib plan = ¬ (NoEvent lib plan)
+
+-- They were read, and the refusal applies to them at this place.
+pub record TellsFlaw (flaw : Flaw) (declaration : List ℕ) (deploy : Option (List ℕ)) (place : Spot) : Type 0 where
   pub library : Library
   pub plan : Plan
   pub read : IsLibraryText declaration library
   pub planned : IsPlan deploy plan
-  pub unknown : IsUnknownAt library plan place
+  pub applies : AppliesAt flaw library plan place
 
--- They were read, and each name stands for something.
-pub record AllKnown (declaration : List ℕ) (deploy : Option (List ℕ)) : Type 0 where
+-- They were read, and the refusal does not apply to them.
+pub record IsFlawless (flaw : Flaw) (declaration : List ℕ) (deploy : Option (List ℕ)) : Type 0 where
   pub library : Library
   pub plan : Plan
   pub read : IsLibraryText declaration library
   pub planned : IsPlan deploy plan
-  pub known : ¬ (NameUnknown library plan)
+  pub nowhere : AppliesNowhere flaw library plan
 
--- They are read and each name stands for something, or they can't be read.
-abbrev pub NoneUnknown : (declaration : List ℕ) → (deploy : Option (List ℕ)) → Type 0
-NoneUnknown declaration deploy = AllKnown declaration deploy ⊎ IsNoText declaration ⊎ IsNoPlan deploy
+-- The refusal does not apply to them, or they can't be read.
+abbrev pub HasNoFlaw : Flaw → (declaration : List ℕ) → (deploy : Option (List ℕ)) → Type 0
+HasNoFlaw flaw declaration deploy = IsFlawless flaw declaration deploy ⊎ IsNoText declaration ⊎ IsNoPlan deploy
 
--- ---- Refusals by their numbers
+-- ---- The text of the declaration
+
+-- What the text is refused for applies at this place.
+abbrev pub TellsText : (declaration : List ℕ) → Spot → Type 0
+TellsText declaration (spot.Text p) = (fault : ReadError) × TellsFault declaration fault p
+TellsText declaration _ = ⊥
+
+-- ---- The bytes of the deployment and of the stimuli
+
+abbrev pub IsDeploymentSpot : (bytes : List ℕ) → Spot → Type 0
+IsDeploymentSpot bytes (spot.Deployment p) = tables.IsFaultAt bytes p
+IsDeploymentSpot bytes _ = ⊥
+
+abbrev pub IsStimuliSpot : (bytes : List ℕ) → Spot → Type 0
+IsStimuliSpot bytes (spot.Stimuli p) = rows.IsRefusedAt bytes p
+IsStimuliSpot bytes _ = ⊥
+
+-- The deployment is there, and what is told is wrong at the place.
+abbrev pub TellsDeployment : Option (List ℕ) → Spot → Type 0
+TellsDeployment deploy place = (bytes : List ℕ) × (deploy ≡ Some bytes) × IsDeploymentSpot bytes place
+
+-- The stimuli are there, and refused for what is told of the place.
+abbrev pub TellsStimuli : Option (List ℕ) → Spot → Type 0
+TellsStimuli stimuli place = (bytes : List ℕ) × (stimuli ≡ Some bytes) × IsStimuliSpot bytes place
+
+abbrev pub TellsBytes : (deploy stimuli : Option (List ℕ)) → Spot → Type 0
+TellsBytes deploy stimuli place = TellsDeployment deploy place ⊎ TellsStimuli stimuli place
+
+-- The deployment has the right shape, where there is one, and the stimuli are taken.
+abbrev pub AreTakenBoth : (deploy stimuli : Option (List ℕ)) → Type 0
+AreTakenBoth deploy stimuli = IfSome deploy IsShaped × IfSome stimuli AreTaken
+
+-- ---- With the stimuli
+
+-- The stimuli: where none are given, there are none.
+abbrev pub AreStimuli : Option (List ℕ) → List Stimulus → Type 0
+AreStimuli None stimuli = stimuli ≡ []
+AreStimuli (Some bytes) stimuli = inputs.stimuli_of bytes ≡ Ok stimuli
+
+-- the stimuli are refused
+abbrev pub AreNoStimuli : Option (List ℕ) → Type 0
+AreNoStimuli None = ⊥
+AreNoStimuli (Some bytes) = (n : ℕ) × (inputs.stimuli_of bytes ≡ Err n)
+
+-- The refusal applies at this place.
+abbrev pub ExceedsAt : Excess → Library → List Stimulus → Spot → Type 0
+ExceedsAt excess.Stimulus lib stimuli (spot.Stimulus p) = IsBadAt lib stimuli p
+ExceedsAt excess.Limit lib stimuli (spot.Limit l) = IsOver lib stimuli l
+ExceedsAt _ lib stimuli _ = ⊥
+
+abbrev pub excess_fault : Excess → ℕ
+excess_fault excess.Stimulus = 29
+excess_fault excess.Limit = 30
+
+-- The refusal is not the first that applies.
+abbrev pub ExceedsNowhere : Excess → Library → Plan → List Stimulus → Type 0
+ExceedsNowhere excess lib plan stimuli = ¬ (IsLeastFault (excess_fault excess) lib plan stimuli)
+
+-- All were read, and the refusal applies to them at this place.
+pub record TellsExcess (excess : Excess) (declaration : List ℕ) (deploy stimuli : Option (List ℕ)) (place : Spot) : Type 0 where
+  pub library : Library
+  pub list : List Stimulus
+  pub read : IsLibraryText declaration library
+  pub listed : AreStimuli stimuli list
+  pub applies : ExceedsAt excess library list place
+
+-- All were read, and the refusal is not the first that applies to them.
+pub record IsModest (excess : Excess) (declaration : List ℕ) (deploy stimuli : Option (List ℕ)) : Type 0 where
+  pub library : Library
+  pub plan : Plan
+  pub list : List Stimulus
+  pub read : IsLibraryText declaration library
+  pub planned : IsPlan deploy plan
+  pub listed : AreStimuli stimuli list
+  pub nowhere : ExceedsNowhere excess library plan list
+
+-- The refusal is not the first that applies to them, or they can't be read.
+abbrev pub HasNoExcess : Excess → (declaration : List ℕ) → (deploy stimuli : Option (List ℕ)) → Type 0
+HasNoExcess excess declaration deploy stimuli =
+    IsModest excess declaration deploy stimuli ⊎ IsNoText declaration ⊎ IsNoPlan deploy ⊎ AreNoStimuli stimuli
+
+-- ---- By the number
+
+-- What is refused applies at this place.
+abbrev pub TellsOf : Cause → (declaration : List ℕ) → (deploy stimuli : Option (List ℕ)) → Spot → Type 0
+TellsOf cause.Text declaration deploy stimuli place = TellsText declaration place
+TellsOf cause.Bytes declaration deploy stimuli place = TellsBytes deploy stimuli place
+TellsOf (cause.Flaw flaw) declaration deploy stimuli place = TellsFlaw flaw declaration deploy place
+TellsOf (cause.Excess excess) declaration deploy stimuli place = TellsExcess excess declaration deploy stimuli place
+TellsOf cause.Other declaration deploy stimuli place = ⊥
+
+-- Nothing is told where that does not apply, or where something can't be read. Of a text it may be so wherever the place is hard to find.
+abbrev pub IsSilentOf : Cause → (declaration : List ℕ) → (deploy stimuli : Option (List ℕ)) → Type 0
+IsSilentOf cause.Text declaration deploy stimuli = Unit {0}
+IsSilentOf cause.Bytes declaration deploy stimuli = AreTakenBoth deploy stimuli
+IsSilentOf (cause.Flaw flaw) declaration deploy stimuli = HasNoFlaw flaw declaration deploy
+IsSilentOf (cause.Excess excess) declaration deploy stimuli = HasNoExcess excess declaration deploy stimuli
+IsSilentOf cause.Other declaration deploy stimuli = Unit {0}
 
 -- The refusal of this number applies at this place.
-abbrev pub Tells : (declaration : List ℕ) → (deploy : Option (List ℕ)) → (number : ℕ) → Place → Type 0
-Tells declaration deploy number place = (number ≡ 21) × TellsUnknown declaration deploy place
+abbrev pub Tells : (declaration : List ℕ) → (deploy stimuli : Option (List ℕ)) → (number : ℕ) → Spot → Type 0
+Tells declaration deploy stimuli number place = (cause : Cause) × IsCause number cause × TellsOf cause declaration deploy stimuli place
 
--- No place is told: that of a name that stands for nothing is told, where there is one.
-abbrev pub IsSilent : (declaration : List ℕ) → (deploy : Option (List ℕ)) → (number : ℕ) → Type 0
-IsSilent declaration deploy number = number ≡ 21 → NoneUnknown declaration deploy
+-- No place is told.
+abbrev pub IsSilent : (declaration : List ℕ) → (deploy stimuli : Option (List ℕ)) → (number : ℕ) → Type 0
+IsSilent declaration deploy stimuli number = (cause : Cause) × IsCause number cause × IsSilentOf cause declaration deploy stimuli

@@ -1,28 +1,23 @@
 //! The reason of a refusal: what was read is read once more, and looked through for a place at which the refusal
 //! applies.
 
-ghost use Rattle.std.specs.Prelude.{IfOk, MatchOption, option_map};
+ghost use Rattle.std.specs.Prelude.{◌≡◌, IfOk, MatchOption, option_map};
 ghost use Rattle.fb_read.specs.Whole.{IsLibraryText};
-ghost use Rattle.fb_why.specs.Reasons.{IsNoPlan, IsNoText, IsPlan, IsSilent, NoneUnknown, Tells, TellsUnknown};
+ghost use Rattle.fb_why.specs.Reasons.{AreNoStimuli, AreStimuli, HasNoExcess, HasNoFlaw, IsNoPlan, IsNoText, IsPlan, IsSilent, IsSilentOf, Tells, TellsExcess, TellsFlaw, TellsOf};
 
-use crate::place::Place;
-use crate::tell::tell;
-use crate::unknown::unknown_place;
+use crate::cause::{Cause, Excess, Flaw, cause_of};
+use crate::declared::reason_in;
+use crate::fed::reason_with;
+use crate::refused::{bytes_reason, text_reason};
+use crate::spot::Reason;
 use fb_inputs::deployment::read_deploy;
 use fb_inputs::error::InputError;
+use fb_inputs::stimuli::read_stimuli;
 use fb_read::error::ReadError;
 use fb_read::read::read_library;
-use fb_types::deploy::Deploy;
+use fb_types::deploy::{Deploy, Stimulus};
 use fb_types::library::Library;
 use std::alloc::{AllocError, Global};
-
-/// Where a refusal applies.
-#[derive(Drop)]
-pub struct Reason {
-    pub place: Place,
-    /// The place, and what was wanted there, in words.
-    pub text: String,
-}
 
 /// The library that the declaration is, if it is one.
 fn library_of(alloc: Global, declaration: &[u8]) -> Result<Option<Library>, AllocError>
@@ -49,13 +44,28 @@ fn deploy_of(alloc: Global, deploy: Option<&[u8]>) -> Result<Option<Deploy>, All
     }
 }
 
-/// Where a name stands for nothing.
-fn unknown_reason(
+/// The stimuli that are given, or none for none, if they are some.
+fn stimuli_of(alloc: Global, stimuli: Option<&[u8]>) -> Result<Option<Vec<Stimulus>>, AllocError>
+    ensures { let given = option_map (λ b. b.now) stimuli.entry in IfOk result (λ o. MatchOption o (AreNoStimuli given) (λ v. AreStimuli given v.items)) }
+{
+    let Some(bytes) = stimuli else {
+        return Ok(Some(Vec::new(alloc)));
+    };
+    match read_stimuli(alloc, bytes) {
+        Ok(stimuli) => Ok(Some(stimuli)),
+        Err(InputError::Memory) => Err(AllocError),
+        Err(_) => Ok(None),
+    }
+}
+
+/// Where the refusal applies to what the bytes of a declaration and a deployment stand for.
+fn flaw_reason(
     alloc: Global,
+    flaw: Flaw,
     declaration: &[u8],
     deploy: Option<&[u8]>,
 ) -> Result<Option<Reason>, AllocError>
-    ensures { let plan = option_map (λ b. b.now) deploy.entry in IfOk result (λ o. MatchOption o (NoneUnknown declaration.now plan) (λ r. TellsUnknown declaration.now plan r.place)) }
+    ensures { let plan = option_map (λ b. b.now) deploy.entry in IfOk result (λ o. MatchOption o (HasNoFlaw flaw declaration.now plan) (λ r. TellsFlaw flaw declaration.now plan r.place)) }
 {
     let Some(library) = library_of(alloc, declaration)? else {
         return Ok(None);
@@ -63,24 +73,63 @@ fn unknown_reason(
     let Some(deploy) = deploy_of(alloc, deploy)? else {
         return Ok(None);
     };
-    let Some(place) = unknown_place(alloc, &library, deploy.plan())? else {
-        return Ok(None);
-    };
-    let text = tell(alloc, &library, deploy.plan(), place)?;
-    Ok(Some(Reason { place, text }))
+    reason_in(alloc, flaw, &library, deploy.plan())
 }
 
-/// Where the refusal of this number applies to a declaration and a deployment, if one is given: told is E21.
+/// Where the refusal applies to what all bytes stand for.
+fn excess_reason(
+    alloc: Global,
+    excess: Excess,
+    declaration: &[u8],
+    deploy: Option<&[u8]>,
+    stimuli: Option<&[u8]>,
+) -> Result<Option<Reason>, AllocError>
+    ensures { let plan = option_map (λ b. b.now) deploy.entry in let rows = option_map (λ b. b.now) stimuli.entry in
+        IfOk result (λ o. MatchOption o (HasNoExcess excess declaration.now plan rows) (λ r. TellsExcess excess declaration.now plan rows r.place)) }
+{
+    let Some(library) = library_of(alloc, declaration)? else {
+        return Ok(None);
+    };
+    let Some(deploy) = deploy_of(alloc, deploy)? else {
+        return Ok(None);
+    };
+    let Some(stimuli) = stimuli_of(alloc, stimuli)? else {
+        return Ok(None);
+    };
+    reason_with(alloc, excess, &library, deploy.plan(), stimuli.as_slice())
+}
+
+/// Where the refusal applies.
+fn reason_by(
+    alloc: Global,
+    cause: Cause,
+    declaration: &[u8],
+    deploy: Option<&[u8]>,
+    stimuli: Option<&[u8]>,
+) -> Result<Option<Reason>, AllocError>
+    ensures { let plan = option_map (λ b. b.now) deploy.entry in let rows = option_map (λ b. b.now) stimuli.entry in
+        IfOk result (λ o. MatchOption o (IsSilentOf cause declaration.now plan rows) (λ r. TellsOf cause declaration.now plan rows r.place)) }
+{
+    match cause {
+        Cause::Text => text_reason(alloc, declaration),
+        Cause::Bytes => bytes_reason(alloc, deploy, stimuli),
+        Cause::Flaw(flaw) => flaw_reason(alloc, flaw, declaration, deploy),
+        Cause::Excess(excess) => excess_reason(alloc, excess, declaration, deploy, stimuli),
+        Cause::Other => Ok(None),
+    }
+}
+
+/// Where the refusal of this number applies to the bytes of a declaration, a deployment and stimuli, of which the last
+/// two may be missing.
 pub fn reason_of(
     alloc: Global,
     number: u8,
     declaration: &[u8],
     deploy: Option<&[u8]>,
+    stimuli: Option<&[u8]>,
 ) -> Result<Option<Reason>, AllocError>
-    ensures { let plan = option_map (λ b. b.now) deploy.entry in IfOk result (λ o. MatchOption o (IsSilent declaration.now plan number) (λ r. Tells declaration.now plan number r.place)) }
+    ensures { let plan = option_map (λ b. b.now) deploy.entry in let rows = option_map (λ b. b.now) stimuli.entry in
+        IfOk result (λ o. MatchOption o (IsSilent declaration.now plan rows number) (λ r. Tells declaration.now plan rows number r.place)) }
 {
-    if number == 21 {
-        return unknown_reason(alloc, declaration, deploy);
-    }
-    Ok(None)
+    reason_by(alloc, cause_of(number), declaration, deploy, stimuli)
 }

@@ -24,7 +24,17 @@ const TWICE: &[File<'static>] = &[(
     b"APPLICATION A FBS M : E_MERGE; M : E_MERGE; END_FBS END_APPLICATION",
 )];
 
-const TOLD: [Case; 10] = [
+const CUT: &[File<'static>] = &[("d", b"APPLICATION A\nFBS M ")];
+
+const FED: &[File<'static>] = &[
+    (
+        "d",
+        b"APPLICATION A FBS M : E_MERGE; END_FBS END_APPLICATION",
+    ),
+    ("s", b"tick,event,values\n0,N.EI1,\n"),
+];
+
+const TOLD: [Case; 12] = [
     (
         "fbsim check d --why",
         SLIP,
@@ -44,8 +54,24 @@ const TOLD: [Case; 10] = [
         2,
         b"refused E21\nresource R: instance N: application A has no instance N\n",
     ),
-    // Of these refusals no place is known.
-    ("fbsim check d --why", TWICE, 2, b"refused E20\n"),
+    (
+        "fbsim check d --why",
+        TWICE,
+        2,
+        b"refused E20\napplication A: instance M is given twice\n",
+    ),
+    (
+        "fbsim check d --why",
+        CUT,
+        2,
+        b"refused E03 line 2\nline 2, column 7: found the end of the text, expected :\n",
+    ),
+    (
+        "fbsim check d --stim s --why",
+        FED,
+        2,
+        b"refused E29\nstimuli: 1st row behind the heading: there is no instance N\n",
+    ),
     (
         "fbsim check d --deploy e --why",
         SLIP,

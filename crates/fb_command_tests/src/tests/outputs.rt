@@ -10,21 +10,21 @@ use std::sync::Wait;
 use std::test::Fail;
 use std::thread::Threads;
 
-const CYCLE: &[u8] =
+pub const CYCLE: &[u8] =
     b"APPLICATION A FBS S : E_RESTART; C : E_CYCLE(DT := T#3ms); END_FBS\nEVENT_CONNECTIONS S.COLD TO C.START; END_CONNECTIONS END_APPLICATION";
 
-const TO_8: &[u8] =
+pub const TO_8: &[u8] =
     b"0 MAIN < S.COLD\n0 MAIN > C.START DT=3\n3 MAIN < C.EO\n6 MAIN < C.EO\nend 8\n";
 
-const KEYED_TO_8: &[u8] =
+pub const KEYED_TO_8: &[u8] =
     b"1 0 0 0 MAIN < S.COLD\n3 0 0 0 MAIN > C.START DT=3\n1 1 0 3 MAIN < C.EO\n1 1 0 6 MAIN < C.EO\nend 8\n";
 
 const FILES: &[File<'static>] = &[("d", CYCLE)];
 
 /// Takes at most `step` bytes at each call and `room` bytes in all, and then gives an error.
 #[derive(Drop)]
-struct Narrow {
-    got: Vec<u8>,
+pub struct Narrow {
+    pub got: Vec<u8>,
     step: usize,
     room: usize,
 }
@@ -45,7 +45,7 @@ impl Write for Narrow {
     }
 }
 
-fn with_room(alloc: Global, step: usize, room: usize) -> Narrow {
+pub fn with_room(alloc: Global, step: usize, room: usize) -> Narrow {
     Narrow {
         got: Vec::new(alloc),
         step,
@@ -53,20 +53,21 @@ fn with_room(alloc: Global, step: usize, room: usize) -> Narrow {
     }
 }
 
-/// The words write the text, where there is room for it, however few bytes are taken at a time; and where there is room for fewer bytes,
-/// they write these, and tell how many that were.
+/// The words write the text, where there is room for it, by each of these steps of bytes that are taken at a time; and where there is room
+/// for fewer bytes, they write these, and tell how many that were.
 fn expect_text<R: Abort + Threads + Wait + Sync>(
     rt: &R,
     alloc: Global,
     words: &[&str],
     text: &[u8],
+    steps: &[usize],
 ) -> Result<(), Fail> {
     for room in 0..text.len() + 1 {
         let is_whole = room == text.len();
         let told = format!(in alloc; "write fault after {room} bytes\n")?;
-        for step in [1, 3, 7, 1000] {
+        for step in steps {
             let mut source = Folder { files: FILES };
-            let mut out = with_room(alloc, step, room);
+            let mut out = with_room(alloc, *step, room);
             let mut err = Vec::new(alloc);
             let status = command(rt, alloc, words, &mut source, &mut out, &mut err).status;
             assert_eq!(rt; status, if is_whole { 0 } else { 3 });
@@ -96,7 +97,7 @@ fn an_output_gets_all_or_it_is_told_what_it_took(rt: HostRuntime) -> Result<(), 
         ),
     ];
     for (words, text) in texts {
-        expect_text(&rt, alloc, words, text)?;
+        expect_text(&rt, alloc, words, text, &[1, 3, 7, 1000])?;
     }
     let words = ["fbsim", "--help"];
     let mut help = Vec::new(alloc);
@@ -111,7 +112,7 @@ fn an_output_gets_all_or_it_is_told_what_it_took(rt: HostRuntime) -> Result<(), 
         &mut err,
     );
     assert!(rt; !help.is_empty());
-    expect_text(&rt, alloc, words.as_slice(), help.as_slice())
+    expect_text(&rt, alloc, words.as_slice(), help.as_slice(), &[7])
 }
 
 /// Calls that fail, and their statuses.

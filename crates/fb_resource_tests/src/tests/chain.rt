@@ -193,8 +193,9 @@ pub fn deliver(
     requires messages { All (IsMessage system.now) messages.items }
     ensures { IsOf system.now 1000000 result }
 {
-    let are_for = are_for(&resource, number, system, messages.as_slice());
-    assert!(rt; are_for);
+    if !are_for(&resource, number, system, messages.as_slice()) {
+        panic!(rt; "messages for another resource");
+    }
     match resource.receive(messages) {
         Ok(()) => resource,
         Err(_) => panic!(rt; "memory"),
@@ -216,8 +217,9 @@ pub fn deliver_first(
     requires messages { All (IsMessage system.now) messages.items }
     ensures { IsOf system.now 1000000 result }
 {
-    let are_for = are_for(&resource, number, system, messages.as_slice());
-    assert!(rt; are_for);
+    if !are_for(&resource, number, system, messages.as_slice()) {
+        panic!(rt; "messages for another resource");
+    }
     match resource.receive(messages) {
         Ok(()) => resource,
         Err((_, back)) => match resource.receive(back) {

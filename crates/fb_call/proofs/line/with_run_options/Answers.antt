@@ -13,7 +13,8 @@ made c =
     ap rule_of c.default_value-trace.ensures ∙ ap (λ (r : Rule). record r { defaults = spec.word_of One ∷ [] }) c.limited.ensures.rule in
     let numbered = stands_well _ (spec.with_numbers (app_of c.args.command)) c.with_numbers-command.ensures.app c.with_numbers-command.ensures.globals in
     let ordered = grown_on _ _ _ _ _ c.with_arg-command.ensures c.flag.ensures.local c.flag.ensures.rule numbered in
-    grown_on _ _ _ _ _ c.with_arg.ensures (ap (λ (x : Arg). x.global) c.default_value-trace.ensures ∙ c.limited.ensures.local) trace ordered
+    let told = grown_on _ _ _ _ _ c.with_arg-command-2.ensures c.flag-2.ensures.local c.flag-2.ensures.rule ordered in
+    grown_on _ _ _ _ _ c.with_arg.ensures (ap (λ (x : Arg). x.global) c.default_value-trace.ensures ∙ c.limited.ensures.local) trace told
 
 pub returns-clause-app : goal.returns-clause-app
 returns-clause-app c = app_well _ _ (made c)

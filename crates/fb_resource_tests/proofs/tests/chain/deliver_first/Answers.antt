@@ -7,7 +7,7 @@ use Rattle.fb_resource_tests.proofs.tests.chain.deliver_first.Goals as goal
 pub returns-in-Ok : goal.returns-in-Ok
 returns-in-Ok g c =
     c.in-Ok.ensures.received.of c.args.system.now 1000000 c.requires.of
-    (subst (λ ms. All (IsFor c.args.system.now c.args.resource) ms) c.as_slice.ensures.value (c.are_for-are_for.ensures refl))
+    (subst (λ ms. All (IsFor c.args.system.now c.args.resource) ms) c.as_slice.ensures.value (c.if-not-are_for.ensures refl))
 
 pub returns-in-Ok-receive : goal.returns-in-Ok-receive
 returns-in-Ok-receive g c =
@@ -18,4 +18,4 @@ returns-in-Ok-receive g c =
     c.in-Ok-receive.ensures.received.of i 1000000 (still_of i 1000000 old c.receive.new.self same c.requires.of)
     (subst (λ ms. All (IsFor i c.receive.new.self) ms) (sym c.in-Err.ensures.back)
     (still_for i old c.receive.new.self c.args.messages.items same
-    (subst (λ ms. All (IsFor i old) ms) c.as_slice.ensures.value (c.are_for-are_for.ensures refl))))
+    (subst (λ ms. All (IsFor i old) ms) c.as_slice.ensures.value (c.if-not-are_for.ensures refl))))

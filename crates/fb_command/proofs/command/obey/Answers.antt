@@ -1,0 +1,51 @@
+use Rattle.std.proofs.Common.{Bor, List, ℕ, Option, Err, [], map, inl, inr, refl, sym, subst}
+use Rattle.clap.specs.Words.{Text}
+use Rattle.fb_call.specs.Line.{AreRequest, IsHelp}
+use Rattle.fb_call.specs.declared.line.LineFault.{LineFault}
+use Rattle.fb_call.specs.declared.line.Request.{Request}
+use Rattle.fb_command.specs.Command.{Does}
+use Rattle.fb_command.specs.Outcomes.{End}
+use Rattle.fb_command.specs.declared.failure.Failure.TheVariants.{Memory}
+use Rattle.fb_command.proofs.Reporting.{ended_so, helped}
+use Rattle.fb_command.proofs.command.obey.Goals as goal
+
+pub returns-in-Ok-Explain : goal.returns-in-Ok-Explain
+returns-in-Ok-Explain g c =
+    let words = map (λ (w : Bor (List ℕ)). w.now) c.args.words.now in
+    let source = c.args.source.now in
+    let old = g.W.Write.contents c.args.out.now in
+    let new = g.W.Write.contents c.explain_to.new.out in
+    let asked = subst (λ (r : Request). AreRequest words r) c.in-Ok-Explain.field-0-is c.in-Ok-Explain.ensures.request in
+    ended_so c.ended.result c.explain_to.result c.ended.ensures (g.E.Write.contents c.args.err.now)
+    (λ (end : End) (reports : Text) (note : Option Text). Does g.S.Source.gives g.S.Source.opens source source words old new end reports note)
+    (inr (inr (inl (c.in-Ok-Explain.name, asked, c.in-Ok-Explain.ensures.taken, c.explain_to.ensures, (refl, refl, refl)))))
+
+pub returns-in-Ok-Wave : goal.returns-in-Ok-Wave
+returns-in-Ok-Wave g c =
+    let words = map (λ (w : Bor (List ℕ)). w.now) c.args.words.now in
+    let old = g.W.Write.contents c.args.out.now in
+    let new = g.W.Write.contents c.show.new.out in
+    let asked = subst (λ (r : Request). AreRequest words r) c.in-Ok-Wave.field-0-is c.in-Ok-Wave.ensures.request in
+    ended_so c.ended-in-Ok-Wave.result c.show.result c.ended-in-Ok-Wave.ensures (g.E.Write.contents c.args.err.now)
+    (λ (end : End) (reports : Text) (note : Option Text). Does g.S.Source.gives g.S.Source.opens c.args.source.now c.show.new.source words old new end reports note)
+    (inr (inl (c.in-Ok-Wave.wave, asked, c.in-Ok-Wave.ensures.taken, c.show.ensures, refl, refl)))
+
+pub returns-in-Err-Help : goal.returns-in-Err-Help
+returns-in-Err-Help g c =
+    let words = map (λ (w : Bor (List ℕ)). w.now) c.args.words.now in
+    let source = c.args.source.now in
+    let old = g.W.Write.contents c.args.out.now in
+    let new = g.W.Write.contents c.help_to.new.out in
+    let help : IsHelp c.in-Err-Help.field-0 = subst (λ (x : LineFault). IsHelp x) (sym c.in-Err-Help.field-0-is) tt in
+    ended_so c.ended-in-Err-Help.result c.help_to.result c.ended-in-Err-Help.ensures (g.E.Write.contents c.args.err.now)
+    (λ (end : End) (reports : Text) (note : Option Text). Does g.S.Source.gives g.S.Source.opens source source words old new end reports note)
+    (inr (inr (inr (helped words old new c.as_str.result.now (c.in-Err-Help.ensures.help help) c.help_to.result c.help_to.ensures.whole c.help_to.ensures.part, (refl, refl, refl)))))
+
+pub returns-in-Err-Memory : goal.returns-in-Err-Memory
+returns-in-Err-Memory g c =
+    let words = map (λ (w : Bor (List ℕ)). w.now) c.args.words.now in
+    let source = c.args.source.now in
+    let old = g.W.Write.contents c.args.out.now in
+    ended_so c.ended-in-Err-Memory.result (Err Memory) c.ended-in-Err-Memory.ensures (g.E.Write.contents c.args.err.now)
+    (λ (end : End) (reports : Text) (note : Option Text). Does g.S.Source.gives g.S.Source.opens source source words old old end reports note)
+    (inr (inr (inr (refl, (refl, refl, refl)))))

@@ -1,0 +1,3 @@
+mod Simulations
+mod Coming
+mod Ending

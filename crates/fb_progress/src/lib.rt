@@ -1,0 +1,5 @@
+//! A run with workers that tells how far it is.
+#![tactic(auto)]
+
+pub mod output;
+pub mod run;

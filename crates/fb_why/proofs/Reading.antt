@@ -1,0 +1,50 @@
+-- From what holds of a library and a plan to what holds of the bytes that they were read from.
+use Rattle.std.proofs.Common.{◌≡◌, ℕ, inl, sym, subst, List, Option, Some, None, Result, Ok, Err}
+use Rattle.std.specs.Prelude.{IfOk, MatchOption}
+use Rattle.fb_types.specs.declared.deploy.Plan.{Plan}
+use Rattle.fb_types.specs.declared.deploy.Stimulus.{Stimulus}
+use Rattle.fb_types.specs.declared.library.Library.{Library}
+use Rattle.fb_read.specs.Whole.{IsLibraryText}
+use Rattle.fb_why.specs.Causes.{IsCause}
+use Rattle.fb_why.specs.Reasons.{AppliesAt, AppliesNowhere, AreStimuli, ExceedsAt, ExceedsNowhere, HasNoExcess, HasNoFlaw, IsPlan, IsSilent, IsSilentOf, Tells, TellsExcess, TellsFlaw, TellsOf}
+use Rattle.fb_why.specs.declared.cause.Cause.{Cause}
+use Rattle.fb_why.specs.declared.cause.Excess.{Excess}
+use Rattle.fb_why.specs.declared.cause.Flaw.{Flaw}
+use Rattle.fb_why.specs.declared.spot.Reason.{Reason}
+
+-- a declaration and a deployment
+pub flaw_told :
+    {E : Type 0} (flaw : Flaw) (text : List ℕ) (bytes : Option (List ℕ)) (library : Library) (plan : Plan) (made : Result (Option Reason) E) → IsLibraryText text library → IsPlan bytes plan
+    → IfOk made (λ o. MatchOption o (AppliesNowhere flaw library plan) (λ r. AppliesAt flaw library plan r.place))
+    → IfOk made (λ o. MatchOption o (HasNoFlaw flaw text bytes) (λ r. TellsFlaw flaw text bytes r.place))
+flaw_told flaw text bytes library plan (Err e) read planned holds = tt
+flaw_told flaw text bytes library plan (Ok None) read planned holds = inl (record { library = library; plan = plan; read = read; planned = planned; nowhere = holds })
+flaw_told flaw text bytes library plan (Ok (Some r)) read planned holds = record { library = library; plan = plan; read = read; planned = planned; applies = holds }
+
+-- and stimuli
+pub excess_told :
+    {E : Type 0} (excess : Excess) (text : List ℕ) (bytes given : Option (List ℕ)) (library : Library) (plan : Plan) (rows : List Stimulus) (made : Result (Option Reason) E)
+    → IsLibraryText text library → IsPlan bytes plan → AreStimuli given rows
+    → IfOk made (λ o. MatchOption o (ExceedsNowhere excess library plan rows) (λ r. ExceedsAt excess library rows r.place))
+    → IfOk made (λ o. MatchOption o (HasNoExcess excess text bytes given) (λ r. TellsExcess excess text bytes given r.place))
+excess_told excess text bytes given library plan rows (Err e) read planned fed holds = tt
+excess_told excess text bytes given library plan rows (Ok None) read planned fed holds =
+    inl (record { library = library; plan = plan; list = rows; read = read; planned = planned; listed = fed; nowhere = holds })
+excess_told excess text bytes given library plan rows (Ok (Some r)) read planned fed holds = record { library = library; list = rows; read = read; listed = fed; applies = holds }
+
+-- and by the number
+pub numbered :
+    {E : Type 0} (cause : Cause) (n : ℕ) (text : List ℕ) (bytes given : Option (List ℕ)) (made : Result (Option Reason) E) → IsCause n cause
+    → IfOk made (λ o. MatchOption o (IsSilentOf cause text bytes given) (λ r. TellsOf cause text bytes given r.place))
+    → IfOk made (λ o. MatchOption o (IsSilent text bytes given n) (λ r. Tells text bytes given n r.place))
+numbered cause n text bytes given (Err e) is holds = tt
+numbered cause n text bytes given (Ok None) is holds = (cause, is, holds)
+numbered cause n text bytes given (Ok (Some r)) is holds = (cause, is, holds)
+
+-- where it is known what is refused
+pub by_flaw :
+    {E : Type 0} (made : Result (Option Reason) E) (f g : Flaw) (library : Library) (plan : Plan) → f ≡ g
+    → IfOk made (λ o. MatchOption o (AppliesNowhere g library plan) (λ r. AppliesAt g library plan r.place))
+    → IfOk made (λ o. MatchOption o (AppliesNowhere f library plan) (λ r. AppliesAt f library plan r.place))
+by_flaw made f g library plan is holds =
+    subst (λ (x : Flaw). IfOk made (λ o. MatchOption o (AppliesNowhere x library plan) (λ r. AppliesAt x library plan r.place))) (sym is) holds

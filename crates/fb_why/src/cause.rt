@@ -1,0 +1,72 @@
+//! What a refusal is about, by its number.
+
+ghost use Rattle.fb_why.specs.Causes.{IsCause};
+
+/// What is refused of a declaration and a deployment that are read.
+#[derive(Clone, Copy)]
+pub enum Flaw {
+    /// Something is given twice (E20).
+    Twice,
+    /// A name stands for nothing (E21).
+    Unknown,
+    /// An expression, a statement or a value is of a wrong kind (E22).
+    Misfit,
+    /// A data connection leads to a type that does not hold all values (E23).
+    Misjoin,
+    /// Two data connections lead to one port (E24).
+    Joined,
+    /// Composite types lie too deep in one another, or in a ring (E25).
+    TooHigh,
+    /// An instance is not mapped to one resource (E26).
+    Unmapped,
+    /// A connection between two resources has no link (E27).
+    Unlinked,
+    /// A data connection between two resources goes with no event (E28).
+    Unserved,
+}
+
+/// What is refused of inputs once stimuli are there.
+#[derive(Clone, Copy)]
+pub enum Excess {
+    /// A stimulus does not fit its event input (E29).
+    Stimulus,
+    /// There are too many instances or stimuli (E30).
+    Limit,
+}
+
+/// What is refused.
+#[derive(Clone, Copy)]
+pub enum Cause {
+    /// The text of the declaration (E01 to E05).
+    Text,
+    /// The bytes of the deployment or of the stimuli (E10 to E16).
+    Bytes,
+    /// What the declaration and the deployment say together (E20 to E28).
+    Flaw(Flaw),
+    /// What they say with the stimuli (E29 and E30).
+    Excess(Excess),
+    /// What no place is told of.
+    Other,
+}
+
+/// What the refusal of this number is about.
+pub fn cause_of(number: u8) -> Cause
+    ensures { IsCause number result }
+{
+    match number {
+        1..=5 => Cause::Text,
+        10..=16 => Cause::Bytes,
+        20 => Cause::Flaw(Flaw::Twice),
+        21 => Cause::Flaw(Flaw::Unknown),
+        22 => Cause::Flaw(Flaw::Misfit),
+        23 => Cause::Flaw(Flaw::Misjoin),
+        24 => Cause::Flaw(Flaw::Joined),
+        25 => Cause::Flaw(Flaw::TooHigh),
+        26 => Cause::Flaw(Flaw::Unmapped),
+        27 => Cause::Flaw(Flaw::Unlinked),
+        28 => Cause::Flaw(Flaw::Unserved),
+        29 => Cause::Excess(Excess::Stimulus),
+        30 => Cause::Excess(Excess::Limit),
+        _ => Cause::Other,
+    }
+}

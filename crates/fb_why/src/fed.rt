@@ -1,0 +1,64 @@
+//! Where a refusal applies to inputs that are read, stimuli too.
+
+ghost use Rattle.std.specs.Prelude.{IfOk, MatchOption};
+ghost use Rattle.fb_why.specs.Reasons.{ExceedsAt, ExceedsNowhere};
+ghost use Rattle.fb_why.specs.declared.cause.Excess.TheVariants as excess;
+
+use crate::cause::Excess;
+use crate::spot::{Reason, Spot};
+use fb_types::deploy::{Plan, Stimulus};
+use fb_types::library::Library;
+use fb_why_stimuli::limit::limit_place;
+use fb_why_stimuli::stimulus::stimulus_place;
+use fb_why_stimuli::tell::{tell_limit, tell_stimulus};
+use std::alloc::{AllocError, Global};
+
+/// Where a stimulus does not fit its event input.
+fn stimulus_reason(
+    alloc: Global,
+    library: &Library,
+    plan: &Plan,
+    stimuli: &[Stimulus],
+) -> Result<Option<Reason>, AllocError>
+    ensures { IfOk result (λ o. MatchOption o (ExceedsNowhere excess.Stimulus library.now plan.now stimuli.now) (λ r. ExceedsAt excess.Stimulus library.now stimuli.now r.place)) }
+{
+    let Some(place) = stimulus_place(alloc, library, plan, stimuli)? else {
+        return Ok(None);
+    };
+    let text = tell_stimulus(alloc, library, stimuli, place)?;
+    let place = Spot::Stimulus(place);
+    Ok(Some(Reason { place, text }))
+}
+
+/// Which limit is passed.
+fn limit_reason(
+    alloc: Global,
+    library: &Library,
+    plan: &Plan,
+    stimuli: &[Stimulus],
+) -> Result<Option<Reason>, AllocError>
+    ensures { IfOk result (λ o. MatchOption o (ExceedsNowhere excess.Limit library.now plan.now stimuli.now) (λ r. ExceedsAt excess.Limit library.now stimuli.now r.place)) }
+{
+    let Some(limit) = limit_place(alloc, library, plan, stimuli)? else {
+        return Ok(None);
+    };
+    let text = tell_limit(alloc, limit)?;
+    let place = Spot::Limit(limit);
+    Ok(Some(Reason { place, text }))
+}
+
+/// Where the refusal applies to inputs.
+pub fn reason_with(
+    alloc: Global,
+    excess: Excess,
+    library: &Library,
+    plan: &Plan,
+    stimuli: &[Stimulus],
+) -> Result<Option<Reason>, AllocError>
+    ensures { IfOk result (λ o. MatchOption o (ExceedsNowhere excess library.now plan.now stimuli.now) (λ r. ExceedsAt excess library.now stimuli.now r.place)) }
+{
+    match excess {
+        Excess::Stimulus => stimulus_reason(alloc, library, plan, stimuli),
+        Excess::Limit => limit_reason(alloc, library, plan, stimuli),
+    }
+}

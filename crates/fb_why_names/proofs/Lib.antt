@@ -1,0 +1,10 @@
+mod Tables
+mod Listed
+mod Once
+mod Parted
+mod Linked
+mod Carried
+mod Served
+mod Marks
+mod Circles
+mod Applying

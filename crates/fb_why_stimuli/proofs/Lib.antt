@@ -1,0 +1,2 @@
+mod Verdicts
+mod Parts

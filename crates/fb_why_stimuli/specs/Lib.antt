@@ -1,0 +1,2 @@
+pub mod Stimuli
+pub mod Trials

@@ -1,0 +1,45 @@
+-- The networks, block types and variables of a declaration by their places (IEC 61499-1, 5.1 to 5.3).
+use Rattle.std.specs.Prelude.{◌≡◌, ℕ, List, Bool, true, Option, Some, None, slice_get, option_and_then}
+use Rattle.fb_types.specs.Blocks.{ports_of}
+use Rattle.fb_types.specs.Flat.{kind_of}
+use Rattle.fb_types.specs.Repeated.{Placed, internals_of}
+use Rattle.fb_types.specs.declared.library.BasicType.{BasicType}
+use Rattle.fb_types.specs.declared.library.BlockType.{BlockType}
+use Rattle.fb_types.specs.declared.library.BlockType.TheVariants as block
+use Rattle.fb_types.specs.declared.library.Library.{Library}
+use Rattle.fb_types.specs.declared.library.Network.{Network}
+use Rattle.fb_types.specs.declared.library.Variable.{Variable}
+use Rattle.fb_why_values.specs.declared.place.Site.{Site}
+use Rattle.fb_why_values.specs.declared.place.Site.TheVariants.{Application, Inside}
+use Rattle.fb_why_values.specs.declared.place.Variables.{Variables}
+use Rattle.fb_why_values.specs.declared.place.Variables.TheVariants.{Inputs, Outputs, Internals}
+
+abbrev pub network_inside : BlockType → Option Placed
+network_inside (block.Basic t) = None
+network_inside (block.Composite t) = Some (Some t, t.network)
+
+abbrev pub network_at : Library → Site → Option Placed
+network_at lib Application = Some (None, lib.application.network)
+network_at lib (Inside k) = option_and_then network_inside (slice_get lib.blocks k)
+
+-- whether the network inside a block type passes a test
+abbrev pub each_inside : (Placed → Bool) → BlockType → Bool
+each_inside test (block.Basic t) = true
+each_inside test (block.Composite t) = test (Some t, t.network)
+
+-- the network stands there, inside of a composite type or not
+abbrev pub IsNetworkAt : Library → Site → Network → Type 0
+IsNetworkAt lib s net = (n : Placed) × (network_at lib s ≡ Some n) × (n.1 ≡ net)
+
+abbrev pub basic_inside : BlockType → Option BasicType
+basic_inside (block.Basic t) = Some t
+basic_inside (block.Composite t) = None
+
+abbrev pub basic_at : Library → ℕ → Option BasicType
+basic_at lib b = option_and_then basic_inside (slice_get lib.blocks b)
+
+-- one list of the variables of a block type
+abbrev pub variables_at : Variables → BlockType → List Variable
+variables_at Inputs t = (ports_of (kind_of t)).inputs
+variables_at Outputs t = (ports_of (kind_of t)).outputs
+variables_at Internals t = internals_of (kind_of t)

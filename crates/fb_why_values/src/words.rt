@@ -1,0 +1,82 @@
+//! Texts that are put together of words, names and numbers.
+
+use fb_types::library::PortName;
+use fb_types::name::Name;
+use fb_types::value::{Ty, Value};
+use std::alloc::{AllocError, Global};
+
+/// A text that grows.
+#[derive(Drop)]
+pub struct Text {
+    all: String,
+}
+
+impl Text {
+    pub fn new(alloc: Global) -> Text {
+        Text {
+            all: String::new(alloc),
+        }
+    }
+
+    pub fn into_string(self) -> String {
+        let Text { all } = self;
+        all
+    }
+
+    pub fn words(&mut self, words: &str) -> Result<(), AllocError> {
+        self.all.push_str(words)
+    }
+
+    pub fn name(&mut self, name: &Name) -> Result<(), AllocError> {
+        for byte in name.as_bytes() {
+            self.all.push(char::from(*byte))?;
+        }
+        Ok(())
+    }
+
+    /// Words, and a name behind them.
+    pub fn named(&mut self, words: &str, name: &Name) -> Result<(), AllocError> {
+        self.words(words)?;
+        self.name(name)
+    }
+
+    /// Words, and a number behind them.
+    pub fn numbered(&mut self, words: &str, number: i128) -> Result<(), AllocError> {
+        self.words(words)?;
+        write!(self.all, "{number}")
+    }
+
+    /// A value, a time as its ticks.
+    pub fn value(&mut self, value: Value) -> Result<(), AllocError> {
+        match value {
+            Value::Bool(true) => self.words("TRUE"),
+            Value::Bool(false) => self.words("FALSE"),
+            Value::Whole(number) => self.numbered("", number),
+        }
+    }
+
+    /// The name of a port, behind that of its instance where it has one.
+    pub fn port(&mut self, port: &PortName) -> Result<(), AllocError> {
+        if let Some(component) = &port.component {
+            self.name(component)?;
+            self.words(".")?;
+        }
+        self.name(&port.port)
+    }
+}
+
+/// The name of a type.
+pub fn type_words(ty: Ty) -> &'static str {
+    match ty {
+        Ty::Sint => "SINT",
+        Ty::Int => "INT",
+        Ty::Dint => "DINT",
+        Ty::Lint => "LINT",
+        Ty::Usint => "USINT",
+        Ty::Uint => "UINT",
+        Ty::Udint => "UDINT",
+        Ty::Ulint => "ULINT",
+        Ty::Time => "TIME",
+        Ty::Bool => "BOOL",
+    }
+}
