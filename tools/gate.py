@@ -14,14 +14,15 @@ it tells the processor seconds of each crate. The last line is 'N passed, M fail
 With crates it does the same for these and those below them alone, on a copy of their files.
 --jobs N uses N processors, and not all.
 
-It runs the kit's own `rt ci`, so it proves and judges as that does, and as with that what passed is kept on this machine by the
-checksums of all that it stands on: a later run here, in a clone too, proves and tries only what changed and what stands on
-that. Only how wrong bodies are tried is another way: all of a crate stand in one check, each in a function of its own. See
-tools/wrong_bodies.py."""
+It runs the kit's own `rt ci`, so it proves and judges as that does. Some kits keep on the machine what passed, by the checksums of
+all that it stands on: with such a one a later run here, in a clone too, proves and tries only what changed and what stands
+on that. With others each run is from nothing. Only how wrong bodies are tried is another way: all of a crate stand in one check, each
+in a function of its own. See tools/wrong_bodies.py."""
 
 import os
 import re
 import resource
+import shutil
 import subprocess
 import sys
 import tempfile
@@ -39,7 +40,7 @@ import rings
 import traces
 import waves
 from kit import TOP, rt, rtlib
-from wrong_bodies import add_edits
+from wrong_bodies import add_edits, try_all
 
 # Runs a command and adds to a file how much processor time it took, as a line 'seconds', folder, and the command's words.
 MEASURE = """
@@ -76,15 +77,20 @@ class Crate(rt.Crate):
         return bool(TESTS_ALONE.fullmatch(rtlib.text_of(f"{self.folder}/src/lib.rt") or ""))
 
 
-class Kept(rt.Kept):
-    """What runs on this machine passed. Of a crate that is nothing but tests there is nothing to keep but these."""
+rt.Crate = Crate
+# Whether the kit keeps what passed.
+KEEPS = hasattr(rt, "Kept")
 
-    def keep(self, crate, tests, key):
-        if tests or not crate.has_tests_alone():
-            super().keep(crate, tests, key)
+if KEEPS:
 
+    class Kept(rt.Kept):
+        """What runs on this machine passed. Of a crate that is nothing but tests there is nothing to keep but these."""
 
-rt.Crate, rt.Kept = Crate, Kept
+        def keep(self, crate, tests, key):
+            if tests or not crate.has_tests_alone():
+                super().keep(crate, tests, key)
+
+    rt.Kept = Kept
 
 
 class Times:
@@ -197,6 +203,34 @@ def tell_before_the_last_line(times, look):
     return lambda: any(failed)
 
 
+def copy_of(names, room):
+    """Makes a copy of these crates and those below them in a folder, and returns it."""
+    crates = rtlib.crates_below(TOP)
+    lacking = sorted({*names} - {it.name for it in crates})
+    if lacking:
+        rtlib.stop(f"crates.txt names no {', '.join(lacking)}")
+    wanted = {*names} | {below.name for it in crates if it.name in names for below in it.below()}
+    top = f"{room}/copy"
+    for it in wanted:
+        shutil.copytree(f"{TOP}/crates/{it}", f"{top}/crates/{it}", ignore=shutil.ignore_patterns("out"))
+    shutil.copy(f"{TOP}/HANDLES", top)
+    with open(f"{TOP}/crates.txt", encoding="utf-8") as lines, open(f"{top}/crates.txt", "w", encoding="utf-8") as it:
+        it.writelines(line for line in lines if re.split(r"[\s:]", line)[0] in wanted)
+    return top
+
+
+def ci(names, room):
+    """Runs the kit's `rt ci` with the one task for all wrong bodies of a crate, and returns its status. A kit that keeps nothing takes no
+    names, so that it gets a copy of these crates."""
+    if KEEPS:
+        rt.add_edits = add_edits
+        return rt.ci(False, names)
+    rt.must_fail_all = try_all
+    if names:
+        os.chdir(copy_of(names, room))
+    return rt.ci()
+
+
 def main(words):
     if words[:1] in (["-h"], ["--help"]):
         print(__doc__)
@@ -215,8 +249,8 @@ def main(words):
         look = Beside("tools/wrong_bodies_test.py")
         call_after_each_run()
         has_failed = tell_before_the_last_line(Times(room), look)
-        rt.add_edits = add_edits
-        status = rt.ci(False, words)
+        status = ci(words, room)
+        os.chdir(TOP)
         return status or int(has_failed())
 
 

@@ -35,6 +35,8 @@ SAID = re.compile(
 NAMES_WHAT_IS_GONE = re.compile(r"has no field|is not in scope|has no `|was not admitted")
 # What it says of an answer whose goal has another name now. It may be for want of this answer that a goal of its kind is not proved.
 LOST_ITS_GOAL = re.compile(r"\.Goals` has no `")
+# What the kit answers of an edit. (One that keeps nothing between runs only says whether it is refused.)
+REFUSED, MISSED, BAD = (getattr(rt, name, name == "REFUSED") for name in ("REFUSED", "MISSED", "BAD"))
 
 
 class Edit:
@@ -240,8 +242,8 @@ def try_alone(crate, edit, flags):
     """Tries an edit as the kit does. Where it is refused by names alone that it took away, no contract was tried; and one that
     cannot be applied or read shows nothing."""
     kind, text = rt.must_fail(crate, edit.file, flags)[:2]
-    shows_nothing = kind == rt.BAD or "this says little of the contract" in text
-    return rt.MISSED if shows_nothing else kind, text
+    shows_nothing = kind == BAD or "this says little of the contract" in text
+    return MISSED if shows_nothing else kind, text
 
 
 def try_all(crate, files, flags):
@@ -252,7 +254,7 @@ def try_all(crate, files, flags):
     while left:
         found, left = try_together(crate, sources, left)
         refused.update(found)
-    said = {it: (rt.REFUSED, f"{it.label}: refused, as it must be: {line[:160]}") for it, line in refused.items()}
+    said = {it: (REFUSED, f"{it.label}: refused, as it must be: {line[:160]}") for it, line in refused.items()}
     return [said.get(it) or try_alone(crate, it, flags) for it in edits]
 
 

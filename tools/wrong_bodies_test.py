@@ -11,7 +11,7 @@ import tempfile
 
 from functions import Function
 from kit import rt, rtlib
-from wrong_bodies import refusal, try_all
+from wrong_bodies import REFUSED, refusal, try_all
 
 SOURCE = """//! Numbers, for a test of wrong bodies.
 #![tactic(auto)]
@@ -91,7 +91,7 @@ def test_on_a_crate():
         crate = next(it for it in rtlib.crates_below(top) if it.name == "sample")
         told = try_all(crate, files, ["--jobs", "1"])
     expected = [(words == "refused, as it must be", words) for *_, words in EDITS.values()]
-    return [text for (kind, text), (wanted, words) in zip(told, expected) if (kind == rt.REFUSED) != wanted or words not in text]
+    return [text for (kind, text), (wanted, words) in zip(told, expected) if (kind == REFUSED) != wanted or words not in text]
 
 
 def in_cycle(name, span):
@@ -101,16 +101,16 @@ def in_cycle(name, span):
 
 
 # (the sentences are the prover's)
-REFUSED = "fn machine::exec::{}: no proof: expected answers in ./proofs/exec/+exec/Answers.antt; `search` did not prove `run-returns`"
+NOT_PROVED = "fn machine::exec::{}: no proof: expected answers in ./proofs/exec/+exec/Answers.antt; `search` did not prove `run-returns`"
 LOST = [
     "fn machine::exec::exec: not proved",
     "./proofs/exec/exec/Answers.antt:5:3: error: `returns-clause-run`: `goal.returns-clause-run`: module `Rattle.machine.proofs.exec.exec.Goals` has no `returns-clause-run` that can be named",
 ]
 CASES = [
     # A goal of run is that function's alone, whichever function of the cycle is told as not proved.
-    ("run", [REFUSED.format("run")], True),
-    ("turn", [REFUSED.format("turn")], False),
-    ("run", [REFUSED.format("turn")], False),
+    ("run", [NOT_PROVED.format("run")], True),
+    ("turn", [NOT_PROVED.format("turn")], False),
+    ("run", [NOT_PROVED.format("turn")], False),
     # The same where its written answer fails.
     ("run", ["fn machine::exec::run: not proved", "./proofs/exec/+exec/Answers.antt:5:3: error: `run-returns`: expected type `A`"], True),
     ("turn", ["fn machine::exec::turn: not proved", "./proofs/exec/+exec/Answers.antt:5:3: error: `run-returns`: expected type `A`"], False),
@@ -121,7 +121,7 @@ CASES = [
     # A name that is gone does not count, nor a warning, nor what is not proved for want of invariants.
     ("run", ["fn machine::exec::run: not proved", "./proofs/exec/+exec/Answers.antt:5:3: error: `run-returns`: `x` is not in scope"], False),
     ("run", ["fn machine::exec::run: not proved", "note: src/exec.rt:12:1: this `use` brings nothing"], False),
-    ("run", [REFUSED.format("run"), "./proofs/exec/+exec/Invariants.antt:5:3: error: `turn-loop`: record has no field `x`"], False),
+    ("run", [NOT_PROVED.format("run"), "./proofs/exec/+exec/Invariants.antt:5:3: error: `turn-loop`: record has no field `x`"], False),
     # A goal that has another name now may lack its answer alone. One of another kind counts, and an answer that fails under its old name.
     ("exec", [*LOST, "note: src/exec.rt:4:1: it is not proved that `a` holds (`returns-then-clause-run`)"], False),
     ("exec", [*LOST, "note: src/exec.rt:4:1: it is not proved that `a` holds (`returns-then-clause-fewer`)"], True),
