@@ -1,7 +1,7 @@
 #!/usr/bin/env python3
 """./gate [--jobs N] [CRATE..]: the test command and merge gate of this repository.
 
-Without a crate it is the whole gate: the examples are those of the tests, docs/FORMATS.md shows the explanations of the
+Without a crate it is the whole gate: each example's page explains its trace, docs/FORMATS.md shows the explanations of the
 refusals, what the documents name is there (tools/documents.py), and what tries stored cases and wrong bodies tells right ones
 from wrong ones (tools/cases_test.py, tools/wrong_bodies_test.py); then, from nothing, every crate and its tests are
 proved, every wrong body in crates/*/must-fail is shown to be refused, tests and programs are run, and the program is

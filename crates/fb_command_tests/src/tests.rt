@@ -1,6 +1,6 @@
-//! Calls of the program over files and outputs in memory. What is expected was worked out by hand.
+//! Calls of the program over files and outputs in memory. What is expected was worked out by hand. (What the built program shows of
+//! traces and refusals stands in the folder `cases`, and its runs of the examples in `tools/calls.py`.)
 
-mod examples;
 mod explanations;
 mod files;
 mod lines;
@@ -10,7 +10,6 @@ mod progress;
 mod readers;
 mod refusals;
 mod runs;
-mod systems;
 mod waves;
 
 use fb_command::command::command;

@@ -5,45 +5,15 @@ use fb_command::command::command;
 use std::test::Fail;
 
 /// Texts, and the line that each is refused by.
-const REFUSED: [(&[u8], &[u8]); 13] = [
+const REFUSED: [(&[u8], &[u8]); 6] = [
     (b"APPLICATION A ! FBS", b"refused E02\n"),
     (b"APPLICATION \xc3\xa9", b"refused E01\n"),
     (b"", b"refused E03 line 1\n"),
     (b"APPLICATION A\nFBS", b"refused E03 line 2\n"),
     (b"APPLICATION A\nFBS END_FBS\n", b"refused E03 line 3\n"),
-    // Types that no instance uses are checked too.
-    (
-        b"FUNCTION_BLOCK F FBS X : F; END_FBS END_FUNCTION_BLOCK APPLICATION A FBS END_FBS END_APPLICATION",
-        b"refused E25\n",
-    ),
-    (
-        b"APPLICATION A FBS F : E_SR; K : E_CTU; END_FBS DATA_CONNECTIONS F.Q TO K.PV; END_CONNECTIONS END_APPLICATION",
-        b"refused E23\n",
-    ),
-    (
-        b"APPLICATION A FBS Ab : E_MERGE; AB : E_MERGE; END_FBS END_APPLICATION",
-        b"refused E20\n",
-    ),
-    (
-        b"APPLICATION A FBS D : E_DELAY(DT := 1, DT := 2); END_FBS END_APPLICATION",
-        b"refused E20\n",
-    ),
     (
         b"APPLICATION A FBS X : E_NONE; END_FBS END_APPLICATION",
         b"refused E21\n",
-    ),
-    (
-        b"APPLICATION A FBS M : E_MERGE; END_FBS EVENT_CONNECTIONS M.EO TO N.EI1; END_CONNECTIONS END_APPLICATION",
-        b"refused E21\n",
-    ),
-    (
-        b"APPLICATION A FBS D : E_DELAY(DT := TRUE); END_FBS END_APPLICATION",
-        b"refused E22\n",
-    ),
-    // E20 is told before E21.
-    (
-        b"APPLICATION A FBS X : E_NONE; X : E_MERGE; END_FBS END_APPLICATION",
-        b"refused E20\n",
     ),
 ];
 
