@@ -1,5 +1,5 @@
 -- The events of an agenda: local ones and all others.
-use Rattle.std.proofs.Common.{◌≡◌, ◌≢◌, Bool, true, false, cond, ◌<◌, List, [], ◌∷◌, ◌++◌, length, get_or, arith, refl, sym, ap, subst, ◌∙◌, Option, Some, None, Result, Ok, Err}
+use Rattle.std.proofs.Common.{◌≡◌, ◌≢◌, Bool, true, false, cond, ◌<◌, ◌≤◌, zero, suc, min, List, [], ◌∷◌, ◌++◌, length, get_or, arith, refl, sym, ap, subst, ◌∙◌, Option, Some, None, Result, Ok, Err}
 use Rattle.std.specs.BTreeMap.{insert_entry}
 use Rattle.std.specs.Prelude.{IsSome, IfSome, IfNone, OnOk, OnErr, is_some, option_to_list, ℕ}
 use Rattle.std.specs.List.Sorted.{IsStrictlySortedBy}
@@ -11,10 +11,10 @@ use Rattle.std.specs.declared.cmp.Ordering.{Ordering}
 use Rattle.std.specs.declared.cmp.Ordering.TheVariants.{Less, Equal, Greater}
 use Rattle.fb_types.specs.Keys.{Precedes, key_cmp, or_else, same_key}
 use Rattle.fb_types.specs.declared.key.Key.{Key}
-use Rattle.fb_types.proofs.KeyLaws.{key_cmp_total, same_key_is, same_key_from, same_key_itself}
-use Rattle.fb_agenda.specs.Agendas.{Contents, waiting, AreRising, AreApart, IsFirst, IsLeast}
+use Rattle.fb_types.proofs.KeyLaws.{earlier_precedes, key_cmp_total, same_key_is, same_key_from, same_key_itself}
+use Rattle.fb_agenda.specs.Agendas.{Contents, waiting, AreRising, AreApart, IsFirst, IsFirstTick, IsLeast, IsNext}
 use Rattle.fb_agenda.specs.declared.agenda.Event.{Event}
-use Rattle.fb_agenda.proofs.Orders.{not_none, absent, all_later, found_after, rise_after, not_after, precedes, without_first}
+use Rattle.fb_agenda.proofs.Orders.{less_from, not_none, absent, all_later, found_after, rise_after, not_after, precedes, without_first}
 
 -- new has w at the key, and at each other key what old has
 abbrev pub Sets : (k : Key) (w : Option Event) (old new : List (Key × Event)) → Type 0
@@ -144,6 +144,51 @@ before_both j k l before not_less = go (key_cmp l k) refl
 
 pub least_not_later : (c : Contents) (k l : Key) → IsFirst c.local k → IsFirst c.later l → is_lt (key_cmp l k) ≡ false → IsLeast c k
 least_not_later c k l local later not_less = least_is_local c k local (λ j before. later.none_before j (before_both j k l before not_less))
+
+-- ---- The tick of the least
+
+not_below : (j k : ℕ) → (j < k → ⊥) → k ≤ j
+not_below j zero h = omega arith
+not_below zero (suc k) h = absurd (h (omega arith))
+not_below (suc j) (suc k) h = let rest = not_below j k (λ less. h (omega arith)) in omega arith
+
+next_least : (c : Contents) (k : Key) → IsLeast c k → IsNext c k.tick
+next_least c k least = record {
+  waits = (k, refl, least.waits);
+  none_below = λ j there. not_below j.tick k.tick (λ less. not_none (waiting c j) there (least.none_before j (earlier_precedes j k less)));
+}
+
+-- where no local event waits
+pub next_of_later : (c : Contents) (o : Option ℕ) → c.local ≡ [] → IfSome o (IsFirstTick c.later) → IfSome o (IsNext c)
+next_of_later c None none first = tt
+next_of_later c (Some t) none first = subst (IsNext c) first.1 (next_least c first.0 (least_of_later c (Some first.0) none first.2))
+
+-- where local events alone wait
+pub next_of_local : (c : Contents) (t : ℕ) → c.later ≡ [] → IsFirstTick c.local t → IsNext c t
+next_of_local c t none first =
+    subst (IsNext c) first.1 (next_least c first.0 (least_is_local c first.0 first.2 (λ j before. ap (λ es. lookup (same_key j) es) none)))
+
+-- where both wait
+pub next_of_both : (c : Contents) (t u : ℕ) → IsFirstTick c.local t → IsFirstTick c.later u → IsNext c (min t u)
+next_of_both c t u local later = go (is_lt (key_cmp later.0 local.0)) refl
+  where
+    k : Key
+    k = local.0
+
+    l : Key
+    l = later.0
+
+    go : (b : Bool) → is_lt (key_cmp l k) ≡ b → IsNext c (min t u)
+    go true e =
+        let next = next_least c l (least_is_later c l k local.2 later.2 (less_from (key_cmp l k) e)) in
+        let le : l.tick ≤ k.tick = next.none_below k (first_some (lookup (same_key k) c.local) (lookup (same_key k) c.later) local.2.there) in
+        let same : l.tick ≡ min t u = omega (arith, local.1, later.1, le) in
+        subst (IsNext c) same next
+    go false e =
+        let next = next_least c k (least_not_later c k l local.2 later.2 e) in
+        let le : k.tick ≤ l.tick = next.none_below l (either_some (lookup (same_key l) c.local) (lookup (same_key l) c.later) later.2.there) in
+        let same : k.tick ≡ min t u = omega (arith, local.1, later.1, le) in
+        subst (IsNext c) same next
 
 -- ---- Taking the first local event
 

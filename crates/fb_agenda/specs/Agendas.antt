@@ -35,6 +35,10 @@ pub record IsFirst (es : List (Key × Event)) (k : Key) : Type 0 where
   pub there : IsSome (lookup (same_key k) es)
   pub none_before : (j : Key) → Precedes j k → lookup (same_key j) es ≡ None
 
+-- It is the tick of the first key.
+abbrev pub IsFirstTick : List (Key × Event) → ℕ → Type 0
+IsFirstTick es t = (k : Key) × (k.tick ≡ t) × IsFirst es k
+
 -- An event waits under the key, and none under a key before it.
 pub record IsLeast (c : Contents) (k : Key) : Type 0 where
   pub waits : IsSome (waiting c k)

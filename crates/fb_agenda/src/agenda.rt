@@ -3,7 +3,7 @@
 ghost use Rattle.std.specs.Prelude.{◌≡◌, ◌<◌, if◌then◌else◌, [], length, Some, None, IfSome, IfNone, IfOk, IfErr, OnOk, OnErr, slice_set};
 ghost use Rattle.fb_types.specs.Keys.{Precedes, changed_to, found, or_else, same_key, timer_key};
 ghost use Rattle.fb_types.specs.Takes.{is_timer_of};
-ghost use Rattle.fb_agenda.specs.Agendas.{waiting, IsFirst, IsLeast, IsNext, IsTimed, LiesIn, timer_set};
+ghost use Rattle.fb_agenda.specs.Agendas.{waiting, IsFirst, IsFirstTick, IsLeast, IsNext, IsTimed, LiesIn, timer_set};
 ghost use Rattle.fb_agenda.specs.Arrivals.{AreNew, arrivals_at};
 ghost use Rattle.fb_agenda.specs.declared.agenda.Event.TheVariants.{Timer};
 
@@ -77,6 +77,15 @@ fn first_of(events: &BTreeMap<Key, Event>) -> Option<Key>
 {
     let (key, _) = events.first_key_value()?;
     Some(*key)
+}
+
+/// The tick of the first key of a map.
+fn first_tick(events: &BTreeMap<Key, Event>) -> Option<u64>
+    ensures some { IfSome result (IsFirstTick events.now.entries) }
+    ensures none { IfNone result (events.now.entries ≡ []) }
+{
+    let (first, _) = events.first_key_value()?;
+    Some(first.tick)
 }
 
 impl Agenda {
@@ -165,8 +174,14 @@ impl Agenda {
         ensures some { IfSome result (IsNext self.now) }
         ensures none { IfNone result ((j : Key) → waiting self.now j ≡ None) }
     {
-        let key = self.least_key()?;
-        Some(key.tick)
+        // The lesser tick is that of the least key, whatever the rest of the keys is.
+        let Some(local) = rising::first_tick(&self.local) else {
+            return first_tick(&self.later);
+        };
+        let Some(later) = first_tick(&self.later) else {
+            return Some(local);
+        };
+        Some(local.min(later))
     }
 
     fn least_key(&self) -> Option<Key>

@@ -1,5 +1,5 @@
 -- Changes of one instance, and held copies, one after another.
-use Rattle.std.proofs.Common.{◌≡◌, ℕ, ◌+◌, ◌<◌, Bool, true, false, cond, List, [], ◌∷◌, ◌++◌, length, get_or, map, take, Bor, refl, sym, ◌∙◌, ap, subst}
+use Rattle.std.proofs.Common.{◌≡◌, ℕ, ◌+◌, ◌<◌, Bool, true, false, cond, List, [], ◌∷◌, ◌++◌, length, get_or, map, take, Bor, refl, sym, ◌∙◌, ap, subst, arith}
 use Rattle.std.specs.List.{zip}
 use Rattle.std.proofs.Math.Path.{fun_ext}
 use Rattle.std.proofs.lemmas.List.{take_more, map-append}
@@ -131,6 +131,15 @@ bounds-lent vs (y ∷ ys) = ap (λ (bs : List Bound). bound_at vs (lent y) ∷ b
 pub one_by_one-sampled : (bs : List Bound) (b : model.Block) → one_by_one variable_sampled bs b ≡ record b { variables = with_values bs b.variables }
 one_by_one-sampled [] b = refl
 one_by_one-sampled (x ∷ xs) b = one_by_one-sampled xs (variable_sampled x b)
+
+nothing_sampled : (names : List Name) (b : model.Block) → all_sampled names [] b ≡ b
+nothing_sampled [] b = refl
+nothing_sampled (n ∷ ns) b = refl
+
+-- no values: nothing has changed
+pub samples_none : (i : Inputs) (a : Forest) (k : ℕ) (names : List Name) (values : List Value) → length values ≡ 0 → Changes i a k (all_sampled names values) a
+samples_none i a k names [] none = changes_as (all_sampled names []) (changes_none i a k) (λ m. sym (nothing_sampled names m))
+samples_none i a k names (v ∷ vs) none = absurd (omega arith)
 
 -- one more value, with its place
 pub samples_push : {i : Inputs} {a b c : Forest} {k : ℕ} (vs : List Variable) (ys : List (Bor ℕ × Bor Value)) (y : Bor ℕ × Bor Value)

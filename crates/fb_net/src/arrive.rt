@@ -112,7 +112,7 @@ fn enter(
     ensures whole { (w : World) → IsForest system.now forest.old w → (v : World) × IsForest system.now forest.new v }
 {
     take_samples(forest, outbox, system, key, at)?;
-    send_out(&mut outbox.outs, forest, system, at, &[])
+    send_out(&mut outbox.outs, forest, system, at, &[], &[])
 }
 
 /// An event from inside arrives at an event output of a composite, which shows the outputs WITH the event and emits it.

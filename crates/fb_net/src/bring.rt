@@ -25,6 +25,10 @@ pub fn keep_samples(forest: &mut Forest, system: &System, at: Target, values: &[
     requires values { length values.now ≡ length (names_in (system_of system.now) at) }
     ensures { Changes system.now forest.old at.instance (all_sampled (names_in (system_of system.now) at) values.now) forest.new }
 {
+    // An event without variables WITH it has nothing to be looked up.
+    if values.is_empty() {
+        return;
+    }
     let places = system.inputs_with(at.instance, at.event);
     for (place, value) in places.iter().zip(values) {
         let input = Place {

@@ -23,18 +23,20 @@ use fb_types::value::Value;
 use std::alloc::{AllocError, Global};
 
 /// What an event puts out that goes to a target: a local event where the target lies in the same resource, else a
-/// message with the values.
+/// message with the values of data outputs of the instance, which are put together for it alone.
 fn out_to(
     alloc: Global,
     forest: &Forest,
     system: &System,
     target: Target,
-    carried: &[Carried],
+    instance: u32,
+    places: &[u32],
+    values: &[Value],
 ) -> Result<Out, AllocError>
     requires resource { forest.now.resource < length (system_of system.now).resource_names }
     requires target { IsTarget (system_of system.now) target }
-    requires carried { All (IsCarried (system_of system.now)) carried.now }
-    ensures { IfOk result (GoesTo (system_of system.now) forest.now.resource (map (carried_of (system_of system.now)) carried.now) (port_of (system_of system.now) target)) }
+    requires carried { All (IsCarried (system_of system.now)) (carried_by instance places.now values.now) }
+    ensures { IfOk result (GoesTo (system_of system.now) forest.now.resource (map (carried_of (system_of system.now)) (carried_by instance places.now values.now)) (port_of (system_of system.now) target)) }
 {
     let there = system.resource(target.instance);
     if there == forest.resource {
@@ -43,35 +45,37 @@ fn out_to(
     // There are at most 1,024 links, so that the number of one fits.
     system.facts();
     let link = system.link(forest.resource, there) as u32;
-    let values = Items::from_slice(alloc, carried)?;
+    let carried = carried_values(alloc, instance, places, values)?;
     Ok(Out::Send(Sending {
         link,
         target,
-        values,
+        values: Items::from_vec(carried),
     }))
 }
 
-/// Sends an event from a port to where its connections lead, in their order, with the values that messages carry. Each
-/// target costs one lookup, and a message memory for its values. The error is that memory runs out.
+/// Sends an event from a port to where its connections lead, in their order, with the values of data outputs of its
+/// instance, each at its place. Each target costs one lookup, and a message memory for its values. The error is that
+/// memory runs out.
 pub fn send_out(
     outs: &mut Vec<Out>,
     forest: &Forest,
     system: &System,
     from: Target,
-    carried: &[Carried],
+    places: &[u32],
+    values: &[Value],
 ) -> Result<(), AllocError>
     requires resource { forest.now.resource < length (system_of system.now).resource_names }
     requires port { IsPort (system_of system.now) from }
-    requires carried { All (IsCarried (system_of system.now)) carried.now }
+    requires carried { All (IsCarried (system_of system.now)) (carried_by from.instance places.now values.now) }
     requires outs { All (IsOut (system_of system.now) forest.now.resource) outs.old.items }
     ensures sent { OnOk result (map (out_of (system_of system.now)) outs.new.items ≡ map (out_of (system_of system.now)) outs.old.items
-        ++ spread (system_of system.now) forest.now.resource (map (carried_of (system_of system.now)) carried.now) ((system_of system.now).targets (port_of (system_of system.now) from))) }
+        ++ spread (system_of system.now) forest.now.resource (map (carried_of (system_of system.now)) (carried_by from.instance places.now values.now)) ((system_of system.now).targets (port_of (system_of system.now) from))) }
     ensures outs { OnOk result (All (IsOut (system_of system.now) forest.now.resource) outs.new.items) }
 {
     let alloc = *outs.allocator();
     let mut place = 0;
     while let Some(target) = system.target(from, place) {
-        let out = out_to(alloc, forest, system, target, carried)?;
+        let out = out_to(alloc, forest, system, target, from.instance, places, values)?;
         outs.push(out)?;
         place += 1;
     }
@@ -171,14 +175,19 @@ fn emit_one(
     let Emission { event, values } = emission;
     let places = system.outputs_with(instance, event);
     publish_all(forest, system, instance, places, values.as_slice());
-    let alloc = *outbox.outs.allocator();
-    let carried = carried_values(alloc, instance, places, values.as_slice())?;
     let from = Target {
         instance,
         event,
         is_output: true,
     };
-    send_out(&mut outbox.outs, forest, system, from, carried.as_slice())?;
+    send_out(
+        &mut outbox.outs,
+        forest,
+        system,
+        from,
+        places,
+        values.as_slice(),
+    )?;
     outbox.lines.push(Line {
         key: *key,
         taken: false,

@@ -1,0 +1,18 @@
+use Rattle.std.proofs.Common.{refl, ap}
+use Rattle.std.specs.Prelude.{is_some}
+use Rattle.fb_types.specs.Keys.{key_cmp}
+use Rattle.fb_types.proofs.KeyLaws.{before_least}
+use Rattle.std.specs.BTreeMap as tree
+use Rattle.fb_agenda.proofs.agenda.first_tick.Goals as goal
+
+pub returns-clause-some : goal.returns-clause-some
+returns-clause-some c =
+    let facts = c.in_ok-first.ensures in
+    let key = c.in_ok-first.first.now in (
+      key,
+      refl,
+      record {
+        there = ap is_some facts.value;
+        none_before = λ j before. before_least (λ q. tree.get key_cmp c.args.events.now q) key facts.least j before;
+      },
+    )
