@@ -9,7 +9,7 @@ called at least once for each status (tools/calls.py), as docs/FIRST_APPLICATION
 for the waveforms of the examples, which are compared with their traces (tools/waves.py), and of what is no trace
 (tools/traces.py), on the stored cases of cases/ (tools/cases.py) and on rings of resources (tools/rings.py), on texts that
 are cut or changed in one byte (tools/hostile.py), and with each of its requests for memory refused (tools/refuse.py). Then
-it tells the processor seconds of each crate. The last line is 'N passed, M failed', and the status 0 where none failed.
+it tells the processor seconds and the memory of each crate. The last line is 'N passed, M failed', and the status 0 where none failed.
 
 With crates it does the same for these and those below them alone, on a copy of their files.
 --jobs N uses N processors, and not all.
@@ -42,7 +42,7 @@ import waves
 from kit import TOP, rt, rtlib
 from wrong_bodies import add_edits, try_all
 
-# Runs a command and adds to a file how much processor time it took, as a line 'seconds', folder, and the command's words.
+# Runs a command and adds to a file how much processor time and memory it took, as a line 'seconds', 'MB', folder, and the command's words.
 MEASURE = """
 import os, signal, sys
 log, *words = sys.argv[1:]
@@ -51,7 +51,7 @@ if not child:
     os.execvp(words[0], words)
 _, status, used = os.wait4(child, 0)
 with open(log, "a") as it:
-    it.write("\\t".join([str(used.ru_utime + used.ru_stime), os.getcwd(), *words]).replace("\\n", " ") + "\\n")
+    it.write("\\t".join([str(used.ru_utime + used.ru_stime), str(used.ru_maxrss // 1000), os.getcwd(), *words]).replace("\\n", " ") + "\\n")
 if os.WIFSIGNALED(status):
     signal.signal(os.WTERMSIG(status), signal.SIG_DFL)
     os.kill(os.getpid(), os.WTERMSIG(status))
@@ -111,29 +111,30 @@ class Times:
         return is_well
 
     def of_crates(self):
-        """Returns the seconds by crate and task."""
+        """Returns the seconds by crate and task, and by crate the most memory of one of its checks."""
         found = {(name, "runs"): seconds for name, seconds in self.runs.items()}
         with open(self.log, encoding="utf-8", errors="replace") as it:
             rows = [line.rstrip("\n").split("\t") for line in it]
-        for seconds, folder, *words in rows:
+        for seconds, most, folder, *words in rows:
             name = words[words.index("--crate-name") + 1] if "--crate-name" in words else os.path.basename(folder)
             is_of_tests = "--test" in words or any(it.endswith("_tests.o") for it in words)
             task = "edits" if OF_EDITS.search(folder) else "tests" if is_of_tests else "proof"
             found[name, task] = found.get((name, task), 0) + float(seconds)
+            found[name, "MB"] = max(found.get((name, "MB"), 0), int(most))
         return found
 
     def tell(self):
         found = self.of_crates()
         names = sorted({name for name, _ in found}, key=lambda it: -sum(found.get((it, task), 0) for task in TASKS))
-        row = "{:24}" + "{:>8}" * (len(TASKS) + 1)
-        print(row.format("processor seconds", *TASKS, "sum"))
+        row = "{:24}" + "{:>8}" * (len(TASKS) + 2)
+        print(row.format("processor seconds", *TASKS, "sum", "MB"))
         sums = [0] * (len(TASKS) + 1)
         for name in names:
             seconds = [found.get((name, task), 0) for task in TASKS]
             seconds.append(sum(seconds))
             sums = [a + b for a, b in zip(sums, seconds)]
-            print(row.format(name, *[f"{it:.0f}" for it in seconds]))
-        print(row.format(f"all {len(names)} crates", *[f"{it:.0f}" for it in sums]))
+            print(row.format(name, *[f"{it:.0f}" for it in seconds], found.get((name, "MB"), 0)))
+        print(row.format(f"all {len(names)} crates", *[f"{it:.0f}" for it in sums], max((found.get((it, "MB"), 0) for it in names), default=0)))
         minutes = (time.time() - self.start) / 60
         print(f"{used_by_children() / 60:.0f} processor minutes in {minutes:.0f} minutes on {rt.processors()} processors", flush=True)
 
