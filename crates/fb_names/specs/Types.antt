@@ -1,10 +1,9 @@
 -- The types of a declaration with the places of their names (IEC 61499-1, 5.1).
 use Rattle.std.specs.Prelude.{◌≡◌, ℕ, List, map, length, Option, Some, slice_get, option_and_then}
 use Rattle.fb_types.specs.Names.{Name}
-use Rattle.fb_types.specs.Blocks.{ports_of, ports_of_event_block}
+use Rattle.fb_types.specs.Blocks.{ports_of}
+pub use Rattle.fb_types.specs.EventPorts.{ArePortsOfKinds, kind_place}
 use Rattle.fb_types.specs.Flat.{kind_of, type_name}
-use Rattle.fb_types.specs.declared.event_kind.EventKind.{EventKind}
-use Rattle.fb_types.specs.declared.event_kind.EventKind.TheVariants.{Restart, Split, Merge, Rendezvous, Permit, Select, Switch, Delay, Cycle, SetReset, DataLatch, RisingEdge, FallingEdge, CountUp}
 use Rattle.fb_types.specs.declared.library.BlockType.{BlockType}
 use Rattle.fb_types.specs.declared.library.Library.{Library}
 use Rattle.fb_types.specs.declared.library.Ports.{Ports}
@@ -15,27 +14,6 @@ use Rattle.fb_names.specs.declared.catalog.Catalog.{Catalog}
 use Rattle.fb_names.specs.Numbers.{place_of, kind_of_number}
 use Rattle.fb_names.specs.declared.numbers.TypeNumber.{TypeNumber}
 use Rattle.fb_names.specs.declared.types.Types.{Types}
-
--- where the ports of an event block stand
-abbrev pub kind_place : EventKind → ℕ
-kind_place Restart = 0
-kind_place Split = 1
-kind_place Merge = 2
-kind_place Rendezvous = 3
-kind_place Permit = 4
-kind_place Select = 5
-kind_place Switch = 6
-kind_place Delay = 7
-kind_place Cycle = 8
-kind_place SetReset = 9
-kind_place DataLatch = 10
-kind_place RisingEdge = 11
-kind_place FallingEdge = 12
-kind_place CountUp = 13
-
--- each event block's ports at its place
-abbrev pub ArePortsOfKinds : List Ports → Type 0
-ArePortsOfKinds all = (k : EventKind) → slice_get all (kind_place k) ≡ Some (ports_of_event_block k)
 
 -- The catalog has the places of the types and of their names.
 pub record HasTypes (lib : Library) (c : Catalog) : Type 0 where

@@ -3,35 +3,17 @@
 ghost use Rattle.std.specs.Prelude.{◌≡◌, IfOk};
 ghost use Rattle.fb_names.specs.Numbers as spec;
 ghost use Rattle.fb_names.specs.Sorts.{names_of_sort};
-ghost use Rattle.fb_names.specs.Types.{AreTypes, ArePortsOfKinds, HasTypes, kind_place, port_number, ports_of_block};
+ghost use Rattle.fb_names.specs.Types.{AreTypes, HasTypes, port_number};
 
 use crate::catalog::Catalog;
 use crate::numbers::TypeNumber;
 use crate::places::place_of;
 use crate::ports::{Sort, place_among, place_in};
-use fb_types::event_kind::EventKind;
-use fb_types::event_ports::{kind_named, ports_of};
+use fb_types::event_ports::{all_ports, kind_named};
 use fb_types::items::Items;
-use fb_types::library::{BlockType, Library, Ports};
+use fb_types::library::{Library, Ports};
 use fb_types::name::Name;
 use std::alloc::{AllocError, Global};
-
-const KINDS: [EventKind; 14] = [
-    EventKind::Restart,
-    EventKind::Split,
-    EventKind::Merge,
-    EventKind::Rendezvous,
-    EventKind::Permit,
-    EventKind::Select,
-    EventKind::Switch,
-    EventKind::Delay,
-    EventKind::Cycle,
-    EventKind::SetReset,
-    EventKind::DataLatch,
-    EventKind::RisingEdge,
-    EventKind::FallingEdge,
-    EventKind::CountUp,
-];
 
 /// The block types of a declaration, with the places of their names, and the ports of the event blocks.
 #[derive(Drop)]
@@ -40,33 +22,6 @@ pub struct Types<'a, 'b> {
     pub catalog: &'a Catalog<'b>,
     /// In the order of the event blocks' kinds.
     event_ports: Items<Ports>,
-}
-
-fn kind_place(kind: EventKind) -> usize
-    ensures { result ≡ kind_place kind }
-{
-    kind as usize
-}
-
-/// The ports of all event blocks.
-fn event_ports(alloc: Global) -> Result<Items<Ports>, AllocError>
-    ensures { IfOk result ArePortsOfKinds }
-{
-    let mut all = Items::new(alloc);
-    for kind in &KINDS {
-        all.push(ports_of(alloc, *kind)?)?;
-    }
-    Ok(all)
-}
-
-/// The ports of a block type of the declaration.
-fn block_ports(block: &BlockType) -> &Ports
-    ensures { result.now ≡ ports_of_block block.now }
-{
-    match block {
-        BlockType::Basic(basic) => &basic.ports,
-        BlockType::Composite(composite) => &composite.ports,
-    }
 }
 
 impl<'a, 'b> Types<'a, 'b> {
@@ -81,7 +36,7 @@ impl<'a, 'b> Types<'a, 'b> {
         Ok(Types {
             library,
             catalog,
-            event_ports: event_ports(alloc)?,
+            event_ports: all_ports(alloc)?,
         })
     }
 
@@ -106,13 +61,13 @@ impl<'a, 'b> Types<'a, 'b> {
     {
         match number {
             TypeNumber::Event(kind) => {
-                let ports = self.event_ports.get(kind_place(kind))?;
+                let ports = self.event_ports.get(kind.place())?;
                 place_among(ports, sort, name)
             }
             TypeNumber::Declared(place) => {
                 let block = self.library.blocks.get(place)?;
                 let places = self.catalog.blocks.get(place)?;
-                place_in(block_ports(block), &places.ports, sort, name)
+                place_in(block.ports(), &places.ports, sort, name)
             }
         }
     }

@@ -20,6 +20,7 @@ use Rattle.fb_read.specs.ExpressionGrammar.{IsLevel, is_unary, is_chain, IsChain
 use Rattle.fb_read.specs.Expressions.{expression, nested_expression, level_at, climb, operated, unary, primary, prefixed, named, call, group, arguments, arguments_from, around, leaf}
 use Rattle.fb_read.proofs.Steps as steps
 use Rattle.fb_read.proofs.Steps.{chosen, both_ok, pair_is, made, seen, expected, after-seen, after-unseen, eaten, written, IsLiteral, of_whole, of_time}
+use Rattle.fb_read.proofs.Chained.{both_done}
 use Rattle.fb_read.proofs.NestingLaws.{nesting-Group, nesting-Unary, nesting-Binary, nesting-Variable, nesting-Call, nesting-Whole, nesting-Truth}
 
 -- what was read is derived, and its number is how deep it nests
@@ -58,10 +59,10 @@ leaf-right R below x ts mid rest y o made h r counts =
 group-right : (below : ℕ) (inner : Inner) (i : IsRight below inner) (start ts : Tokens) (x : Nested) (rest : Tokens) → IsMark mark.Open start ts → group below inner ts ≡ Ok (x, rest) → Right IsPrimary (suc below) x start rest
 unfolding group
 group-right below inner i start ts x rest k h =
-    let a = both_ok (inner 7 ts) _ (x, rest) h in
-    let b = both_ok (expect mark.Close a.1) _ (x, rest) a.3 in
-    let r = i 7 ts a.0 a.1 a.2 in
-    node-right IsPrimary below a.0.nesting (e.Group a.0.expr) start b.1 rest x b.3 (is_group k r.derived (expected mark.Close a.1 b.1 b.2)) (nesting-Group a.0.expr ∙ ap suc (sym r.counted))
+    both_done (inner 7 ts) _ (x, rest) h (λ a a_end a_is a_then.
+    both_done (expect mark.Close a_end) _ (x, rest) a_then (λ b b_end b_is b_then.
+    let r = i 7 ts a a_end a_is in
+    node-right IsPrimary below a.nesting (e.Group a.expr) start b_end rest x b_then (is_group k r.derived (expected mark.Close a_end b_end b_is)) (nesting-Group a.expr ∙ ap suc (sym r.counted))))
 
 prefixed-right : (below : ℕ) (inner : Inner) (i : IsRight below inner) (op : UnaryOperator) (start ts : Tokens) (x : Nested) (rest : Tokens)
     → ((y : Expr) (after' : Tokens) → IsUnary y ts after' → IsUnary (e.Unary op y) start after') → prefixed below inner op ts ≡ Ok (x, rest) → Right IsUnary (suc below) x start rest
@@ -86,29 +87,29 @@ arguments-right : (below : ℕ) (inner : Inner) (i : IsRight below inner) (fuel 
 unfolding arguments_from
 arguments-right below inner i zero found depth ts read rest h = absurd cc
 arguments-right below inner i (suc fuel) found depth ts read rest h =
-    let a = both_ok (inner 7 ts) _ (read, rest) h in
-    let r = i 7 ts a.0 a.1 a.2 in
-    elim (chosen (sees mark.Comma a.1) (arguments_from below inner fuel (found ++ a.0.expr ∷ []) (max depth a.0.nesting) (after mark.Comma a.1)) (Ok ((found ++ a.0.expr ∷ [], max depth a.0.nesting), after mark.Comma a.1)) (Ok (read, rest)) (split (sees mark.Comma a.1) _ _ _ _ a.3)) [
+    both_done (inner 7 ts) _ (read, rest) h (λ a a_end a_is a_then.
+    let r = i 7 ts a a_end a_is in
+    elim (chosen (sees mark.Comma a_end) (arguments_from below inner fuel (found ++ a.expr ∷ []) (max depth a.nesting) (after mark.Comma a_end)) (Ok ((found ++ a.expr ∷ [], max depth a.nesting), after mark.Comma a_end)) (Ok (read, rest)) (split (sees mark.Comma a_end) _ _ _ _ a_then)) [
       | inl w ↦
-          let l = arguments-right below inner i fuel (found ++ a.0.expr ∷ []) (max depth a.0.nesting) (after mark.Comma a.1) read rest w.1 in
-          let k : IsMark mark.Comma a.1 (after mark.Comma a.1) = rw (after-seen mark.Comma a.1 w.0) (seen mark.Comma a.1 w.0) in
+          let l = arguments-right below inner i fuel (found ++ a.expr ∷ []) (max depth a.nesting) (after mark.Comma a_end) read rest w.1 in
+          let k : IsMark mark.Comma a_end (after mark.Comma a_end) = rw (after-seen mark.Comma a_end w.0) (seen mark.Comma a_end w.0) in
           record {
-            more = a.0.expr ∷ l.more;
-            read_is = l.read_is ∙ append_assoc found (a.0.expr ∷ []) l.more;
+            more = a.expr ∷ l.more;
+            read_is = l.read_is ∙ append_assoc found (a.expr ∷ []) l.more;
             depth_is = omega (arith, l.depth_is, r.counted);
             derived = another r.derived k l.derived;
           }
       | inr w ↦
-          let p = pair_is ((found ++ a.0.expr ∷ [], max depth a.0.nesting), after mark.Comma a.1) (read, rest) w.1 in
-          let ended : after mark.Comma a.1 ≡ rest = ap (λ (q : (List Expr × ℕ) × Tokens). q.1) p in
-          let unchanged = after-unseen mark.Comma a.1 w.0 in
+          let p = pair_is ((found ++ a.expr ∷ [], max depth a.nesting), after mark.Comma a_end) (read, rest) w.1 in
+          let ended : after mark.Comma a_end ≡ rest = ap (λ (q : (List Expr × ℕ) × Tokens). q.1) p in
+          let unchanged = after-unseen mark.Comma a_end w.0 in
           record {
-            more = a.0.expr ∷ [];
+            more = a.expr ∷ [];
             read_is = sym (ap (λ (q : (List Expr × ℕ) × Tokens). q.0.0) p);
             depth_is = omega (arith, ap (λ (q : (List Expr × ℕ) × Tokens). q.0.1) p, r.counted);
-            derived = one (subst (λ (t : Tokens). IsLevel 7 a.0.expr ts t) (sym unchanged ∙ ended) r.derived);
+            derived = one (subst (λ (t : Tokens). IsLevel 7 a.expr ts t) (sym unchanged ∙ ended) r.derived);
           }
-    ]
+    ])
   where
     split : {A : Type 0} (b : Bool) (p q : Parser A) (ts : Tokens) (o : Outcome A) → (cond b p q) ts ≡ o → cond b (p ts) (q ts) ≡ o
     split true p q ts o h = h
@@ -129,12 +130,12 @@ call-right below inner i t start named' ts x rest n k h =
     elim (eaten mark.Close _ _ ts (x, rest) h) [
       | inl w ↦ leaf-right IsPrimary below (e.Call t []) start (after mark.Close ts) rest x _ refl w.1 (is_bare_call n k w.0) (nesting-Call t [])
       | inr w ↦
-          let a = both_ok (arguments below inner ts) _ (x, rest) w.1 in
-          let b = both_ok (expect mark.Close a.1) _ (x, rest) a.3 in
-          let r = arguments-right below inner i (length ts) [] 0 ts a.0 a.1 (open-arguments below inner ts (a.0, a.1) a.2) in
-          node-right IsPrimary below a.0.1 (e.Call t a.0.0) start b.1 rest x b.3
-          (is_call n k (subst (λ (xs : List Expr). AreArguments xs ts a.1) (sym r.read_is) r.derived) (expected mark.Close a.1 b.1 b.2))
-          (nesting-Call t a.0.0 ∙ ap (λ (xs : List Expr). suc (deepest (map nesting xs))) r.read_is ∙ omega (arith, r.depth_is))
+          both_done (arguments below inner ts) _ (x, rest) w.1 (λ a a_end a_is a_then.
+          both_done (expect mark.Close a_end) _ (x, rest) a_then (λ b b_end b_is b_then.
+          let r = arguments-right below inner i (length ts) [] 0 ts a a_end (open-arguments below inner ts (a, a_end) a_is) in
+          node-right IsPrimary below a.1 (e.Call t a.0) start b_end rest x b_then
+          (is_call n k (subst (λ (xs : List Expr). AreArguments xs ts a_end) (sym r.read_is) r.derived) (expected mark.Close a_end b_end b_is))
+          (nesting-Call t a.0 ∙ ap (λ (xs : List Expr). suc (deepest (map nesting xs))) r.read_is ∙ omega (arith, r.depth_is))))
     ]
 
 named-right : (below : ℕ) (inner : Inner) (i : IsRight below inner) (ts : Tokens) (x : Nested) (rest : Tokens) → named below inner ts ≡ Ok (x, rest) → Right IsPrimary (suc below) x ts rest
@@ -205,6 +206,16 @@ pub record ChainRight (n : ℕ) (limit : ℕ) (first : Expr) (x : Nested) (ts re
   pub counted : x.nesting ≡ nesting x.expr
   pub fits : x.nesting ≤ limit
 
+-- how deep a binary operation nests
+abbrev binary : BinaryOperator → Nested → Nested → Nested
+binary op left right = record { expr = e.Binary op left.expr right.expr; nesting = suc (max left.nesting right.nesting) }
+
+binary-counted : (op : BinaryOperator) (left right whole : Nested) → binary op left right ≡ whole → left.nesting ≡ nesting left.expr → right.nesting ≡ nesting right.expr → whole.nesting ≡ nesting whole.expr
+binary-counted op left right whole is l r = subst (λ (q : Nested). q.nesting ≡ nesting q.expr) is (omega (arith, nesting-Binary op left.expr right.expr, l, r))
+
+binary-fits : (below : ℕ) (op : BinaryOperator) (left right whole : Nested) → binary op left right ≡ whole → max left.nesting right.nesting ≤ below → whole.nesting ≤ suc below
+binary-fits below op left right whole is fits = subst (λ (q : Nested). q.nesting ≤ suc below) is (omega (arith, fits))
+
 climb-right : (below : ℕ) (inner : Inner) (n : ℕ) (operand : Parser Nested) (o : (ts : Tokens) (x : Nested) (rest : Tokens) → operand ts ≡ Ok (x, rest) → Right (IsLevel n) below x ts rest)
     (fuel : ℕ) (left : Nested) (ts : Tokens) (x : Nested) (rest : Tokens) → left.nesting ≡ nesting left.expr → left.nesting ≤ suc below
     → climb below inner (suc n) operand fuel left ts ≡ Ok (x, rest) → ChainRight n (suc below) left.expr x ts rest
@@ -223,18 +234,17 @@ climb-right below inner n operand o (suc fuel) left ts x rest counted fits h = g
       | inr w ↦ absurd cc
       | inl w ↦
           let k = operator-is (suc n) ts op h' in
-          let a = both_ok (operand (rest_of ts)) _ (x, rest) w.1 in
-          let right = o (rest_of ts) a.0 a.1 a.2 in
-          let b = both_ok (around below (max left.nesting a.0.nesting) (e.Binary op left.expr a.0.expr) a.1) _ (x, rest) a.3 in
-          let v = around-right below (max left.nesting a.0.nesting) (e.Binary op left.expr a.0.expr) a.1 b.1 b.0 b.2 in
-          let expr-is : b.0.expr ≡ e.Binary op left.expr a.0.expr = ap (λ (q : Nested). q.expr) (sym v.1) in
-          let depth-is : b.0.nesting ≡ suc (max left.nesting a.0.nesting) = ap (λ (q : Nested). q.nesting) (sym v.1) in
-          let now = again b.0 b.1 (omega (arith, depth-is, ap nesting expr-is, nesting-Binary op left.expr a.0.expr, right.counted)) (omega (arith, depth-is, v.0)) b.3 in
+          both_done (operand (rest_of ts)) _ (x, rest) w.1 (λ a a_end a_is a_then.
+          both_done (around below (max left.nesting a.nesting) (e.Binary op left.expr a.expr) a_end) _ (x, rest) a_then (λ b b_end b_is b_then.
+          let right = o (rest_of ts) a a_end a_is in
+          let v = around-right below (max left.nesting a.nesting) (e.Binary op left.expr a.expr) a_end b_end b b_is in
+          let expr-is = ap (λ (q : Nested). q.expr) (sym v.1) in
+          let now = again b b_end (binary-counted op left a b v.1 counted right.counted) (binary-fits below op left a b v.1 v.0) b_then in
           record {
-            derived = goes_on k.1 k.2 right.derived (subst (λ (y : Expr). IsChain n y x.expr a.1 rest) expr-is (subst (λ (t : Tokens). IsChain n b.0.expr x.expr t rest) (sym v.2) now.derived));
+            derived = goes_on k.1 k.2 right.derived (subst (λ (y : Expr). IsChain n y x.expr a_end rest) expr-is (subst (λ (t : Tokens). IsChain n b.expr x.expr t rest) (sym v.2) now.derived));
             counted = now.counted;
             fits = now.fits;
-          }
+          }))
     ]
 
 level-right : (below : ℕ) (inner : Inner) (i : IsRight below inner) (n : ℕ) (ts : Tokens) (x : Nested) (rest : Tokens) → level_at below inner n ts ≡ Ok (x, rest) → Right (IsLevel n) (suc below) x ts rest
@@ -242,10 +252,10 @@ unfolding level_at
 level-right below inner i zero ts x rest h =
     let r = unary-right below inner i ts x rest h in record { derived = is_unary r.derived; counted = r.counted; fits = r.fits }
 level-right below inner i (suc n) ts x rest h =
-    let a = both_ok (level_at below inner n ts) _ (x, rest) h in
-    let first = level-right below inner i n ts a.0 a.1 a.2 in
-    let c = climb-right below inner n (inner n) (i n) (length a.1) a.0 a.1 x rest first.counted first.fits a.3 in
-    record { derived = is_chain first.derived c.derived; counted = c.counted; fits = c.fits }
+    both_done (level_at below inner n ts) _ (x, rest) h (λ a a_end a_is a_then.
+    let first = level-right below inner i n ts a a_end a_is in
+    let c = climb-right below inner n (inner n) (i n) (length a_end) a a_end x rest first.counted first.fits a_then in
+    record { derived = is_chain first.derived c.derived; counted = c.counted; fits = c.fits })
 
 nested-right : (d : ℕ) → IsRight d (nested_expression d)
 unfolding nested_expression

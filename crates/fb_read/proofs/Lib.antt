@@ -5,6 +5,7 @@ pub mod FrontLaws
 pub mod TokenLaws
 pub mod Turns
 pub mod Steps
+pub mod Chained
 pub mod Lists
 pub mod NestingLaws
 pub mod Lengths

@@ -19,6 +19,7 @@ use Rattle.fb_read.specs.StatementGrammar.{IsBound, is_bound, is_negative, IsLab
 use Rattle.fb_read.specs.Expressions.{expression}
 use Rattle.fb_read.specs.Statements.{bound, label, assignment, step, simple, begins_statement, begins_label, block, choice, elsif, choices, branch, branches, others, if_statement, case_statement, loop_body, case_body, for_end, for_to, for_statement, while_statement, repeat_statement, statement, nested_statement, body}
 use Rattle.fb_read.proofs.Steps.{both_ok, made, expected, eaten, named, counted}
+use Rattle.fb_read.proofs.Chained.{both_done}
 use Rattle.fb_read.proofs.Lists.{IsSound, separated-sound}
 use Rattle.fb_read.proofs.Several.{ItemRight, ListRight, several-sound, each-right}
 use Rattle.fb_read.proofs.ExpressionSound.{expression-right}
@@ -113,16 +114,16 @@ StatementRight = ItemRight IsStatement statement_nesting expression_nesting
 assignment-right : (below : ℕ) → IsSound assignment (StatementRight (suc below))
 unfolding assignment
 assignment-right below ts x rest h =
-    let a = both_ok (name ts) _ (x, rest) h in
-    let b = both_ok (expect mark.Assign a.1) _ (x, rest) a.3 in
-    let c = both_ok (expression b.1) _ (x, rest) b.3 in
-    let d = both_ok (expect mark.Semicolon c.1) _ (x, rest) c.3 in
-    let r = expression-right b.1 c.0 c.1 c.2 in
-    made (StatementRight (suc below)) (s.Assign a.0 c.0) x ts d.1 rest d.3 (record {
-      derived = is_assignment (named ts a.0 a.1 a.2) (expected mark.Assign a.1 b.1 b.2) r.derived (expected mark.Semicolon c.1 d.1 d.2);
-      fits = assign-fits below a.0 c.0;
-      inside = assign-inside a.0 c.0 r.fits;
-    })
+    both_done (name ts) _ (x, rest) h (λ a a_end a_is a_then.
+    both_done (expect mark.Assign a_end) _ (x, rest) a_then (λ b b_end b_is b_then.
+    both_done (expression b_end) _ (x, rest) b_then (λ c c_end c_is c_then.
+    both_done (expect mark.Semicolon c_end) _ (x, rest) c_then (λ d d_end d_is d_then.
+    let r = expression-right b_end c c_end c_is in
+    made (StatementRight (suc below)) (s.Assign a c) x ts d_end rest d_then (record {
+      derived = is_assignment (named ts a a_end a_is) (expected mark.Assign a_end b_end b_is) r.derived (expected mark.Semicolon c_end d_end d_is);
+      fits = assign-fits below a c;
+      inside = assign-inside a c r.fits;
+    })))))
 
 simple-right : (below : ℕ) → IsSound simple (StatementRight (suc below))
 unfolding simple
@@ -205,16 +206,16 @@ module _ (below : ℕ) (inner : Parser Stmt) (i : IsSound inner (StatementRight 
   choice-right : IsSound (choice inner) (ChoiceRight below)
   unfolding choice
   choice-right ts x rest h =
-      let a = both_ok (expression ts) _ (x, rest) h in
-      let b = both_ok (expect mark.Then a.1) _ (x, rest) a.3 in
-      let c = both_ok (block inner b.1) _ (x, rest) b.3 in
-      let r = expression-right ts a.0 a.1 a.2 in
-      let l = block-right b.1 c.0 c.1 c.2 in
-      made (ChoiceRight below) (choice_of a.0 c.0) x ts c.1 rest c.3 (record {
-        derived = is_choice r.derived (expected mark.Then a.1 b.1 b.2) l.derived;
-        fits = choice-fits below a.0 c.0 l.fits;
-        inside = choice-inside a.0 c.0 r.fits l.inside;
-      })
+      both_done (expression ts) _ (x, rest) h (λ a a_end a_is a_then.
+      both_done (expect mark.Then a_end) _ (x, rest) a_then (λ b b_end b_is b_then.
+      both_done (block inner b_end) _ (x, rest) b_then (λ c c_end c_is c_then.
+      let r = expression-right ts a a_end a_is in
+      let l = block-right b_end c c_end c_is in
+      made (ChoiceRight below) (choice_of a c) x ts c_end rest c_then (record {
+        derived = is_choice r.derived (expected mark.Then a_end b_end b_is) l.derived;
+        fits = choice-fits below a c l.fits;
+        inside = choice-inside a c r.fits l.inside;
+      }))))
 
   elsif-right : IsSound (elsif inner) (ElsifRight below)
   unfolding elsif
@@ -240,15 +241,15 @@ module _ (below : ℕ) (inner : Parser Stmt) (i : IsSound inner (StatementRight 
   branch-right : IsSound (branch inner) (BranchRight below)
   unfolding branch
   branch-right ts x rest h =
-      let a = both_ok (separated label ts) _ (x, rest) h in
-      let b = both_ok (expect mark.Colon a.1) _ (x, rest) a.3 in
-      let c = both_ok (block inner b.1) _ (x, rest) b.3 in
-      let l = block-right b.1 c.0 c.1 c.2 in
-      made (BranchRight below) (branch_of a.0 c.0) x ts c.1 rest c.3 (record {
-        derived = is_branch (separated-sound label IsLabel label-sound ts a.0 a.1 a.2) (expected mark.Colon a.1 b.1 b.2) l.derived;
-        fits = branch-fits below a.0 c.0 l.fits;
-        inside = branch-inside a.0 c.0 l.inside;
-      })
+      both_done (separated label ts) _ (x, rest) h (λ a a_end a_is a_then.
+      both_done (expect mark.Colon a_end) _ (x, rest) a_then (λ b b_end b_is b_then.
+      both_done (block inner b_end) _ (x, rest) b_then (λ c c_end c_is c_then.
+      let l = block-right b_end c c_end c_is in
+      made (BranchRight below) (branch_of a c) x ts c_end rest c_then (record {
+        derived = is_branch (separated-sound label IsLabel label-sound ts a a_end a_is) (expected mark.Colon a_end b_end b_is) l.derived;
+        fits = branch-fits below a c l.fits;
+        inside = branch-inside a c l.inside;
+      }))))
 
   branches-right : IsSound (branches inner) (BranchesRight below)
   unfolding branches
@@ -277,103 +278,101 @@ module _ (below : ℕ) (inner : Parser Stmt) (i : IsSound inner (StatementRight 
   if-right : (start ts : Tokens) (x : Stmt) (rest : Tokens) → IsMark mark.If start ts → if_statement inner ts ≡ Ok (x, rest) → StatementRight (suc below) x start rest
   unfolding if_statement
   if-right start ts x rest k h =
-      let a = both_ok (choices inner ts) _ (x, rest) h in
-      let b = both_ok (others inner a.1) _ (x, rest) a.3 in
-      let c = both_ok (expect mark.EndIf b.1) _ (x, rest) b.3 in
-      let d = both_ok (expect mark.Semicolon c.1) _ (x, rest) c.3 in
-      let r = choices-right ts a.0 a.1 a.2 in
-      let o = others-right a.1 b.0 b.1 b.2 in
-      let all = r.first ∷ r.more in
-      let same : s.If all b.0 ≡ s.If a.0 b.0 = ap (λ (xs : List Choice). s.If xs b.0) (sym r.all_is) in
-      made (StatementRight (suc below)) (s.If a.0 b.0) x start d.1 rest d.3 (subst (λ (y : Stmt). StatementRight (suc below) y start d.1) same (record {
-        derived = is_if k r.one.derived r.others.derived o.derived (expected mark.EndIf b.1 c.1 c.2) (expected mark.Semicolon c.1 d.1 d.2);
-        fits = if-fits below r.first r.more b.0 r.one.fits r.others.fits o.fits;
-        inside = if-inside r.first r.more b.0 r.one.inside r.others.inside o.inside;
-      }))
+      both_done (choices inner ts) _ (x, rest) h (λ a a_end a_is a_then.
+      both_done (others inner a_end) _ (x, rest) a_then (λ b b_end b_is b_then.
+      both_done (expect mark.EndIf b_end) _ (x, rest) b_then (λ c c_end c_is c_then.
+      both_done (expect mark.Semicolon c_end) _ (x, rest) c_then (λ d d_end d_is d_then.
+      let r = choices-right ts a a_end a_is in
+      let o = others-right a_end b b_end b_is in
+      let same : s.If (r.first ∷ r.more) b ≡ s.If a b = ap (λ (xs : List Choice). s.If xs b) (sym r.all_is) in
+      made (StatementRight (suc below)) (s.If a b) x start d_end rest d_then (subst (λ (y : Stmt). StatementRight (suc below) y start d_end) same (record {
+        derived = is_if k r.one.derived r.others.derived o.derived (expected mark.EndIf b_end c_end c_is) (expected mark.Semicolon c_end d_end d_is);
+        fits = if-fits below r.first r.more b r.one.fits r.others.fits o.fits;
+        inside = if-inside r.first r.more b r.one.inside r.others.inside o.inside;
+      }))))))
 
   case-right : (start ts : Tokens) (x : Stmt) (rest : Tokens) → IsMark mark.Case start ts → case_statement inner ts ≡ Ok (x, rest) → StatementRight (suc below) x start rest
   unfolding case_statement case_body
   case-right start ts x rest k h =
-      let p = both_ok (expression ts) _ (x, rest) h in
-      let i = both_ok (case_body inner p.1) _ (x, rest) p.3 in
-      let q = both_ok (expect mark.Of p.1) _ (i.0, i.1) i.2 in
-      let a = both_ok (branches inner q.1) _ (i.0, i.1) q.3 in
-      let b = both_ok (others inner a.1) _ (i.0, i.1) a.3 in
-      let c = both_ok (expect mark.EndCase b.1) _ (i.0, i.1) b.3 in
-      let d = both_ok (expect mark.Semicolon c.1) _ (i.0, i.1) c.3 in
-      let end = ap (λ (r : Outcome (List Branch × List Stmt)). and_then r (λ y. pure (s.Case p.0 y.0 y.1))) d.3 ∙ i.3 in
-      let e = expression-right ts p.0 p.1 p.2 in
-      let r = branches-right q.1 a.0 a.1 a.2 in
-      let o = others-right a.1 b.0 b.1 b.2 in
-      let all = r.first ∷ r.more in
-      let same : s.Case p.0 all b.0 ≡ s.Case p.0 a.0 b.0 = ap (λ (xs : List Branch). s.Case p.0 xs b.0) (sym r.all_is) in
-      made (StatementRight (suc below)) (s.Case p.0 a.0 b.0) x start d.1 rest end (subst (λ (y : Stmt). StatementRight (suc below) y start d.1) same (record {
-        derived = is_case k e.derived (expected mark.Of p.1 q.1 q.2) r.one.derived r.others.derived o.derived (expected mark.EndCase b.1 c.1 c.2) (expected mark.Semicolon c.1 d.1 d.2);
-        fits = case-fits below p.0 r.first r.more b.0 r.one.fits r.others.fits o.fits;
-        inside = case-inside p.0 r.first r.more b.0 e.fits r.one.inside r.others.inside o.inside;
-      }))
+      both_done (expression ts) _ (x, rest) h (λ p p_end p_is p_then.
+      both_done (case_body inner p_end) _ (x, rest) p_then (λ i i_end i_is i_then.
+      both_done (expect mark.Of p_end) _ (i, i_end) i_is (λ q q_end q_is q_then.
+      both_done (branches inner q_end) _ (i, i_end) q_then (λ a a_end a_is a_then.
+      both_done (others inner a_end) _ (i, i_end) a_then (λ b b_end b_is b_then.
+      both_done (expect mark.EndCase b_end) _ (i, i_end) b_then (λ c c_end c_is c_then.
+      both_done (expect mark.Semicolon c_end) _ (i, i_end) c_then (λ d d_end d_is d_then.
+      let end = ap (λ (r : Outcome (List Branch × List Stmt)). and_then r (λ y. pure (s.Case p y.0 y.1))) d_then ∙ i_then in
+      let e = expression-right ts p p_end p_is in
+      let r = branches-right q_end a a_end a_is in
+      let o = others-right a_end b b_end b_is in
+      let same : s.Case p (r.first ∷ r.more) b ≡ s.Case p a b = ap (λ (xs : List Branch). s.Case p xs b) (sym r.all_is) in
+      made (StatementRight (suc below)) (s.Case p a b) x start d_end rest end (subst (λ (y : Stmt). StatementRight (suc below) y start d_end) same (record {
+        derived = is_case k e.derived (expected mark.Of p_end q_end q_is) r.one.derived r.others.derived o.derived (expected mark.EndCase b_end c_end c_is) (expected mark.Semicolon c_end d_end d_is);
+        fits = case-fits below p r.first r.more b r.one.fits r.others.fits o.fits;
+        inside = case-inside p r.first r.more b e.fits r.one.inside r.others.inside o.inside;
+      })))))))))
 
   for-right : (start ts : Tokens) (x : Stmt) (rest : Tokens) → IsMark mark.For start ts → for_statement inner ts ≡ Ok (x, rest) → StatementRight (suc below) x start rest
   unfolding for_statement for_to for_end loop_body
   for-right start ts x rest k h =
-      let n = both_ok (name ts) _ (x, rest) h in
-      let m = both_ok (expect mark.Assign n.1) _ (x, rest) n.3 in
-      let p = both_ok (expression m.1) _ (x, rest) m.3 in
-      let i = both_ok (for_end p.1) _ (x, rest) p.3 in
-      let t = both_ok (expect mark.To p.1) _ (i.0, i.1) i.2 in
-      let q = both_ok (expression t.1) _ (i.0, i.1) t.3 in
-      let z = both_ok (step q.1) _ (i.0, i.1) q.3 in
-      let behind = ap (λ (r : Outcome (Expr × Option Expr)). and_then r (λ y t. and_then (loop_body inner mark.EndFor t) (λ body. pure (s.For n.0 p.0 y.0 y.1 body)))) z.3 ∙ i.3 in
-      let o = both_ok (loop_body inner mark.EndFor z.1) _ (x, rest) behind in
-      let u = both_ok (expect mark.Do z.1) _ (o.0, o.1) o.2 in
-      let b = both_ok (block inner u.1) _ (o.0, o.1) u.3 in
-      let c = both_ok (expect mark.EndFor b.1) _ (o.0, o.1) b.3 in
-      let d = both_ok (expect mark.Semicolon c.1) _ (o.0, o.1) c.3 in
-      let same = ap (λ (r : Outcome (List Stmt)). and_then r (λ body. pure (s.For n.0 p.0 q.0 z.0 body))) d.3 ∙ o.3 in
-      let e = expression-right m.1 p.0 p.1 p.2 in
-      let f = expression-right t.1 q.0 q.1 q.2 in
-      let g = step-right q.1 z.0 z.1 z.2 in
-      let l = block-right u.1 b.0 b.1 b.2 in
-      made (StatementRight (suc below)) (s.For n.0 p.0 q.0 z.0 b.0) x start d.1 rest same (record {
-        derived = is_for k (named ts n.0 n.1 n.2) (expected mark.Assign n.1 m.1 m.2) e.derived (expected mark.To p.1 t.1 t.2) f.derived g.derived
-            (expected mark.Do z.1 u.1 u.2) l.derived (expected mark.EndFor b.1 c.1 c.2) (expected mark.Semicolon c.1 d.1 d.2);
-        fits = for-fits below n.0 p.0 q.0 z.0 b.0 l.fits;
-        inside = for-inside n.0 p.0 q.0 z.0 b.0 e.fits f.fits g.inside l.inside;
-      })
+      both_done (name ts) _ (x, rest) h (λ n n_end n_is n_then.
+      both_done (expect mark.Assign n_end) _ (x, rest) n_then (λ m m_end m_is m_then.
+      both_done (expression m_end) _ (x, rest) m_then (λ p p_end p_is p_then.
+      both_done (for_end p_end) _ (x, rest) p_then (λ i i_end i_is i_then.
+      both_done (expect mark.To p_end) _ (i, i_end) i_is (λ t t_end t_is t_then.
+      both_done (expression t_end) _ (i, i_end) t_then (λ q q_end q_is q_then.
+      both_done (step q_end) _ (i, i_end) q_then (λ z z_end z_is z_then.
+      let behind = ap (λ (r : Outcome (Expr × Option Expr)). and_then r (λ y t. and_then (loop_body inner mark.EndFor t) (λ body. pure (s.For n p y.0 y.1 body)))) z_then ∙ i_then in
+      both_done (loop_body inner mark.EndFor z_end) _ (x, rest) behind (λ o o_end o_is o_then.
+      both_done (expect mark.Do z_end) _ (o, o_end) o_is (λ u u_end u_is u_then.
+      both_done (block inner u_end) _ (o, o_end) u_then (λ b b_end b_is b_then.
+      both_done (expect mark.EndFor b_end) _ (o, o_end) b_then (λ c c_end c_is c_then.
+      both_done (expect mark.Semicolon c_end) _ (o, o_end) c_then (λ d d_end d_is d_then.
+      let same = ap (λ (r : Outcome (List Stmt)). and_then r (λ body. pure (s.For n p q z body))) d_then ∙ o_then in
+      let e = expression-right m_end p p_end p_is in
+      let f = expression-right t_end q q_end q_is in
+      let g = step-right q_end z z_end z_is in
+      let l = block-right u_end b b_end b_is in
+      made (StatementRight (suc below)) (s.For n p q z b) x start d_end rest same (record {
+        derived = is_for k (named ts n n_end n_is) (expected mark.Assign n_end m_end m_is) e.derived (expected mark.To p_end t_end t_is) f.derived g.derived
+            (expected mark.Do z_end u_end u_is) l.derived (expected mark.EndFor b_end c_end c_is) (expected mark.Semicolon c_end d_end d_is);
+        fits = for-fits below n p q z b l.fits;
+        inside = for-inside n p q z b e.fits f.fits g.inside l.inside;
+      })))))))))))))
 
   while-right : (start ts : Tokens) (x : Stmt) (rest : Tokens) → IsMark mark.While start ts → while_statement inner ts ≡ Ok (x, rest) → StatementRight (suc below) x start rest
   unfolding while_statement loop_body
   while-right start ts x rest k h =
-      let p = both_ok (expression ts) _ (x, rest) h in
-      let o = both_ok (loop_body inner mark.EndWhile p.1) _ (x, rest) p.3 in
-      let u = both_ok (expect mark.Do p.1) _ (o.0, o.1) o.2 in
-      let b = both_ok (block inner u.1) _ (o.0, o.1) u.3 in
-      let c = both_ok (expect mark.EndWhile b.1) _ (o.0, o.1) b.3 in
-      let d = both_ok (expect mark.Semicolon c.1) _ (o.0, o.1) c.3 in
-      let same = ap (λ (r : Outcome (List Stmt)). and_then r (λ body. pure (s.While p.0 body))) d.3 ∙ o.3 in
-      let e = expression-right ts p.0 p.1 p.2 in
-      let l = block-right u.1 b.0 b.1 b.2 in
-      made (StatementRight (suc below)) (s.While p.0 b.0) x start d.1 rest same (record {
-        derived = is_while k e.derived (expected mark.Do p.1 u.1 u.2) l.derived (expected mark.EndWhile b.1 c.1 c.2) (expected mark.Semicolon c.1 d.1 d.2);
-        fits = while-fits below p.0 b.0 l.fits;
-        inside = while-inside p.0 b.0 e.fits l.inside;
-      })
+      both_done (expression ts) _ (x, rest) h (λ p p_end p_is p_then.
+      both_done (loop_body inner mark.EndWhile p_end) _ (x, rest) p_then (λ o o_end o_is o_then.
+      both_done (expect mark.Do p_end) _ (o, o_end) o_is (λ u u_end u_is u_then.
+      both_done (block inner u_end) _ (o, o_end) u_then (λ b b_end b_is b_then.
+      both_done (expect mark.EndWhile b_end) _ (o, o_end) b_then (λ c c_end c_is c_then.
+      both_done (expect mark.Semicolon c_end) _ (o, o_end) c_then (λ d d_end d_is d_then.
+      let same = ap (λ (r : Outcome (List Stmt)). and_then r (λ body. pure (s.While p body))) d_then ∙ o_then in
+      let e = expression-right ts p p_end p_is in
+      let l = block-right u_end b b_end b_is in
+      made (StatementRight (suc below)) (s.While p b) x start d_end rest same (record {
+        derived = is_while k e.derived (expected mark.Do p_end u_end u_is) l.derived (expected mark.EndWhile b_end c_end c_is) (expected mark.Semicolon c_end d_end d_is);
+        fits = while-fits below p b l.fits;
+        inside = while-inside p b e.fits l.inside;
+      })))))))
 
   repeat-right : (start ts : Tokens) (x : Stmt) (rest : Tokens) → IsMark mark.Repeat start ts → repeat_statement inner ts ≡ Ok (x, rest) → StatementRight (suc below) x start rest
   unfolding repeat_statement
   repeat-right start ts x rest k h =
-      let b = both_ok (block inner ts) _ (x, rest) h in
-      let u = both_ok (expect mark.Until b.1) _ (x, rest) b.3 in
-      let p = both_ok (expression u.1) _ (x, rest) u.3 in
-      let c = both_ok (expect mark.EndRepeat p.1) _ (x, rest) p.3 in
-      let d = both_ok (expect mark.Semicolon c.1) _ (x, rest) c.3 in
-      let e = expression-right u.1 p.0 p.1 p.2 in
-      let l = block-right ts b.0 b.1 b.2 in
-      made (StatementRight (suc below)) (s.Repeat b.0 p.0) x start d.1 rest d.3 (record {
-        derived = is_repeat k l.derived (expected mark.Until b.1 u.1 u.2) e.derived (expected mark.EndRepeat p.1 c.1 c.2) (expected mark.Semicolon c.1 d.1 d.2);
-        fits = repeat-fits below b.0 p.0 l.fits;
-        inside = repeat-inside b.0 p.0 l.inside e.fits;
-      })
+      both_done (block inner ts) _ (x, rest) h (λ b b_end b_is b_then.
+      both_done (expect mark.Until b_end) _ (x, rest) b_then (λ u u_end u_is u_then.
+      both_done (expression u_end) _ (x, rest) u_then (λ p p_end p_is p_then.
+      both_done (expect mark.EndRepeat p_end) _ (x, rest) p_then (λ c c_end c_is c_then.
+      both_done (expect mark.Semicolon c_end) _ (x, rest) c_then (λ d d_end d_is d_then.
+      let e = expression-right u_end p p_end p_is in
+      let l = block-right ts b b_end b_is in
+      made (StatementRight (suc below)) (s.Repeat b p) x start d_end rest d_then (record {
+        derived = is_repeat k l.derived (expected mark.Until b_end u_end u_is) e.derived (expected mark.EndRepeat p_end c_end c_is) (expected mark.Semicolon c_end d_end d_is);
+        fits = repeat-fits below b p l.fits;
+        inside = repeat-inside b p l.inside e.fits;
+      }))))))
 
   statement-right : IsSound (statement inner) (StatementRight (suc below))
   unfolding statement

@@ -7,7 +7,7 @@ use crate::chart::{algorithms, states, transitions};
 use crate::cursor::Cursor;
 use crate::fault::ParseFault;
 use crate::ports::variables;
-use crate::rule::{Rule, ended, run_after};
+use crate::rule::{Rule, beside, ended, run_after};
 use crate::token::Mark;
 use fb_types::items::Items;
 use fb_types::library::{
@@ -26,10 +26,12 @@ fn basic(
 ) -> Result<BlockType, ParseFault>
     ensures { Reads (spec.basic name ports cursor.old) result cursor.new }
 {
-    let internals = variables(alloc, cursor, Mark::Var)?;
-    let states = states(alloc, cursor)?;
-    let transitions = transitions(alloc, cursor)?;
-    let algorithms = algorithms(alloc, cursor)?;
+    let interface = (name, ports);
+    let (interface, internals) = beside(interface, variables(alloc, cursor, Mark::Var))?;
+    let (declared, states) = beside((interface, internals), states(alloc, cursor))?;
+    let (charted, transitions) = beside((declared, states), transitions(alloc, cursor))?;
+    let (found, algorithms) = beside((charted, transitions), algorithms(alloc, cursor))?;
+    let ((((name, ports), internals), states), transitions) = found;
     Ok(BlockType::Basic(BasicType {
         name,
         ports,
@@ -50,7 +52,8 @@ fn composite(
 ) -> Result<BlockType, ParseFault>
     ensures { Reads (spec.composite name ports cursor.old) result cursor.new }
 {
-    let network = Network::read(alloc, cursor)?;
+    let (interface, network) = beside((name, ports), Network::read(alloc, cursor))?;
+    let (name, ports) = interface;
     Ok(BlockType::Composite(CompositeType {
         name,
         ports,

@@ -6,7 +6,7 @@ ghost use Rattle.fb_read.specs.Charts as spec;
 use crate::cursor::Cursor;
 use crate::expression::expression;
 use crate::fault::ParseFault;
-use crate::rule::{Rule, ended, many_after, run_after, section, separated};
+use crate::rule::{Rule, beside, ended, many_after, run_after, section, separated};
 use crate::statement::body;
 use crate::token::Mark;
 use fb_types::items::Items;
@@ -89,11 +89,14 @@ fn condition(alloc: Global, cursor: &mut Cursor<'_>) -> Result<Condition, ParseF
     ensures { Reads (spec.condition cursor.old) result cursor.new }
 {
     let event = cursor.name_if(alloc)?;
-    let guard = guard(alloc, cursor)?;
-    if event.is_none() && guard.is_none() {
-        cursor.one()?;
+    let (event, guard) = beside(event, guard(alloc, cursor))?;
+    let found = Condition { event, guard };
+    if found.event.is_none() && found.guard.is_none() {
+        let (found, _) = beside(found, cursor.one())?;
+        Ok(found)
+    } else {
+        Ok(found)
     }
-    Ok(Condition { event, guard })
 }
 
 impl Rule for Transition {
@@ -102,10 +105,11 @@ impl Rule for Transition {
     #[tactic(auto, unfolding(crate::specs::Charts::transition))]
     fn read(alloc: Global, cursor: &mut Cursor<'_>) -> Result<Transition, ParseFault> {
         let from = cursor.name(alloc)?;
-        cursor.expect(Mark::To)?;
-        let to = cursor.name(alloc)?;
-        cursor.expect(Mark::Assign)?;
-        let condition = condition(alloc, cursor)?;
+        let from = ended(cursor, Mark::To, from)?;
+        let both = beside(from, cursor.name(alloc))?;
+        let both = ended(cursor, Mark::Assign, both)?;
+        let (both, condition) = beside(both, condition(alloc, cursor))?;
+        let (from, to) = both;
         let found = Transition {
             from,
             to,

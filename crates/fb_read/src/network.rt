@@ -6,7 +6,7 @@ ghost use Rattle.fb_read.specs.Network as spec;
 
 use crate::cursor::Cursor;
 use crate::fault::ParseFault;
-use crate::rule::{Rule, ended, many, section, separated};
+use crate::rule::{Rule, beside, ended, many, section, separated};
 use crate::token::Mark;
 use fb_types::items::Items;
 use fb_types::library::{Application, Connection, Instance, Network, Parameter, PortName};
@@ -39,9 +39,9 @@ impl Rule for Connection {
 
     #[tactic(auto, unfolding(crate::specs::Network::connection))]
     fn read(alloc: Global, cursor: &mut Cursor<'_>) -> Result<Connection, ParseFault> {
-        let from = PortName::read(alloc, cursor)?;
-        cursor.expect(Mark::To)?;
-        let to = PortName::read(alloc, cursor)?;
+        let first = PortName::read(alloc, cursor)?;
+        let first = ended(cursor, Mark::To, first)?;
+        let (from, to) = beside(first, PortName::read(alloc, cursor))?;
         ended(cursor, Mark::Semicolon, Connection { from, to })
     }
 }
@@ -92,9 +92,10 @@ impl Rule for Instance {
     #[tactic(auto, unfolding(crate::specs::Network::instance))]
     fn read(alloc: Global, cursor: &mut Cursor<'_>) -> Result<Instance, ParseFault> {
         let name = cursor.name(alloc)?;
-        cursor.expect(Mark::Colon)?;
-        let block_type = cursor.name(alloc)?;
-        let parameters = parameters(alloc, cursor)?;
+        let name = ended(cursor, Mark::Colon, name)?;
+        let both = beside(name, cursor.name(alloc))?;
+        let (both, parameters) = beside(both, parameters(alloc, cursor))?;
+        let (name, block_type) = both;
         let found = Instance {
             name,
             block_type,

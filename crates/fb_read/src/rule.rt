@@ -1,6 +1,8 @@
 //! Rules of the grammar, and lists of what they read.
 
+ghost use Rattle.std.specs.Prelude.{◌≡◌, Ok, IfOk};
 ghost use Rattle.fb_read.specs.Parser.{Parser, Reads};
+ghost use Rattle.fb_read.specs.Beside.{second_of};
 ghost use Rattle.fb_read.specs.Parser as spec;
 
 use crate::cursor::Cursor;
@@ -16,6 +18,17 @@ pub trait Rule: Drop {
 
     fn read(alloc: Global, cursor: &mut Cursor<'_>) -> Result<Self, ParseFault>
         ensures { Reads (parser cursor.old) result cursor.new };
+}
+
+/// What was found, beside what was read behind it.
+///
+/// A value of a type parameter is dropped by one call. Where `?` stands beside owned values of other types, the drop of
+/// each is written out at each exit, and proved there.
+pub fn beside<A: Drop, B: Drop>(found: A, read: Result<B, ParseFault>) -> Result<(A, B), ParseFault>
+    ensures found { IfOk result (λ both. both.0 ≡ found) }
+    ensures read { read ≡ second_of result }
+{
+    Ok((found, read?))
 }
 
 /// What was found, where this mark stands behind it.

@@ -8,7 +8,7 @@ ghost use Rattle.fb_read.specs.StatementNests.{StatementNests};
 use crate::cursor::Cursor;
 use crate::expression::expression;
 use crate::fault::ParseFault;
-use crate::rule::{Rule, ended, finished, separated};
+use crate::rule::{Rule, beside, ended, finished, separated};
 use crate::token::Mark;
 use fb_types::items::Items;
 use fb_types::reference::Reference;
@@ -129,8 +129,8 @@ impl<F: Fn(Global, &mut Cursor<'_>, u32) -> Result<Stmt, ParseFault>> Rules<F> {
         ensures { Reads (spec.choice (spec.nested_statement self.now.below) cursor.old) result cursor.new }
     {
         let condition = expression(self.alloc, cursor)?;
-        cursor.expect(Mark::Then)?;
-        let body = self.block(cursor)?;
+        let condition = ended(cursor, Mark::Then, condition)?;
+        let (condition, body) = beside(condition, self.block(cursor))?;
         Ok(Choice { condition, body })
     }
 
@@ -256,8 +256,9 @@ impl<F: Fn(Global, &mut Cursor<'_>, u32) -> Result<Stmt, ParseFault>> Rules<F> {
         requires { StatementNests self.now.below (F.pre self.now.inner) (F.post self.now.inner) }
         ensures { Reads (spec.for_to (spec.nested_statement self.now.below) variable start cursor.old) result cursor.new }
     {
-        let (end, step) = for_end(self.alloc, cursor)?;
-        let body = self.loop_body(cursor, Mark::EndFor)?;
+        let (first, bounds) = beside((variable, start), for_end(self.alloc, cursor))?;
+        let (all, body) = beside((first, bounds), self.loop_body(cursor, Mark::EndFor))?;
+        let ((variable, start), (end, step)) = all;
         Ok(Stmt::For(variable, start, end, step, body))
     }
 
@@ -280,7 +281,7 @@ impl<F: Fn(Global, &mut Cursor<'_>, u32) -> Result<Stmt, ParseFault>> Rules<F> {
         ensures { Reads (spec.while_statement (spec.nested_statement self.now.below) cursor.old) result cursor.new }
     {
         let condition = expression(self.alloc, cursor)?;
-        let body = self.loop_body(cursor, Mark::EndWhile)?;
+        let (condition, body) = beside(condition, self.loop_body(cursor, Mark::EndWhile))?;
         Ok(Stmt::While(condition, body))
     }
 

@@ -1,6 +1,6 @@
 //! Variables with their types and values.
 
-ghost use Rattle.std.specs.Prelude.{◌≡◌, [], ◌∷◌, ◌++◌, true, false, not, if◌then◌else◌, IfOk, IfErr, OnOk, OnErr};
+ghost use Rattle.std.specs.Prelude.{◌≡◌, [], ◌∷◌, ◌++◌, true, false, not, if◌then◌else◌, IfSome, IfOk, IfErr, OnOk, OnErr};
 ghost use Rattle.std.specs.List.{list_any};
 ghost use Rattle.fb_types.specs.Names.{same_name, with_value};
 ghost use Rattle.fb_types.specs.Values.{fits, whole};
@@ -71,12 +71,23 @@ impl Frame {
         Ok(true)
     }
 
-    /// The whole number that a variable holds.
-    #[inline(never)]
+    /// The whole number that a variable holds. Where the variable stands as expected there is no call on the way.
+    #[inline(always)]
     pub fn whole(&self, variable: &Reference) -> i128
         ensures { result ≡ whole (values_of self.now variable.now) }
     {
-        whole_of(self.value(variable))
+        match self.value_as_expected(variable) {
+            Some(value) => whole_of(value),
+            None => self.whole_by_search(variable),
+        }
+    }
+
+    /// The same, where the variable has to be looked for.
+    #[inline(never)]
+    fn whole_by_search(&self, variable: &Reference) -> i128
+        ensures { result ≡ whole (values_of self.now variable.now) }
+    {
+        whole_of(self.value_by_search(variable))
     }
 
     /// The value of a variable. One that the frame has not counts as 0.
@@ -84,7 +95,30 @@ impl Frame {
     pub fn value(&self, variable: &Reference) -> Value
         ensures { result ≡ values_of self.now variable.now }
     {
-        match self.find(variable) {
+        match self.value_as_expected(variable) {
+            Some(value) => value,
+            None => self.value_by_search(variable),
+        }
+    }
+
+    /// The value of a variable that stands where it is expected.
+    #[inline(always)]
+    fn value_as_expected(&self, variable: &Reference) -> Option<Value>
+        ensures { IfSome result (λ v. v ≡ values_of self.now variable.now) }
+    {
+        let name = variable.name().as_bytes();
+        match self.slots.get(variable.place()) {
+            Some(slot) if is_same(name, slot.name.as_bytes()) => Some(slot.value),
+            _ => None,
+        }
+    }
+
+    /// The value of a variable that has to be looked for.
+    #[inline(never)]
+    fn value_by_search(&self, variable: &Reference) -> Value
+        ensures { result ≡ values_of self.now variable.now }
+    {
+        match self.search(variable) {
             Some(place) => self.slots[place].value,
             None => Value::Whole(0),
         }
@@ -151,26 +185,17 @@ impl Frame {
     }
 }
 
-/// Up to how many letters names are compared here: a call costs more.
-const SHORT: usize = 3;
-
-/// Whether two names are one.
+/// Whether two names are one. Names of up to three letters are compared here: a call costs more, and so does a loop.
 #[inline(always)]
 fn is_same(name: &[u8], other: &[u8]) -> bool
     ensures { result ≡ same_name name.now other.now }
 {
-    if name.len() != other.len() {
-        return false;
+    match (name, other) {
+        ([a], [b]) => *a == *b,
+        ([a, b], [c, d]) => *a == *c && *b == *d,
+        ([a, b, c], [d, e, f]) => *a == *d && *b == *e && *c == *f,
+        _ => is_same_long(name, other),
     }
-    if name.len() > SHORT {
-        return is_same_long(name, other);
-    }
-    for (place, byte) in name.iter().enumerate() {
-        if *byte != other[place] {
-            return false;
-        }
-    }
-    true
 }
 
 #[inline(never)]

@@ -1,6 +1,6 @@
 //! Operators (IEC 61131-3, 7.3.2). Whole numbers are exact: a result outside 128 bits is a reason.
 
-ghost use Rattle.std.specs.Prelude.{◌≡◌, false, ◌+ℤ◌, ◌-ℤ◌, ◌*ℤ◌, neg_ℤ};
+ghost use Rattle.std.specs.Prelude.{◌≡◌, false, ◌+ℤ◌, ◌-ℤ◌, ◌*ℤ◌, neg_ℤ, int_div, int_rem, IfSome};
 ghost use Rattle.fb_types.specs.Values.{judged, told, whole, truth, binary_value, same_value, quotient, modulus};
 ghost use Rattle.fb_st.specs.Wanted.{wholes, gives_number};
 
@@ -49,12 +49,53 @@ fn difference(x: i128, y: i128) -> Result<i128, Reason>
     }
 }
 
+/// Numbers of 64 bits, as most are, are multiplied by one instruction of the machine, and others by many.
+#[inline(always)]
 fn product(x: i128, y: i128) -> Result<i128, Reason>
+    ensures { result ≡ wholes (judged (x *ℤ y)) }
+{
+    match (i64::try_from(x), i64::try_from(y)) {
+        (Ok(a), Ok(b)) => exact_product(i128::from(a), i128::from(b)),
+        _ => product_of_any(x, y),
+    }
+}
+
+#[inline(never)]
+fn product_of_any(x: i128, y: i128) -> Result<i128, Reason>
+    ensures { result ≡ wholes (judged (x *ℤ y)) }
+{
+    exact_product(x, y)
+}
+
+#[inline(always)]
+fn exact_product(x: i128, y: i128) -> Result<i128, Reason>
     ensures { result ≡ wholes (judged (x *ℤ y)) }
 {
     match x.checked_mul(y) {
         Some(z) => Ok(z),
         None => Err(Reason::Range),
+    }
+}
+
+/// The quotient of two numbers of 64 bits, which takes no call.
+#[inline(always)]
+fn divided_at_once(x: i128, y: i128) -> Option<i128>
+    ensures { IfSome result (λ z. z ≡ int_div x y) }
+{
+    match (i64::try_from(x), i64::try_from(y)) {
+        (Ok(a), Ok(b)) => Some(i128::from(a.checked_div(b)?)),
+        _ => None,
+    }
+}
+
+/// The remainder of two numbers of 64 bits, which takes no call.
+#[inline(always)]
+fn remainder_at_once(x: i128, y: i128) -> Option<i128>
+    ensures { IfSome result (λ z. z ≡ int_rem x y) }
+{
+    match (i64::try_from(x), i64::try_from(y)) {
+        (Ok(a), Ok(b)) => Some(i128::from(a.checked_rem(b)?)),
+        _ => None,
     }
 }
 
@@ -64,6 +105,9 @@ fn divided(x: i128, y: i128) -> Result<i128, Reason>
 {
     if y == 0 {
         return Err(Reason::Divide);
+    }
+    if let Some(z) = divided_at_once(x, y) {
+        return Ok(z);
     }
     match x.checked_div(y) {
         Some(z) => Ok(z),
@@ -77,6 +121,9 @@ fn remainder(x: i128, y: i128) -> Result<i128, Reason>
 {
     if y == 0 {
         return Ok(0);
+    }
+    if let Some(z) = remainder_at_once(x, y) {
+        return Ok(z);
     }
     match x.checked_rem(y) {
         Some(z) => Ok(z),

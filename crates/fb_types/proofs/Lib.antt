@@ -24,3 +24,4 @@ pub mod Counter
 pub mod TwoLinks
 pub mod Acceptance
 pub mod ExamplesAccepted
+pub mod AllKinds

@@ -8,6 +8,7 @@ pub mod Bodies
 pub mod Blocks
 pub mod Charts
 pub mod EventBlocks
+pub mod EventPorts
 pub mod Keys
 pub mod Systems
 pub mod Flat

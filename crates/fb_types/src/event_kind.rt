@@ -1,5 +1,8 @@
 //! The kinds of event blocks.
 
+ghost use Rattle.std.specs.Prelude.{◌≡◌};
+ghost use Rattle.fb_types.specs.EventPorts.{kind_place};
+
 /// The type of an event block (in the manner of IEC 61499-1, Annex A).
 #[derive(Clone, Copy, Debug, PartialEq, Eq)]
 pub enum EventKind {
@@ -31,4 +34,31 @@ pub enum EventKind {
     FallingEdge,
     /// E_CTU
     CountUp,
+}
+
+impl EventKind {
+    /// All kinds, each at its place.
+    pub const ALL: [EventKind; 14] = [
+        EventKind::Restart,
+        EventKind::Split,
+        EventKind::Merge,
+        EventKind::Rendezvous,
+        EventKind::Permit,
+        EventKind::Select,
+        EventKind::Switch,
+        EventKind::Delay,
+        EventKind::Cycle,
+        EventKind::SetReset,
+        EventKind::DataLatch,
+        EventKind::RisingEdge,
+        EventKind::FallingEdge,
+        EventKind::CountUp,
+    ];
+
+    /// The place of a kind among all of them.
+    pub fn place(self) -> usize
+        ensures { result ≡ kind_place self }
+    {
+        self as usize
+    }
 }

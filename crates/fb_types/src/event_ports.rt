@@ -2,6 +2,7 @@
 
 ghost use Rattle.std.specs.Prelude.{◌≡◌, [], ◌∷◌, ◌++◌, IfOk, OnOk, codes, option_map};
 ghost use Rattle.fb_types.specs.Blocks as spec;
+ghost use Rattle.fb_types.specs.EventPorts.{ArePortsOfKinds};
 ghost use Rattle.fb_types.specs.Names.{same_name};
 ghost use Rattle.fb_types.specs.declared.event_kind.EventKind.TheVariants.{Restart, Split, Merge, Rendezvous, Select, Switch, SetReset, DataLatch, CountUp};
 ghost use Rattle.fb_types.specs.declared.value.Ty.TheVariants.{Bool};
@@ -291,4 +292,15 @@ pub fn ports_of(alloc: Global, kind: EventKind) -> Result<Ports, AllocError>
     };
     add_ports(alloc, kind, &mut ports)?;
     Ok(ports)
+}
+
+/// The interfaces of all event blocks, each at the place of its kind.
+pub fn all_ports(alloc: Global) -> Result<Items<Ports>, AllocError>
+    ensures { IfOk result ArePortsOfKinds }
+{
+    let mut all = Items::new(alloc);
+    for kind in &EventKind::ALL {
+        all.push(ports_of(alloc, *kind)?)?;
+    }
+    Ok(all)
 }

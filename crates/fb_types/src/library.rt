@@ -1,5 +1,9 @@
 //! Block types and the application, as they are read (IEC 61499-1, 5 to 7).
 
+ghost use Rattle.std.specs.Prelude.{◌≡◌};
+ghost use Rattle.fb_types.specs.Blocks.{ports_of};
+ghost use Rattle.fb_types.specs.Flat.{kind_of};
+
 use crate::items::Items;
 use crate::name::Name;
 use crate::text::{Body, Expr};
@@ -118,6 +122,18 @@ pub struct CompositeType {
 pub enum BlockType {
     Basic(BasicType),
     Composite(CompositeType),
+}
+
+impl BlockType {
+    /// The interface.
+    pub fn ports(&self) -> &Ports
+        ensures { result.now ≡ ports_of (kind_of self.now) }
+    {
+        match self {
+            BlockType::Basic(basic) => &basic.ports,
+            BlockType::Composite(composite) => &composite.ports,
+        }
+    }
 }
 
 /// The application: a network whose instances are mapped to resources.
