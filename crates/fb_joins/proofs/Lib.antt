@@ -12,7 +12,6 @@ pub mod Withs
 pub mod Numbers
 pub mod Carried
 pub mod Unlinked
-pub mod EventInterfaces
 pub mod Sets
 pub mod Elements
 pub mod Mapped

@@ -9,42 +9,16 @@ use Rattle.std.specs.BTreeSet.{BTreeSet, contains}
 use Rattle.std.specs.Borrow.{Bor}
 use Rattle.std.specs.declared.cmp.Ordering.{Ordering}
 use Rattle.fb_types.specs.Names.{Name, Path, Port}
-use Rattle.fb_types.specs.Blocks.{named, ports_of, ports_of_event_block}
+use Rattle.fb_types.specs.Blocks.{named, ports_of}
 use Rattle.fb_types.specs.Flat.{kind_at, resource_of}
 use Rattle.fb_types.specs.Mapped.{event_pairs_of, IsCut}
-use Rattle.fb_types.specs.declared.event_kind.EventKind.{EventKind}
-use Rattle.fb_types.specs.declared.event_kind.EventKind.TheVariants.{Restart, Split, Merge, Rendezvous, Permit, Select, Switch, Delay, Cycle, SetReset, DataLatch, RisingEdge, FallingEdge, CountUp}
 use Rattle.fb_types.specs.declared.library.Library.{Library}
 use Rattle.fb_types.specs.declared.library.EventPort.{EventPort}
 use Rattle.fb_types.specs.declared.library.Connection.{Connection}
-use Rattle.fb_types.specs.declared.library.Ports.{Ports}
 use Rattle.fb_types.specs.declared.deploy.Plan.{Plan}
 use Rattle.fb_names.specs.Numbers.{kind_of_number}
 use Rattle.fb_names.specs.declared.numbers.NetworkNumbers.{NetworkNumbers}
 use Rattle.fb_joins.specs.Links.{pair_of}
-
--- ---- Interfaces
-
--- where the interface of an event block stands
-abbrev pub kind_place : EventKind → ℕ
-kind_place Restart = 0
-kind_place Split = 1
-kind_place Merge = 2
-kind_place Rendezvous = 3
-kind_place Permit = 4
-kind_place Select = 5
-kind_place Switch = 6
-kind_place Delay = 7
-kind_place Cycle = 8
-kind_place SetReset = 9
-kind_place DataLatch = 10
-kind_place RisingEdge = 11
-kind_place FallingEdge = 12
-kind_place CountUp = 13
-
--- each event block's interface at its place
-pub record AreInterfaces (all : List Ports) : Type 0 where
-  pub each : (k : EventKind) → slice_get all (kind_place k) ≡ Some (ports_of_event_block k)
 
 -- ---- Variables WITH output events
 

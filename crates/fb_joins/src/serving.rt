@@ -1,10 +1,11 @@
 //! The data that the event connections of an application carry from one resource to another.
 
 ghost use Rattle.std.specs.Prelude.{◌≡◌, [], IfOk, OnOk, None};
+ghost use Rattle.fb_types.specs.EventPorts.{ArePortsOfKinds};
 ghost use Rattle.fb_types.specs.Flat.{port_in};
 ghost use Rattle.fb_names.specs.Numbers.{IsNetwork};
 ghost use Rattle.fb_joins.specs.Mapping.{IsHolding};
-ghost use Rattle.fb_joins.specs.Serving.{AreInterfaces, AreServed, IsExtended, path_of};
+ghost use Rattle.fb_joins.specs.Serving.{AreServed, IsExtended, path_of};
 
 use crate::interfaces::variables_with;
 use crate::mapping::{Mapping, resource_of};
@@ -55,7 +56,7 @@ pub fn served_by<'a>(
     mapping: &Mapping,
     numbers: &NetworkNumbers,
 ) -> Result<Leads<'a>, AllocError>
-    requires interfaces { AreInterfaces interfaces.now }
+    requires interfaces { ArePortsOfKinds interfaces.now }
     requires mapping { IsHolding plan.now mapping.now }
     requires numbers { IsNetwork library.now (None, library.now.application.network) numbers.now }
     ensures { IfOk result (AreServed library.now plan.now) }

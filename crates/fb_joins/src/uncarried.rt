@@ -7,11 +7,11 @@ ghost use Rattle.fb_names.specs.Numbers.{IsResolved};
 ghost use Rattle.fb_joins.specs.Mapping.{IsMapping, IsHolding};
 ghost use Rattle.fb_joins.specs.Serving.{AreServed, IsUnserved};
 
-use crate::interfaces::interfaces;
 use crate::mapping::{Mapping, resource_of};
 use crate::serving::{Leads, component_of, served_by};
 use fb_names::numbers::Resolved;
 use fb_types::deploy::Plan;
+use fb_types::event_ports::all_ports;
 use fb_types::library::{Connection, Library};
 use std::alloc::{AllocError, Global};
 
@@ -51,11 +51,11 @@ pub fn lacks_event(
     requires resolved { IsResolved library.now plan.now resolved.now }
     ensures { IfOk result (λ b. IsTrue b ↔ NoEvent library.now plan.now) }
 {
-    let blocks = interfaces(alloc)?;
+    let interfaces = all_ports(alloc)?;
     let served = served_by(
         alloc,
         library,
-        blocks.as_slice(),
+        interfaces.as_slice(),
         plan,
         mapping,
         &resolved.application,

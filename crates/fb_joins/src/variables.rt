@@ -3,12 +3,11 @@
 ghost use Rattle.std.specs.Prelude.{◌≡◌, map, slice_get, option_map};
 ghost use Rattle.std.specs.Option.{option_copied};
 ghost use Rattle.fb_types.specs.Blocks as blocks;
-ghost use Rattle.fb_types.specs.Flat.{kind_of};
 ghost use Rattle.fb_joins.specs.Variables as spec;
 
 use fb_names::numbers::{End, TypeNumber};
 use fb_types::event_kind::EventKind;
-use fb_types::library::{BlockType, Library, Ports, Variable};
+use fb_types::library::{Library, Ports, Variable};
 use fb_types::value::Ty;
 
 /// The types of the data inputs of an event block.
@@ -43,15 +42,6 @@ fn event_block_outputs(kind: EventKind) -> &'static [Ty]
     }
 }
 
-fn ports_of(block: &BlockType) -> &Ports
-    ensures { result.now ≡ blocks.ports_of (kind_of block.now) }
-{
-    match block {
-        BlockType::Basic(basic) => &basic.ports,
-        BlockType::Composite(composite) => &composite.ports,
-    }
-}
-
 fn type_at(variables: &[Variable], place: usize) -> Option<Ty>
     ensures { result ≡ spec.type_at variables.now place }
 {
@@ -65,7 +55,7 @@ pub fn input_type(library: &Library, number: TypeNumber, place: usize) -> Option
     match number {
         TypeNumber::Event(kind) => event_block_inputs(kind).get(place).copied(),
         TypeNumber::Declared(block) => {
-            let ports = ports_of(library.blocks.get(block)?);
+            let ports = library.blocks.get(block)?.ports();
             type_at(ports.inputs.as_slice(), place)
         }
     }
@@ -78,7 +68,7 @@ fn output_type(library: &Library, number: TypeNumber, place: usize) -> Option<Ty
     match number {
         TypeNumber::Event(kind) => event_block_outputs(kind).get(place).copied(),
         TypeNumber::Declared(block) => {
-            let ports = ports_of(library.blocks.get(block)?);
+            let ports = library.blocks.get(block)?.ports();
             type_at(ports.outputs.as_slice(), place)
         }
     }
