@@ -7,6 +7,7 @@ use Rattle.std.proofs.lemmas.List.Folds.{list_any-append}
 use Rattle.std.proofs.lemmas.Option.{same_Some}
 use Rattle.fb_types.specs.Names.{Name, same_name}
 use Rattle.fb_types.specs.Blocks.{Kind, Event, among, named, event_blocks, event_block_named, ports_of, ports_of_event_block}
+use Rattle.fb_types.specs.EventPorts.{ArePortsOfKinds, kind_place}
 use Rattle.fb_types.specs.Flat.{kind_of, type_name, type_named}
 use Rattle.fb_types.specs.Repeated.{block_type_names}
 use Rattle.fb_types.specs.declared.event_kind.EventKind.{EventKind}
@@ -14,7 +15,7 @@ use Rattle.fb_types.specs.declared.library.BlockType.{BlockType}
 use Rattle.fb_types.specs.declared.library.Library.{Library}
 use Rattle.fb_types.specs.declared.library.Ports.{Ports}
 use Rattle.fb_names.proofs.Positions.{find-named}
-use Rattle.fb_names.specs.Types.{ArePortsOfKinds, kind_place, ports_of_block}
+use Rattle.fb_names.specs.Types.{ports_of_block}
 use Rattle.fb_names.proofs.Elements.{any-named}
 
 abbrev type_from : Library → Name → Option (Name × EventKind) → Option Kind

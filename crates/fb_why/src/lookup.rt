@@ -5,34 +5,17 @@ ghost use Rattle.std.specs.Option.{option_copied};
 ghost use Rattle.std.specs.List.{find, list_any};
 ghost use Rattle.fb_types.specs.Names.{same_name};
 ghost use Rattle.fb_types.specs.Blocks.{among, ports_of};
+ghost use Rattle.fb_types.specs.EventPorts.{ArePortsOfKinds};
 ghost use Rattle.fb_types.specs.Flat as spec;
 ghost use Rattle.fb_types.specs.Repeated.{block_type_names};
-ghost use Rattle.fb_names.specs.Types.{ArePortsOfKinds, kind_place, ports_of_block};
+ghost use Rattle.fb_names.specs.Types.{ports_of_block};
 ghost use Rattle.fb_why.specs.Sites.{names_of_sort};
 
-use fb_types::event_kind::EventKind;
-use fb_types::event_ports::{kind_named, ports_of};
+use fb_types::event_ports::{all_ports, kind_named};
 use fb_types::items::Items;
 use fb_types::library::{BlockType, EventPort, Instance, Library, Ports, Variable};
 use fb_types::name::Name;
 use std::alloc::{AllocError, Global};
-
-const KINDS: [EventKind; 14] = [
-    EventKind::Restart,
-    EventKind::Split,
-    EventKind::Merge,
-    EventKind::Rendezvous,
-    EventKind::Permit,
-    EventKind::Select,
-    EventKind::Switch,
-    EventKind::Delay,
-    EventKind::Cycle,
-    EventKind::SetReset,
-    EventKind::DataLatch,
-    EventKind::RisingEdge,
-    EventKind::FallingEdge,
-    EventKind::CountUp,
-];
 
 /// A sort of ports, each with a direction.
 #[derive(Clone, Copy)]
@@ -51,31 +34,11 @@ pub struct Types<'a> {
     ghost of_kinds: { ArePortsOfKinds event_ports },
 }
 
-fn kind_place(kind: EventKind) -> usize
-    ensures { result ≡ kind_place kind }
-{
-    kind as usize
-}
-
-/// The ports of all event blocks.
-fn event_ports(alloc: Global) -> Result<Items<Ports>, AllocError>
-    ensures { IfOk result ArePortsOfKinds }
-{
-    let mut all = Items::new(alloc);
-    for kind in &KINDS {
-        all.push(ports_of(alloc, *kind)?)?;
-    }
-    Ok(all)
-}
-
 /// The ports of a block type of the declaration.
 pub fn block_ports(block: &BlockType) -> &Ports
     ensures { result.now ≡ ports_of_block block.now }
 {
-    match block {
-        BlockType::Basic(basic) => &basic.ports,
-        BlockType::Composite(composite) => &composite.ports,
-    }
+    block.ports()
 }
 
 /// The name of a block type of the declaration.
@@ -132,7 +95,7 @@ impl<'a> Types<'a> {
     {
         Ok(Types {
             library,
-            event_ports: event_ports(alloc)?,
+            event_ports: all_ports(alloc)?,
         })
     }
 
@@ -141,7 +104,7 @@ impl<'a> Types<'a> {
         ensures { option_copied result ≡ option_map ports_of (spec.type_named self.now.library.now name.now) }
     {
         match kind_named(name.as_bytes()) {
-            Some(kind) => self.event_ports.get(kind_place(kind)),
+            Some(kind) => self.event_ports.get(kind.place()),
             None => {
                 let block = block_named(self.library.blocks.as_slice(), name)?;
                 Some(block_ports(block))
