@@ -4,6 +4,7 @@ use Rattle.std.specs.Prelude.{option_map, option_and_then, position, slice_get}
 use Rattle.std.proofs.lemmas.Option.{slice_get-map}
 use Rattle.fb_types.specs.Names.{Name, same_name}
 use Rattle.fb_types.specs.Blocks.{Kind, Event, named, event_blocks, event_block_named, ports_of, ports_of_event_block}
+use Rattle.fb_types.specs.EventPorts.{kind_place}
 use Rattle.fb_types.specs.Flat.{kind_of, type_name, type_named, instance_in, kind_of_instance}
 use Rattle.fb_types.specs.declared.event_kind.EventKind.{EventKind}
 use Rattle.fb_types.specs.declared.library.Library.{Library}
@@ -11,7 +12,7 @@ use Rattle.fb_types.specs.declared.library.BlockType.{BlockType}
 use Rattle.fb_types.specs.declared.library.Instance.{Instance}
 use Rattle.fb_types.specs.declared.library.Ports.{Ports}
 use Rattle.fb_names.proofs.Positions.{named-position}
-use Rattle.fb_check.specs.Directory.{kind_place, IsFound, AreInputs, IsDirectory, ports_at}
+use Rattle.fb_check.specs.Directory.{IsFound, AreInputs, IsDirectory, ports_at}
 use Rattle.fb_check.specs.declared.directory_making.Inputs.{Inputs}
 use Rattle.fb_check.specs.declared.directory.Directory.{Directory}
 

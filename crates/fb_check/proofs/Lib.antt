@@ -2,7 +2,6 @@ mod Passed
 pub mod Verdict
 pub mod Parts
 pub mod Steps
-pub mod EventInterfaces
 pub mod Found
 pub mod Sources
 pub mod Good

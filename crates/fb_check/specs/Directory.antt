@@ -9,11 +9,11 @@ use Rattle.std.specs.Borrow.{Bor}
 use Rattle.fb_types.specs.Names.{Name, same_name, same_port}
 use Rattle.fb_types.specs.Values.{fits}
 use Rattle.fb_types.specs.Blocks.{named, among, ports_of, ports_of_event_block, is_event_input}
+use Rattle.fb_types.specs.EventPorts.{kind_place}
 use Rattle.fb_types.specs.Flat.{kind_of, kind_of_instance, instance_in, port_in}
 use Rattle.fb_types.specs.Repeated.{Twice}
 use Rattle.fb_types.specs.Accepted.{set_names, is_held}
 use Rattle.fb_types.specs.declared.event_kind.EventKind.{EventKind}
-use Rattle.fb_types.specs.declared.event_kind.EventKind.TheVariants.{Restart, Split, Merge, Rendezvous, Permit, Select, Switch, Delay, Cycle, SetReset, DataLatch, RisingEdge, FallingEdge, CountUp}
 use Rattle.fb_types.specs.declared.value.Ty.{Ty}
 use Rattle.fb_types.specs.declared.value.Value.{Value}
 use Rattle.fb_types.specs.declared.library.Library.{Library}
@@ -25,29 +25,6 @@ use Rattle.fb_types.specs.declared.deploy.Stimulus.{Stimulus}
 use Rattle.fb_types.specs.declared.deploy.Setting.{Setting}
 use Rattle.fb_check.specs.declared.directory_making.Inputs.{Inputs}
 use Rattle.fb_check.specs.declared.directory.Directory.{Directory}
-
--- ---- Interfaces of event blocks
-
--- where the interface of an event block stands
-abbrev pub kind_place : EventKind → ℕ
-kind_place Restart = 0
-kind_place Split = 1
-kind_place Merge = 2
-kind_place Rendezvous = 3
-kind_place Permit = 4
-kind_place Select = 5
-kind_place Switch = 6
-kind_place Delay = 7
-kind_place Cycle = 8
-kind_place SetReset = 9
-kind_place DataLatch = 10
-kind_place RisingEdge = 11
-kind_place FallingEdge = 12
-kind_place CountUp = 13
-
--- each event block's interface at its place
-pub record AreInterfaces (all : List Ports) : Type 0 where
-  pub each : (k : EventKind) → slice_get all (kind_place k) ≡ Some (ports_of_event_block k)
 
 -- ---- Sets and maps of names
 

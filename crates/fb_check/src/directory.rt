@@ -4,11 +4,11 @@ ghost use Rattle.std.specs.Prelude.{◌≡◌, map, option_map, IfOk};
 ghost use Rattle.std.specs.Option.{option_copied};
 ghost use Rattle.fb_names.specs.Places.{IsIndex};
 ghost use Rattle.fb_types.specs.Blocks.{ports_of};
+ghost use Rattle.fb_types.specs.EventPorts.{ArePortsOfKinds};
 ghost use Rattle.fb_types.specs.Flat.{type_name, type_named};
-ghost use Rattle.fb_check.specs.Directory.{AreInterfaces, IsDirectory, IsFound};
+ghost use Rattle.fb_check.specs.Directory.{IsDirectory, IsFound};
 
 use crate::directory_making::{Inputs, Pairs, inputs_of_blocks, inputs_of_each, targets_of};
-use crate::event_interfaces::place_of_kind;
 use fb_names::places::{Places, place_of};
 use fb_types::event_ports::kind_named;
 use fb_types::items::Items;
@@ -33,7 +33,7 @@ pub fn directory_of<'a>(
     library: &'a Library,
     interfaces: &'a [Ports],
 ) -> Result<Directory<'a>, AllocError>
-    requires { AreInterfaces interfaces.now }
+    requires { ArePortsOfKinds interfaces.now }
     ensures { IfOk result (IsDirectory library.now) }
 {
     let network = &library.application.network;
@@ -56,7 +56,7 @@ pub fn inputs_named<'d, 'a>(
     ensures { IsFound (option_map ports_of (type_named library.now name.now)) (option_copied result) }
 {
     match kind_named(name) {
-        Some(kind) => directory.event_blocks.get(place_of_kind(kind)),
+        Some(kind) => directory.event_blocks.get(kind.place()),
         None => directory.declared.get(place_of(types, name)?),
     }
 }

@@ -104,15 +104,6 @@ pub fn inputs_of_each<'a>(
     Ok(all)
 }
 
-fn ports_in(block: &BlockType) -> &Ports
-    ensures { result.now ≡ ports_of (kind_of block.now) }
-{
-    match block {
-        BlockType::Basic(basic) => &basic.ports,
-        BlockType::Composite(composite) => &composite.ports,
-    }
-}
-
 /// What stimuli may name of each block type of a declaration.
 pub fn inputs_of_blocks<'a>(
     alloc: Global,
@@ -122,7 +113,7 @@ pub fn inputs_of_blocks<'a>(
 {
     let mut all = Items::new(alloc);
     for block in blocks {
-        all.push(inputs_of(alloc, ports_in(block))?)?;
+        all.push(inputs_of(alloc, block.ports())?)?;
     }
     Ok(all)
 }

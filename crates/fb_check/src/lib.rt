@@ -6,7 +6,7 @@
 //!
 //! To be read in this order: `case` and `fault`; `judge`, the checks in the order of their numbers; `network_checks` (E22
 //! to E25) and `mapping_checks` (E26 to E28); `stimuli` (E29) with `directory` and `directory_making`, what stimuli may
-//! name, `event_interfaces` and `stimulus_values`. Then `accept`, `error`.
+//! name, and `stimulus_values`. Then `accept`, `error`.
 #![tactic(auto)]
 
 pub mod accept;
@@ -14,7 +14,6 @@ pub mod case;
 mod directory;
 mod directory_making;
 pub mod error;
-mod event_interfaces;
 pub mod fault;
 pub mod judge;
 mod mapping_checks;

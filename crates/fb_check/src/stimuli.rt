@@ -13,11 +13,11 @@ ghost use Rattle.fb_check.specs.Directory.{IsDirectory, IsFound, CanTake, HasRef
 
 use crate::directory::{Directory, directory_of, inputs_named};
 use crate::directory_making::Inputs;
-use crate::event_interfaces::interfaces;
 use crate::stimulus_values::is_value_of;
 use fb_names::catalog::Catalog;
 use fb_names::places::{place_of, places_of};
 use fb_types::deploy::{Setting, Stimulus};
+use fb_types::event_ports::all_ports;
 use fb_types::library::Library;
 use fb_types::name::Name;
 use fb_types::value::Value;
@@ -134,8 +134,8 @@ pub(crate) fn has_refused(
     requires { (plan : Plan) × IsCatalog library.now plan catalog.now }
     ensures { IfOk result (λ b. IsTrue b ↔ HasRefused library.now stimuli.now) }
 {
-    let blocks = interfaces(alloc)?;
-    let directory = directory_of(alloc, library, blocks.as_slice())?;
+    let interfaces = all_ports(alloc)?;
+    let directory = directory_of(alloc, library, interfaces.as_slice())?;
     for stimulus in stimuli {
         if !can_take(alloc, library, catalog, &directory, stimulus)? {
             return Ok(true);

@@ -1,10 +1,10 @@
 -- What is read where nothing nests over the limit, and refused for its nesting where something does.
-use Rattle.std.proofs.Common.{◌≡◌, ℕ, zero, suc, ◌-◌, max, Bool, true, false, cond, leb, Err, refl, sym, ap, ◌∙◌, inl, inr, arith}
+use Rattle.std.proofs.Common.{◌≡◌, ℕ, zero, suc, ◌-◌, max, Bool, leb, refl, sym, ap, ◌∙◌, inl, inr, arith}
 use Rattle.std.specs.Prelude.{◌&&◌}
 use Rattle.std.proofs.lemmas.Bool.{cases_lt, le-leb, lt-leb}
 use Rattle.fb_types.specs.declared.text.Expr.{Expr}
 use Rattle.fb_read.specs.Tokens.{Tokens}
-use Rattle.fb_read.specs.Parser.{Parser, Outcome, too_deep, and_then}
+use Rattle.fb_read.specs.Parser.{Parser, Outcome, and_then}
 use Rattle.fb_read.specs.Nesting.{nesting, most_nesting}
 use Rattle.fb_read.specs.Operators.{Stops, loosest}
 use Rattle.fb_read.specs.ExpressionGrammar.{IsExpression}

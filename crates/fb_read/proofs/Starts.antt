@@ -1,5 +1,5 @@
 -- Which token a rule begins with, and which may follow an expression.
-use Rattle.std.proofs.Common.{◌≡◌, ℕ, suc, ◌≤◌, true, false, List, Some, None, refl, arith}
+use Rattle.std.proofs.Common.{◌≡◌, ℕ, suc, true, false, List, Some, refl, arith}
 use Rattle.fb_read.specs.declared.token.Mark.{Mark}
 use Rattle.fb_read.specs.declared.token.Mark.TheVariants as mark
 use Rattle.fb_types.specs.declared.text.BinaryOperator.{BinaryOperator}

@@ -1,7 +1,7 @@
 -- Statements that the grammar derives are read where they keep the limits of nesting, and are refused for their nesting
 -- where they do not. By induction on the depth alone: the lemma on each rule takes as a premise that the parser of the
 -- statements inside is complete.
-use Rattle.std.proofs.Common.{◌≡◌, ℕ, zero, suc, ◌-◌, ℤ, pos, ◌<◌, ◌≤◌, max, Bool, true, false, cond, leb, List, [], ◌∷◌, ◌++◌, length, map, Ok, Err, Option, Some, None, refl, sym, ap, ◌∙◌, arith}
+use Rattle.std.proofs.Common.{◌≡◌, ℕ, zero, suc, ◌-◌, ℤ, max, Bool, false, leb, List, [], ◌∷◌, map, Option, Some, None, refl, sym, ap, ◌∙◌, arith}
 use Rattle.std.specs.Prelude.{◌&&◌}
 use Rattle.std.proofs.lemmas.Bool.{lt-leb}
 use Rattle.fb_types.specs.Names.{Name}
@@ -11,15 +11,13 @@ use Rattle.fb_types.specs.declared.text.Stmt.TheVariants as s
 use Rattle.fb_types.specs.declared.text.Choice.{Choice}
 use Rattle.fb_types.specs.declared.text.Branch.{Branch}
 use Rattle.fb_types.specs.declared.text.Label.{Label}
-use Rattle.fb_types.specs.declared.text.Body.{Body}
-use Rattle.fb_read.specs.declared.token.Mark.{Mark}
 use Rattle.fb_read.specs.declared.token.Mark.TheVariants as mark
 use Rattle.fb_read.specs.declared.token.Token.TheVariants as token
 use Rattle.fb_read.specs.Tokens.{Tokens}
-use Rattle.fb_read.specs.Parser.{Parser, Outcome, too_deep, and_then, same_mark, sees, after, expect, name, whole, separated}
+use Rattle.fb_read.specs.Parser.{Parser, same_mark, sees, after, expect, name, whole, separated}
 use Rattle.fb_read.specs.Operators.{Stops, loosest}
 use Rattle.fb_read.specs.Nesting.{nesting, by_nesting, deepest, most_nesting, statement_nesting, branch_nesting, choice_nesting, expression_nesting, branch_expression_nesting, choice_expression_nesting, fits_body}
-use Rattle.fb_read.specs.Grammar.{IsMark, is_mark, IsName, is_name, is_whole, AreSeparated, last, and_next}
+use Rattle.fb_read.specs.Grammar.{IsMark, is_mark, is_name, is_whole, AreSeparated, last, and_next}
 use Rattle.fb_read.specs.ExpressionGrammar.{IsExpression}
 use Rattle.fb_read.specs.StatementNodes.{label_of, choice_of, branch_of, body_of}
 use Rattle.fb_read.specs.StatementGrammar.{IsBound, is_bound, is_negative, IsLabel, is_single, is_range, IsStep, no_step, is_step, IsStatement, is_empty, is_exit, is_return, is_assignment, is_if, is_case, is_for, is_while, is_repeat, AreStatements, no_statement, then_statements, IsChoice, is_choice, IsElsif, is_elsif, AreElsifs, no_elsif, then_elsifs, IsBranch, is_branch, AreBranches, no_branch, then_branches, AreOthers, no_others, are_others, IsBody, is_body}

@@ -1,10 +1,9 @@
 -- Expressions and statements as the rules that hold them need them.
-use Rattle.std.proofs.Common.{◌≡◌, ◌≤◌, Bool, true, false, cond, leb, ◌∷◌, Ok, Err, refl, ap, ◌∙◌, inl, inr, arith}
+use Rattle.std.proofs.Common.{◌≡◌, Bool, true, false, ◌∷◌, Err, refl, ap, ◌∙◌}
 use Rattle.std.specs.Prelude.{◌&&◌}
-use Rattle.std.proofs.lemmas.Bool.{cases_lt, leb-true, le-leb, lt-leb}
+use Rattle.std.proofs.lemmas.Bool.{leb-true, le-leb}
 use Rattle.fb_types.specs.declared.text.Expr.{Expr}
 use Rattle.fb_types.specs.declared.text.Body.{Body}
-use Rattle.fb_types.specs.declared.text.Stmt.{Stmt}
 use Rattle.fb_read.specs.declared.token.Mark.TheVariants as mark
 use Rattle.fb_read.specs.declared.token.Token.TheVariants as token
 use Rattle.fb_read.specs.Tokens.{Tokens}

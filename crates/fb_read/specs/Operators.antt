@@ -1,5 +1,5 @@
 -- The binary operators and how tightly they bind (IEC 61131-3, 7.3.2, in this project's profile). Level 1 binds tightest.
-use Rattle.std.specs.Prelude.{◌≡◌, ◌≤◌, ℕ, if◌then◌else◌, ◌==◌, Bool, true, false, List, [], ◌∷◌, Option, Some, None}
+use Rattle.std.specs.Prelude.{◌≡◌, ◌≤◌, ℕ, if◌then◌else◌, ◌==◌, Bool, true, false, [], ◌∷◌, Option, Some, None}
 use Rattle.fb_types.specs.declared.text.BinaryOperator.{BinaryOperator}
 use Rattle.fb_types.specs.declared.text.BinaryOperator.TheVariants as op
 use Rattle.fb_read.specs.declared.token.Mark.{Mark}

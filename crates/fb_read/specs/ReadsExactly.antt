@@ -1,7 +1,5 @@
 -- What it says that a parser reads what a grammar derives, to a limit (this project's profile).
 use Rattle.std.specs.Prelude.{◌≡◌, Ok, Err}
-use Rattle.fb_types.specs.declared.text.Expr.{Expr}
-use Rattle.fb_types.specs.declared.text.Body.{Body}
 use Rattle.fb_read.specs.Tokens.{Tokens}
 use Rattle.fb_read.specs.Parser.{Parser, too_deep}
 use Rattle.fb_read.specs.Operators.{Stops, loosest}

@@ -105,8 +105,9 @@ impl Rule for Library {
     #[tactic(auto, unfolding(crate::specs::Blocks::library))]
     fn read(alloc: Global, cursor: &mut Cursor<'_>) -> Result<Library, ParseFault> {
         let before = run_after::<BlockType>(alloc, cursor, Mark::FunctionBlock, Items::new(alloc))?;
-        let application = Application::read(alloc, cursor)?;
-        let blocks = run_after(alloc, cursor, Mark::FunctionBlock, before)?;
+        let (before, application) = beside(before, Application::read(alloc, cursor))?;
+        let blocks = run_after(alloc, cursor, Mark::FunctionBlock, before);
+        let (application, blocks) = beside(application, blocks)?;
         Ok(Library {
             blocks,
             application,

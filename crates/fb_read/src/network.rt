@@ -139,7 +139,7 @@ impl Rule for Application {
     fn read(alloc: Global, cursor: &mut Cursor<'_>) -> Result<Application, ParseFault> {
         cursor.expect(Mark::Application)?;
         let name = cursor.name(alloc)?;
-        let network = Network::read(alloc, cursor)?;
+        let (name, network) = beside(name, Network::read(alloc, cursor))?;
         ended(cursor, Mark::EndApplication, Application { name, network })
     }
 }

@@ -50,8 +50,8 @@ fn assignment(alloc: Global, cursor: &mut Cursor<'_>) -> Result<Stmt, ParseFault
     ensures { Reads (spec.assignment cursor.old) result cursor.new }
 {
     let target = cursor.name(alloc)?;
-    cursor.expect(Mark::Assign)?;
-    let value = expression(alloc, cursor)?;
+    let target = ended(cursor, Mark::Assign, target)?;
+    let (target, value) = beside(target, expression(alloc, cursor))?;
     let found = Stmt::Assign(Reference::new(target), value);
     ended(cursor, Mark::Semicolon, found)
 }
@@ -75,7 +75,7 @@ fn for_end(alloc: Global, cursor: &mut Cursor<'_>) -> Result<(Expr, Option<Expr>
 {
     cursor.expect(Mark::To)?;
     let end = expression(alloc, cursor)?;
-    let step = step(alloc, cursor)?;
+    let (end, step) = beside(end, step(alloc, cursor))?;
     Ok((end, step))
 }
 
@@ -219,8 +219,8 @@ impl<F: Fn(Global, &mut Cursor<'_>, u32) -> Result<Stmt, ParseFault>> Rules<F> {
     {
         cursor.expect(Mark::Of)?;
         let branches = self.branches(cursor)?;
-        let others = self.others(cursor)?;
-        finished(cursor, Mark::EndCase, (branches, others))
+        let both = beside(branches, self.others(cursor))?;
+        finished(cursor, Mark::EndCase, both)
     }
 
     /// What stands behind CASE.
@@ -230,7 +230,8 @@ impl<F: Fn(Global, &mut Cursor<'_>, u32) -> Result<Stmt, ParseFault>> Rules<F> {
         ensures { Reads (spec.case_statement (spec.nested_statement self.now.below) cursor.old) result cursor.new }
     {
         let selector = expression(self.alloc, cursor)?;
-        let (branches, others) = self.case_body(cursor)?;
+        let (selector, cases) = beside(selector, self.case_body(cursor))?;
+        let (branches, others) = cases;
         Ok(Stmt::Case(selector, branches, others))
     }
 

@@ -14,7 +14,7 @@ returns-in_err-place_of-in-None c =
 pub returns-in-Some : goal.returns-in-Some
 returns-in-Some c =
     let P : Option Inputs → Type 0 = λ o. IsFound (ports_named c.args.library.now c.args.name.now) o in
-    subst P (sym (c.get.ensures.value ∙ (λ i. slice_get c.args.directory.now.event_blocks (c.place_of_kind.ensures i))))
+    subst P (sym (c.get.ensures.value ∙ (λ i. slice_get c.args.directory.now.event_blocks (c.place.ensures i))))
     (found_event c.args.library.now c.args.directory.now c.args.name.now c.in-Some.kind (sym c.kind_named.ensures ∙ c.in-Some.is) c.requires.directory)
 
 pub returns-in_ok-place_of-in-None : goal.returns-in_ok-place_of-in-None
