@@ -7,16 +7,18 @@ use Rattle.std.proofs.lemmas.List.Elements.{filter-append, All-push}
 use Rattle.std.proofs.lemmas.Option.{slice_get-get_or, slice_get-map, slice_get_read, slice_get_cases, slice_get_within, same_Some, get_or_from_slice_get}
 use Rattle.fb_types.specs.Names.{Name, same_name}
 use Rattle.fb_types.specs.Blocks.{among, variable_names, variables_with, ports_of_event_block}
+use Rattle.fb_types.specs.EventPorts.{kind_place}
 use Rattle.fb_types.specs.Numbers.{event_at}
 use Rattle.fb_types.specs.declared.event_kind.EventKind.{EventKind}
-use Rattle.fb_types.specs.declared.event_kind.EventKind.TheVariants.{Restart, Split, Merge, Rendezvous, Permit, Select, Switch, Delay, Cycle, SetReset, DataLatch, RisingEdge, FallingEdge, CountUp}
+use Rattle.fb_types.specs.declared.event_kind.EventKind.TheVariants.{Restart}
 use Rattle.fb_types.specs.declared.library.EventPort.{EventPort}
 use Rattle.fb_types.specs.declared.library.Variable.{Variable}
 use Rattle.fb_types.specs.declared.library.Ports.{Ports}
+use Rattle.fb_types.proofs.AllKinds.{kinds, kind_stands}
 use Rattle.fb_names.proofs.Seen.{map_take_more}
 use Rattle.fb_system.specs.declared.with_places.WithPlaces.{WithPlaces}
 use Rattle.fb_system.specs.Stands.{ArePlaces, ArePlacesUpTo, ArePlacesOfEach, AreWithPlaces, variable_at}
-use Rattle.fb_system.specs.Tables.{AreOfEventBlocks, kind_place}
+use Rattle.fb_system.specs.Tables.{AreOfEventBlocks}
 
 abbrev pub goes_with : List EventPort → Name → Name → Bool
 goes_with events e v = list_any (λ p. same_name p.name e && among p.with v) events
@@ -107,27 +109,6 @@ with_places_are its x ins outs = record { inputs_counted = ins.counted; inputs =
 pub element_at : {X : Type 0} (xs : List X) (i : ℕ) → i < length xs → (x : X) × (slice_get xs i ≡ Some x)
 element_at xs i h =
     elim (slice_get_cases xs i).1 [ inl w ↦ (w.0, w.2) | inr w ↦ absurd (omega arith) ]
-
--- all event blocks, each at the place of its interface
-abbrev kinds : List EventKind
-kinds =
-    Restart ∷ Split ∷ Merge ∷ Rendezvous ∷ Permit ∷ Select ∷ Switch ∷ Delay ∷ Cycle ∷ SetReset ∷ DataLatch ∷ RisingEdge ∷ FallingEdge ∷ CountUp ∷ []
-
-kind_stands : (k : EventKind) → slice_get kinds (kind_place k) ≡ Some k
-kind_stands Restart = refl
-kind_stands Split = refl
-kind_stands Merge = refl
-kind_stands Rendezvous = refl
-kind_stands Permit = refl
-kind_stands Select = refl
-kind_stands Switch = refl
-kind_stands Delay = refl
-kind_stands Cycle = refl
-kind_stands SetReset = refl
-kind_stands DataLatch = refl
-kind_stands RisingEdge = refl
-kind_stands FallingEdge = refl
-kind_stands CountUp = refl
 
 -- the entries of the first kinds
 pub record AreFirst (n : ℕ) (all : List WithPlaces) : Type 0 where

@@ -26,7 +26,7 @@ use Rattle.fb_fabric.specs.Fabrics as fabric
 use Rattle.fb_fabric.specs.declared.fabric.Place.{Place}
 use Rattle.fb_system.specs.Tables.{AreInterfaces}
 use Rattle.fb_system.specs.declared.interfaces.Interfaces.{Interfaces}
-use Rattle.fb_names.specs.Types.{ArePortsOfKinds}
+use Rattle.fb_types.specs.EventPorts.{ArePortsOfKinds}
 use Rattle.fb_system.specs.Rows.{AreRows}
 use Rattle.fb_system.specs.declared.rows.StimulusRow.{StimulusRow}
 use Rattle.fb_system.specs.Linking.{IsLinked, Linked, link_at, receiver_at, sender_at}

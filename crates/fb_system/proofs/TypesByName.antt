@@ -5,6 +5,7 @@ use Rattle.std.specs.BTreeMap.{BTreeMap}
 use Rattle.std.proofs.lemmas.Option.{slice_get_read, slice_get_within, same_Some}
 use Rattle.fb_types.specs.Names.{Name}
 use Rattle.fb_types.specs.Blocks.{Kind, Event, event_block_named, ports_of, ports_of_event_block}
+use Rattle.fb_types.specs.EventPorts.{ArePortsOfKinds, kind_place}
 use Rattle.fb_types.specs.Flat.{kind_of, type_name, type_named}
 use Rattle.fb_types.specs.declared.event_kind.EventKind.{EventKind}
 use Rattle.fb_types.specs.declared.deploy.Plan.{Plan}
@@ -18,7 +19,7 @@ use Rattle.fb_names.specs.declared.catalog.Catalog.{Catalog}
 use Rattle.fb_names.proofs.Positions.{position_is}
 use Rattle.fb_names.specs.Numbers.{place_of, kind_of_number}
 use Rattle.fb_names.specs.Sorts.{ArePlacesOf}
-use Rattle.fb_names.specs.Types.{HasTypes, ArePortsOfKinds, kind_place}
+use Rattle.fb_names.specs.Types.{HasTypes}
 use Rattle.fb_names.specs.declared.numbers.TypeNumber.{TypeNumber}
 use Rattle.fb_names.specs.declared.numbers.TypeNumber.TheVariants as number
 use Rattle.fb_names.proofs.Lookups.{type_named-number, block_places}

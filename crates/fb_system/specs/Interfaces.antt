@@ -2,10 +2,11 @@
 use Rattle.std.specs.Prelude.{◌≡◌}
 use Rattle.std.specs.Option.{ForSome}
 use Rattle.fb_types.specs.Blocks.{Kind, ports_of}
+use Rattle.fb_types.specs.EventPorts.{ArePortsOfKinds}
 use Rattle.fb_types.specs.Repeated.{instance_names}
 use Rattle.fb_names.specs.Places.{IsIndex}
 use Rattle.fb_names.specs.Sorts.{ArePlacesOf}
-use Rattle.fb_names.specs.Types.{HasTypes, ArePortsOfKinds}
+use Rattle.fb_names.specs.Types.{HasTypes}
 use Rattle.fb_system.specs.declared.interfaces_by_name.Interfaces.{Interfaces}
 use Rattle.fb_system.specs.declared.ports.Interface.{Interface}
 

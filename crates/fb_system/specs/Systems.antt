@@ -1,8 +1,8 @@
 -- What the tables of a system stand for (the numbers are this project's profile).
+use Rattle.fb_types.specs.EventPorts.{ArePortsOfKinds}
 use Rattle.fb_types.specs.Headline.{Inputs, AreAccepted}
 use Rattle.fb_system.specs.Tables.{AreInterfaces}
 use Rattle.fb_system.specs.Linking.{IsLinked}
-use Rattle.fb_names.specs.Types.{ArePortsOfKinds}
 use Rattle.fb_system.specs.Rows.{AreRows}
 use Rattle.fb_system.specs.declared.whole.Whole.{Whole}
 

@@ -1,9 +1,9 @@
 -- The types of a declaration and the event blocks, each with the places of the variables WITH its events (this project's profile).
 use Rattle.std.specs.Prelude.{◌≡◌, ℕ, List, length, Some, slice_get}
 use Rattle.fb_types.specs.Blocks.{ports_of, ports_of_event_block}
+use Rattle.fb_types.specs.EventPorts.{kind_place}
 use Rattle.fb_types.specs.Flat.{kind_of}
 use Rattle.fb_types.specs.declared.event_kind.EventKind.{EventKind}
-use Rattle.fb_types.specs.declared.event_kind.EventKind.TheVariants.{Restart, Split, Merge, Rendezvous, Permit, Select, Switch, Delay, Cycle, SetReset, DataLatch, RisingEdge, FallingEdge, CountUp}
 use Rattle.fb_types.specs.declared.library.BlockType.{BlockType}
 use Rattle.fb_types.specs.declared.library.Library.{Library}
 use Rattle.fb_names.specs.declared.catalog.BlockPlaces.{BlockPlaces}
@@ -11,23 +11,6 @@ use Rattle.fb_system.specs.declared.with_places.WithPlaces.{WithPlaces}
 use Rattle.fb_system.specs.declared.interfaces.Interfaces.{Interfaces}
 use Rattle.fb_system.specs.Stands.{AreWithPlaces}
 use Rattle.fb_system.specs.Lookups.{IsPlaced}
-
--- where the entry of an event block stands
-abbrev pub kind_place : EventKind → ℕ
-kind_place Restart = 0
-kind_place Split = 1
-kind_place Merge = 2
-kind_place Rendezvous = 3
-kind_place Permit = 4
-kind_place Select = 5
-kind_place Switch = 6
-kind_place Delay = 7
-kind_place Cycle = 8
-kind_place SetReset = 9
-kind_place DataLatch = 10
-kind_place RisingEdge = 11
-kind_place FallingEdge = 12
-kind_place CountUp = 13
 
 -- each event block's entry at its place
 abbrev pub AreOfEventBlocks : List WithPlaces → Type 0

@@ -5,7 +5,7 @@ ghost use Rattle.std.specs.List.{list_any};
 ghost use Rattle.fb_types.specs.Names.{same_name};
 ghost use Rattle.fb_types.specs.Blocks.{among, variables_with, ports_of_event_block};
 ghost use Rattle.fb_system.specs.Stands.{ArePlaces, ArePlacesOfEach, AreWithPlaces};
-ghost use Rattle.fb_system.specs.Tables.{AreOfEventBlocks, kind_place};
+ghost use Rattle.fb_system.specs.Tables.{AreOfEventBlocks};
 
 use crate::with_places::WithPlaces;
 use fb_types::event_kind::EventKind;
@@ -14,23 +14,6 @@ use fb_types::items::Items;
 use fb_types::library::{EventPort, Variable};
 use fb_types::name::Name;
 use std::alloc::{AllocError, Global};
-
-const KINDS: [EventKind; 14] = [
-    EventKind::Restart,
-    EventKind::Split,
-    EventKind::Merge,
-    EventKind::Rendezvous,
-    EventKind::Permit,
-    EventKind::Select,
-    EventKind::Switch,
-    EventKind::Delay,
-    EventKind::Cycle,
-    EventKind::SetReset,
-    EventKind::DataLatch,
-    EventKind::RisingEdge,
-    EventKind::FallingEdge,
-    EventKind::CountUp,
-];
 
 fn is_among(names: &[Name], name: &Name) -> bool
     ensures { result ≡ among names.now name.now }
@@ -97,19 +80,12 @@ fn of_kind(alloc: Global, kind: EventKind) -> Result<WithPlaces, AllocError>
     Ok(WithPlaces { inputs, outputs })
 }
 
-/// The place of an event block among all of them.
-pub(crate) fn place_of_kind(kind: EventKind) -> usize
-    ensures { result ≡ kind_place kind }
-{
-    kind as usize
-}
-
 /// The places of the variables WITH each event of each event block.
 pub(crate) fn of_event_blocks(alloc: Global) -> Result<Items<WithPlaces>, AllocError>
     ensures { IfOk result AreOfEventBlocks }
 {
     let mut all = Items::new(alloc);
-    for kind in &KINDS {
+    for kind in &EventKind::ALL {
         all.push(of_kind(alloc, *kind)?)?;
     }
     Ok(all)

@@ -11,12 +11,12 @@ ghost use Rattle.fb_names.specs.Catalog.{IsCatalog};
 ghost use Rattle.fb_system.specs.Stands.{AreWithPlaces};
 ghost use Rattle.fb_system.specs.Tables.{AreBlocks, AreInterfaces, AreOfBlocks};
 
-use crate::event_block_with_places::{of_event_blocks, place_of_kind};
+use crate::event_block_with_places::of_event_blocks;
 use crate::with_places::{WithPlaces, with_places};
 use fb_names::catalog::{BlockPlaces, Catalog};
 use fb_types::event_kind::EventKind;
 use fb_types::items::Items;
-use fb_types::library::{BlockType, Library, Ports};
+use fb_types::library::{BlockType, Library};
 use std::alloc::{AllocError, Global};
 
 /// The types of a declaration and the event blocks: for each event the places of the variables WITH it.
@@ -40,16 +40,7 @@ impl Interfaces {
         requires { (library : Declaration) × AreInterfaces library self.now }
         ensures { AreWithPlaces (ports_of_event_block kind) result.now }
     {
-        &self.event_blocks.as_slice()[place_of_kind(kind)]
-    }
-}
-
-fn ports_in(block: &BlockType) -> &Ports
-    ensures { result.now ≡ ports_of (kind_of block.now) }
-{
-    match block {
-        BlockType::Basic(basic) => &basic.ports,
-        BlockType::Composite(composite) => &composite.ports,
+        &self.event_blocks.as_slice()[kind.place()]
     }
 }
 
@@ -63,7 +54,7 @@ fn of_blocks(
 {
     let mut all = Items::new(alloc);
     for (place, block) in blocks.iter().enumerate() {
-        all.push(with_places(alloc, ports_in(block), &names[place].ports)?)?;
+        all.push(with_places(alloc, block.ports(), &names[place].ports)?)?;
     }
     Ok(all)
 }

@@ -4,14 +4,13 @@
 //! answers what the flat system of the definitions has. Contracts see the inputs alone. A share of a system is the same
 //! one.
 //!
-//! To be read in this order: `system`, what is asked; `stimulus`; `whole`, what is kept; `types` and `event_blocks`. Then
-//! the tables: `links`, resources and links; `interfaces` with `with_places` and `event_block_with_places`, the variables
-//! WITH each event; `initial_values`, what variables begin with; `rows`, the stimuli by number, with `interfaces_by_name`
-//! and `ports`, where their names are looked up.
+//! To be read in this order: `system`, what is asked; `stimulus`; `whole`, what is kept; `types`. Then the tables:
+//! `links`, resources and links; `interfaces` with `with_places` and `event_block_with_places`, the variables WITH each
+//! event; `initial_values`, what variables begin with; `rows`, the stimuli by number, with `interfaces_by_name` and
+//! `ports`, where their names are looked up.
 #![tactic(auto)]
 
 mod event_block_with_places;
-mod event_blocks;
 pub mod initial_values;
 pub mod interfaces;
 mod interfaces_by_name;

@@ -16,7 +16,6 @@ ghost use Rattle.fb_names.specs.Numbers.{IsResolved, kind_of_number};
 ghost use Rattle.fb_system.specs.Ports.{IsPort, IsSource, IsTarget, IsVariable, variable_of};
 ghost use Rattle.fb_system.specs.Systems.{inputs_of, StandFor};
 
-use crate::event_blocks::event_blocks;
 use crate::initial_values::{input_values, output_values};
 use crate::interfaces::Interfaces;
 use crate::links::Links;
@@ -29,6 +28,7 @@ use fb_fabric::beside::beside;
 use fb_fabric::fabric::{Fabric, Place};
 use fb_names::numbers::{Resolved, TypeNumber};
 use fb_types::deploy::{Deploy, Plan, Stimulus};
+use fb_types::event_ports::all_ports;
 use fb_types::items::Items;
 use fb_types::latency::Latency;
 use fb_types::library::{Library, Ports};
@@ -84,12 +84,7 @@ impl System {
         let links = Links::of(alloc, &library, deploy.plan(), &numbers);
         let fabric = Fabric::of(alloc, library, numbers);
         let given = (deploy, stimuli, interfaces, rows);
-        let (given, links, fabric, event_blocks) = beside(
-            given,
-            links,
-            fabric,
-            event_blocks(alloc),
-        )?;
+        let (given, links, fabric, event_blocks) = beside(given, links, fabric, all_ports(alloc))?;
         let (deploy, stimuli, interfaces, rows) = given;
         let tables = Whole {
             deploy,

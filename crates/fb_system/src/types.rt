@@ -2,25 +2,14 @@
 
 ghost use Rattle.std.specs.Prelude.{◌≡◌, Some, option_map};
 ghost use Rattle.fb_types.specs.Blocks.{Kind, ports_of};
-ghost use Rattle.fb_types.specs.Flat.{kind_of};
 ghost use Rattle.fb_system.specs.Stands.{AreWithPlaces};
 ghost use Rattle.fb_names.specs.Numbers.{kind_of_number};
 ghost use Rattle.fb_system.specs.Systems.{StandFor};
 
-use crate::event_blocks::place_of_kind;
 use crate::whole::Whole;
 use crate::with_places::WithPlaces;
 use fb_names::numbers::TypeNumber;
-use fb_types::library::{BlockType, Ports};
-
-fn ports_in(block: &BlockType) -> &Ports
-    ensures { result.now ≡ ports_of (kind_of block.now) }
-{
-    match block {
-        BlockType::Basic(basic) => &basic.ports,
-        BlockType::Composite(composite) => &composite.ports,
-    }
-}
+use fb_types::library::Ports;
 
 /// The interface of a type.
 pub(crate) fn ports_of_type(tables: &Whole, kind: TypeNumber) -> &Ports
@@ -29,8 +18,8 @@ pub(crate) fn ports_of_type(tables: &Whole, kind: TypeNumber) -> &Ports
     ensures { option_map ports_of (kind_of_number tables.now.fabric kind) ≡ Some result.now }
 {
     match kind {
-        TypeNumber::Event(kind) => &tables.event_blocks.as_slice()[place_of_kind(kind)],
-        TypeNumber::Declared(place) => ports_in(&tables.fabric.library().blocks.as_slice()[place]),
+        TypeNumber::Event(kind) => &tables.event_blocks.as_slice()[kind.place()],
+        TypeNumber::Declared(place) => tables.fabric.library().blocks.as_slice()[place].ports(),
     }
 }
 

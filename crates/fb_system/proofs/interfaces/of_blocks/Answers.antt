@@ -15,12 +15,12 @@ with_places-requires c =
     c.requires.each c.loop-place.place block names
     (slice_get_read c.args.blocks.now (length c.args.blocks.now) _ block refl c.loop-place-test.true c.index-blocks-place.is)
     (slice_get_read c.args.names.now (length c.args.names.now) _ names refl (omega (arith, c.requires.counted, c.loop-place-test.true)) c.index-names-place.is) in
-    subst (λ (x : BlockPlaces). IsPlaced c.ports_in.result.now x.ports) c.index-names-place.is
-    (subst (λ (p : Ports). IsPlaced p names.ports) (sym c.ports_in.ensures) is)
+    subst (λ (x : BlockPlaces). IsPlaced c.ports.result.now x.ports) c.index-names-place.is
+    (subst (λ (p : Ports). IsPlaced p names.ports) (sym c.ports.ensures) is)
 
 pub loop-place-preserved : goal.loop-place-preserved
 loop-place-preserved c =
     let block = c.index-blocks-place.result in
     blocks_more c.loop-place.place c.args.blocks.now _ _ block c.in_ok-with_places.field-0
     (slice_get_read c.args.blocks.now (length c.args.blocks.now) _ block refl c.loop-place-test.true c.index-blocks-place.is)
-    (subst (λ (p : Ports). AreWithPlaces p c.in_ok-with_places.field-0) c.ports_in.ensures c.in_ok-with_places.ensures) c.loop-place.invariant c.in_ok-push.ensures.ok
+    (subst (λ (p : Ports). AreWithPlaces p c.in_ok-with_places.field-0) c.ports.ensures c.in_ok-with_places.ensures) c.loop-place.invariant c.in_ok-push.ensures.ok

@@ -5,14 +5,14 @@ use Rattle.fb_system.specs.Stands.{AreWithPlaces}
 use Rattle.fb_system.proofs.EventBlocks.{entry_within, entry_stands}
 use Rattle.fb_system.proofs.interfaces.Interfaces.of_event_block.Goals as goal
 
-pub bounds-as_slice-place_of_kind : goal.bounds-as_slice-place_of_kind
-bounds-as_slice-place_of_kind c =
-    subst (λ (l : List WithPlaces). c.place_of_kind.result < length l) (sym c.as_slice.ensures)
-    (entry_within _ _ _ c.requires.1.event_blocks c.place_of_kind.ensures)
+pub bounds-as_slice-place : goal.bounds-as_slice-place
+bounds-as_slice-place c =
+    subst (λ (l : List WithPlaces). c.place.result < length l) (sym c.as_slice.ensures)
+    (entry_within _ _ _ c.requires.1.event_blocks c.place.ensures)
 
 pub returns : goal.returns
 returns c =
     let all = c.args.self.now.event_blocks in
     subst (λ (x : WithPlaces). AreWithPlaces (ports_of_event_block c.args.kind) x)
-    (sym (rw c.as_slice.ensures at c.index-as_slice-place_of_kind.is))
-    (entry_stands all c.args.kind c.place_of_kind.result c.index-as_slice-place_of_kind.result c.requires.1.event_blocks c.place_of_kind.ensures)
+    (sym (rw c.as_slice.ensures at c.index-as_slice-place.is))
+    (entry_stands all c.args.kind c.place.result c.index-as_slice-place.result c.requires.1.event_blocks c.place.ensures)

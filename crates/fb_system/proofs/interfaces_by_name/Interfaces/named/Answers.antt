@@ -6,8 +6,8 @@ use Rattle.fb_system.proofs.interfaces_by_name.Interfaces.named.Goals as goal
 pub returns-in-Some : goal.returns-in-Some
 returns-in-Some c = λ kind of. record {
   ports = event_ports_are c.args.self.now.library.now c.args.self.now.event_blocks c.as_slice.result.now c.args.name.now c.as_bytes.result.now c.kind_named.result
-      c.in-Some.kind c.place_of_kind.result c.index-as_slice-place_of_kind.result kind c.requires.interfaces.event_blocks c.as_slice.ensures c.as_bytes.ensures
-      c.kind_named.ensures c.in-Some.is c.place_of_kind.ensures c.index-as_slice-place_of_kind.is of;
+      c.in-Some.kind c.place.result c.index-as_slice-place.result kind c.requires.interfaces.event_blocks c.as_slice.ensures c.as_bytes.ensures
+      c.kind_named.ensures c.in-Some.is c.place.ensures c.index-as_slice-place.is of;
   is = record { places = λ m e. absurd (cc) };
 }
 
@@ -28,5 +28,5 @@ returns c = λ kind of.
     let place : d.0 ≡ c.in-Some-place_of.place = same_Some _ _ (sym d.1 ∙ c.in-Some-place_of.is) in
     let at = subst (λ (i : ℕ). IsDeclared c.args.self.now.library.now c.args.name.now kind i) place d.2 in
     declared_is c.args.self.now.library.now c.args.self.now.catalog.now c.args.name.now kind c.in-Some-place_of.place c.as_slice-2.result.now
-    c.index-as_slice-place.result c.index.result.now c.ports_in.result _ c.requires.interfaces.types at c.as_slice-2.ensures c.index-as_slice-place.is c.index.ensures
-    c.ports_in.ensures refl
+    c.index-as_slice-place-2.result c.index.result.now c.ports.result _ c.requires.interfaces.types at c.as_slice-2.ensures c.index-as_slice-place-2.is c.index.ensures
+    c.ports.ensures refl

@@ -4,7 +4,7 @@ use Rattle.fb_types.specs.declared.library.Library.{Library}
 use Rattle.fb_types.specs.Mapped.{NotMapped}
 use Rattle.fb_types.specs.Repeated.{NameTwice}
 use Rattle.fb_system.specs.Linking.{IsLinked}
-use Rattle.fb_names.specs.Types.{ArePortsOfKinds}
+use Rattle.fb_types.specs.EventPorts.{ArePortsOfKinds}
 use Rattle.fb_system.proofs.Seen.{few_of, low_of, made, mapped_of, ok_read, ok_seen, once_of, view_made}
 use Rattle.fb_system.proofs.system.System.of.Goals as goal
 
@@ -29,7 +29,7 @@ pub of_tables-requires : goal.of_tables-requires
 of_tables-requires c =
     let all = c.in_ok-given.ensures in
     made _ _ _ _ _ _ _ _ _ _ _ _ _ c.requires.accepted c.requires.interfaces c.requires.rows c.plan.ensures.value
-    (ok_read _ (IsLinked c.args.library _) _ c.of-links.ensures all.first) (ok_read _ ArePortsOfKinds _ c.event_blocks.ensures all.third)
+    (ok_read _ (IsLinked c.args.library _) _ c.of-links.ensures all.first) (ok_read _ ArePortsOfKinds _ c.all_ports.ensures all.third)
     (ok_read _ (λ (f : Library). f ≡ c.args.library) _ c.of-fabric.ensures all.second) (λ j. (all.given j).0) (c.from_vec.ensures ∙ (λ j. (all.given j).1.items))
     (λ j. (all.given j).2) (λ j. (all.given j).3)
 

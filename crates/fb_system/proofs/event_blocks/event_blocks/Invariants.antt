@@ -1,7 +1,0 @@
-use Rattle.std.proofs.Common.{◌≡◌, map, take}
-use Rattle.fb_types.specs.Blocks.{ports_of_event_block}
-use Rattle.fb_names.proofs.EventBlocks.{kinds}
-use Rattle.fb_system.proofs.event_blocks.event_blocks.Given as goal
-
-abbrev pub invariant-loop-kind : goal.invariant-loop-kind
-invariant-loop-kind l = l.all ≡ map ports_of_event_block (take l.kind-index kinds)
