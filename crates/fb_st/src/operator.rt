@@ -49,26 +49,7 @@ fn difference(x: i128, y: i128) -> Result<i128, Reason>
     }
 }
 
-/// Numbers of 64 bits, as most are, are multiplied by one instruction of the machine, and others by many.
-#[inline(always)]
 fn product(x: i128, y: i128) -> Result<i128, Reason>
-    ensures { result ≡ wholes (judged (x *ℤ y)) }
-{
-    match (i64::try_from(x), i64::try_from(y)) {
-        (Ok(a), Ok(b)) => exact_product(i128::from(a), i128::from(b)),
-        _ => product_of_any(x, y),
-    }
-}
-
-#[inline(never)]
-fn product_of_any(x: i128, y: i128) -> Result<i128, Reason>
-    ensures { result ≡ wholes (judged (x *ℤ y)) }
-{
-    exact_product(x, y)
-}
-
-#[inline(always)]
-fn exact_product(x: i128, y: i128) -> Result<i128, Reason>
     ensures { result ≡ wholes (judged (x *ℤ y)) }
 {
     match x.checked_mul(y) {
@@ -100,6 +81,7 @@ fn remainder_at_once(x: i128, y: i128) -> Option<i128>
 }
 
 /// `/`, which cuts toward zero.
+#[inline(always)]
 fn divided(x: i128, y: i128) -> Result<i128, Reason>
     ensures { result ≡ wholes (quotient x y) }
 {
@@ -116,6 +98,7 @@ fn divided(x: i128, y: i128) -> Result<i128, Reason>
 }
 
 /// MOD, which is 0 where the divisor is 0.
+#[inline(always)]
 fn remainder(x: i128, y: i128) -> Result<i128, Reason>
     ensures { result ≡ wholes (modulus x y) }
 {
