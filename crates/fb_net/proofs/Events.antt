@@ -1,5 +1,5 @@
 -- How the reactions of an event block stand among the blocks of its resource.
-use Rattle.std.proofs.Common.{◌≡◌, ◌++◌, ℕ, List, [], map, Option, Some, refl, sym, ap, subst, ◌∙◌}
+use Rattle.std.proofs.Common.{◌≡◌, ◌++◌, ℕ, List, [], map, Option, Some, sym, ap, subst, ◌∙◌}
 use Rattle.fb_types.specs.Names.{Name, Path}
 use Rattle.fb_types.specs.Blocks.{Event, ports_of_event_block, variable_names}
 use Rattle.fb_types.specs.EventBlocks.{Memory, Reaction, reaction, expiry}
@@ -14,15 +14,15 @@ use Rattle.fb_types.specs.declared.run.TimerAsk.{TimerAsk}
 use Rattle.fb_types.specs.declared.value.Value.{Value}
 use Rattle.fb_event.specs.Reactions.{FitTheirTypes, emissions_of, expiry_of, meanings, reaction_to}
 use Rattle.fb_event.specs.State.{State}
-use Rattle.fb_tree.specs.Blocks.{components_of, own_of}
-use Rattle.fb_tree.specs.Changes.{IsForestBut, IsOut, block_in, with_instance}
-use Rattle.fb_tree.specs.Worlds.{EventStands, InForest, IsForest, ShellStands, StandsFor, input_names}
+use Rattle.fb_tree.specs.Blocks.{own_of}
+use Rattle.fb_tree.specs.Changes.{Changes, block_in, remembered, with_instance}
+use Rattle.fb_tree.specs.Worlds.{EventStands, Found, InForest, IsForest, ShellStands, StandsFor, input_names}
 use Rattle.fb_tree.specs.declared.block.EventBlock.{EventBlock}
 use Rattle.fb_tree.specs.declared.block.Block.{Block}
 use Rattle.fb_tree.specs.declared.block.Block.TheVariants as block
 use Rattle.fb_tree.specs.declared.resource.Forest.{Forest}
-use Rattle.fb_net.specs.Leaves.{EventCame, HasTypedInputs, remembering_block}
-use Rattle.fb_net.proofs.Leaves.{event_is, leaf_event, reads_inputs, values_by_name}
+use Rattle.fb_net.specs.Leaves.{EventCame, HasTypedInputs}
+use Rattle.fb_net.proofs.Leaves.{event_is, reads_inputs, values_by_name}
 
 -- the block of an event block has its ports
 ports_is : (sys : System) (p : Path) (k : EventKind) → sys.kind p ≡ Some (Event k) → input_names sys p ≡ variable_names (ports_of_event_block k).inputs
@@ -53,69 +53,54 @@ pub expired_agrees : (sys : System) (p : Path) (k : EventKind) (x : EventBlock) 
 expired_agrees sys p k x b tick h =
     ap (λ (j : EventKind). expiry j x.state.memory tick) h.is_kind ∙ ap (λ (m : Memory). expiry k m tick) (sym (ap memory_of h.memory))
 
--- what was taken out is what stood there
-pub taken : (i : Inputs) (k : ℕ) (w : World) (found : Option Block) (d : Block) (x : EventBlock) (mid : Forest) (kind : EventKind)
-    → (system_of i).kind (path_at (system_of i) k) ≡ Some (Event kind) → found ≡ Some d → d ≡ block.Event x → IsOut i k w found mid
+-- what was found is what stands there
+pub stood_there : (i : Inputs) (k : ℕ) (w : World) (found : Option Block) (d : Block) (x : EventBlock) (kind : EventKind)
+    → (system_of i).kind (path_at (system_of i) k) ≡ Some (Event kind) → found ≡ Some d → d ≡ block.Event x → Found i k (block_in i w k) found
     → EventStands (system_of i) (path_at (system_of i) k) kind x (block_in i w k) × ShellStands (system_of i) (path_at (system_of i) k) x.shell (block_in i w k)
-taken i k w found d x mid kind of_kind is event out =
-    let same : out.block ≡ block.Event x = cc in
-    let stood = subst (λ (y : Block). StandsFor (system_of i) (path_at (system_of i) k) (own_of y) (block_in i w k)) same out.stands in
+stood_there i k w found d x kind of_kind is event here =
+    let same : here.block ≡ block.Event x = cc in
+    let stood = subst (λ (y : Block). StandsFor (system_of i) (path_at (system_of i) k) (own_of y) (block_in i w k)) same here.stands in
     subst (λ T. T) (event_is (system_of i) (path_at (system_of i) k) kind x (block_in i w k) of_kind) stood
 
 -- the values of the data inputs are of their types
-pub typed : (i : Inputs) (k : ℕ) (w : World) (found : Option Block) (d : Block) (x : EventBlock) (mid : Forest) (kind : EventKind) (inputs : List Value)
-    → (system_of i).kind (path_at (system_of i) k) ≡ Some (Event kind) → found ≡ Some d → d ≡ block.Event x → IsOut i k w found mid → HasTypedInputs i kind k w
-    → inputs ≡ x.inputs → FitTheirTypes (ports_of_event_block x.state.kind).inputs inputs
-typed i k w found d x mid kind inputs of_kind is event out fit same =
-    let stood = taken i k w found d x mid kind of_kind is event out in
+pub typed : (i : Inputs) (k : ℕ) (w : World) (found : Option Block) (d : Block) (x : EventBlock) (kind : EventKind) (inputs : List Value)
+    → (system_of i).kind (path_at (system_of i) k) ≡ Some (Event kind) → found ≡ Some d → d ≡ block.Event x → Found i k (block_in i w k) found → HasTypedInputs i kind k w
+    → inputs ≡ x.inputs → (s : State) → s ≡ x.state → FitTheirTypes (ports_of_event_block s.kind).inputs inputs
+typed i k w found d x kind inputs of_kind is event here fit same s twin =
+    let stood = stood_there i k w found d x kind of_kind is event here in
     let b = block_in i w k in
-    let here = values_by_name (input_names (system_of i) (path_at (system_of i) k)) x.inputs b.variables stood.0.variables.each stood.0.variables.at_place ∙ sym same in
-    subst (λ (j : EventKind). FitTheirTypes (ports_of_event_block j).inputs inputs) (sym stood.0.is_kind) (subst (λ (vs : List Value). FitTheirTypes (ports_of_event_block kind).inputs vs) here fit)
+    let hold = values_by_name (input_names (system_of i) (path_at (system_of i) k)) x.inputs b.variables stood.0.variables.each stood.0.variables.at_place ∙ sym same in
+    subst (λ (j : EventKind). FitTheirTypes (ports_of_event_block j).inputs inputs) (sym (ap (λ (z : State). z.kind) twin ∙ stood.0.is_kind))
+    (subst (λ (vs : List Value). FitTheirTypes (ports_of_event_block kind).inputs vs) hold fit)
+
+-- the block is of the kind that it was
+pub of_its_kind : (i : Inputs) (k : ℕ) (w : World) (found : Option Block) (d : Block) (x : EventBlock) (kind : EventKind)
+    → (system_of i).kind (path_at (system_of i) k) ≡ Some (Event kind) → found ≡ Some d → d ≡ block.Event x → Found i k (block_in i w k) found
+    → (s : State) → s.kind ≡ x.state.kind → (system_of i).kind (path_at (system_of i) k) ≡ Some (Event s.kind)
+of_its_kind i k w found d x kind of_kind is event here s kept =
+    of_kind ∙ ap (λ (j : EventKind). Some (Event j)) (sym (kept ∙ (stood_there i k w found d x kind of_kind is event here).0.is_kind))
 
 -- A block of that kind has reacted so, which is what the model's does in each world.
-pub came : (i : Inputs) (old mid new : Forest) (k : ℕ) (kind : EventKind) (found : Option Block) (d : Block) (x : EventBlock) (s : State) (r : Reaction) (model_r : World → Reaction)
+pub came : (i : Inputs) (old new : Forest) (k : ℕ) (kind : EventKind) (found : Option Block) (d : Block) (x : EventBlock) (t s : State) (r : Reaction) (model_r : World → Reaction)
     (ask : TimerAsk) (before emits : List run.Emission)
-    → (system_of i).kind (path_at (system_of i) k) ≡ Some (Event kind) → found ≡ Some d → d ≡ block.Event x
-    → ((w : World) → IsForest i old w → InForest i old k → IsOut i k w found mid)
-    → ((w : World) (b : model.Block) → IsForestBut i mid k w → components_of (block.Event (record x { state = s })) ≡ []
-    → StandsFor (system_of i) (path_at (system_of i) k) (own_of (block.Event (record x { state = s }))) b → IsForest i new (with_instance i k b w))
+    → (system_of i).kind (path_at (system_of i) k) ≡ Some (Event kind) → found ≡ Some d → d ≡ block.Event x → t ≡ x.state
+    → ((w : World) → IsForest i old w → InForest i old k → Found i k (block_in i w k) found)
+    → Changes i old k (remembered s.memory) new
     → ((w : World) → EventStands (system_of i) (path_at (system_of i) k) kind x (block_in i w k) → r ≡ model_r w)
-    → s.kind ≡ x.state.kind → s.memory ≡ r.memory → ask ≡ r.timer → before ≡ [] → meanings x.state.kind emits ≡ meanings x.state.kind before ++ emissions_of x.state.kind r
+    → s.memory ≡ r.memory → ask ≡ r.timer → before ≡ [] → meanings t.kind emits ≡ meanings t.kind before ++ emissions_of t.kind r
     → (w : World) → IsForest i old w → InForest i old k → EventCame i k kind (model_r w) new ask emits w
-came i old mid new k kind found d x s r model_r ask before emits of_kind is event out back agrees kept remembers asks fresh sent w forest lies =
-    let o = out w forest lies in
-    let stood = taken i k w found d x mid kind of_kind is event o in
+came i old new k kind found d x t s r model_r ask before emits of_kind is event twin there changes agrees remembers asks fresh sent w forest lies =
+    let stood = stood_there i k w found d x kind of_kind is event (there w forest lies) in
     let b = block_in i w k in
     let same = agrees w stood.0 in
-    let remembered : s.memory ≡ (model_r w).memory = remembers ∙ ap (λ (y : Reaction). y.memory) same in
-    let stands : EventStands (system_of i) (path_at (system_of i) k) kind (record x { state = s }) (remembering_block (model_r w) b)
-    × ShellStands (system_of i) (path_at (system_of i) k) x.shell (remembering_block (model_r w) b) = (
-      record { is_kind = kept ∙ stood.0.is_kind; memory = ap model.Remembers (sym remembered); variables = stood.0.variables },
-      record { slots = stood.1.slots; published = stood.1.published },
-    ) in
-    let all : meanings x.state.kind emits ≡ emissions_of x.state.kind r = sent ∙ ap (λ (es : List run.Emission). meanings x.state.kind es ++ emissions_of x.state.kind r) fresh in
+    let kept : s.memory ≡ (model_r w).memory = remembers ∙ ap (λ (y : Reaction). y.memory) same in
+    let all : meanings t.kind emits ≡ emissions_of t.kind r = sent ∙ ap (λ (es : List run.Emission). meanings t.kind es ++ emissions_of t.kind r) fresh in
     record {
-      stands = back w (remembering_block (model_r w) b) o.rest (leaf_event (record x { state = s }))
-          (subst (λ T. T) (sym (event_is (system_of i) (path_at (system_of i) k) kind (record x { state = s }) (remembering_block (model_r w) b) of_kind)) stands);
+      stands = subst (λ (m : Memory). IsForest i new (with_instance i k (remembered m b) w)) kept (changes.stands w forest lies);
       timer = asks ∙ ap (λ (y : Reaction). y.timer) same;
-      emitted = subst (λ (j : EventKind). meanings j emits ≡ emissions_of j r) stood.0.is_kind all ∙ ap (emissions_of kind) same;
+      emitted = subst (λ (j : EventKind). meanings j emits ≡ emissions_of j r) (ap (λ (z : State). z.kind) twin ∙ stood.0.is_kind) all ∙ ap (emissions_of kind) same;
     }
 
--- However the reaction has ended, each instance has its block.
-pub whole : (i : Inputs) (old mid new : Forest) (k : ℕ) (kind : EventKind) (found : Option Block) (d : Block) (x : EventBlock) (s : State)
-    → (system_of i).kind (path_at (system_of i) k) ≡ Some (Event kind) → found ≡ Some d → d ≡ block.Event x
-    → ((w : World) → IsForest i old w → InForest i old k → IsOut i k w found mid)
-    → ((w : World) (b : model.Block) → IsForestBut i mid k w → components_of (block.Event (record x { state = s })) ≡ []
-    → StandsFor (system_of i) (path_at (system_of i) k) (own_of (block.Event (record x { state = s }))) b → IsForest i new (with_instance i k b w))
-    → s.kind ≡ x.state.kind → (w : World) → IsForest i old w → InForest i old k → (v : World) × IsForest i new v
-whole i old mid new k kind found d x s of_kind is event out back kept w forest lies =
-    let o = out w forest lies in
-    let stood = taken i k w found d x mid kind of_kind is event o in
-    let b : model.Block = record (block_in i w k) { memory = model.Remembers s.memory } in
-    let stands : EventStands (system_of i) (path_at (system_of i) k) kind (record x { state = s }) b × ShellStands (system_of i) (path_at (system_of i) k) x.shell b = (
-      record { is_kind = kept ∙ stood.0.is_kind; memory = refl; variables = stood.0.variables },
-      record { slots = stood.1.slots; published = stood.1.published },
-    ) in (
-      with_instance i k b w,
-      back w b o.rest (leaf_event (record x { state = s })) (subst (λ T. T) (sym (event_is (system_of i) (path_at (system_of i) k) kind (record x { state = s }) b of_kind)) stands),
-    )
+-- Each instance has its block then.
+pub whole : (i : Inputs) (old new : Forest) (k : ℕ) (s : State) → Changes i old k (remembered s.memory) new → (w : World) → IsForest i old w → InForest i old k → (v : World) × IsForest i new v
+whole i old new k s changes w forest lies = (with_instance i k (remembered s.memory (block_in i w k)) w, changes.stands w forest lies)

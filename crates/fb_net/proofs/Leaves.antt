@@ -41,9 +41,6 @@ own_event x = out_roll (composite_with [] (out-Block (block.Event x))) ∙ ap (c
 pub leaf_basic : (x : BasicBlock) → components_of (block.Basic x) ≡ []
 leaf_basic x = ap components_in (out_basic x)
 
-pub leaf_event : (x : EventBlock) → components_of (block.Event x) ≡ []
-leaf_event x = ap components_in (out_event x)
-
 -- a basic block stands at a path by what it is
 pub basic_is : (sys : System) (p : Path) (t : BasicType) (x : BasicBlock) (b : model.Block) → sys.kind p ≡ Some (Basic t)
     → StandsFor sys p (own_of (block.Basic x)) b ≡ (BasicStands t x.state b × ShellStands sys p x.shell b)

@@ -46,15 +46,17 @@ pub fn react_event(
     // Also where memory runs out.
     ensures whole { (w : World) × IsForest system.now forest.new w }
 {
-    let alloc = emits.allocator();
-    match forest.take_out(alloc, system, at.instance) {
-        Some(Block::Event(mut event)) => {
+    match forest.block(system, at.instance) {
+        Some(Block::Event(event)) => {
             let mut ask = TimerAsk::Keep;
+            // What it remembers is small, and is worked on aside, so that the block stays where it is.
+            let mut state = event.state.twin();
             let inputs = event.inputs.as_slice();
-            let end = react(&mut event.state, at.event, tick, inputs, emits, &mut ask);
-            forest.put_back(system, at.instance, Block::Event(event));
-            match end {
-                Ok(()) => Ok(ask),
+            match react(&mut state, at.event, tick, inputs, emits, &mut ask) {
+                Ok(()) => {
+                    forest.remember(system, at.instance, state);
+                    Ok(ask)
+                }
                 Err(_) => Err(AllocError),
             }
         }
@@ -89,14 +91,15 @@ pub fn expire_event(
     // Also where memory runs out.
     ensures whole { (w : World) × IsForest system.now forest.new w }
 {
-    let alloc = emits.allocator();
-    match forest.take_out(alloc, system, instance) {
-        Some(Block::Event(mut event)) => {
+    match forest.block(system, instance) {
+        Some(Block::Event(event)) => {
             let mut ask = TimerAsk::Keep;
-            let end = expire(&mut event.state, tick, emits, &mut ask);
-            forest.put_back(system, instance, Block::Event(event));
-            match end {
-                Ok(()) => Ok(ask),
+            let mut state = event.state.twin();
+            match expire(&mut state, tick, emits, &mut ask) {
+                Ok(()) => {
+                    forest.remember(system, instance, state);
+                    Ok(ask)
+                }
                 Err(_) => Err(AllocError),
             }
         }

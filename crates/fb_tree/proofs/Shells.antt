@@ -2,7 +2,8 @@
 use Rattle.std.proofs.Common.{◌≡◌, ℕ, List, [], refl, ap, ◌∙◌, sym}
 use Rattle.std.specs.Prelude.{slice_set}
 use Rattle.fb_types.specs.declared.value.Value.{Value}
-use Rattle.fb_tree.specs.Blocks.{components_in, components_of, composite_with, own_of, shell_in, shell_of, node_with_shell, with_shell, with_slot, with_published, inputs_in, inputs_of, node_with_inputs, with_inputs, with_input}
+use Rattle.fb_event.specs.State.{State}
+use Rattle.fb_tree.specs.Blocks.{components_in, components_of, composite_with, own_of, shell_in, shell_of, node_with_shell, with_shell, with_slot, with_published, inputs_in, inputs_of, node_with_inputs, with_inputs, with_input, node_with_state, with_state}
 use Rattle.fb_tree.specs.declared.block.Block.{Block}
 use Rattle.fb_tree.specs.declared.block.CompositeBlock.{CompositeBlock}
 use Rattle.fb_tree.specs.declared.block.Block.TheOpen.{Block-F}
@@ -75,3 +76,21 @@ own_of-with_published place v b =
 
 pub own_of-with_input : (place : ℕ) (v : Value) (b : Block) → own_of (with_input place v b) ≡ with_input place v (own_of b)
 own_of-with_input place v b = own_of-with_inputs b _ ∙ ap (λ vs. with_inputs (own_of b) (slice_set vs place v)) (sym (inputs_of-own b))
+
+state_keeps : (x : Node) (s : State) → components_in (node_with_state x s) ≡ components_in x
+state_keeps (Block-F.Basic b) s = refl
+state_keeps (Block-F.Event b) s = refl
+state_keeps (Block-F.Composite b) s = refl
+
+state_swaps : (x : Node) (s : State) → composite_with [] (node_with_state x s) ≡ node_with_state (composite_with [] x) s
+state_swaps (Block-F.Basic b) s = refl
+state_swaps (Block-F.Event b) s = refl
+state_swaps (Block-F.Composite b) s = refl
+
+pub components_of-with_state : (b : Block) (s : State) → components_of (with_state b s) ≡ components_of b
+components_of-with_state b s = ap components_in (out_roll (node_with_state (out-Block b) s)) ∙ state_keeps (out-Block b) s
+
+pub own_of-with_state : (s : State) (b : Block) → own_of (with_state b s) ≡ with_state (own_of b) s
+own_of-with_state s b =
+    ap (λ x. roll-Block (composite_with [] x)) (out_roll (node_with_state (out-Block b) s)) ∙ ap roll-Block (state_swaps (out-Block b) s)
+    ∙ sym (ap (λ x. roll-Block (node_with_state x s)) (out_roll (composite_with [] (out-Block b))))

@@ -13,6 +13,7 @@ use Rattle.fb_types.proofs.PathLaws.{same_path_is, same_path_itself}
 use Rattle.fb_types.specs.Reactions.{World, with_block}
 use Rattle.fb_types.specs.Repeated.{Twice}
 use Rattle.fb_types.specs.Systems.{System}
+use Rattle.fb_types.specs.declared.event_kind.EventKind.{EventKind}
 use Rattle.fb_types.specs.declared.library.BasicType.{BasicType}
 use Rattle.fb_types.specs.declared.library.Ports.{Ports}
 use Rattle.fb_types.specs.declared.value.Value.{Value}
@@ -20,7 +21,8 @@ use Rattle.fb_fabric.specs.declared.fabric.Place.{Place}
 use Rattle.fb_fabric.specs.Layouts.{route_to}
 use Rattle.fb_system.specs.Ports.{IsVariable, variable_of}
 use Rattle.fb_names.proofs.NameLemmas.{any_from_contains, same_from_same_name, same_name-itself}
-use Rattle.fb_tree.specs.Blocks.{inputs_in, inputs_of, node_with_inputs, node_with_shell, shell_of, with_input, with_published, with_shell, with_slot}
+use Rattle.fb_event.specs.State.{State}
+use Rattle.fb_tree.specs.Blocks.{inputs_in, inputs_of, node_with_inputs, node_with_shell, shell_of, with_input, with_published, with_shell, with_slot, node_with_state, with_state}
 use Rattle.fb_tree.specs.Changes.{Changes}
 use Rattle.fb_tree.specs.Changes as specs
 use Rattle.fb_tree.specs.Trees.{ChangedAlone, own_at}
@@ -170,6 +172,24 @@ input_set sys p own m no_basic stands once k n named v =
     (node_inputs sys p (sys.kind p) (out-Block own) m (slice_set (inputs_of own) k v) (with_value n v m.variables) no_basic stands
     (λ stand. values_set sys p (input_names sys p) (inputs_of own) m.variables stand once k n named v))
 
+-- an event block that remembers something else
+node_state :
+    (sys : System) (p : Path) (k : EventKind) (x : Block-F Block CompositeBlock) (m : model.Block) (s : State) → s.kind ≡ k →
+    NodeStands sys p (Some (Event k)) x m → NodeStands sys p (Some (Event k)) (node_with_state x s) (record m { memory = model.Remembers s.memory })
+node_state sys p k (Block-F.Basic x) m s e stands = absurd stands
+node_state sys p k (Block-F.Event x) m s e stands =
+    (record { is_kind = e; memory = refl; variables = stands.0.variables }, record { slots = stands.1.slots; published = stands.1.published })
+node_state sys p k (Block-F.Composite x) m s e stands = absurd stands
+
+pub state_set :
+    (sys : System) (p : Path) (own : Block) (m : model.Block) (s : State) → sys.kind p ≡ Some (Event s.kind) → StandsFor sys p own m →
+    StandsFor sys p (with_state own s) (record m { memory = model.Remembers s.memory })
+state_set sys p own m s kind stands =
+    let after : model.Block = record m { memory = model.Remembers s.memory } in
+    subst (λ x. NodeStands sys p (sys.kind p) x after) (sym (out_roll (node_with_state (out-Block own) s)))
+    (subst (λ k. NodeStands sys p k (node_with_state (out-Block own) s) after) (sym kind)
+    (node_state sys p s.kind (out-Block own) m s refl (subst (λ k. NodeStands sys p k (out-Block own) m) kind stands)))
+
 -- ---- The trees
 
 module _ (i : Inputs) (old new : List Block) (k : ℕ) (change : Block → Block) (alone : ChangedAlone change old (route_in_tree i k) new) where
@@ -270,3 +290,18 @@ module _ (i : Inputs) (accepted : AreAccepted i) (old : Forest) (x : Place) (var
   input_changes into takes =
       changes (with_input x.variable v) (specs.input_sampled name v)
       (λ own m s. input_set (system_of i) path own m takes.no_basic s (inputs_once i accepted path) x.variable name (input_there (system_of i) x variable into) v)
+
+pub state_changes :
+    (i : Inputs) → AreAccepted i → (old : Forest) (k : ℕ) → k < length (system_of i).paths → (s : State) → (system_of i).kind (path_at (system_of i) k) ≡ Some (Event s.kind) →
+    (first : ℕ) (rest : List ℕ) → first ∷ rest ≡ seated (seat_in old.seats) (route_to i.library (path_at (system_of i) k)) → (new : List Block) →
+    ChangedAlone (λ b. with_state b s) old.blocks (first ∷ rest) new → Changes i old k (specs.remembered s.memory) (record old { blocks = new })
+state_changes i accepted old k number s kind first rest route new alone =
+    let path = path_at (system_of i) k in
+    let change : Block → Block = λ b. with_state b s in
+    record {
+      resource = refl;
+      stands = λ w forest lies.
+          changed_forest i old w forest (routes_differ i accepted) k number lies change new
+          (subst (λ r. ChangedAlone change old.blocks r new) (route ∙ seated_so (seat_in old.seats) (seat i.library i.plan) forest.seats (route_to i.library path)) alone)
+          (specs.remembered s.memory (w.blocks path)) (λ own stands. state_set (system_of i) path own (w.blocks path) s kind stands);
+    }

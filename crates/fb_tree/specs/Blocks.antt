@@ -1,6 +1,7 @@
 -- A function block with its variables and what stands inside it (IEC 61499-1, 5.1 to 5.3).
 use Rattle.std.specs.Prelude.{ℕ, List, [], slice_set}
 use Rattle.fb_types.specs.declared.value.Value.{Value}
+use Rattle.fb_event.specs.State.{State}
 use Rattle.fb_tree.specs.declared.block.Block.{Block}
 use Rattle.fb_tree.specs.declared.block.CompositeBlock.{CompositeBlock}
 use Rattle.fb_tree.specs.declared.block.Block.TheOpen.{Block-F}
@@ -74,3 +75,12 @@ with_inputs b vs = roll-Block (node_with_inputs vs (out-Block b))
 -- an event block or a composite block has sampled a data input
 abbrev pub with_input : (place : ℕ) → Value → Block → Block
 with_input place v b = with_inputs b (slice_set (inputs_of b) place v)
+
+abbrev pub node_with_state : Block-F Block CompositeBlock → State → Block-F Block CompositeBlock
+node_with_state (Block-F.Basic b) s = Block-F.Basic b
+node_with_state (Block-F.Event e) s = Block-F.Event (record e { state = s })
+node_with_state (Block-F.Composite c) s = Block-F.Composite c
+
+-- an event block that remembers something else; no other block has such a memory
+abbrev pub with_state : Block → State → Block
+with_state b s = roll-Block (node_with_state (out-Block b) s)

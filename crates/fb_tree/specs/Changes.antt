@@ -1,6 +1,7 @@
 -- How the blocks of one resource change, seen through the paths (IEC 61499-1, 5.2 and 5.3; that a leaf is taken out while it reacts is this project's profile).
 use Rattle.std.specs.Prelude.{◌≡◌, ◌≢◌, ◌<◌, ℕ, [], length, Option, Some}
 use Rattle.fb_types.specs.Names.{Name, with_value}
+use Rattle.fb_types.specs.EventBlocks.{Memory}
 use Rattle.fb_types.specs.Headline.{Inputs, system_of}
 use Rattle.fb_types.specs.Numbers.{path_at}
 use Rattle.fb_types.specs.Reactions.{World, with_block, with_held, from_inside}
@@ -39,6 +40,10 @@ output_shown n v b = record b { published = with_value n v b.published }
 -- a data input was sampled
 abbrev pub input_sampled : Name → Value → model.Block → model.Block
 input_sampled n v b = record b { variables = with_value n v b.variables }
+
+-- an event block remembers something else
+abbrev pub remembered : Memory → model.Block → model.Block
+remembered m b = record b { memory = model.Remembers m }
 
 -- The held copy of a variable of another resource has changed.
 pub record Holds (i : Inputs) (old : Forest) (x : Place) (v : Value) (new : Forest) : Type 0 where

@@ -46,10 +46,12 @@ impl Block {
     ghost use Rattle.std.specs.Borrow.{Lends, LendsIf, sem};
     ghost use Rattle.fb_types.specs.contracts.value.Value.{the_row as value_row};
     ghost use Rattle.fb_types.specs.declared.value.Value.{Value};
+    ghost use Rattle.fb_event.specs.State.{State};
+    ghost use Rattle.fb_event.specs.contracts.state.EventState.{the_row as state_row};
     ghost use Rattle.fb_tree.specs.contracts.shell.Shell.{the_row as shell_row};
     ghost use Rattle.fb_tree.specs.contracts.block.Block.{the_row};
     ghost use Rattle.fb_tree.specs.contracts.places.Places.{the_row as places_row};
-    ghost use Rattle.fb_tree.specs.Blocks.{components_of, with_components, shell_of, with_shell, inputs_of, with_inputs};
+    ghost use Rattle.fb_tree.specs.Blocks.{components_of, with_components, shell_of, with_shell, inputs_of, with_inputs, with_state};
 
     /// The slots of the data inputs, and the published outputs.
     pub fn shell(&self) -> &Shell
@@ -96,6 +98,17 @@ impl Block {
             Block::Basic(_) => None,
             Block::Event(event) => Some(&mut event.inputs),
             Block::Composite(composite) => Some(&mut composite.inputs),
+        }
+    }
+
+    /// What an event block remembers, to be changed. Other blocks have no such memory.
+    pub fn state_mut(&mut self) -> Option<&mut EventState>
+        ensures* writes_back { sem 𝓛 (LendsIf the_row state_row self.entry result (with_state self.old) self.old) }
+        ensures none { IfNone result ((s : State) → with_state self.old s ≡ self.old) }
+    {
+        match self {
+            Block::Event(event) => Some(&mut event.state),
+            Block::Basic(_) | Block::Composite(_) => None,
         }
     }
 

@@ -1,8 +1,9 @@
 //! The blocks and the held copies of one resource.
 
-ghost use Rattle.std.specs.Prelude.{◌≡◌, ◌<◌, ◌∷◌, [], length, true, false, unwrap_or};
+ghost use Rattle.std.specs.Prelude.{◌≡◌, ◌<◌, ◌∷◌, [], Some, length, true, false, unwrap_or};
 ghost use Rattle.std.specs.BTreeMap.{get};
 ghost use Rattle.std.specs.Option.{option_copied};
+ghost use Rattle.fb_types.specs.Blocks.{Event};
 ghost use Rattle.fb_types.specs.Flat.{zero_value};
 ghost use Rattle.fb_types.specs.Headline.{system_of};
 ghost use Rattle.fb_types.specs.Numbers.{path_at};
@@ -11,14 +12,14 @@ ghost use Rattle.fb_types.specs.States as model;
 ghost use Rattle.fb_fabric.specs.Layouts.{route_to};
 ghost use Rattle.fb_system.specs.Ports.{IsVariable, variable_of};
 ghost use Rattle.fb_tree.specs.Blocks.{components_of, own_of};
-ghost use Rattle.fb_tree.specs.Changes.{Changes, Holds, IsForestBut, IsOut, ShowsInside, input_sampled, output_shown, slot_set, with_instance};
+ghost use Rattle.fb_tree.specs.Changes.{Changes, Holds, IsForestBut, IsOut, ShowsInside, input_sampled, output_shown, remembered, slot_set, with_instance};
 ghost use Rattle.fb_tree.specs.Worlds.{IsLeaf, StandsFor, TakesSamples, Found, InForest, IsComposite, IsForest, Reads, Samples, Sees, Shows, key_cmp, key_of, seat_in, seated, value_in};
 
 use crate::block::{Block, EventBlock};
 use crate::places::Places;
 use crate::shell::Shell;
 use crate::tree::find;
-use crate::values::{publish, replace, set_input, set_slot};
+use crate::values::{publish, remember, replace, set_input, set_slot};
 use fb_event::state::EventState;
 use fb_fabric::fabric::Place;
 use fb_system::system::System;
@@ -208,6 +209,17 @@ impl Forest {
         let (first, rest) = self.route(system, input.instance);
         let place = input.variable as usize;
         set_input(&mut self.blocks, first, rest, place, value);
+    }
+
+    /// An event block that lies in the resource remembers something else, as after its reaction.
+    pub fn remember(&mut self, system: &System, instance: u32, state: EventState)
+        requires instance { instance < length (system_of system.now).paths }
+        requires event { (system_of system.now).kind (path_at (system_of system.now) instance) ≡ Some (Event state.kind) }
+        ensures { Changes system.now self.old instance (remembered state.memory) self.new }
+    {
+        system.facts();
+        let (first, rest) = self.route(system, instance);
+        remember(&mut self.blocks, first, rest, state);
     }
 
     /// A message brings a value of a variable of another resource. Where nothing in this resource is connected to the

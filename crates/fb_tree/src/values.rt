@@ -1,12 +1,13 @@
 //! What is changed of one block among the trees.
 
 ghost use Rattle.std.specs.Prelude.{◌≡◌, ◌∷◌, IfNone, IfSome};
-ghost use Rattle.fb_tree.specs.Blocks.{with_input, with_published, with_slot};
+ghost use Rattle.fb_tree.specs.Blocks.{with_input, with_published, with_slot, with_state};
 ghost use Rattle.fb_tree.specs.Trees.{block_at, put_at, ChangedAlone};
 
 use crate::block::Block;
 use crate::places::Places;
 use crate::tree::change;
+use fb_event::state::EventState;
 use fb_types::value::Value;
 use std::mem;
 
@@ -35,6 +36,17 @@ pub fn set_input(blocks: &mut Places<Block>, first: u32, rest: &[u32], input: us
     change(blocks, first, rest, |block| {
         if let Some(inputs) = block.inputs_mut() {
             inputs.set(input, value);
+        }
+    });
+}
+
+/// The event block at a route remembers something else. For another block nothing changes.
+pub fn remember(blocks: &mut Places<Block>, first: u32, rest: &[u32], state: EventState)
+    ensures { ChangedAlone (λ b. with_state b state) blocks.old (first ∷ rest.now) blocks.new }
+{
+    change(blocks, first, rest, |block| {
+        if let Some(place) = block.state_mut() {
+            *place = state;
         }
     });
 }
