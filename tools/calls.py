@@ -127,6 +127,26 @@ FILES |= {
     "long_trace": LONG_TRACE,
     "no_trace": b"",
 }
+FILES |= {
+    "cycle_plan": b"[[resource]]\ndevice = \"D\"\nname = \"MAIN\"\ninstances = [\"S\", \"C\"]\n",
+    "other_plan": b"[[resource]]\ndevice = \"D\"\nname = \"R1\"\ninstances = [\"S\", \"C\"]\n",
+    "no_plan": b"[",
+    "fed": HEADING + FED,
+    "no_rows": HEADING,
+    "no_heading": b"tick,event\n",
+    "no_text": b"?",
+    "empty": b"APPLICATION A FBS END_FBS END_APPLICATION",
+    "merge": b"APPLICATION A FBS M : E_MERGE; END_FBS END_APPLICATION",
+    "merge_plan": b"[[resource]]\ndevice = \"D\"\nname = \"R\"\ninstances = [\"M\", \"N\"]\n",
+    "merge_fed": HEADING + b"0,N.EI1,\n",
+    "late": b"APPLICATION A FBS S : E_RESTART; D : E_DELAY(DT := T#3ms); M : E_MERGE; END_FBS EVENT_CONNECTIONS S.COLD TO D.START; "
+    b"D.EO TO M.EI1; M.EO TO M.EI2; END_CONNECTIONS END_APPLICATION",
+    "keyed_trace": KEYED_TO_8,
+    "cut_name_trace": b"0 MAIN < S.COLD\n0 MAIN > C.START DT=3\n3 MAIN",
+    "no_block_trace": b"0 MAIN < S.COLD\n0 MAIN > C.START DT=3\n3 MAIN < D.EO\nend 8\n",
+    "falling_trace": b"3 MAIN < C.EO\n2 MAIN < C.EO\nend 8\n",
+    "longer_trace": b"0 MAIN < S.COLD\nend 8\nend 9\n",
+}
 # What is told of the slip, behind its fault.
 AT_THE_SLIP = b"application A: event connection F.EO TO W.EJ: E_SWITCH has no event input EJ (it has EI)\n"
 # Named pipes, and what is written into each before it ends.
@@ -183,10 +203,7 @@ CALLS = [
     Call(["check", "-h"], 0, out=None, has=HELP_OF_CHECK),
     Call(["run", "--help"], 0, out=None, has=HELP_OF_RUN),
     Call(["explain", "--help"], 0, out=None, has=HELP_OF_EXPLAIN),
-    Call(["explain", "E21"], 0, out=None, has=("E21: A name stands for nothing", "For example:", "Look at: ")),
     Call(["explain", "file fault"], 0, out=None, has=("file fault: A file can't be read.", "For example:", "Look at: ")),
-    Call(["explain", "E06"], 5, err=b"error: no refusal is called E06\n"),
-    Call(["explain"], 5, err=None),
     Call(["wave", "--help"], 0, out=None, has=HELP_OF_WAVE),
     # A waveform, of both forms of a trace, from a file, a pipe and standard input.
     Call(["wave", "cycle", "trace"], 0, out=WAVE_TO_8),
@@ -307,12 +324,158 @@ CALLS = [
     *(Call(["walk"], 5, tells=it) for it in OUTPUTS[:3]),
     Call(["run", "cycle", "--horizon", "8"], 3, to="full", tells="full"),
     Call(["check", "cycle", "--stim", "longest_stimuli"], 4, err=b"out of memory\n", memory=LITTLE_MEMORY),
-    Call([], 5, err=None),
-    Call(["walk"], 5, err=None),
-    Call(["run", "cycle"], 5, err=None),
-    Call(["run", "cycle", "--horizon", "0"], 5, err=None),
-    Call(["run", "cycle", "--horizon", "8", "--workers", "65"], 5, err=None),
     Call(["check", b"\xff"], 5, err=b"error: the words of the command line are no text\n"),
+]
+
+
+# Texts that are refused, and the lines that say so.
+REFUSED = [
+    (b"APPLICATION A ! FBS", b"refused E02\n"),
+    (b"APPLICATION \xc3\xa9", b"refused E01\n"),
+    (b"", b"refused E03 line 1\n"),
+    (b"APPLICATION A\nFBS", b"refused E03 line 2\n"),
+    (b"APPLICATION A\nFBS END_FBS\n", b"refused E03 line 3\n"),
+    (b"APPLICATION A FBS X : E_NONE; END_FBS END_APPLICATION", b"refused E21\n"),
+]
+# All refusals, and what is called as none is. A name stands in the fault's line as it was given.
+EXPLAINED = (*(f"E{at:02}" for at in (*range(1, 6), *range(10, 17), *range(20, 31))), "file fault")
+NOT_EXPLAINED = ("", "E", "E00", "E06", "E17", "E31", "E021", "e21", "E21 ", "file")
+SLIP_EXPLAINED = b"""E21: A name stands for nothing of the wanted sort in its place.
+For example:
+- `F.EO TO W.EJ;` where `W` is an E_SWITCH: it has no event input `EJ`.
+- `S.COLD TO C;` in an application: only composites have ports that are named without an instance.
+Look at: Slips of the pen; an input where an output is wanted, or the other way round; an event among the data connections; an instance that a resource lists and the application does not have.
+"""
+# Words that are no call.
+FAULTS = [
+    [],
+    ["cycle"],
+    ["walk", "cycle"],
+    ["check"],
+    ["run"],
+    ["run", "cycle"],
+    ["run", "--horizon", "8"],
+    ["run", "cycle", "--horizon"],
+    ["run", "cycle", "--horizon", "x"],
+    ["run", "cycle", "--horizon", "-1"],
+    ["run", "cycle", "--horizon", "0"],
+    ["run", "cycle", "--horizon", "1000000000001"],
+    ["run", "cycle", "--horizon", "1", "--steps", "0"],
+    ["run", "cycle", "--horizon", "1", "--steps", "10000001"],
+    ["run", "cycle", "--horizon", "1", "--horizon", "1"],
+    ["run", "cycle", "ring", "--horizon", "1"],
+    ["check", "cycle", "--horizon", "1"],
+    ["run", "cycle", "--horizon", "1", "--deploy"],
+    ["check", "cycle", "--stim", "ring", "--stim", "ring"],
+    ["run", "cycle", "--horizon", "1", "--trace"],
+    ["run", "cycle", "--horizon", "1", "--trace", "1", "--trace", "1"],
+    ["check", "cycle", "--trace", "1"],
+    ["run", "cycle", "--horizon", "1", "--workers", "0"],
+    ["run", "cycle", "--horizon", "1", "--workers", "65"],
+    ["run", "cycle", "--horizon", "1", "--workers"],
+    ["check", "cycle", "--workers", "1"],
+    ["run", "cycle", "--horizon", "1", "--serial=1"],
+    ["run", "cycle", "--horizon", "1", "--serial", "--serial"],
+    ["check", "cycle", "--serial"],
+    ["run", "cycle", "--horizon", "1", "--why=1"],
+    ["check", "cycle", "--why", "--why"],
+    ["explain"],
+    ["explain", "E21", "E22"],
+    ["explain", "E21", "--why"],
+    ["wave"],
+    ["wave", "cycle"],
+    ["wave", "--deploy", "cycle", "cycle"],
+    ["wave", "cycle", "cycle", "cycle"],
+    ["wave", "cycle", "cycle", "--stim", "cycle"],
+    ["wave", "cycle", "cycle", "--horizon", "1"],
+    ["run", "cycle", "--horizon", "8", "--trace", "0"],
+    ["run", "cycle", "--horizon", "8", "--trace", "3"],
+    ["run", "cycle", "--horizon", "8", "--trace", "x"],
+    ["run", "cycle", "--horizon", "8", "--trace", "01"],
+    ["run", "cycle", "--horizon", "8", "--trace", "+1"],
+    ["run", "cycle", "--horizon", "8", "--trace", "12"],
+    ["run", "cycle", "--horizon", "8", "--trace", "1 "],
+    ["run", "cycle", "--horizon", "8", "--trace", "1,2"],
+    ["run", "cycle", "--horizon", "8", "--trace", "One"],
+    ["run", "cycle", "--horizon", "8", "--trace", ""],
+]
+KEYED_STOPPED = (
+    b"1 0 0 0 MAIN < S.COLD\n3 0 0 0 MAIN > M.EI1\n3 0 0 0 MAIN < M.EO\n3 1 0 0 MAIN > M.EI2\n3 1 0 0 MAIN < M.EO\nstop 0 MAIN steps\n"
+)
+# The run stops at tick 3.
+STOPPED_LATE = b"0 MAIN < S.COLD\n0 MAIN > D.START DT=3\n3 MAIN < D.EO\n3 MAIN > M.EI1\n3 MAIN < M.EO\nstop 3 MAIN steps\n"
+TOLD_LATE = b"".join(b"progress: tick %d of 5, 2 lines\n" % at for at in (1, 2, 3))
+TO_4 = b"0 MAIN < S.COLD\n0 MAIN > C.START DT=3\n3 MAIN < C.EO\nend 4\n"
+TO_6_ELSEWHERE = b"0 R1 < S.COLD\n0 R1 > C.START DT=3\n3 R1 < C.EO\nend 6\n"
+
+
+def of(words, *ending, **how):
+    """A call by these words, which are parted by blanks."""
+    return Call(words.split(), *ending, **how)
+
+
+# What is asked for in other words, which files are read, and what is told first where several things are wrong.
+CALLS += [
+    *(of(words, 2, err=line, given=text) for text, line in REFUSED for words in ("check -", "run - --horizon 5")),
+    of("run nowhere --horizon 1", 3, err=b"file fault\n"),
+    *(Call(words, 5, err=None) for words in FAULTS),
+    *(Call(["explain", name], 0, out=None, has=(f"{name}: ", "\nFor example:\n- ", "\nLook at: ")) for name in EXPLAINED),
+    *(Call(["explain", name], 5, err=f"error: no refusal is called {name}\n".encode()) for name in NOT_EXPLAINED),
+    of("explain E21", 0, out=SLIP_EXPLAINED),
+    # Numbers at their limits, other forms of a number, and other places of the words.
+    of("run cycle --horizon 8 --trace 1", 0, out=TO_8),
+    of("run cycle --horizon 8 --trace=1", 0, out=TO_8),
+    of("run cycle --horizon 8 --trace 2", 0, out=KEYED_TO_8),
+    of("run cycle --horizon 8 --trace=2", 0, out=KEYED_TO_8),
+    of("run ring --horizon 1 --steps 3 --trace 1", 1, out=STOPPED),
+    of("run ring --horizon 1 --steps 3 --trace=2", 1, out=KEYED_STOPPED),
+    of("run empty --steps 10000000 --horizon 1000000000000", 0, out=b"end 1000000000000\n"),
+    of("run --horizon 1 --steps 1 empty", 0, out=b"end 1\n"),
+    of("run empty --horizon 8", 0, out=b"end 8\n"),
+    of("run empty --horizon +8", 0, out=b"end 8\n"),
+    of("run empty --horizon 008", 0, out=b"end 8\n"),
+    of("run empty --horizon 8 --workers 64", 0, out=b"end 8\n"),
+    # What is asked for is told of the place.
+    of("run slip --horizon 1 --why", 2, err=b"refused E21\n" + AT_THE_SLIP),
+    of("check merge --deploy merge_plan --why", 2, err=b"refused E21\nresource R: instance N: application A has no instance N\n"),
+    of("check - --why", 2, err=b"refused E03 line 2\nline 2, column 7: found the end of the text, expected :\n", given=b"APPLICATION A\nFBS M "),
+    of("check merge --stim merge_fed --why", 2, err=b"refused E29\nstimuli: 1st row behind the heading: there is no instance N\n"),
+    of("check slip --deploy nowhere --why", 3, err=b"file fault\ndeployment nowhere: no file of this name can be read\n"),
+    of("check nowhere --deploy nowhere --why", 3, err=b"file fault\ndeclaration nowhere: no file of this name can be read\n"),
+    of(
+        "run slip --horizon 1 --stim - --why", 3,
+        err=b"file fault\nstimuli -: standard input can't be read, or was read before\n", closes_input=True,
+    ),
+    # How far a run is that stops: what is reached before is told.
+    of("run late --horizon 5 --steps 2 --progress", 1, out=STOPPED_LATE, err=TOLD_LATE),
+    of("run cycle --horizon 8 --progress --workers 3", 0, out=TO_8, err=TOLD_TO_8),
+    of("run cycle --horizon 8 --progress --trace 2", 0, out=KEYED_TO_8, err=TOLD_TO_8),
+    # Stimuli without rows change nothing. The deployment is refused before the stimuli, and these before the check.
+    of("run cycle --horizon 4 --stim no_rows", 0, out=TO_4),
+    of("check twice --stim no_heading --deploy no_plan", 2, err=b"refused E10\n"),
+    of("check twice --stim no_heading", 2, err=b"refused E13\n"),
+    of("check cycle --deploy other_plan", 0, out=b"accepted\n"),
+    of("check cycle --stim fed", 0, out=b"accepted\n"),
+    of("run cycle --horizon 6 --deploy other_plan", 0, out=TO_6_ELSEWHERE),
+    of("run cycle --horizon 6 --stim fed", 0, out=FED_TO_6),
+    # All files are read before any of them is refused.
+    of("check no_text --deploy nowhere", 3, err=b"file fault\n"),
+    of("check no_text --stim nowhere", 3, err=b"file fault\n"),
+    of("check nowhere --stim no_text", 3, err=b"file fault\n"),
+    of("run no_text --horizon 1 --deploy nowhere", 3, err=b"file fault\n"),
+    of("run no_text --horizon 1 --stim nowhere --deploy no_plan", 3, err=b"file fault\n"),
+    of("run nowhere --horizon 1 --deploy no_plan --stim no_text", 3, err=b"file fault\n"),
+    # Waveforms of traces: the resource is that of the deployment. What a trace is of is refused before it, in the order of a check.
+    of("wave cycle keyed_trace", 0, out=WAVE_TO_8),
+    of("wave cycle --deploy cycle_plan trace", 0, out=WAVE_TO_8),
+    of("wave --deploy cycle_plan cycle trace", 0, out=WAVE_TO_8),
+    of("wave cycle cut_name_trace", 2, err=b"refused trace line 3\n"),
+    of("wave cycle no_block_trace", 2, err=b"refused trace line 3\n"),
+    of("wave cycle falling_trace", 2, err=b"refused trace line 2\n"),
+    of("wave cycle longer_trace", 2, err=b"refused trace line 3\n"),
+    of("wave cycle --deploy other_plan trace", 2, err=b"refused trace line 1\n"),
+    of("wave twice --deploy no_plan no_trace", 2, err=b"refused E10\n"),
+    of("wave cycle --deploy nowhere trace", 3, err=b"file fault\n"),
 ]
 
 

@@ -7,7 +7,8 @@ from wrong ones (tools/cases_test.py, tools/wrong_bodies_test.py); then, from no
 proved, every wrong body in crates/*/must-fail is shown to be refused, tests and programs are run, and the program is
 called at least once for each status (tools/calls.py), as docs/FIRST_APPLICATION.md has it (tools/first_application.py),
 for the waveforms of the examples, which are compared with their traces (tools/waves.py), and of what is no trace
-(tools/traces.py), on the stored cases of cases/ (tools/cases.py) and on rings of resources (tools/rings.py), on texts that
+(tools/traces.py), on the stored cases of cases/ (tools/cases.py) and on rings of resources (tools/rings.py), with outputs that take
+little and readers that fail (tools/narrow.py), on texts that
 are cut or changed in one byte (tools/hostile.py), and with each of its requests for memory refused (tools/refuse.py). Then
 it tells the processor seconds and the memory of each crate. The last line is 'N passed, M failed', and the status 0 where none failed.
 
@@ -35,6 +36,7 @@ import documents
 import explained
 import first_application
 import hostile
+import narrow
 import refuse
 import rings
 import traces
@@ -60,6 +62,8 @@ sys.exit(os.WEXITSTATUS(status))
 TASKS = ("proof", "tests", "edits", "runs")
 # The folder of a copy of a crate in which a wrong body is tried.
 OF_EDITS = re.compile(r"/(rt-edit|gate-edits)-")
+# The lines of a library whose proof takes as long as both compilers take for the program.
+LINES_OF_COMPILERS = 2000
 # What src/lib.rt of a crate says that is nothing but tests.
 TESTS_ALONE = re.compile(r"(//.*\n)*#!\[tactic\(auto\)\]\n(\s*#\[cfg\(test\)\]\nmod \w+;\n)+")
 
@@ -156,6 +160,7 @@ def call_after_each_run():
         yield traces.try_all(made)
         yield cases.run_all(made)
         yield rings.try_all(made)
+        yield narrow.try_all(made)
         yield hostile.try_all(made)
         yield refuse.try_all(made)
 
@@ -169,6 +174,21 @@ def call_after_each_run():
         return is_well
 
     rt.run = run_and_call
+
+
+def begin_early_with_the_program():
+    """Has the kit reckon with what both compilers take for the program. By its own few lines it is begun after all else that can go on
+    beside it, and then alone."""
+    in_lanes = rt.in_lanes
+
+    def with_compilers(tasks, *more):
+        proof = calls.PROGRAM, "proof"
+        if proof in tasks:
+            waits, lines, *rest = tasks[proof]
+            tasks[proof] = (waits, lines + LINES_OF_COMPILERS, *rest)
+        return in_lanes(tasks, *more)
+
+    rt.in_lanes = with_compilers
 
 
 class Beside:
@@ -249,6 +269,7 @@ def main(words):
     with tempfile.TemporaryDirectory(prefix="gate-") as room:
         look = Beside("tools/wrong_bodies_test.py")
         call_after_each_run()
+        begin_early_with_the_program()
         has_failed = tell_before_the_last_line(Times(room), look)
         status = ci(words, room)
         os.chdir(TOP)

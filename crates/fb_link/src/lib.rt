@@ -8,5 +8,3 @@
 
 pub mod arrivals;
 pub mod exchange;
-#[cfg(test)]
-mod tests;

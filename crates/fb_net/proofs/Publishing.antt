@@ -14,8 +14,8 @@ use Rattle.fb_types.specs.Values.{Values}
 use Rattle.fb_types.specs.declared.value.Value.{Value}
 use Rattle.fb_types.proofs.PathLaws.{same_path_itself}
 use Rattle.fb_types.proofs.ReactionLaws.{kept_at}
-use Rattle.fb_tree.specs.Changes.{Changes, block_in, output_shown, with_instance}
-use Rattle.fb_tree.specs.Worlds.{InForest, IsForest}
+use Rattle.fb_tree.specs.Changes.{Changes, block_in, output_shown}
+use Rattle.fb_tree.specs.Worlds.{IsForest}
 use Rattle.fb_tree.specs.declared.resource.Forest.{Forest}
 use Rattle.fb_net.specs.Emitting.{outputs_at, outputs_shown}
 
@@ -117,11 +117,3 @@ one_more_shown i k f g h j place places values v first lt lt' is value then =
     let sys = system_of i in
     subst (λ (bs : List Bound). Changes i f k (outputs_shown bs) h) (sym (take-outputs sys k j place places values v lt lt' is value))
     (one_more i k f g h (take j (outputs_at sys k places values)) (record { variable = variable_at (ports_at sys (path_at sys k)).outputs place; value = v }) first then)
-
--- ---- That each instance has its block
-
--- An instance that has changed leaves the blocks of all.
-pub whole :
-    (i : Inputs) (old new : Forest) (k : ℕ) (change : model.Block → model.Block) → Changes i old k change new → InForest i old k
-    → (w : World) → IsForest i old w → (v : World) × IsForest i new v
-whole i old new k change changed here w stood = (with_instance i k (change (block_in i w k)) w, changed.stands w stood here)

@@ -40,7 +40,8 @@ use Rattle.fb_tree.specs.declared.resource.Forest.{Forest}
 use Rattle.fb_laws.specs.Typed.{AreTyped, IsTypedEvent}
 use Rattle.fb_laws.proofs.Kept.{held_typed, slots_typed}
 use Rattle.fb_net.specs.Arrivals.{Arrives, ComesTo, HasReacted, IsReady, ReactedIn, StandTyped, expiring, lines_in}
-use Rattle.fb_net.specs.Events.{Came, HasTaken, event_of, stimulated}
+use Rattle.fb_net.specs.Events.{Came, HasTaken, Remembered, event_of, stimulated}
+use Rattle.fb_net.specs.Steps.{IsKept}
 use Rattle.fb_net.proofs.Crossing.{answered-left, answered-stop}
 use Rattle.fb_net.proofs.Sampling.{ports-of_kind}
 
@@ -126,8 +127,8 @@ module _ (i : Inputs) (k : Key) (row : ℕ) (s : StimulusAt) (is : IsStimulusAt 
   brought : (w : World) → IsForest i old w → IsForest i mid (with_slots p sets w)
   brought w h = changes.stands w h lies
 
-  pub stimulus-whole : (w : World) → IsForest i old w → (v : World) × IsForest i mid v
-  stimulus-whole w h = (with_slots p sets w, brought w h)
+  pub stimulus-kept : IsKept i old mid
+  stimulus-kept = record { resource = changes.resource; whole = λ w h. (with_slots p sets w, brought w h) }
 
   pub stimulus-typed : StandTyped i old → IsTypedEvent sys (event_of i (waits.Stimulus row)) → StandTyped i mid
   stimulus-typed typed fits =
@@ -224,3 +225,9 @@ timer-done i k at old new x y left (Ok u) r ends came =
     subst (λ (z : Result (Unit {0}) Halt). HasTaken i k (waits.Timer at) old x left z new left y) (sym ends) (came left)
 timer-done i k at old new x y left (Err e) r ends came =
     subst (λ (z : Result (Unit {0}) Halt). HasTaken i k (waits.Timer at) old x left z new left y) (sym ends) tt
+
+-- what holds of all that does not end with want of memory
+pub timer-remembered : {E : Type 0} (holds : Type 0) (done : Result (Unit {0}) E) (r : Result (Unit {0}) Halt)
+    → MatchResult done (λ u. r ≡ Ok u) (λ e. r ≡ Err halt.Memory) → OnOk done holds → Remembered r holds
+timer-remembered holds (Ok u) r ends h = subst (λ (z : Result (Unit {0}) Halt). Remembered z holds) (sym ends) h
+timer-remembered holds (Err e) r ends h = subst (λ (z : Result (Unit {0}) Halt). Remembered z holds) (sym ends) tt

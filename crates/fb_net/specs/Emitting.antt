@@ -40,9 +40,14 @@ outputs_shown bs b = record b { published = with_values bs b.published }
 abbrev pub carried_by : (instance : ℕ) → (places : List ℕ) → List Value → List Carried
 carried_by k places values = map (λ x. record { instance = k; variable = x.0; value = x.1 }) (zip places values)
 
--- An instance has emitted so: the blocks and what was put out stand for what the emissions make of what they stood for.
+-- The blocks and what was put out stand for what the emissions of an instance make of what they stood for.
+abbrev pub EmitsSo : Inputs → Key → (instance : ℕ) → Forest → Outbox → List run.Emission → Forest → Outbox → Type 0
+EmitsSo i key k f x es g y =
+    (before : List model.Line) (o : Outcome) → Stands i before f x o →
+    Stands i before g y (emitted_all (system_of i) key (path_at (system_of i) k) (map (emission_of (ports_at (system_of i) (path_at (system_of i) k))) es) o)
+
+-- An instance has emitted so.
 pub record HasEmitted (i : Inputs) (key : Key) (k : ℕ) (f : Forest) (x : Outbox) (es : List run.Emission) (g : Forest) (y : Outbox) : Type 0 where
-  pub emitted : (before : List model.Line) (o : Outcome) → Stands i before f x o →
-      Stands i before g y (emitted_all (system_of i) key (path_at (system_of i) k) (map (emission_of (ports_at (system_of i) (path_at (system_of i) k))) es) o)
+  pub emitted : EmitsSo i key k f x es g y
   pub outs : AreOuts (system_of i) g.resource y
   pub resource : g.resource ≡ f.resource

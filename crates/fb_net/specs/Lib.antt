@@ -4,3 +4,4 @@ pub mod Samples
 pub mod Emitting
 pub mod Outs
 pub mod Leaves
+pub mod Steps

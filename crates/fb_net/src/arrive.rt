@@ -1,20 +1,20 @@
 //! The arrival of an event at a port of an instance.
 
-ghost use Rattle.std.specs.Prelude.{◌≡◌, ◌≢◌, ◌<◌, ◌≤◌, ◌^◌, All, false, true, length, map, MatchResult, OnOk, Some};
+ghost use Rattle.std.specs.Prelude.{◌≡◌, ◌≢◌, ◌≤◌, ◌^◌, All, false, true, length, map, MatchResult, OnOk, Some};
 ghost use Rattle.fb_types.specs.Blocks.{Basic, Event};
 ghost use Rattle.fb_types.specs.Headline.{system_of};
 ghost use Rattle.fb_types.specs.Numbers.{emission_of, line_of, path_at, ports_at};
-ghost use Rattle.fb_types.specs.Reactions.{World};
 ghost use Rattle.fb_types.specs.declared.library.BasicType.{BasicType};
 ghost use Rattle.fb_net.specs.Outs.{AreOuts};
 ghost use Rattle.fb_net.specs.Leaves.{IsOne};
 ghost use Rattle.fb_net.specs.Samples.{names_in};
 ghost use Rattle.fb_system.specs.Lines.{IsEmission};
-ghost use Rattle.fb_system.specs.Ports.{IsCompositeAt, IsPort, IsTarget};
-ghost use Rattle.fb_tree.specs.Worlds.{InForest, IsForest};
+ghost use Rattle.fb_system.specs.Ports.{IsCompositeAt, IsTarget};
+ghost use Rattle.fb_tree.specs.Worlds.{InForest};
 ghost use Rattle.fb_laws.specs.Typed.{IsTypedSystem};
 ghost use Rattle.fb_net.specs.Arrivals.{Arrives, ComesTo, HasReacted, IsReady, StandTyped, Tells, entering, leaving, reacting, sampling};
 ghost use Rattle.fb_net.specs.Events.{Remembered};
+ghost use Rattle.fb_net.specs.Steps.{IsKept, MayArrive};
 
 use crate::basic_blocks::react_basic;
 use crate::bring::keep_samples;
@@ -43,17 +43,14 @@ fn take_samples(
     key: &Key,
     at: Target,
 ) -> Result<(), AllocError>
-    requires port { IsPort (system_of system.now) at }
+    requires place { MayArrive system.now key.now at forest.old outbox.old }
     requires input { at.is_output ≡ false }
     requires no_basic { (t : BasicType) → (system_of system.now).kind (path_at (system_of system.now) at.instance) ≢ Some (Basic t) }
-    requires here { InForest system.now forest.old at.instance }
-    requires ready { IsReady system.now key.now forest.old outbox.old }
     ensures taken { OnOk result (ComesTo system.now (sampling system.now key.now at) forest.old outbox.old forest.new outbox.new) }
     ensures ready { OnOk result (IsReady system.now key.now forest.new outbox.new) }
-    ensures resource { forest.new.resource ≡ forest.old.resource }
 
     // Also where memory runs out.
-    ensures whole { (w : World) → IsForest system.now forest.old w → (v : World) × IsForest system.now forest.new v }
+    ensures kept { IsKept system.now forest.old forest.new }
 {
     let alloc = *outbox.lines.allocator();
     let values = sampled_values(alloc, forest, system, at)?;
@@ -70,20 +67,17 @@ fn arrive_event(
     key: &Key,
     at: Target,
 ) -> Result<(), AllocError>
-    requires port { IsPort (system_of system.now) at }
+    requires place { MayArrive system.now key.now at forest.old outbox.old }
     requires input { at.is_output ≡ false }
     requires kind { (system_of system.now).kind (path_at (system_of system.now) at.instance) ≡ Some (Event kind) }
-    requires here { InForest system.now forest.old at.instance }
-    requires ready { IsReady system.now key.now forest.old outbox.old }
     requires early { key.now.tick ≤ 10 ^ 12 }
     requires sound { IsTypedSystem (system_of system.now) }
     requires typed { StandTyped system.now forest.old }
     ensures reacted { OnOk result (ComesTo system.now (reacting system.now key.now kind at) forest.old outbox.old forest.new outbox.new) }
     ensures outs { OnOk result (AreOuts (system_of system.now) forest.new.resource outbox.new) }
-    ensures resource { forest.new.resource ≡ forest.old.resource }
 
     // Also where memory runs out.
-    ensures whole { (w : World) → IsForest system.now forest.old w → (v : World) × IsForest system.now forest.new v }
+    ensures kept { IsKept system.now forest.old forest.new }
 {
     take_samples(forest, outbox, system, key, at)?;
     let mut emits = Items::new(*outbox.lines.allocator());
@@ -99,17 +93,14 @@ fn enter(
     key: &Key,
     at: Target,
 ) -> Result<(), AllocError>
-    requires port { IsPort (system_of system.now) at }
+    requires place { MayArrive system.now key.now at forest.old outbox.old }
     requires input { at.is_output ≡ false }
     requires composite { IsCompositeAt (system_of system.now) at.instance }
-    requires here { InForest system.now forest.old at.instance }
-    requires ready { IsReady system.now key.now forest.old outbox.old }
     ensures entered { OnOk result (ComesTo system.now (entering system.now key.now at) forest.old outbox.old forest.new outbox.new) }
     ensures outs { OnOk result (AreOuts (system_of system.now) forest.new.resource outbox.new) }
-    ensures resource { forest.new.resource ≡ forest.old.resource }
 
     // Also where memory runs out.
-    ensures whole { (w : World) → IsForest system.now forest.old w → (v : World) × IsForest system.now forest.new v }
+    ensures kept { IsKept system.now forest.old forest.new }
 {
     take_samples(forest, outbox, system, key, at)?;
     send_out(&mut outbox.outs, forest, system, at, &[], &[])
@@ -123,17 +114,14 @@ fn leave(
     key: &Key,
     at: Target,
 ) -> Result<(), AllocError>
-    requires port { IsPort (system_of system.now) at }
+    requires place { MayArrive system.now key.now at forest.old outbox.old }
     requires output { at.is_output ≡ true }
     requires composite { IsCompositeAt (system_of system.now) at.instance }
-    requires here { InForest system.now forest.old at.instance }
-    requires ready { IsReady system.now key.now forest.old outbox.old }
     ensures left { OnOk result (ComesTo system.now (leaving system.now key.now at) forest.old outbox.old forest.new outbox.new) }
     ensures outs { OnOk result (AreOuts (system_of system.now) forest.new.resource outbox.new) }
-    ensures resource { forest.new.resource ≡ forest.old.resource }
 
     // Also where memory runs out.
-    ensures whole { (w : World) → IsForest system.now forest.old w → (v : World) × IsForest system.now forest.new v }
+    ensures kept { IsKept system.now forest.old forest.new }
 {
     let alloc = *outbox.lines.allocator();
     let values = shown_values(alloc, forest, system, at)?;
@@ -153,20 +141,17 @@ fn tell(
     values: Items<Value>,
     emits: Emits,
 ) -> Result<(), AllocError>
-    requires port { IsPort (system_of system.now) at }
+    requires place { MayArrive system.now key.now at forest.old outbox.old }
     requires input { at.is_output ≡ false }
-    requires here { InForest system.now forest.old at.instance }
-    requires ready { IsReady system.now key.now forest.old outbox.old }
     requires counted { length values ≡ length (names_in (system_of system.now) at) }
     requires emissions { All (IsEmission (ports_at (system_of system.now) (path_at (system_of system.now) at.instance))) emits }
     ensures told { OnOk result (Tells system.now key.now at.instance
         (line_of (system_of system.now) (record { key = key.now; taken = true; instance = at.instance; event = at.event; values = values }))
         (map (emission_of (ports_at (system_of system.now) (path_at (system_of system.now) at.instance))) emits) forest.old outbox.old forest.new outbox.new) }
     ensures outs { OnOk result (AreOuts (system_of system.now) forest.new.resource outbox.new) }
-    ensures resource { forest.new.resource ≡ forest.old.resource }
 
     // Also where memory runs out.
-    ensures whole { (w : World) → IsForest system.now forest.old w → (v : World) × IsForest system.now forest.new v }
+    ensures kept { IsKept system.now forest.old forest.new }
 {
     write_taken(outbox, system, key, at, values)?;
     emit_all(forest, outbox, system, key, at.instance, emits)
@@ -185,19 +170,16 @@ fn arrive_basic(
     at: Target,
     meter: &mut Meter,
 ) -> Result<(), Halt>
-    requires port { IsPort (system_of system.now) at }
+    requires place { MayArrive system.now key.now at forest.old outbox.old }
     requires input { at.is_output ≡ false }
     requires kind { (system_of system.now).kind (path_at (system_of system.now) at.instance) ≡ Some (Basic block.now) }
-    requires here { InForest system.now forest.old at.instance }
     requires one { IsOne system.now forest.old at.instance }
-    requires ready { IsReady system.now key.now forest.old outbox.old }
     ensures reacted { HasReacted system.now (Arrives system.now key.now at meter.old.left) forest.old outbox.old result forest.new meter.new.left outbox.new }
     ensures outs { Remembered result (AreOuts (system_of system.now) forest.new.resource outbox.new) }
     ensures fewer { meter.new.left ≤ meter.old.left }
-    ensures resource { forest.new.resource ≡ forest.old.resource }
 
     // Also where memory runs out.
-    ensures whole { (w : World) → IsForest system.now forest.old w → (v : World) × IsForest system.now forest.new v }
+    ensures kept { IsKept system.now forest.old forest.new }
 {
     let alloc = *outbox.lines.allocator();
     let Ok(values) = sampled_values(alloc, forest, system, at) else {
@@ -249,10 +231,9 @@ pub(crate) fn arrive(
     ensures reacted { HasReacted system.now (Arrives system.now key.now at meter.old.left) forest.old outbox.old result forest.new meter.new.left outbox.new }
     ensures outs { Remembered result (AreOuts (system_of system.now) forest.new.resource outbox.new) }
     ensures fewer { meter.new.left ≤ meter.old.left }
-    ensures resource { forest.new.resource ≡ forest.old.resource }
 
     // Also where memory runs out.
-    ensures whole { (w : World) → IsForest system.now forest.old w → (v : World) × IsForest system.now forest.new v }
+    ensures kept { IsKept system.now forest.old forest.new }
 {
     system.facts();
     match system.kind(at.instance) {

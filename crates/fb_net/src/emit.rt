@@ -1,16 +1,15 @@
 //! Emissions, and where events go.
 
-ghost use Rattle.std.specs.Prelude.{◌≡◌, ◌++◌, ◌∷◌, [], ◌<◌, length, map, All, List, IfOk, OnOk, true};
+ghost use Rattle.std.specs.Prelude.{◌≡◌, ◌++◌, ◌∷◌, [], ◌<◌, length, map, All, IfOk, OnOk, true};
 ghost use Rattle.fb_types.specs.Headline.{system_of};
-ghost use Rattle.fb_types.specs.Numbers.{carried_of, emission_of, line_of, path_at, port_of, ports_at};
-ghost use Rattle.fb_types.specs.Reactions.{Outcome, World, emitted_all, spread};
-ghost use Rattle.fb_types.specs.States as model;
+ghost use Rattle.fb_types.specs.Numbers.{carried_of, line_of, path_at, port_of, ports_at};
+ghost use Rattle.fb_types.specs.Reactions.{spread};
 ghost use Rattle.fb_system.specs.Lines.{BelongsTo, IsEmission};
 ghost use Rattle.fb_system.specs.Ports.{IsCarried, IsPort, IsTarget};
 ghost use Rattle.fb_tree.specs.Changes.{Changes};
-ghost use Rattle.fb_tree.specs.Worlds.{IsForest};
-ghost use Rattle.fb_net.specs.Emitting.{GoesTo, HasEmitted, carried_by, outputs_at, outputs_shown};
-ghost use Rattle.fb_net.specs.Outs.{AreOuts, IsOut, Stands, out_of};
+ghost use Rattle.fb_net.specs.Emitting.{EmitsSo, GoesTo, HasEmitted, carried_by, outputs_at, outputs_shown};
+ghost use Rattle.fb_net.specs.Outs.{AreOuts, IsOut, out_of};
+ghost use Rattle.fb_net.specs.Steps.{IsKept, MayEmit};
 
 use crate::outbox::{Out, Outbox, Sending};
 use fb_fabric::fabric::Place;
@@ -160,17 +159,12 @@ fn emit_one(
     instance: u32,
     emission: Emission,
 ) -> Result<(), AllocError>
-    requires instance { instance < length (system_of system.now).paths }
-    requires here { (system_of system.now).resource (path_at (system_of system.now) instance) ≡ forest.old.resource }
-    requires resource { key.now.resource ≡ forest.old.resource }
-    requires named { key.now.resource < length (system_of system.now).resource_names }
+    requires place { MayEmit system.now key.now instance forest.old outbox.old }
     requires emission { IsEmission (ports_at (system_of system.now) (path_at (system_of system.now) instance)) emission }
-    requires outs { AreOuts (system_of system.now) forest.old.resource outbox.old }
     ensures emitted { OnOk result (HasEmitted system.now key.now instance forest.old outbox.old (emission ∷ []) forest.new outbox.new) }
-    ensures resource { forest.new.resource ≡ forest.old.resource }
 
     // Also where memory runs out.
-    ensures whole { (w : World) → IsForest system.now forest.old w → (v : World) × IsForest system.now forest.new v }
+    ensures kept { IsKept system.now forest.old forest.new }
 {
     let Emission { event, values } = emission;
     let places = system.outputs_with(instance, event);
@@ -208,20 +202,13 @@ pub fn emit_all(
     instance: u32,
     emits: Emits,
 ) -> Result<(), AllocError>
-    requires instance { instance < length (system_of system.now).paths }
-    requires here { (system_of system.now).resource (path_at (system_of system.now) instance) ≡ forest.old.resource }
-    requires resource { key.now.resource ≡ forest.old.resource }
-    requires named { key.now.resource < length (system_of system.now).resource_names }
+    requires place { MayEmit system.now key.now instance forest.old outbox.old }
     requires emissions { All (IsEmission (ports_at (system_of system.now) (path_at (system_of system.now) instance))) emits }
-    requires outs { AreOuts (system_of system.now) forest.old.resource outbox.old }
-    ensures emitted { OnOk result ((before : List model.Line) (o : Outcome) → Stands system.now before forest.old outbox.old o →
-        Stands system.now before forest.new outbox.new
-        (emitted_all (system_of system.now) key.now (path_at (system_of system.now) instance) (map (emission_of (ports_at (system_of system.now) (path_at (system_of system.now) instance))) emits) o)) }
+    ensures emitted { OnOk result (EmitsSo system.now key.now instance forest.old outbox.old emits forest.new outbox.new) }
     ensures outs { OnOk result (AreOuts (system_of system.now) forest.new.resource outbox.new) }
-    ensures resource { forest.new.resource ≡ forest.old.resource }
 
     // Also where memory runs out.
-    ensures whole { (w : World) → IsForest system.now forest.old w → (v : World) × IsForest system.now forest.new v }
+    ensures kept { IsKept system.now forest.old forest.new }
 {
     for emission in emits.into_vec() {
         emit_one(forest, outbox, system, key, instance, emission)?;

@@ -4,13 +4,12 @@ ghost use Rattle.std.specs.Prelude.{◌≡◌, ◌<◌, ◌≤◌, ◌^◌, ℕ,
 ghost use Rattle.fb_types.specs.Blocks as model;
 ghost use Rattle.fb_types.specs.Headline.{system_of};
 ghost use Rattle.fb_types.specs.Numbers.{path_at};
-ghost use Rattle.fb_types.specs.Reactions.{World};
 ghost use Rattle.fb_net.specs.Outs.{AreOuts};
 ghost use Rattle.fb_net.specs.Leaves.{IsOne};
-ghost use Rattle.fb_tree.specs.Worlds.{InForest, IsForest};
-ghost use Rattle.fb_laws.specs.Typed.{IsTypedEvent};
-ghost use Rattle.fb_net.specs.Arrivals.{ComesTo, IsReady, StandTyped, expiring};
-ghost use Rattle.fb_net.specs.Events.{Came, HasTaken, IsEventIn, Remembered, event_of};
+ghost use Rattle.fb_tree.specs.Worlds.{InForest};
+ghost use Rattle.fb_net.specs.Arrivals.{ComesTo, IsReady, expiring};
+ghost use Rattle.fb_net.specs.Events.{Came};
+ghost use Rattle.fb_net.specs.Steps.{IsKept, MayTake, WasTaken};
 
 use crate::arrive::{arrive, or_halt};
 use crate::bring::{hold_carried, set_slots};
@@ -40,18 +39,8 @@ fn take_stimulus(
     row: u32,
     meter: &mut Meter,
 ) -> Result<(), Halt>
-    requires event { IsEventIn system.now forest.old.resource (Event.Stimulus row) }
-    requires ready { IsReady system.now key.now forest.old outbox.old }
-    requires early { key.now.tick ≤ 10 ^ 12 }
-    requires belongs { StandTyped system.now forest.old }
-    requires typed { IsTypedEvent (system_of system.now) (event_of system.now (Event.Stimulus row)) }
-    ensures taken { HasTaken system.now key.now (Event.Stimulus row) forest.old outbox.old meter.old.left result forest.new meter.new.left outbox.new }
-    ensures outs { Remembered result (AreOuts (system_of system.now) forest.new.resource outbox.new) }
-    ensures fewer { meter.new.left ≤ meter.old.left }
-    ensures resource { forest.new.resource ≡ forest.old.resource }
-
-    // Also where memory runs out.
-    ensures whole { (w : World) → IsForest system.now forest.old w → (v : World) × IsForest system.now forest.new v }
+    requires { MayTake system.now key.now (Event.Stimulus row) forest.old outbox.old }
+    ensures { WasTaken system.now key.now (Event.Stimulus row) forest.old outbox.old meter.old.left result forest.new meter.new.left outbox.new }
 {
     let stimulus = system.stimulus(row);
     set_slots(forest, system, stimulus.target.instance, stimulus.sets);
@@ -70,18 +59,8 @@ fn take_arrival(
     message: &Message,
     meter: &mut Meter,
 ) -> Result<(), Halt>
-    requires event { IsEventIn system.now forest.old.resource (Event.Arrival message.now) }
-    requires ready { IsReady system.now key.now forest.old outbox.old }
-    requires early { key.now.tick ≤ 10 ^ 12 }
-    requires belongs { StandTyped system.now forest.old }
-    requires typed { IsTypedEvent (system_of system.now) (event_of system.now (Event.Arrival message.now)) }
-    ensures taken { HasTaken system.now key.now (Event.Arrival message.now) forest.old outbox.old meter.old.left result forest.new meter.new.left outbox.new }
-    ensures outs { Remembered result (AreOuts (system_of system.now) forest.new.resource outbox.new) }
-    ensures fewer { meter.new.left ≤ meter.old.left }
-    ensures resource { forest.new.resource ≡ forest.old.resource }
-
-    // Also where memory runs out.
-    ensures whole { (w : World) → IsForest system.now forest.old w → (v : World) × IsForest system.now forest.new v }
+    requires { MayTake system.now key.now (Event.Arrival message.now) forest.old outbox.old }
+    ensures { WasTaken system.now key.now (Event.Arrival message.now) forest.old outbox.old meter.old.left result forest.new meter.new.left outbox.new }
 {
     hold_carried(forest, system, message.values.as_slice());
     arrive(forest, outbox, system, key, message.target, meter)
@@ -104,10 +83,9 @@ fn expire(
     requires early { key.now.tick ≤ 10 ^ 12 }
     ensures expired { OnOk result (ComesTo system.now (expiring system.now key.now kind instance) forest.old outbox.old forest.new outbox.new) }
     ensures outs { OnOk result (AreOuts (system_of system.now) forest.new.resource outbox.new) }
-    ensures resource { forest.new.resource ≡ forest.old.resource }
 
     // Also where memory runs out.
-    ensures whole { (w : World) → IsForest system.now forest.old w → (v : World) × IsForest system.now forest.new v }
+    ensures kept { IsKept system.now forest.old forest.new }
 {
     let mut emits = Items::new(*outbox.lines.allocator());
     outbox.timer = expire_event(forest, system, kind, instance, key.tick, &mut emits)?;
@@ -122,16 +100,12 @@ fn take_timer(
     key: &Key,
     instance: u32,
 ) -> Result<(), AllocError>
-    requires event { IsEventIn system.now forest.old.resource (Event.Timer instance) }
-    requires ready { IsReady system.now key.now forest.old outbox.old }
-    requires early { key.now.tick ≤ 10 ^ 12 }
-    requires belongs { StandTyped system.now forest.old }
+    requires { MayTake system.now key.now (Event.Timer instance) forest.old outbox.old }
     ensures taken { OnOk result ((left : ℕ) → Came system.now key.now (Event.Timer instance) forest.old outbox.old left None forest.new left outbox.new) }
     ensures outs { OnOk result (AreOuts (system_of system.now) forest.new.resource outbox.new) }
-    ensures resource { forest.new.resource ≡ forest.old.resource }
 
     // Also where memory runs out.
-    ensures whole { (w : World) → IsForest system.now forest.old w → (v : World) × IsForest system.now forest.new v }
+    ensures kept { IsKept system.now forest.old forest.new }
 {
     match system.kind(instance) {
         TypeNumber::Event(kind) => expire(forest, outbox, system, kind, key, instance),
@@ -151,18 +125,8 @@ pub(crate) fn take_event(
     event: &Event,
     meter: &mut Meter,
 ) -> Result<(), Halt>
-    requires event { IsEventIn system.now forest.old.resource event.now }
-    requires ready { IsReady system.now key.now forest.old outbox.old }
-    requires early { key.now.tick ≤ 10 ^ 12 }
-    requires belongs { StandTyped system.now forest.old }
-    requires typed { IsTypedEvent (system_of system.now) (event_of system.now event.now) }
-    ensures taken { HasTaken system.now key.now event.now forest.old outbox.old meter.old.left result forest.new meter.new.left outbox.new }
-    ensures outs { Remembered result (AreOuts (system_of system.now) forest.new.resource outbox.new) }
-    ensures fewer { meter.new.left ≤ meter.old.left }
-    ensures resource { forest.new.resource ≡ forest.old.resource }
-
-    // Also where memory runs out.
-    ensures whole { (w : World) → IsForest system.now forest.old w → (v : World) × IsForest system.now forest.new v }
+    requires { MayTake system.now key.now event.now forest.old outbox.old }
+    ensures { WasTaken system.now key.now event.now forest.old outbox.old meter.old.left result forest.new meter.new.left outbox.new }
 {
     match event {
         Event::Stimulus(row) => take_stimulus(forest, outbox, system, key, *row, meter),

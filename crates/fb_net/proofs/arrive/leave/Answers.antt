@@ -9,5 +9,5 @@ returns-clause-left c =
     let one = c.in_ok-push.ensures.ok ∙ ap (λ (l : List run.Emission). l ++ record { event = c.args.at.event; values = c.in_ok-values.values } ∷ []) c.new-emits.ensures in
     on_ok_weaker c.emit_all.result
     (λ put_out. leaves c.args.system.now c.args.key.now c.args.at c.args.forest.now c.emit_all.new.forest c.args.outbox.now c.emit_all.new.outbox c.in_ok-values.values c.push.new.self
-    c.requires.ready c.requires.output c.requires.here c.in_ok-values.ensures.shown one put_out)
+    c.requires.place.ready c.requires.output c.requires.place.here c.in_ok-values.ensures.shown one put_out)
     c.emit_all.ensures.emitted

@@ -1,6 +1,7 @@
 use Rattle.std.proofs.Common.{◌++◌, ◌∷◌, [], ◌∙◌, List, length, ap, sym, append_assoc, arith}
 use Rattle.fb_types.specs.declared.run.Emission.{Emission}
 use Rattle.fb_net.proofs.Emitting.{one_more_emitted}
+use Rattle.fb_net.proofs.Wholes.{kept-then}
 use Rattle.fb_net.proofs.emit.emit_all.Goals as goal
 
 pub loop-emission-preserved : goal.loop-emission-preserved
@@ -15,9 +16,10 @@ loop-emission-preserved c =
           c.loop-emission.invariant.parts
           ∙ ap (λ (rest : List Emission). es ++ rest) step.0
           ∙ sym (append_assoc es (c.in-Some.emission ∷ []) c.next.new.self.rest.items);
-      whole = λ w stood. let v = c.loop-emission.invariant.whole w stood in c.emit_one.ensures.whole v.0 v.1;
+      kept = kept-then c.args.system.now c.args.forest.now c.loop-emission.forest c.emit_one.new.forest c.loop-emission.invariant.kept c.emit_one.ensures.kept;
       counted = let before = c.loop-emission.invariant.counted in let sizes = ap length step.0 in omega arith;
     }
 
-pub returns-in_err-emit_one-clause-whole : goal.returns-in_err-emit_one-clause-whole
-returns-in_err-emit_one-clause-whole c = λ w stood. let v = c.loop-emission.invariant.whole w stood in c.emit_one.ensures.whole v.0 v.1
+pub returns-in_err-emit_one-clause-kept : goal.returns-in_err-emit_one-clause-kept
+returns-in_err-emit_one-clause-kept c =
+    kept-then c.args.system.now c.args.forest.now c.loop-emission.forest c.emit_one.new.forest c.loop-emission.invariant.kept c.emit_one.ensures.kept

@@ -8,12 +8,12 @@ use Rattle.fb_net.specs.Emitting.{carried_by, outputs_at, outputs_shown}
 use Rattle.fb_net.specs.Outs.{out_of}
 use Rattle.fb_net.specs.declared.outbox.Outbox.{Outbox}
 use Rattle.fb_net.proofs.Emitting.{Doing, are_carried, has_emitted}
-use Rattle.fb_net.proofs.Publishing.{whole}
+use Rattle.fb_net.proofs.Wholes.{kept-changed}
 use Rattle.fb_net.proofs.emit.emit_one.Goals as goal
 
 pub send_out-requires-clause-carried : goal.send_out-requires-clause-carried
 send_out-requires-clause-carried c =
-    are_carried (system_of c.args.system.now) c.args.instance c.outputs_with-places.result.now c.as_slice-2.result.now c.requires.instance c.outputs_with-places.ensures.within
+    are_carried (system_of c.args.system.now) c.args.instance c.outputs_with-places.result.now c.as_slice-2.result.now c.requires.place.number c.outputs_with-places.ensures.within
 
 pub returns-clause-emitted : goal.returns-clause-emitted
 returns-clause-emitted c =
@@ -37,13 +37,13 @@ returns-clause-emitted c =
       lines = c.in_ok-push.ensures.items;
       timer = refl;
     } in
-    has_emitted i c.args.key.now k f x e g y done c.requires.instance c.requires.here c.requires.resource c.requires.named c.requires.emission c.requires.outs
+    has_emitted i c.args.key.now k f x e g y done c.requires.place.number c.requires.place.here c.requires.place.resource c.requires.place.named c.requires.emission c.requires.place.outs
 
-pub returns-in_err-send_out-clause-whole : goal.returns-in_err-send_out-clause-whole
-returns-in_err-send_out-clause-whole c = λ w stood. whole c.args.system.now c.args.forest.now c.publish_all.new.forest c.args.instance _ c.publish_all.ensures c.requires.here w stood
+pub returns-in_err-send_out-clause-kept : goal.returns-in_err-send_out-clause-kept
+returns-in_err-send_out-clause-kept c = kept-changed c.args.system.now c.args.forest.now c.publish_all.new.forest c.args.instance _ c.publish_all.ensures c.requires.place.here
 
-pub returns-in_err-push-clause-whole : goal.returns-in_err-push-clause-whole
-returns-in_err-push-clause-whole c = λ w stood. whole c.args.system.now c.args.forest.now c.publish_all.new.forest c.args.instance _ c.publish_all.ensures c.requires.here w stood
+pub returns-in_err-push-clause-kept : goal.returns-in_err-push-clause-kept
+returns-in_err-push-clause-kept c = kept-changed c.args.system.now c.args.forest.now c.publish_all.new.forest c.args.instance _ c.publish_all.ensures c.requires.place.here
 
-pub returns-clause-whole : goal.returns-clause-whole
-returns-clause-whole c = λ w stood. whole c.args.system.now c.args.forest.now c.publish_all.new.forest c.args.instance _ c.publish_all.ensures c.requires.here w stood
+pub returns-clause-kept : goal.returns-clause-kept
+returns-clause-kept c = kept-changed c.args.system.now c.args.forest.now c.publish_all.new.forest c.args.instance _ c.publish_all.ensures c.requires.place.here

@@ -1,5 +1,6 @@
 use Rattle.std.proofs.lemmas.Result.{on_ok_weaker}
 use Rattle.fb_net.proofs.Taking.{timer-expires}
+use Rattle.fb_net.proofs.Wholes.{kept-then, kept-world}
 use Rattle.fb_net.proofs.take.expire.Goals as goal
 
 pub returns-clause-expired : goal.returns-clause-expired
@@ -10,8 +11,10 @@ returns-clause-expired c =
     c.in_ok-outbox.ensures.reacted put_out)
     c.emit_all.ensures.emitted
 
-pub returns-in_err-outbox-clause-whole : goal.returns-in_err-outbox-clause-whole
-returns-in_err-outbox-clause-whole c = λ w stood. c.expire_event.ensures.whole
+pub returns-in_err-outbox-clause-kept : goal.returns-in_err-outbox-clause-kept
+returns-in_err-outbox-clause-kept c =
+    kept-world c.args.system.now c.args.forest.now c.expire_event.new.forest c.expire_event.ensures.resource c.expire_event.ensures.whole
 
-pub returns-clause-whole : goal.returns-clause-whole
-returns-clause-whole c = λ w stood. let v = c.expire_event.ensures.whole in c.emit_all.ensures.whole v.0 v.1
+pub returns-clause-kept : goal.returns-clause-kept
+returns-clause-kept c =
+    kept-then c.args.system.now c.args.forest.now c.expire_event.new.forest c.emit_all.new.forest (kept-world c.args.system.now c.args.forest.now c.expire_event.new.forest c.expire_event.ensures.resource c.expire_event.ensures.whole) c.emit_all.ensures.kept

@@ -1,23 +1,34 @@
-use Rattle.std.proofs.Common.{sym, subst}
+use Rattle.std.proofs.Common.{arith, sym, subst}
 use Rattle.fb_agenda.specs.declared.agenda.Event.{Event}
-use Rattle.fb_net.specs.Events.{HasTaken}
-use Rattle.fb_net.proofs.Taking.{local-taken, timer-done}
+use Rattle.fb_net.specs.Steps.{WasTaken}
+use Rattle.fb_net.proofs.Taking.{local-taken, timer-done, timer-remembered}
 use Rattle.fb_net.proofs.take.take_event.Goals as goal
 
-pub returns-in-Timer-clause-taken : goal.returns-in-Timer-clause-taken
-returns-in-Timer-clause-taken c =
+pub returns-in-Timer : goal.returns-in-Timer
+returns-in-Timer c =
     let i = c.args.system.now in
     let k = c.args.key.now in
+    let f = c.args.forest.now in
     let left = c.args.meter.now.left in
-    subst (λ (e : Event). HasTaken i k e c.args.forest.now c.args.outbox.now left c.or_halt.result c.take_timer.new.forest left c.take_timer.new.outbox) (sym c.in-Timer.is)
-    (timer-done i k c.in-Timer.instance c.args.forest.now c.take_timer.new.forest c.args.outbox.now c.take_timer.new.outbox left c.take_timer.result c.or_halt.result
-    c.or_halt.ensures c.take_timer.ensures.taken)
+    let done = c.take_timer in
+    subst (λ (e : Event). WasTaken i k e f c.args.outbox.now left c.or_halt.result done.new.forest left done.new.outbox) (sym c.in-Timer.is)
+    (record {
+      taken = timer-done i k c.in-Timer.instance f done.new.forest c.args.outbox.now done.new.outbox left done.result c.or_halt.result c.or_halt.ensures done.ensures.taken;
+      outs = timer-remembered _ done.result c.or_halt.result c.or_halt.ensures done.ensures.outs;
+      fewer = omega arith;
+      kept = done.ensures.kept;
+    })
 
-pub returns-in-Local-clause-taken : goal.returns-in-Local-clause-taken
-returns-in-Local-clause-taken c =
+pub returns-in-Local : goal.returns-in-Local
+returns-in-Local c =
     let i = c.args.system.now in
     let k = c.args.key.now in
     let left = c.args.meter.now.left in
-    subst (λ (e : Event). HasTaken i k e c.args.forest.now c.args.outbox.now left c.arrive.result c.arrive.new.forest c.arrive.new.meter.left c.arrive.new.outbox) (sym c.in-Local.is)
-    (local-taken i k c.in-Local.target c.args.forest.now c.arrive.new.forest c.args.outbox.now c.arrive.new.outbox left c.arrive.new.meter.left c.arrive.result
-    c.arrive.ensures.reacted)
+    let done = c.arrive in
+    subst (λ (e : Event). WasTaken i k e c.args.forest.now c.args.outbox.now left done.result done.new.forest done.new.meter.left done.new.outbox) (sym c.in-Local.is)
+    (record {
+      taken = local-taken i k c.in-Local.target c.args.forest.now done.new.forest c.args.outbox.now done.new.outbox left done.new.meter.left done.result done.ensures.reacted;
+      outs = done.ensures.outs;
+      fewer = done.ensures.fewer;
+      kept = done.ensures.kept;
+    })

@@ -1,6 +1,6 @@
 //! Two tables of latencies, with ticks of arrival that were worked out by hand.
 
-use crate::arrivals::{arrival, earliest};
+use fb_link::arrivals::{arrival, earliest};
 use fb_types::items::Items;
 use fb_types::latency::{Entry, Latency};
 use std::test::Fail;

@@ -1,0 +1,2 @@
+mod latencies;
+mod words;

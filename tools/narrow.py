@@ -1,0 +1,142 @@
+#!/usr/bin/env python3
+"""tools/narrow.py: the built program with outputs that take few bytes at a time and then fail, with readers that pause and then fail,
+and with files for which there is no memory (tools/narrow.c stands before its calls of the system).
+
+So it shows what no contract says: that whatever a writer takes at a time, it gets all bytes or those for which it has room, and their
+number is told; that a failing standard error changes neither status nor trace; that a pause of a reader is no fault and a fault of it
+is one, unless all that is asked for was read before; and that want of memory for a file is told as that.
+./gate does this when it has run the program. Without ./gate it is done to the program as ./simulate built it."""
+
+import os
+import subprocess
+import sys
+from typing import NamedTuple
+
+from calls import CYCLE, FILES, KEYED_TO_8, MOST_OF_A_TEXT, TO_8, TOLD_TO_8
+from kit import TOP, rtlib
+from program import Room, side_by_side
+
+HERE = os.path.dirname(os.path.realpath(__file__))
+PROGRAM = "fbsim"
+STEPS = (1, 3, 7, 1000)
+NARROW_FILES = {name: FILES[name] for name in ("far_too_long", "twice")} | {
+    "cycle": CYCLE,
+    "part": b"APPLICATION",
+    "trace": TO_8,
+    "stimuli": b"tick,event,values\n0,C.START,DT=5\n",
+    "full": CYCLE,
+}
+RUN = ["run", "cycle", "--horizon", "8"]
+WRITTEN = [(["check", "cycle"], b"accepted\n"), (RUN, TO_8), ([*RUN, "--serial"], TO_8), ([*RUN, "--trace", "2"], KEYED_TO_8)]
+# Calls that fail, their statuses, and how the lines that they tell begin.
+FAILING = [
+    (["check", "part"], 2, b"refused E03"),
+    (["run", "part", "--horizon", "1"], 2, b"refused E03"),
+    (["check", "nowhere"], 3, b"file fault\n"),
+    (["check", "full"], 4, b"out of memory\n"),
+    (["walk"], 5, b""),
+]
+FOR_THE_FULL = [
+    ["check", "full"],
+    ["check", "full", "--why"],
+    ["run", "full", "--horizon", "8"],
+    ["check", "cycle", "--stim", "full"],
+    ["check", "cycle", "--deploy", "full", "--why"],
+    ["wave", "full", "trace"],
+    ["wave", "cycle", "full"],
+]
+
+
+class Call(NamedTuple):
+    """Words, with what stands before the calls of the system, and what comes of it. Where `err` is a number, so many bytes are told."""
+
+    words: list
+    settings: dict
+    status: int
+    out: bytes
+    err: bytes | int
+
+
+def output(number, step, room):
+    return {"OUTPUT": number, "STEP": step, "ROOM": room}
+
+
+def reader(piece, given):
+    return {"PIECE": piece, "GIVEN": given}
+
+
+def with_room(words, text, steps):
+    """The calls by these words, which write the text: by each of these steps, with room for each number of its bytes."""
+    for room in range(len(text) + 1):
+        is_whole = room == len(text)
+        told = b"" if is_whole else b"write fault after %d bytes\n" % room
+        for step in steps:
+            yield Call(words, output(1, step, room), 0 if is_whole else 3, text[:room], told)
+
+
+def of_errors():
+    """Calls whose standard error takes little."""
+    for words, status, told in FAILING:
+        for room in (0, 1, 5):
+            yield Call(words, output(2, 2, room), status, b"", told[:room] or room)
+    words = [*RUN, "--progress"]
+    for room in (0, 1, 40, len(TOLD_TO_8) - 1):
+        yield Call(words, output(2, 1000, room), 0, TO_8, TOLD_TO_8[:room])
+    # Four bytes of the line at tick 3 are taken, so the run does not come to tick 4.
+    room = TO_8.index(b"3 MAIN") + 4
+    told = b"".join(TOLD_TO_8.splitlines(keepends=True)[:3]) + b"write fault after %d bytes\n" % room
+    yield Call(words, output(1, 7, room), 3, TO_8[:room], told)
+
+
+def of_readers():
+    """Calls whose files come in pieces, with pauses, and fail."""
+    for piece in (1, 3, 1000):
+        yield Call(["check", "cycle"], reader(piece, MOST_OF_A_TEXT), 0, b"accepted\n", b"")
+        yield Call(["check", "cycle"], reader(piece, len(CYCLE) - 1), 3, b"", b"file fault\n")
+        yield Call(["check", "cycle"], reader(piece, 3), 3, b"", b"file fault\n")
+        yield Call(["check", "cycle"], reader(piece, 0), 3, b"", b"file fault\n")
+        yield Call([*RUN, "--stim", "stimuli"], reader(piece, len(CYCLE) + 5), 3, b"", b"file fault\n")
+    # One byte more than the most is read, and no other is asked for.
+    yield Call(["check", "far_too_long"], reader(4096, MOST_OF_A_TEXT + 1), 2, b"", b"refused E04\n")
+    yield Call(["check", "far_too_long"], reader(4096, MOST_OF_A_TEXT), 3, b"", b"file fault\n")
+
+
+def all_calls(help_text):
+    for words, text in WRITTEN:
+        yield from with_room(words, text, STEPS)
+    yield from with_room(["--help"], help_text, STEPS[2:3])
+    yield from of_errors()
+    yield from of_readers()
+    for words in FOR_THE_FULL:
+        yield Call(words, {"STEP": 1}, 4, b"", b"out of memory\n")
+
+
+def built(room):
+    """Compiles what stands before the calls of the system."""
+    before = f"{room.folder}/narrow.so"
+    words = [f"{rtlib.KIT}/toolchain/bin/clang", "-shared", "-fPIC", "-O1", "-nostdlib", "-fuse-ld=lld", "-o", before]
+    subprocess.run([*words, f"{HERE}/narrow.c"], check=True)
+    os.chmod(before, 0o755)
+    return before
+
+
+def try_all(program):
+    """Makes all calls of the program, and returns whether each came to what it should."""
+    with Room(program, NARROW_FILES) as room:
+        before = built(room)
+        made = [*all_calls(room.call(["--help"]).stdout)]
+
+        def try_one(call):
+            ran = room.call(call.words, settings=[f"LD_PRELOAD={before}", *(f"NARROW_{name}={value}" for name, value in call.settings.items())])
+            is_well = (ran.returncode, ran.stdout) == (call.status, call.out) and call.err in (ran.stderr, len(ran.stderr))
+            if not is_well:
+                print(f"{PROGRAM} {call.words}, {call.settings}: status {ran.returncode}, {ran.stdout[:300]!r}, {ran.stderr[:300]!r}")
+            return is_well
+
+        passed = sum(side_by_side(try_one, made))
+    print(f"narrow: {passed} of {len(made)}", flush=True)
+    return passed == len(made)
+
+
+if __name__ == "__main__":
+    sys.exit(not try_all(sys.argv[1] if len(sys.argv) > 1 else f"{TOP}/crates/{PROGRAM}/out/{PROGRAM}"))
