@@ -12,6 +12,7 @@ import subprocess
 import sys
 from typing import NamedTuple
 
+import refuse
 from calls import CYCLE, FILES, KEYED_TO_8, MOST_OF_A_TEXT, TO_8, TOLD_TO_8
 from kit import TOP, rtlib
 from program import Room, side_by_side
@@ -19,6 +20,7 @@ from program import Room, side_by_side
 HERE = os.path.dirname(os.path.realpath(__file__))
 PROGRAM = "fbsim"
 STEPS = (1, 3, 7, 1000)
+WAYS = [["--serial"], *(["--workers", count] for count in ("1", "2", "7"))]
 NARROW_FILES = {name: FILES[name] for name in ("far_too_long", "twice")} | {
     "cycle": CYCLE,
     "part": b"APPLICATION",
@@ -65,13 +67,22 @@ def reader(piece, given):
     return {"PIECE": piece, "GIVEN": given}
 
 
-def with_room(words, text, steps):
-    """The calls by these words, which write the text: by each of these steps, with room for each number of its bytes."""
+def with_room(words, text, steps, status=0):
+    """The calls by these words, which write the text and end so: by each of these steps, with room for each number of its bytes."""
     for room in range(len(text) + 1):
         is_whole = room == len(text)
         told = b"" if is_whole else b"write fault after %d bytes\n" % room
         for step in steps:
-            yield Call(words, output(1, step, room), 0 if is_whole else 3, text[:room], told)
+            yield Call(words, output(1, step, room), status if is_whole else 3, text[:room], told)
+
+
+def of_resources(it, ways):
+    """The calls of a run of several resources: written a byte at a time, and with room for each number of bytes."""
+    text = "".join(it.rounds).encode()
+    for way in ways:
+        words = ["run", "d.iec", *it.words, *way]
+        yield Call(words, output(1, 1, len(text)), it.status, text, b"")
+        yield from with_room(words, text, STEPS[-1:], it.status)
 
 
 def of_errors():
@@ -104,6 +115,8 @@ def of_readers():
 def all_calls(help_text):
     for words, text in WRITTEN:
         yield from with_room(words, text, STEPS)
+    for count in ("2", "7"):
+        yield from with_room([*RUN, "--workers", count], TO_8, STEPS)
     yield from with_room(["--help"], help_text, STEPS[2:3])
     yield from of_errors()
     yield from of_readers()
@@ -120,11 +133,11 @@ def built(room):
     return before
 
 
-def try_all(program):
-    """Makes all calls of the program, and returns whether each came to what it should."""
-    with Room(program, NARROW_FILES) as room:
+def made_in(program, files, calls_of):
+    """Makes the calls of the program with these files, and returns how many came to what they should, and how many there are."""
+    with Room(program, files) as room:
         before = built(room)
-        made = [*all_calls(room.call(["--help"]).stdout)]
+        made = [*calls_of(room)]
 
         def try_one(call):
             ran = room.call(call.words, settings=[f"LD_PRELOAD={before}", *(f"NARROW_{name}={value}" for name, value in call.settings.items())])
@@ -133,9 +146,18 @@ def try_all(program):
                 print(f"{PROGRAM} {call.words}, {call.settings}: status {ran.returncode}, {ran.stdout[:300]!r}, {ran.stderr[:300]!r}")
             return is_well
 
-        passed = sum(side_by_side(try_one, made))
-    print(f"narrow: {passed} of {len(made)}", flush=True)
-    return passed == len(made)
+        return sum(side_by_side(try_one, made)), len(made)
+
+
+def try_all(program):
+    """Makes all calls of the program, and returns whether each came to what it should."""
+    counts = [made_in(program, NARROW_FILES, lambda room: all_calls(room.call(["--help"]).stdout))]
+    for it, ways in ((refuse.stopped(), WAYS), (refuse.ring(), WAYS[::2])):
+        texts = {name: text.encode() for name, text in it.texts.items()}
+        counts.append(made_in(program, texts, lambda _, it=it, ways=ways: of_resources(it, ways)))
+    passed, made = (sum(of) for of in zip(*counts))
+    print(f"narrow: {passed} of {made}", flush=True)
+    return passed == made
 
 
 if __name__ == "__main__":
