@@ -7,18 +7,18 @@ from wrong ones (tools/cases_test.py, tools/wrong_bodies_test.py); then, from no
 proved, every wrong body in crates/*/must-fail is shown to be refused, tests and programs are run, and the program is
 called at least once for each status (tools/calls.py), as docs/FIRST_APPLICATION.md has it (tools/first_application.py),
 for the waveforms of the examples, which are compared with their traces (tools/waves.py), and of what is no trace
-(tools/traces.py), on the stored cases of cases/ (tools/cases.py) and on rings of resources (tools/rings.py), with outputs that take
-little and readers that fail (tools/narrow.py), on texts that
-are cut or changed in one byte (tools/hostile.py), and with each of its requests for memory refused (tools/refuse.py). Then
-it tells the processor seconds and the memory of each crate. The last line is 'N passed, M failed', and the status 0 where none failed.
+(tools/traces.py), on the stored cases of cases/ (tools/cases.py) and on rings of resources (tools/rings.py), with outputs that
+take little and readers that fail (tools/narrow.py), on texts that are cut or changed in one byte (tools/hostile.py), and with each
+of its requests for memory refused (tools/refuse.py). Then it tells the processor seconds and the memory of each crate. The last line is 'N passed, M failed', and the status 0 where
+none failed.
 
 With crates it does the same for these and those below them alone, on a copy of their files.
 --jobs N uses N processors, and not all.
 
-It runs the kit's own `rt ci`, so it proves and judges as that does. Some kits keep on the machine what passed, by the checksums of
-all that it stands on: with such a one a later run here, in a clone too, proves and tries only what changed and what stands
-on that. With others each run is from nothing. Only how wrong bodies are tried is another way: all of a crate stand in one check, each
-in a function of its own. See tools/wrong_bodies.py."""
+It runs the kit's own `rt ci`, so it proves and judges as that does. Some kits keep on the machine what passed, by the checksums
+of all that it stands on: with such a one a later run here, in a clone too, proves and tries only what changed and what stands
+on that. With others each run is from nothing. Only how wrong bodies are tried is another way: all of a crate stand in one check,
+each in a function of its own. See tools/wrong_bodies.py."""
 
 import os
 import re
@@ -41,19 +41,22 @@ import refuse
 import rings
 import traces
 import waves
-from kit import TOP, rt, rtlib
+from kit import KEEPS, TOP, rt, rtlib
 from wrong_bodies import add_edits, try_all
 
-# Runs a command and adds to a file how much processor time and memory it took, as a line 'seconds', 'MB', folder, and the command's words.
+# Runs a command and adds to a file how much processor time and memory it took, as a line 'seconds', 'MB', folder, and the
+# command's words. What ends it ends the command.
 MEASURE = """
 import os, signal, sys
 log, *words = sys.argv[1:]
 child = os.fork()
 if not child:
     os.execvp(words[0], words)
+signal.signal(signal.SIGTERM, lambda *_: os.kill(child, signal.SIGTERM))
 _, status, used = os.wait4(child, 0)
 with open(log, "a") as it:
-    it.write("\\t".join([str(used.ru_utime + used.ru_stime), str(used.ru_maxrss // 1000), os.getcwd(), *words]).replace("\\n", " ") + "\\n")
+    row = [str(used.ru_utime + used.ru_stime), str(used.ru_maxrss // 1000), os.getcwd(), *words]
+    it.write("\\t".join(row).replace("\\n", " ") + "\\n")
 if os.WIFSIGNALED(status):
     signal.signal(os.WTERMSIG(status), signal.SIG_DFL)
     os.kill(os.getpid(), os.WTERMSIG(status))
@@ -69,7 +72,8 @@ TESTS_ALONE = re.compile(r"(//.*\n)*#!\[tactic\(auto\)\]\n(\s*#\[cfg\(test\)\]\n
 
 
 class Crate(rt.Crate):
-    """A crate as `rt ci` sees it. One that is nothing but tests is proved with them, and not once more without: then nothing is left of it."""
+    """A crate as `rt ci` sees it. One that is nothing but tests is proved with them, and not once more without: then nothing is
+    left of it."""
 
     def ci(self, flags, tests):
         if not tests and self.has_tests_alone():
@@ -82,9 +86,6 @@ class Crate(rt.Crate):
 
 
 rt.Crate = Crate
-# Whether the kit keeps what passed.
-KEEPS = hasattr(rt, "Kept")
-
 if KEEPS:
 
     class Kept(rt.Kept):
@@ -138,9 +139,10 @@ class Times:
             seconds.append(sum(seconds))
             sums = [a + b for a, b in zip(sums, seconds)]
             print(row.format(name, *[f"{it:.0f}" for it in seconds], found.get((name, "MB"), 0)))
-        print(row.format(f"all {len(names)} crates", *[f"{it:.0f}" for it in sums], max((found.get((it, "MB"), 0) for it in names), default=0)))
-        minutes = (time.time() - self.start) / 60
-        print(f"{used_by_children() / 60:.0f} processor minutes in {minutes:.0f} minutes on {rt.processors()} processors", flush=True)
+        most = max((found.get((it, "MB"), 0) for it in names), default=0)
+        print(row.format(f"all {len(names)} crates", *[f"{it:.0f}" for it in sums], most))
+        used, minutes = used_by_children() / 60, (time.time() - self.start) / 60
+        print(f"{used:.0f} processor minutes in {minutes:.0f} minutes on {rt.processors()} processors", flush=True)
 
 
 def used_by_children():
@@ -150,8 +152,8 @@ def used_by_children():
 
 
 def call_after_each_run():
-    """Has the gate make the calls of calls.py each time it has run the program, as each compiler builds it, and with the first of the two
-    what is made of texts and of memory. What is made of memory is done to tests too, when they have passed."""
+    """Has the gate make the calls of calls.py each time it has run the program, as each compiler builds it, and with the first of
+    the two what is made of texts and of memory. What is made of memory is done to tests too, when they have passed."""
     run = rt.run
 
     def tries(made):
@@ -177,8 +179,8 @@ def call_after_each_run():
 
 
 def begin_early_with_the_program():
-    """Has the kit reckon with what both compilers take for the program. By its own few lines it is begun after all else that can go on
-    beside it, and then alone."""
+    """Has the kit reckon with what both compilers take for the program. By its own few lines it is begun after all else that can
+    go on beside it, and then alone."""
     in_lanes = rt.in_lanes
 
     def with_compilers(tasks, *more):
@@ -196,7 +198,8 @@ class Beside:
 
     def __init__(self, *words):
         self.said = tempfile.TemporaryFile("w+")
-        self.command = subprocess.Popen([sys.executable, "-B", *words], stdout=self.said, stderr=subprocess.STDOUT, stdin=subprocess.DEVNULL)
+        words, how = [sys.executable, "-B", *words], {"stdin": subprocess.DEVNULL, "stderr": subprocess.STDOUT}
+        self.command = subprocess.Popen(words, stdout=self.said, **how)
 
     def has_failed(self):
         """Waits for its end, tells what it said, and returns whether it found a fault."""
@@ -207,8 +210,8 @@ class Beside:
 
 
 def tell_before_the_last_line(times, look):
-    """Has the kit's script print the times before its last line, which says how many passed and failed. A look that has failed counts there,
-    and is what this returns a call for."""
+    """Has the kit's script print the times before its last line, which says how many passed and failed. A look that has failed
+    counts there, and is what this returns a call for."""
     failed = []
 
     def tell(*texts, **how):
@@ -241,8 +244,8 @@ def copy_of(names, room):
 
 
 def ci(names, room):
-    """Runs the kit's `rt ci` with the one task for all wrong bodies of a crate, and returns its status. A kit that keeps nothing takes no
-    names, so that it gets a copy of these crates."""
+    """Runs the kit's `rt ci` with the one task for all wrong bodies of a crate, and returns its status. A kit that keeps nothing
+    takes no names, so that it gets a copy of these crates."""
     if KEEPS:
         rt.add_edits = add_edits
         return rt.ci(False, names)

@@ -37,6 +37,9 @@ TAKEN = 0.6
 _reckoned = rt.need
 rt.need = lambda crate: int(TAKEN * _reckoned(crate))
 
+# Whether the kit keeps on the machine what passed. One that does has names for what an edit's try comes to.
+KEEPS = hasattr(rt, "Kept")
+
 # The top of this repository.
 TOP = os.path.dirname(os.path.dirname(os.path.realpath(__file__)))
 

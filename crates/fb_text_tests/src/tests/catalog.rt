@@ -1,11 +1,11 @@
 //! The places of the names of a declaration and a deployment.
 
+use super::show::{add, add_whole};
 use fb_inputs::read_deploy;
-use fb_names::catalog::{BlockPlaces, Catalog, catalog_of};
+use fb_names::catalog::{Catalog, catalog_of};
 use fb_names::places::{Places, place_of};
 use fb_read::read_library;
 use std::mem::ManuallyDrop;
-use std::process::Abort;
 
 const DECLARATION: &[u8] = b"FUNCTION_BLOCK T FBS END_FBS END_FUNCTION_BLOCK \
     FUNCTION_BLOCK B EVENT_INPUT EI; END_EVENT EVENT_OUTPUT EO; END_EVENT VAR_INPUT X, Y : INT; END_VAR \
@@ -17,29 +17,50 @@ const DECLARATION: &[u8] = b"FUNCTION_BLOCK T FBS END_FBS END_FUNCTION_BLOCK \
 const DEPLOYMENT: &[u8] = b"[[resource]]\ndevice = \"D\"\nname = \"R1\"\ninstances = []\n\
     [[resource]]\ndevice = \"D\"\nname = \"R2\"\ninstances = []\n";
 
-/// Whether these names, and not `W`, have the places from 0.
-fn check_places(rt: &impl Abort, places: &Places, names: &[&str]) {
-    for (i, name) in names.iter().enumerate() {
-        assert!(rt; place_of(places, name.as_bytes()) == Some(i), "{name}");
+/// Names, and one that nothing has.
+static TYPES: [&str; 4] = ["T", "B", "C", "W"];
+
+static INSTANCES: [&str; 3] = ["I", "J", "W"];
+
+static RESOURCES: [&str; 3] = ["R1", "R2", "W"];
+
+static PORTS: [&str; 7] = ["EI", "EO", "X", "Y", "Q", "N", "W"];
+
+static STATES: [&str; 3] = ["S1", "S2", "W"];
+
+static ALGORITHMS: [&str; 2] = ["RUN", "W"];
+
+static COMPONENTS: [&str; 3] = ["K", "L", "W"];
+
+/// The place of each name, and a stroke for one that has none.
+fn add_places(out: &mut Vec<u8>, places: &Places, names: &[&str]) {
+    for name in names {
+        match place_of(places, name.as_bytes()) {
+            Some(place) => add_whole(out, place as i128),
+            None => add(out, b"- "),
+        }
     }
-    assert!(rt; place_of(places, b"W").is_none());
 }
 
-fn check_basic(rt: &impl Abort, basic: &BlockPlaces) {
-    check_places(rt, &basic.ports, &["EI", "EO", "X", "Y", "Q", "N"]);
-    check_places(rt, &basic.states, &["S1", "S2"]);
-    check_places(rt, &basic.algorithms, &["RUN"]);
-    check_places(rt, &basic.instances, &[]);
+/// The places of the names of each kind.
+fn add_catalog(out: &mut Vec<u8>, catalog: &Catalog) {
+    add_places(out, &catalog.types, TYPES.as_slice());
+    add_places(out, &catalog.instances, INSTANCES.as_slice());
+    add_places(out, &catalog.resources, RESOURCES.as_slice());
+    for block in catalog.blocks.as_slice() {
+        add_places(out, &block.ports, PORTS.as_slice());
+        add_places(out, &block.states, STATES.as_slice());
+        add_places(out, &block.algorithms, ALGORITHMS.as_slice());
+        add_places(out, &block.instances, COMPONENTS.as_slice());
+        add(out, b"/");
+    }
 }
 
-fn check_catalog(rt: &impl Abort, catalog: &Catalog) {
-    check_places(rt, &catalog.types, &["T", "B", "C"]);
-    check_places(rt, &catalog.instances, &["I", "J"]);
-    check_places(rt, &catalog.resources, &["R1", "R2"]);
-    assert_eq!(rt; catalog.blocks.len(), 3);
-    check_basic(rt, &catalog.blocks[1]);
-    check_places(rt, &catalog.blocks[2].instances, &["K", "L"]);
-}
+/// Types, instances and resources; then of each type its ports, states, algorithms and components.
+const PLACES: &[u8] = b"012- 01- 01- \
+    - - - - - - - - - - - - - - - /\
+    012345- 01- 0- - - - /\
+    - - - - - - - - - - - - 01- /";
 
 #[test]
 fn each_name_has_its_place(rt: HostRuntime) {
@@ -48,5 +69,7 @@ fn each_name_has_its_place(rt: HostRuntime) {
     let deploy = ManuallyDrop::new(read_deploy(alloc, DEPLOYMENT).expect(&rt, "a deployment"));
     let catalog = catalog_of(alloc, &library, deploy.plan()).expect(&rt, "memory");
     let catalog = ManuallyDrop::new(catalog.expect(&rt, "no name twice"));
-    check_catalog(&rt, &catalog);
+    let mut out = Vec::new(alloc);
+    add_catalog(&mut out, &catalog);
+    assert!(rt; out.as_slice() == PLACES);
 }

@@ -1,7 +1,6 @@
-//! Lists, names, references, keys and the single resource: each public function once.
+//! Lists, names, references and keys: each public function once.
 
 use fb_types::boxed::Boxed;
-use fb_types::deploy::Deploy;
 use fb_types::items::Items;
 use fb_types::key::{Key, compare};
 use fb_types::name::Name;
@@ -13,14 +12,11 @@ use std::process::Abort;
 
 /// The numbers are added to an empty list.
 fn expect_added(rt: &impl Abort, list: &mut Items<u32>) {
-    assert!(rt; list.is_empty());
-    assert!(rt; list.get(0).is_none());
+    assert!(rt; list.is_empty() && list.get(0).is_none());
     list.push(7).expect(rt, "memory");
     list.push(5).expect(rt, "memory");
-    assert!(rt; !list.is_empty());
-    assert_eq!(rt; list.len(), 2);
-    assert!(rt; list.get(1) == Some(&5));
-    assert!(rt; list.get(2).is_none());
+    assert!(rt; !list.is_empty() && list.len() == 2);
+    assert!(rt; list.get(1).is_some_and(|number| *number == 5) && list.get(2).is_none());
 }
 
 #[test]
@@ -62,7 +58,7 @@ fn a_reference_keeps_its_name_at_each_place(rt: HostRuntime) {
     let far = ManuallyDrop::new(Reference::new(named));
     far.expect_at(1);
     far.expect_at(40);
-    assert_eq!(rt; far.place(), 40);
+    assert!(rt; far.place() == 40);
     assert!(rt; far.name().as_bytes() == b"X".as_slice());
 }
 
@@ -70,7 +66,7 @@ fn a_reference_keeps_its_name_at_each_place(rt: HostRuntime) {
 fn a_box_keeps_its_value(rt: HostRuntime) {
     let boxed = Boxed::new(rt.alloc(), 41u64).expect(&rt, "memory");
     let boxed = ManuallyDrop::new(boxed);
-    assert_eq!(rt; *boxed.get(), 41);
+    assert!(rt; *boxed.get() == 41);
 }
 
 /// Each key comes before those below it, by one part alone: the parts behind it say the opposite.
@@ -126,17 +122,4 @@ fn keys_are_compared_part_by_part(rt: HostRuntime) {
             assert!(rt; compare(first, second) == i.cmp(&j), "{i} {j}");
         }
     }
-}
-
-#[test]
-fn a_single_resource_holds_all(rt: HostRuntime) {
-    let deploy = ManuallyDrop::new(Deploy::single(rt.alloc()).expect(&rt, "memory"));
-    let plan = deploy.plan();
-    assert!(rt; plan.holds_all);
-    assert!(rt; plan.links.is_empty());
-    assert_eq!(rt; plan.resources.len(), 1);
-    let main = plan.resources.get(0).expect(&rt, "a resource");
-    assert!(rt; main.device.as_bytes() == b"DEV".as_slice());
-    assert!(rt; main.name.as_bytes() == b"MAIN".as_slice());
-    assert!(rt; main.instances.is_empty());
 }

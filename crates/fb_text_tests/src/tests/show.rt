@@ -1,8 +1,10 @@
-//! Trees written as texts, for the tables of the tests. Where memory gives out a text stays short, and then
+//! Trees, plans and stimuli written as texts, for the tables of the tests. Where memory gives out a text stays short, and then
 //! it is no text of a table.
 
+use fb_types::deploy::{Link, Plan, Resource, Stimulus};
 use fb_types::name::Name;
 use fb_types::text::{BinaryOperator, Branch, Choice, Expr, Stmt, UnaryOperator};
+use fb_types::value::Value;
 
 pub fn add(out: &mut Vec<u8>, part: &[u8]) {
     let _ = out.extend_from_slice(part);
@@ -13,7 +15,7 @@ fn add_name(out: &mut Vec<u8>, name: &Name) {
 }
 
 /// A number in decimal digits.
-fn add_whole(out: &mut Vec<u8>, number: i128) {
+pub fn add_whole(out: &mut Vec<u8>, number: i128) {
     if let Ok(digits) = format!(in *out.allocator(); "{number}") {
         add(out, digits.as_bytes());
     }
@@ -168,4 +170,67 @@ pub fn add_statement(out: &mut Vec<u8>, statement: &Stmt) {
             add_expr(out, condition);
         }
     }
+}
+
+/// A resource: its device, its name and its instances.
+fn add_resource(out: &mut Vec<u8>, resource: &Resource) {
+    add_name(out, &resource.device);
+    add(out, b" ");
+    add_name(out, &resource.name);
+    for instance in resource.instances.as_slice() {
+        add(out, b" ");
+        add_name(out, instance);
+    }
+    add(out, b";");
+}
+
+/// A link: its ends, and its latencies behind the ticks from which they hold.
+fn add_link(out: &mut Vec<u8>, link: &Link) {
+    add_name(out, &link.from);
+    add(out, b">");
+    add_name(out, &link.to);
+    for entry in link.latency.entries() {
+        add(out, b" ");
+        add_whole(out, i128::from(entry.from));
+        add(out, b":");
+        add_whole(out, i128::from(entry.latency));
+    }
+    add(out, b";");
+}
+
+/// The resources and the links of a plan, behind a word for one that holds all.
+pub fn add_plan(out: &mut Vec<u8>, plan: &Plan) {
+    if plan.holds_all {
+        add(out, b"ALL ");
+    }
+    for resource in plan.resources.as_slice() {
+        add_resource(out, resource);
+    }
+    add(out, b"/");
+    for link in plan.links.as_slice() {
+        add_link(out, link);
+    }
+}
+
+fn add_value(out: &mut Vec<u8>, value: Value) {
+    match value {
+        Value::Bool(truth) => add_truth(out, truth),
+        Value::Whole(number) => add_whole(out, number),
+    }
+}
+
+/// A stimulus: its tick, its instance, its event, and what it sets.
+pub fn add_stimulus(out: &mut Vec<u8>, stimulus: &Stimulus) {
+    add_whole(out, i128::from(stimulus.tick));
+    add(out, b" ");
+    add_name(out, &stimulus.instance);
+    add(out, b".");
+    add_name(out, &stimulus.event);
+    for setting in stimulus.settings.as_slice() {
+        add(out, b" ");
+        add_name(out, &setting.variable);
+        add(out, b"=");
+        add_value(out, setting.value);
+    }
+    add(out, b";");
 }
