@@ -163,11 +163,6 @@ pub next_of_later : (c : Contents) (o : Option ℕ) → c.local ≡ [] → IfSom
 next_of_later c None none first = tt
 next_of_later c (Some t) none first = subst (IsNext c) first.1 (next_least c first.0 (least_of_later c (Some first.0) none first.2))
 
--- where local events alone wait
-pub next_of_local : (c : Contents) (t : ℕ) → c.later ≡ [] → IsFirstTick c.local t → IsNext c t
-next_of_local c t none first =
-    subst (IsNext c) first.1 (next_least c first.0 (least_is_local c first.0 first.2 (λ j before. ap (λ es. lookup (same_key j) es) none)))
-
 -- where both wait
 pub next_of_both : (c : Contents) (t u : ℕ) → IsFirstTick c.local t → IsFirstTick c.later u → IsNext c (min t u)
 next_of_both c t u local later = go (is_lt (key_cmp later.0 local.0)) refl

@@ -174,7 +174,7 @@ impl Agenda {
         ensures some { IfSome result (IsNext self.now) }
         ensures none { IfNone result ((j : Key) → waiting self.now j ≡ None) }
     {
-        // The lesser tick is that of the least key, whatever the rest of the keys is.
+        // The least key has the lesser of the two ticks, so no keys are compared.
         let Some(local) = rising::first_tick(&self.local) else {
             return first_tick(&self.later);
         };

@@ -1,5 +1,5 @@
 -- What the directory has for a type and for an instance of the application.
-use Rattle.std.proofs.Common.{◌≡◌, ℕ, List, map, Option, Some, None, refl, sym, ◌∙◌, ap, subst}
+use Rattle.std.proofs.Common.{◌≡◌, ℕ, map, Option, Some, None, refl, sym, ◌∙◌, ap, subst}
 use Rattle.std.specs.Prelude.{option_map, option_and_then, position, slice_get}
 use Rattle.std.proofs.lemmas.Option.{slice_get-map}
 use Rattle.fb_types.specs.Names.{Name, same_name}
@@ -12,7 +12,7 @@ use Rattle.fb_types.specs.declared.library.BlockType.{BlockType}
 use Rattle.fb_types.specs.declared.library.Instance.{Instance}
 use Rattle.fb_types.specs.declared.library.Ports.{Ports}
 use Rattle.fb_names.proofs.Positions.{named-position}
-use Rattle.fb_check.specs.Directory.{IsFound, AreInputs, IsDirectory, ports_at}
+use Rattle.fb_check.specs.Directory.{IsFound, IsDirectory, ports_at}
 use Rattle.fb_check.specs.declared.directory_making.Inputs.{Inputs}
 use Rattle.fb_check.specs.declared.directory.Directory.{Directory}
 
@@ -94,12 +94,3 @@ found_instance lib n i x o at there found =
     let P : Option Ports → Type 0 = λ p. IsFound p o in
     let instances = lib.application.network.instances in
     subst P (sym (instance_ports lib n (Some x) (named-position instance_name n instances ∙ ap (option_and_then (slice_get instances)) at ∙ there))) found
-
--- ---- A directory
-
-pub event_blocks_found :
-    (all : List Ports) (xs : List Inputs) (k : EventKind) → slice_get all (kind_place k) ≡ Some (ports_of_event_block k) → AreInputs all xs
-    → IsFound (Some (ports_of_event_block k)) (slice_get xs (kind_place k))
-event_blocks_found all xs k e are =
-    let P : Option Ports → Type 0 = λ p. IsFound p (slice_get xs (kind_place k)) in
-    subst P e (are.each (kind_place k))

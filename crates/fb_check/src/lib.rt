@@ -6,7 +6,7 @@
 //!
 //! To be read in this order: `case` and `fault`; `judge`, the checks in the order of their numbers; `network_checks` (E22
 //! to E25) and `mapping_checks` (E26 to E28); `stimuli` (E29) with `directory` and `directory_making`, what stimuli may
-//! name, and `stimulus_values`. Then `accept`, `error`.
+//! name. Then `accept`, `error`.
 #![tactic(auto)]
 
 pub mod accept;
@@ -19,4 +19,3 @@ pub mod judge;
 mod mapping_checks;
 mod network_checks;
 pub mod stimuli;
-mod stimulus_values;

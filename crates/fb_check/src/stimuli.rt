@@ -13,7 +13,6 @@ ghost use Rattle.fb_check.specs.Directory.{IsDirectory, IsFound, CanTake, HasRef
 
 use crate::directory::{Directory, directory_of, inputs_named};
 use crate::directory_making::Inputs;
-use crate::stimulus_values::is_value_of;
 use fb_names::catalog::Catalog;
 use fb_names::places::{place_of, places_of};
 use fb_types::deploy::{Setting, Stimulus};
@@ -64,7 +63,7 @@ fn can_hold(inputs: &Inputs, variable: &[u8], value: Value) -> bool
     ensures { result ≡ holds inputs.now variable.now value }
 {
     match inputs.types.get(variable) {
-        Some(ty) => is_value_of(*ty, value),
+        Some(ty) => ty.holds(value),
         None => false,
     }
 }

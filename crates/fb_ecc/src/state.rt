@@ -1,7 +1,7 @@
 //! What a basic block is between reactions.
 
 ghost use Rattle.std.specs.Prelude.{◌≡◌, ◌++◌, IfOk, MatchBool, MatchOption, is_some, map, true};
-ghost use Rattle.fb_types.specs.Blocks.{initial_of, variable_names, variables_of};
+ghost use Rattle.fb_types.specs.Blocks.{variable_names, variables_of};
 ghost use Rattle.fb_types.specs.Repeated.{Twice};
 ghost use Rattle.fb_st.specs.Frames.{names_of};
 ghost use Rattle.fb_ecc.specs.Opened.{IsOfDeclaration, IsOpened, slot_of};
@@ -12,7 +12,6 @@ use crate::known::is_sound;
 use fb_st::frame::Frame;
 use fb_types::items::Items;
 use fb_types::library::{BasicType, Variable};
-use fb_types::value::{Ty, Value};
 use std::alloc::{AllocError, Global};
 
 /// A basic block: the state in which its chart is, its variables, and the chart with places in place of names.
@@ -25,17 +24,6 @@ pub struct BasicState {
     pub(crate) chart: Chart,
 }
 
-/// What a variable begins with: its declared value, else 0 or FALSE.
-fn initial(variable: &Variable) -> Value
-    ensures { result ≡ initial_of variable.now }
-{
-    match (variable.initial, variable.ty) {
-        (Some(value), _) => value,
-        (None, Ty::Bool) => Value::Bool(false),
-        (None, _) => Value::Whole(0),
-    }
-}
-
 /// Declares variables behind the others, and says whether their names are new.
 fn declare_all(alloc: Global, variables: &[Variable], frame: &mut Frame) -> Result<bool, AllocError>
     ensures { let grown = frame.old ++ map slot_of variables.now in
@@ -43,7 +31,7 @@ fn declare_all(alloc: Global, variables: &[Variable], frame: &mut Frame) -> Resu
 {
     for variable in variables {
         let name = variable.name.try_clone(alloc)?;
-        if !frame.declare(name, variable.ty, initial(variable))? {
+        if !frame.declare(name, variable.ty, variable.first_value())? {
             return Ok(false);
         }
     }

@@ -4,6 +4,7 @@
 //!
 //! What is promised above: a function for each, which says whether it applies; and for E26 the mapping, or none exactly
 //! where it applies. Heights and counts come from rounds over types, so no instance is made to refuse a declaration.
+//! `values::is_within` says which types hold all values of another.
 //!
 //! To be read in this order: `variables` and `values`, types by number; `parameters`, `ranges`, `sources`, `heights`,
 //! `counts`. Then `mapping` (E26); `links` (E27); `interfaces`, `serving` and `uncarried` (E28).
@@ -19,5 +20,5 @@ pub mod ranges;
 mod serving;
 pub mod sources;
 pub mod uncarried;
-mod values;
+pub mod values;
 mod variables;

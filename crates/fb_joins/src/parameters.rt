@@ -6,7 +6,6 @@ ghost use Rattle.fb_names.specs.Numbers.{IsResolved};
 ghost use Rattle.fb_joins.specs.Networks.{inside_passes, some_inside_passes};
 ghost use Rattle.fb_joins.specs.Parameters as spec;
 
-use crate::values::is_value_of;
 use crate::variables::input_type;
 use fb_names::numbers::{NetworkNumbers, Resolved, TypeNumber};
 use fb_types::library::{BlockType, Instance, Library, Network, Parameter};
@@ -16,7 +15,7 @@ fn is_wrong(library: &Library, number: TypeNumber, parameter: &Parameter, input:
     ensures { result ≡ spec.is_wrong library.now number parameter.now input }
 {
     match input_type(library, number, input) {
-        Some(ty) => !is_value_of(ty, parameter.value),
+        Some(ty) => !ty.holds(parameter.value),
         None => false,
     }
 }

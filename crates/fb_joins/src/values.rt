@@ -1,10 +1,9 @@
-//! Which values a type holds, and which types hold all values of another.
+//! Which types hold all values of another.
 
-ghost use Rattle.std.specs.Prelude.{◌≡◌, int_le, int_lt, ◌&&◌};
-ghost use Rattle.fb_types.specs.Values.{fits};
+ghost use Rattle.std.specs.Prelude.{◌≡◌};
 ghost use Rattle.fb_joins.specs.Ranges as spec;
 
-use fb_types::value::{Ty, Value};
+use fb_types::value::Ty;
 
 /// The least whole number of a type and the one past its greatest, none of BOOL.
 fn range_of(ty: Ty) -> Option<(i128, i128)>
@@ -22,17 +21,6 @@ fn range_of(ty: Ty) -> Option<(i128, i128)>
         Ty::Bool => return None,
     };
     Some(range)
-}
-
-/// Whether a value is one of the type.
-pub fn is_value_of(ty: Ty, value: Value) -> bool
-    ensures { result ≡ fits ty value }
-{
-    match (value, range_of(ty)) {
-        (Value::Bool(_), None) => true,
-        (Value::Whole(number), Some((least, past))) => least <= number && number < past,
-        _ => false,
-    }
 }
 
 /// Whether each value of the one type is one of the other.

@@ -2,8 +2,11 @@
 use Rattle.std.proofs.Common.{◌≡◌, ℕ, List, [], ◌∷◌, ◌≤◌, length, Option, Some, None, refl, arith}
 use Rattle.std.specs.Prelude.{option_map, option_and_then}
 use Rattle.fb_types.specs.Syntax.{expr_of}
-use Rattle.fb_types.specs.Values.{Types, Function, Min, Max, Abs, Limit, Sel}
-use Rattle.fb_types.specs.Kinds.{Sort, sort_of, sorts_of, function_sort}
+use Rattle.fb_types.specs.Values.{Types}
+use Rattle.fb_types.specs.Kinds.{sort_of, sorts_of, function_sort}
+use Rattle.fb_types.specs.declared.function.Function.{Function}
+use Rattle.fb_types.specs.declared.function.Function.TheVariants.{Min, Max, Abs, Limit, Sel}
+use Rattle.fb_types.specs.declared.sort.Sort.{Sort}
 use Rattle.fb_types.specs.declared.text.Expr.{Expr}
 use Rattle.fb_kinds.specs.Trees.{arguments_of}
 

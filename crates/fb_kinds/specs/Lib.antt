@@ -1,4 +1,3 @@
 pub mod Roles
-pub mod Sorts
 pub mod Trees
 pub mod Checks

@@ -7,7 +7,8 @@ ghost use Rattle.fb_kinds.specs.Checks.{in_place};
 ghost use Rattle.fb_kinds.specs.Trees.{all_of, branches_of, choices_of};
 
 use crate::scope::Scope;
-use crate::sorts::{Sort, are_same, is_sort, sort_of_type};
+use crate::sorts::{are_same, is_sort, sort_of_type};
+use fb_types::sort::Sort;
 use fb_types::text::{Body, Branch, Choice, Expr, Stmt};
 
 /// Whether an expression is a truth value.

@@ -1,18 +1,17 @@
 //! What the parts of block types name (E21) and which kinds they have (E22), apart from networks.
 //!
 //! What is promised above: `parts::are_parts_known` and `parts::has_wrong_part` say of every declaration whether each
-//! of the two applies.
+//! of the two applies. `sorts` has the kinds that operators and functions give.
 //!
 //! To be read in this order: `parts`, the entry; `interface` and `scope`, what names stand for; `charts` and
-//! `mentions`, names; `sorts`, `function`, `values` and `bodies`, kinds.
+//! `mentions`, names; `sorts`, `values` and `bodies`, kinds.
 #![tactic(auto)]
 
 mod bodies;
 mod charts;
-mod function;
 mod interface;
 mod mentions;
 pub mod parts;
 mod scope;
-mod sorts;
+pub mod sorts;
 mod values;

@@ -1,14 +1,14 @@
 //! Variables and functions that expressions and statements mention.
 
-ghost use Rattle.std.specs.Prelude.{◌≡◌, option_map};
+ghost use Rattle.std.specs.Prelude.{◌≡◌};
 ghost use Rattle.std.specs.List.{list_all};
 ghost use Rattle.fb_types.specs.Syntax.{body_of, expr_of, stmt_of, step_of};
 ghost use Rattle.fb_types.specs.Unknown.{mentions, mentions_all, mentions_body, mentions_branches, mentions_choices, mentions_in};
 ghost use Rattle.fb_kinds.specs.Checks.{all_known};
 ghost use Rattle.fb_kinds.specs.Trees.{all_of, arguments_of, branches_of, choices_of};
 
-use crate::function::function_named;
 use crate::scope::Scope;
+use fb_types::function::Function;
 use fb_types::text::{Body, Branch, Choice, Expr, Stmt};
 
 /// Whether each variable of an expression is one of the type, and each function is known.
@@ -25,7 +25,7 @@ pub fn is_expression_known(expr: &Expr, scope: &Scope) -> bool
             is_expression_known(left.get(), scope) && is_expression_known(right.get(), scope)
         }
         Expr::Call(name, arguments) => {
-            function_named(name).is_some() && are_arguments_known(arguments.as_slice(), scope)
+            Function::named(name).is_some() && are_arguments_known(arguments.as_slice(), scope)
         }
     }
 }

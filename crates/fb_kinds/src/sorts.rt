@@ -1,26 +1,20 @@
 //! Kinds of expressions (IEC 61131-3, 7.3.2).
 
-ghost use Rattle.std.specs.Prelude.{◌≡◌, [], ◌∷◌, option_map, option_and_then};
+ghost use Rattle.std.specs.Prelude.{◌≡◌, [], ◌∷◌, option_and_then};
 ghost use Rattle.fb_types.specs.Blocks.{types_of};
 ghost use Rattle.fb_types.specs.Kinds.{are_truths, are_whole, binary_sort, function_sort, is_sort, same_sort, sort_of, sort_of_type, sorts_of, unary_sort};
 ghost use Rattle.fb_types.specs.Syntax.{expr_of};
-ghost use Rattle.fb_kinds.specs.Sorts.{kind, meant};
 ghost use Rattle.fb_kinds.specs.Trees.{arguments_of};
 
-use crate::function::{Function, function_named};
 use crate::scope::Scope;
+use fb_types::function::Function;
+use fb_types::sort::Sort;
 use fb_types::text::{BinaryOperator, Expr, UnaryOperator};
 use fb_types::value::Ty;
 
-/// The kinds that expressions know.
-#[derive(Clone, Copy, Debug, PartialEq, Eq)]
-pub enum Sort {
-    TruthValue,
-    WholeNumber,
-}
-
+/// The kind of the values of a type.
 pub fn sort_of_type(ty: Ty) -> Sort
-    ensures { kind result ≡ sort_of_type ty }
+    ensures { result ≡ sort_of_type ty }
 {
     match ty {
         Ty::Bool => Sort::TruthValue,
@@ -28,8 +22,9 @@ pub fn sort_of_type(ty: Ty) -> Sort
     }
 }
 
+/// Whether two kinds are one.
 pub fn are_same(left: Sort, right: Sort) -> bool
-    ensures { result ≡ same_sort (kind left) (kind right) }
+    ensures { result ≡ same_sort left right }
 {
     match (left, right) {
         (Sort::TruthValue, Sort::TruthValue) | (Sort::WholeNumber, Sort::WholeNumber) => true,
@@ -38,20 +33,20 @@ pub fn are_same(left: Sort, right: Sort) -> bool
 }
 
 fn are_truths(left: Sort, right: Sort) -> bool
-    ensures { result ≡ are_truths (kind left) (kind right) }
+    ensures { result ≡ are_truths left right }
 {
     are_same(left, Sort::TruthValue) && are_same(right, Sort::TruthValue)
 }
 
 fn are_whole(left: Sort, right: Sort) -> bool
-    ensures { result ≡ are_whole (kind left) (kind right) }
+    ensures { result ≡ are_whole left right }
 {
     are_same(left, Sort::WholeNumber) && are_same(right, Sort::WholeNumber)
 }
 
 /// The kind of a unary operator's value, or none where the operand has another kind.
-fn unary_sort(operator: UnaryOperator, operand: Sort) -> Option<Sort>
-    ensures { option_map kind result ≡ unary_sort operator (kind operand) }
+pub fn unary_sort(operator: UnaryOperator, operand: Sort) -> Option<Sort>
+    ensures { result ≡ unary_sort operator operand }
 {
     match (operator, operand) {
         (UnaryOperator::Negate, Sort::WholeNumber) => Some(Sort::WholeNumber),
@@ -61,8 +56,8 @@ fn unary_sort(operator: UnaryOperator, operand: Sort) -> Option<Sort>
 }
 
 /// The kind of a binary operator's value, or none where the operands have other kinds.
-fn binary_sort(operator: BinaryOperator, left: Sort, right: Sort) -> Option<Sort>
-    ensures { option_map kind result ≡ binary_sort operator (kind left) (kind right) }
+pub fn binary_sort(operator: BinaryOperator, left: Sort, right: Sort) -> Option<Sort>
+    ensures { result ≡ binary_sort operator left right }
 {
     let (are_right, sort) = match operator {
         BinaryOperator::Or | BinaryOperator::Xor | BinaryOperator::And => {
@@ -84,9 +79,9 @@ fn binary_sort(operator: BinaryOperator, left: Sort, right: Sort) -> Option<Sort
     if are_right { Some(sort) } else { None }
 }
 
-/// The kind of a function's value at one argument.
-fn sort_of_one(function: Function, argument: Sort) -> Option<Sort>
-    ensures { option_map kind result ≡ function_sort (meant function) (kind argument ∷ []) }
+/// The kind of a function's value at one argument, or none where it takes another number of arguments or another kind.
+pub fn sort_of_one(function: Function, argument: Sort) -> Option<Sort>
+    ensures { result ≡ function_sort function (argument ∷ []) }
 {
     match (function, argument) {
         (Function::Abs, Sort::WholeNumber) => Some(Sort::WholeNumber),
@@ -94,8 +89,9 @@ fn sort_of_one(function: Function, argument: Sort) -> Option<Sort>
     }
 }
 
-fn sort_of_two(function: Function, first: Sort, second: Sort) -> Option<Sort>
-    ensures { option_map kind result ≡ function_sort (meant function) (kind first ∷ kind second ∷ []) }
+/// The same at two arguments.
+pub fn sort_of_two(function: Function, first: Sort, second: Sort) -> Option<Sort>
+    ensures { result ≡ function_sort function (first ∷ second ∷ []) }
 {
     match function {
         Function::Min | Function::Max if are_whole(first, second) => Some(Sort::WholeNumber),
@@ -103,8 +99,9 @@ fn sort_of_two(function: Function, first: Sort, second: Sort) -> Option<Sort>
     }
 }
 
-fn sort_of_three(function: Function, first: Sort, second: Sort, third: Sort) -> Option<Sort>
-    ensures { option_map kind result ≡ function_sort (meant function) (kind first ∷ kind second ∷ kind third ∷ []) }
+/// The same at three arguments.
+pub fn sort_of_three(function: Function, first: Sort, second: Sort, third: Sort) -> Option<Sort>
+    ensures { result ≡ function_sort function (first ∷ second ∷ third ∷ []) }
 {
     match (function, first) {
         (Function::Limit, Sort::WholeNumber) if are_whole(second, third) => Some(Sort::WholeNumber),
@@ -115,8 +112,8 @@ fn sort_of_three(function: Function, first: Sort, second: Sort, third: Sort) -> 
 
 /// The kind of an expression, or none where an operand or the number of arguments is wrong.
 #[cycle(sort)]
-pub fn sort_of(expr: &Expr, scope: &Scope) -> Option<Sort>
-    ensures { option_map kind result ≡ sort_of (types_of scope.now) (expr_of expr.now) }
+pub(crate) fn sort_of(expr: &Expr, scope: &Scope) -> Option<Sort>
+    ensures { result ≡ sort_of (types_of scope.now) (expr_of expr.now) }
 {
     match expr {
         Expr::Whole(_) => Some(Sort::WholeNumber),
@@ -129,14 +126,14 @@ pub fn sort_of(expr: &Expr, scope: &Scope) -> Option<Sort>
             binary_sort(*operator, first, sort_of(right.get(), scope)?)
         }
         Expr::Call(name, arguments) => {
-            sort_of_call(function_named(name)?, arguments.as_slice(), scope)
+            sort_of_call(Function::named(name)?, arguments.as_slice(), scope)
         }
     }
 }
 
 #[cycle(sort)]
 fn sort_of_call(function: Function, arguments: &[Expr], scope: &Scope) -> Option<Sort>
-    ensures { option_map kind result ≡ option_and_then (function_sort (meant function)) (sorts_of (types_of scope.now) (arguments_of arguments.now)) }
+    ensures { result ≡ option_and_then (function_sort function) (sorts_of (types_of scope.now) (arguments_of arguments.now)) }
 {
     match arguments {
         [one] => sort_of_one(function, sort_of(one, scope)?),
@@ -155,8 +152,8 @@ fn sort_of_call(function: Function, arguments: &[Expr], scope: &Scope) -> Option
 }
 
 /// Whether an expression has the kind.
-pub fn is_sort(sort: Sort, expr: &Expr, scope: &Scope) -> bool
-    ensures { result ≡ is_sort (kind sort) (sort_of (types_of scope.now) (expr_of expr.now)) }
+pub(crate) fn is_sort(sort: Sort, expr: &Expr, scope: &Scope) -> bool
+    ensures { result ≡ is_sort sort (sort_of (types_of scope.now) (expr_of expr.now)) }
 {
     match sort_of(expr, scope) {
         Some(other) => are_same(sort, other),

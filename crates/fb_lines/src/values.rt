@@ -1,6 +1,6 @@
 //! The values of a line.
 
-ghost use Rattle.std.specs.Prelude.{◌≡◌, ◌<◌, ◌^◌, ◌++◌, ◌&&◌, true, All, MatchOption, IfOk, length, decimal, codes, int_le, int_lt};
+ghost use Rattle.std.specs.Prelude.{◌≡◌, ◌<◌, ◌^◌, ◌++◌, true, All, MatchOption, IfOk, length, decimal, codes};
 ghost use Rattle.fb_types.specs.Text.{value_text};
 ghost use Rattle.fb_types.specs.Values.{fits};
 ghost use Rattle.fb_lines.specs.Reading.{AreRead, AreUnread, HasNoDigits, IsBound, IsNoNumber, IsNoTruth, IsNoValue, IsNoWhole, IsNone, IsTextOf, IsTextOfWhole, IsUnbound};
@@ -11,33 +11,6 @@ use fb_types::items::Items;
 use fb_types::library::Variable;
 use fb_types::value::{Ty, Value};
 use std::alloc::{AllocError, Global};
-
-/// Whether a number is in the range from `least` to below `past`.
-fn is_between(number: i128, least: i128, past: i128) -> bool
-    ensures { result ≡ (int_le least number && int_lt number past) }
-{
-    least <= number && number < past
-}
-
-/// Whether a value is one of the type.
-fn is_value_of(ty: Ty, value: Value) -> bool
-    ensures { result ≡ fits ty value }
-{
-    let Value::Whole(number) = value else {
-        return matches!(ty, Ty::Bool);
-    };
-    match ty {
-        Ty::Sint => is_between(number, -(1 << 7), 1 << 7),
-        Ty::Int => is_between(number, -(1 << 15), 1 << 15),
-        Ty::Dint => is_between(number, -(1 << 31), 1 << 31),
-        Ty::Lint | Ty::Time => is_between(number, -(1 << 63), 1 << 63),
-        Ty::Usint => is_between(number, 0, 1 << 8),
-        Ty::Uint => is_between(number, 0, 1 << 16),
-        Ty::Udint => is_between(number, 0, 1 << 32),
-        Ty::Ulint => is_between(number, 0, 1 << 64),
-        Ty::Bool => false,
-    }
-}
 
 /// The number below 2^64 that a text is.
 fn magnitude(text: &[u8]) -> Option<u64>
@@ -94,11 +67,7 @@ pub fn value_of(ty: Ty, text: &[u8]) -> Option<Value>
     ensures { MatchOption result (IsNoValue ty text.now) (λ v. (fits ty v ≡ true) × (text.now ≡ value_text v)) }
 {
     let value = value_in(text)?;
-    if is_value_of(ty, value) {
-        Some(value)
-    } else {
-        None
-    }
+    if ty.holds(value) { Some(value) } else { None }
 }
 
 /// A variable with a value of its type, and what stands behind them.

@@ -2,7 +2,7 @@
 use Rattle.std.specs.Prelude.{◌≡◌, ℕ, List, map, length, Option, Some, slice_get, option_and_then}
 use Rattle.fb_types.specs.Names.{Name}
 use Rattle.fb_types.specs.Blocks.{ports_of}
-pub use Rattle.fb_types.specs.EventPorts.{ArePortsOfKinds, kind_place}
+use Rattle.fb_types.specs.EventPorts.{ArePortsOfKinds}
 use Rattle.fb_types.specs.Flat.{kind_of, type_name}
 use Rattle.fb_types.specs.declared.library.BlockType.{BlockType}
 use Rattle.fb_types.specs.declared.library.Library.{Library}

@@ -10,8 +10,9 @@ ghost use Rattle.fb_st.specs.Wanted.{wholes, truths};
 
 use crate::fault::{compared, noted, noted_truth, noted_value};
 use crate::frame::Frame;
-use crate::function::{call_with_one, call_with_three, call_with_two, function_of};
+use crate::function::{call_with_one, call_with_three, call_with_two};
 use crate::operator::{are_same, is_arithmetic, negated, number_of_two, truth_value, whole_of};
+use fb_types::function::Function;
 use fb_types::name::Name;
 use fb_types::text::{BinaryOperator, Expr, UnaryOperator};
 use fb_types::value::{Reason, Value};
@@ -175,7 +176,7 @@ fn truth(expr: &Expr, frame: &Frame) -> Result<bool, Reason>
 fn call(name: &Name, arguments: &[Expr], frame: &Frame) -> Result<Value, Reason>
     ensures { result ≡ and_then (values_of_all (exprs (map expr_of arguments.now)) (values_of frame.now)) (value_if_known (function_named name.now)) }
 {
-    let function = function_of(name);
+    let function = Function::named(name);
     match arguments {
         [one] => call_with_one(function, eval(one, frame)?),
         [one, two] => {

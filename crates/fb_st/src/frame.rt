@@ -7,7 +7,6 @@ ghost use Rattle.fb_types.specs.Values.{fits, whole};
 ghost use Rattle.fb_st.specs.Frames.{place_of, values_of, declared_in, is_declared, types_in};
 
 use crate::operator::whole_of;
-use crate::range::is_within;
 use fb_types::name::Name;
 use fb_types::reference::Reference;
 use fb_types::value::{Reason, Ty, Value};
@@ -176,7 +175,7 @@ impl Frame {
             Some(place) => place,
             None => unreachable!(),
         };
-        if !is_within(self.slots[place].ty, value) {
+        if !self.slots[place].ty.holds(value) {
             return Err(Reason::Range);
         }
         let slot = &mut self.slots[place];
@@ -185,7 +184,8 @@ impl Frame {
     }
 }
 
-/// Whether two names are one. Names of up to three letters are compared here: a call costs more, and so does a loop.
+/// Whether two names are one. Two names of the same length of up to three letters are compared here: a call costs more,
+/// and so does a loop.
 #[inline(always)]
 fn is_same(name: &[u8], other: &[u8]) -> bool
     ensures { result ≡ same_name name.now other.now }

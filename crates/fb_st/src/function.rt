@@ -1,48 +1,12 @@
-//! Functions (IEC 61131-3, 6.6.2.5). Their arguments go by position.
+//! Functions at their arguments (IEC 61131-3, 6.6.2.5).
 
-ghost use Rattle.std.specs.Prelude.{◌≡◌, ◌∷◌, [], option_map, codes};
+ghost use Rattle.std.specs.Prelude.{◌≡◌, ◌∷◌, []};
 ghost use Rattle.std.specs.Int.{int_min, int_max};
-ghost use Rattle.fb_types.specs.Names.{same_name};
-ghost use Rattle.fb_types.specs.Values.{judged, whole, absolute, value_if_known, function_named};
-ghost use Rattle.fb_st.specs.Functions.{meant};
+ghost use Rattle.fb_types.specs.Values.{judged, whole, absolute, value_if_known};
 
 use crate::operator::{negated, truth_value, whole_of};
-use fb_types::name::Name;
+use fb_types::function::Function;
 use fb_types::value::{Reason, Value};
-
-#[derive(Clone, Copy, Debug, PartialEq, Eq)]
-pub enum Function {
-    Min,
-    Max,
-    Abs,
-    Limit,
-    Sel,
-}
-
-fn is_named(name: &Name, text: &str) -> bool
-    ensures { result ≡ same_name name.now text.now }
-{
-    name.as_bytes() == text.as_bytes()
-}
-
-/// The function of a name.
-pub fn function_of(name: &Name) -> Option<Function>
-    ensures { option_map meant result ≡ function_named name.now }
-{
-    if is_named(name, "MIN") {
-        Some(Function::Min)
-    } else if is_named(name, "MAX") {
-        Some(Function::Max)
-    } else if is_named(name, "ABS") {
-        Some(Function::Abs)
-    } else if is_named(name, "LIMIT") {
-        Some(Function::Limit)
-    } else if is_named(name, "SEL") {
-        Some(Function::Sel)
-    } else {
-        None
-    }
-}
 
 /// The function ABS.
 fn magnitude(number: i128) -> Result<Value, Reason>
@@ -64,7 +28,7 @@ fn limited(least: i128, number: i128, most: i128) -> Value
 
 /// A function at one argument. What takes another number of arguments is 0 here, and in no accepted text.
 pub fn call_with_one(function: Option<Function>, value: Value) -> Result<Value, Reason>
-    ensures { result ≡ value_if_known (option_map meant function) (value ∷ []) }
+    ensures { result ≡ value_if_known function (value ∷ []) }
 {
     match function {
         Some(Function::Abs) => magnitude(whole_of(value)),
@@ -78,7 +42,7 @@ pub fn call_with_two(
     first: Value,
     second: Value,
 ) -> Result<Value, Reason>
-    ensures { result ≡ value_if_known (option_map meant function) (first ∷ second ∷ []) }
+    ensures { result ≡ value_if_known function (first ∷ second ∷ []) }
 {
     match function {
         Some(Function::Min) => Ok(Value::Whole(whole_of(first).min(whole_of(second)))),
@@ -94,7 +58,7 @@ pub fn call_with_three(
     second: Value,
     third: Value,
 ) -> Result<Value, Reason>
-    ensures { result ≡ value_if_known (option_map meant function) (first ∷ second ∷ third ∷ []) }
+    ensures { result ≡ value_if_known function (first ∷ second ∷ third ∷ []) }
 {
     match function {
         Some(Function::Limit) => Ok(limited(whole_of(first), whole_of(second), whole_of(third))),

@@ -4,8 +4,8 @@
 //! `exec::exec` runs an algorithm as the definitions say, steps counted; a `frame::Frame` keeps variables within their
 //! types.
 //!
-//! To be read in this order: `frame`, the variables; `eval` with `operator`, `fault`, `function` and `range`; `meter`, the
-//! steps; `exec` with `assign`; `known`.
+//! To be read in this order: `frame`, the variables; `eval` with `operator`, `fault` and `function`; `meter`, the steps;
+//! `exec` with `assign`; `known`.
 #![tactic(auto)]
 
 mod assign;
@@ -17,4 +17,3 @@ mod function;
 pub mod known;
 pub mod meter;
 mod operator;
-mod range;

@@ -4,39 +4,22 @@ ghost use Rattle.std.specs.Prelude.{◌≡◌, IfOk, Some, map};
 ghost use Rattle.fb_types.specs.Blocks.{initial_of, variable_names};
 ghost use Rattle.fb_types.specs.Repeated.{Twice};
 ghost use Rattle.fb_types.specs.Unknown.{data_ins};
-ghost use Rattle.fb_types.specs.Values as spec;
 ghost use Rattle.fb_names.specs.Numbers.{each_or_none, place_of};
 ghost use Rattle.fb_system.specs.Begins.{begins_with, parameter_names};
 
 use fb_types::items::Items;
 use fb_types::library::{Parameter, Ports, Variable};
-use fb_types::value::{Ty, Value};
+use fb_types::value::Value;
 use std::alloc::{AllocError, Global};
 
-/// 0 or FALSE.
-fn zero_of(ty: Ty) -> Value
-    ensures { result ≡ spec.zero_of ty }
-{
-    match ty {
-        Ty::Bool => Value::Bool(false),
-        _ => Value::Whole(0),
-    }
-}
-
-/// The declared initial value, else 0 or FALSE.
-fn initial_value(variable: &Variable) -> Value
-    ensures { result ≡ initial_of variable.now }
-{
-    match variable.initial {
-        Some(value) => value,
-        None => zero_of(variable.ty),
-    }
-}
-
-fn initial_values(alloc: Global, variables: &[Variable]) -> Result<Vec<Value>, AllocError>
+/// What variables begin with.
+fn first_values(alloc: Global, variables: &[Variable]) -> Result<Vec<Value>, AllocError>
     ensures { IfOk result (λ vs. vs.items ≡ map initial_of variables.now) }
 {
-    variables.iter().map(initial_value).collect(alloc)
+    variables
+        .iter()
+        .map(|variable| variable.first_value())
+        .collect(alloc)
 }
 
 /// What the data inputs of an instance begin with: the instance's parameter, else the declared initial value, else
@@ -56,7 +39,7 @@ pub fn input_values(
     requires parameters { ¬ (Twice (parameter_names parameters.now)) }
     ensures { IfOk result (λ vs. vs ≡ begins_with ports.now parameters.now) }
 {
-    let mut values = initial_values(alloc, ports.inputs.as_slice())?;
+    let mut values = first_values(alloc, ports.inputs.as_slice())?;
     for (number, parameter) in parameters.iter().enumerate() {
         values[places[number]] = parameter.value;
     }
@@ -71,6 +54,6 @@ pub fn input_values(
 pub fn output_values(alloc: Global, ports: &Ports) -> Result<Items<Value>, AllocError>
     ensures { IfOk result (λ vs. vs ≡ map initial_of ports.now.outputs) }
 {
-    let values = initial_values(alloc, ports.outputs.as_slice())?;
+    let values = first_values(alloc, ports.outputs.as_slice())?;
     Ok(Items::from_vec(values))
 }

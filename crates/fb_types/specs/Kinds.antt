@@ -3,11 +3,15 @@ use Rattle.std.specs.Prelude.{◌≡◌, ◌⊎◌, List, [], ◌∷◌, map, Bo
 use Rattle.std.specs.List.{list_all}
 use Rattle.fb_types.specs.Names.{Name}
 use Rattle.fb_types.specs.Syntax.{Expr, Whole, Truth, Variable, Unary, Binary, Call, Exprs, no_expr, then_exprs, Stmt, Empty, Exit, Return, Assign, If, Case, For, While, Repeat, Stmts, no_stmt, then_stmts, Choices, no_choice, then_choices, Branches, no_branch, then_branches, body_of}
-use Rattle.fb_types.specs.Values.{Types, fits, Function, Min, Max, Abs, Limit, Sel, function_named}
+use Rattle.fb_types.specs.Values.{Types, fits, function_named}
 use Rattle.fb_types.specs.Blocks.{named, ports_of, is_input, types_of}
 use Rattle.fb_types.specs.Flat.{kind_of, kind_of_instance, variables_in}
 use Rattle.fb_types.specs.Repeated.{Placed, networks, basics}
 use Rattle.fb_types.specs.Unknown.{guards_of}
+use Rattle.fb_types.specs.declared.function.Function.{Function}
+use Rattle.fb_types.specs.declared.function.Function.TheVariants.{Min, Max, Abs, Limit, Sel}
+use Rattle.fb_types.specs.declared.sort.Sort.{Sort}
+use Rattle.fb_types.specs.declared.sort.Sort.TheVariants.{TruthValue, WholeNumber}
 use Rattle.fb_types.specs.declared.text.UnaryOperator.{UnaryOperator}
 use Rattle.fb_types.specs.declared.text.UnaryOperator.TheVariants.{Negate, Not}
 use Rattle.fb_types.specs.declared.text.BinaryOperator.{BinaryOperator}
@@ -22,10 +26,7 @@ use Rattle.fb_types.specs.declared.library.Parameter.{Parameter}
 use Rattle.fb_types.specs.declared.library.Ports.{Ports}
 use Rattle.fb_types.specs.declared.library.Variable as declared
 
--- The kinds that expressions know.
-pub data Sort : Type 0 where
-  TruthValue WholeNumber : Sort
-
+-- the kind of the values of a type
 abbrev pub sort_of_type : Ty → Sort
 sort_of_type Boolean = TruthValue
 sort_of_type _ = WholeNumber

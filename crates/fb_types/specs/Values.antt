@@ -7,6 +7,8 @@ use Rattle.fb_types.specs.declared.text.UnaryOperator.{UnaryOperator}
 use Rattle.fb_types.specs.declared.text.UnaryOperator.TheVariants.{Negate, Not}
 use Rattle.fb_types.specs.declared.text.BinaryOperator.{BinaryOperator}
 use Rattle.fb_types.specs.declared.text.BinaryOperator.TheVariants.{Or, Xor, And, Equal, NotEqual, Less, Greater, LessOrEqual, GreaterOrEqual, Add, Subtract, Multiply, Divide, Modulo}
+use Rattle.fb_types.specs.declared.function.Function.{Function}
+use Rattle.fb_types.specs.declared.function.Function.TheVariants.{Min, Max, Abs, Limit, Sel}
 use Rattle.fb_types.specs.declared.value.Value.{Value}
 use Rattle.fb_types.specs.declared.value.Value.TheVariants as value
 use Rattle.fb_types.specs.declared.value.Reason.{Reason}
@@ -116,9 +118,6 @@ binary_value Divide v w = quotient (whole v) (whole w)
 binary_value Modulo v w = modulus (whole v) (whole w)
 
 -- ---- Functions (IEC 61131-3, 6.6.2.5)
-
-pub data Function : Type 0 where
-  Min Max Abs Limit Sel : Function
 
 abbrev pub function_named : Name → Option Function
 function_named f =

@@ -4,15 +4,16 @@
 //! definitions say, and a container is seen as what it contains. Of the definitions: a system has one simulation at
 //! most, and the worked examples have the traces that were worked out by hand.
 //!
-//! To be read in this order: `library`, `text`, `value` and `name`, what is read; `deploy` and `latency`; `event_kind`
-//! and `event_ports`, the event blocks; `key` and `run`, what a simulation gives; `items`, `boxed` and `reference`;
-//! `laws`. The definitions stand in `specs/`.
+//! To be read in this order: `library`, `text`, `value`, `sort`, `function` and `name`, what is read; `deploy` and
+//! `latency`; `event_kind` and `event_ports`, the event blocks; `key` and `run`, what a simulation gives; `items`, `boxed`
+//! and `reference`; `laws`. The definitions stand in `specs/`.
 #![tactic(auto)]
 
 pub mod boxed;
 pub mod deploy;
 pub mod event_kind;
 pub mod event_ports;
+pub mod function;
 pub mod items;
 pub mod key;
 pub mod latency;
@@ -21,5 +22,6 @@ pub mod library;
 pub mod name;
 pub mod reference;
 pub mod run;
+pub mod sort;
 pub mod text;
 pub mod value;

@@ -1,8 +1,12 @@
 //! Block types and the application, as they are read (IEC 61499-1, 5 to 7).
 
 ghost use Rattle.std.specs.Prelude.{◌≡◌};
-ghost use Rattle.fb_types.specs.Blocks.{ports_of};
-ghost use Rattle.fb_types.specs.Flat.{kind_of};
+ghost use Rattle.std.specs.List.{find, list_any};
+ghost use Rattle.std.specs.Option.{option_copied};
+ghost use Rattle.fb_types.specs.Blocks.{initial_of, ports_of};
+ghost use Rattle.fb_types.specs.Flat.{kind_of, type_name};
+ghost use Rattle.fb_types.specs.Kinds.{declared_right};
+ghost use Rattle.fb_types.specs.Names.{same_name};
 
 use crate::items::Items;
 use crate::name::Name;
@@ -21,6 +25,29 @@ pub struct Variable {
     pub name: Name,
     pub ty: Ty,
     pub initial: Option<Value>,
+}
+
+impl Variable {
+    /// What the variable begins with: its declared value, else 0 or FALSE.
+    pub fn first_value(&self) -> Value
+        ensures { result ≡ initial_of self.now }
+    {
+        match (self.initial, self.ty) {
+            (Some(value), _) => value,
+            (None, Ty::Bool) => Value::Bool(false),
+            (None, _) => Value::Whole(0),
+        }
+    }
+
+    /// Whether the declared value, if there is one, is one of the variable's type.
+    pub fn is_declared_right(&self) -> bool
+        ensures { result ≡ declared_right self.now }
+    {
+        match self.initial {
+            Some(value) => self.ty.holds(value),
+            None => true,
+        }
+    }
 }
 
 /// The interface of a type, each list in the order of the declaration.
@@ -125,6 +152,16 @@ pub enum BlockType {
 }
 
 impl BlockType {
+    /// The name of the type.
+    pub fn type_name(&self) -> &Name
+        ensures { result.now ≡ type_name self.now }
+    {
+        match self {
+            BlockType::Basic(basic) => &basic.name,
+            BlockType::Composite(composite) => &composite.name,
+        }
+    }
+
     /// The interface.
     pub fn ports(&self) -> &Ports
         ensures { result.now ≡ ports_of (kind_of self.now) }
@@ -148,4 +185,25 @@ pub struct Application {
 pub struct Library {
     pub blocks: Items<BlockType>,
     pub application: Application,
+}
+
+/// The block type that has the name.
+pub fn block_named<'a>(blocks: &'a [BlockType], name: &Name) -> Option<&'a BlockType>
+    ensures { option_copied result ≡ find (λ b. same_name (type_name b) name.now) blocks.now }
+{
+    blocks.iter().find(|block| block.type_name().is(name))
+}
+
+/// The instance that has the name.
+pub fn instance_named<'a>(instances: &'a [Instance], name: &Name) -> Option<&'a Instance>
+    ensures { option_copied result ≡ find (λ i. same_name i.name name.now) instances.now }
+{
+    instances.iter().find(|instance| instance.name.is(name))
+}
+
+/// Whether one of the variables has the name.
+pub fn has_variable(variables: &[Variable], name: &Name) -> bool
+    ensures { result ≡ list_any (λ v. same_name name.now v.name) variables.now }
+{
+    variables.iter().any(|variable| name.is(&variable.name))
 }

@@ -12,7 +12,7 @@ ghost use Rattle.fb_why.specs.Mentions.{meant, meant_all};
 ghost use Rattle.fb_why.specs.Unknown.{IsBlockKnown, IsUnknownIn, UnknownAmong, basic_at};
 
 use crate::charts::{unknown_in_states, unknown_in_transitions, unknown_with};
-use crate::lookup::{Sort, Types, block_ports};
+use crate::lookup::{Sort, Types};
 use crate::mentions::{Mention, is_mention_known, push_body, push_expression};
 use crate::networks::{Scope, unknown_in_network};
 use crate::place::{Direction, Place, Site};
@@ -24,7 +24,7 @@ fn unknown_in_withs(library: &Library, block: usize, declared: &BlockType) -> Op
     requires { slice_get library.now.blocks block ≡ Some declared.now }
     ensures { MatchOption result (all_met (withs_wanted (ports_of_block declared.now)) ≡ true) (IsUnknownIn library.now) }
 {
-    let ports = block_ports(declared);
+    let ports = declared.ports();
     let inputs = unknown_with(ports, Sort::Input, ports.event_inputs.as_slice());
     if let Some((event, variable)) = inputs {
         return Some(Place::With {

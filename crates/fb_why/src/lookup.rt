@@ -2,18 +2,17 @@
 
 ghost use Rattle.std.specs.Prelude.{◌≡◌, IfOk, option_map};
 ghost use Rattle.std.specs.Option.{option_copied};
-ghost use Rattle.std.specs.List.{find, list_any};
+ghost use Rattle.std.specs.List.{list_any};
 ghost use Rattle.fb_types.specs.Names.{same_name};
 ghost use Rattle.fb_types.specs.Blocks.{among, ports_of};
 ghost use Rattle.fb_types.specs.EventPorts.{ArePortsOfKinds};
 ghost use Rattle.fb_types.specs.Flat as spec;
 ghost use Rattle.fb_types.specs.Repeated.{block_type_names};
-ghost use Rattle.fb_names.specs.Types.{ports_of_block};
 ghost use Rattle.fb_why.specs.Sites.{names_of_sort};
 
 use fb_types::event_ports::{all_ports, kind_named};
 use fb_types::items::Items;
-use fb_types::library::{BlockType, EventPort, Instance, Library, Ports, Variable};
+use fb_types::library::{EventPort, Library, Ports, block_named, has_variable};
 use fb_types::name::Name;
 use std::alloc::{AllocError, Global};
 
@@ -34,47 +33,10 @@ pub struct Types<'a> {
     ghost of_kinds: { ArePortsOfKinds event_ports },
 }
 
-/// The ports of a block type of the declaration.
-pub fn block_ports(block: &BlockType) -> &Ports
-    ensures { result.now ≡ ports_of_block block.now }
-{
-    block.ports()
-}
-
-/// The name of a block type of the declaration.
-pub fn block_name(block: &BlockType) -> &Name
-    ensures { result.now ≡ spec.type_name block.now }
-{
-    match block {
-        BlockType::Basic(basic) => &basic.name,
-        BlockType::Composite(composite) => &composite.name,
-    }
-}
-
-/// The block type that has the name.
-fn block_named<'a>(blocks: &'a [BlockType], name: &Name) -> Option<&'a BlockType>
-    ensures { option_copied result ≡ find (λ b. same_name (spec.type_name b) name.now) blocks.now }
-{
-    blocks.iter().find(|block| block_name(block).is(name))
-}
-
-/// The instance that has the name.
-pub fn instance_named<'a>(instances: &'a [Instance], name: &Name) -> Option<&'a Instance>
-    ensures { option_copied result ≡ find (λ i. same_name i.name name.now) instances.now }
-{
-    instances.iter().find(|instance| instance.name.is(name))
-}
-
 fn has_event(events: &[EventPort], name: &Name) -> bool
     ensures { result ≡ list_any (λ e. same_name name.now e.name) events.now }
 {
     events.iter().any(|event| name.is(&event.name))
-}
-
-fn has_variable(variables: &[Variable], name: &Name) -> bool
-    ensures { result ≡ list_any (λ v. same_name name.now v.name) variables.now }
-{
-    variables.iter().any(|variable| name.is(&variable.name))
 }
 
 /// Whether an interface has a port of the sort by the name.
@@ -107,7 +69,7 @@ impl<'a> Types<'a> {
             Some(kind) => self.event_ports.get(kind.place()),
             None => {
                 let block = block_named(self.library.blocks.as_slice(), name)?;
-                Some(block_ports(block))
+                Some(block.ports())
             }
         }
     }

@@ -1,16 +1,16 @@
 //! Variables and functions that guards and algorithms name and that stand for nothing (E21).
 
-ghost use Rattle.std.specs.Prelude.{◌≡◌, ◌++◌, ◌||◌, IfOk, is_some};
+ghost use Rattle.std.specs.Prelude.{◌≡◌, ◌++◌, ◌||◌, IfOk};
 ghost use Rattle.fb_types.specs.Blocks.{among, variable_names, variables_of};
 ghost use Rattle.fb_types.specs.Names.{same_name};
 ghost use Rattle.std.specs.List.{list_any};
 ghost use Rattle.fb_types.specs.Syntax.{body_of, expr_of, stmt_of};
 ghost use Rattle.fb_types.specs.Unknown.{is_known, mentions, mentions_all, mentions_body, mentions_branches, mentions_choices, mentions_in};
-ghost use Rattle.fb_types.specs.Values.{function_named};
 ghost use Rattle.fb_kinds.specs.Trees.{all_of, arguments_of, branches_of, choices_of};
 ghost use Rattle.fb_why.specs.Mentions.{meant, meant_all, mentions_of_step};
 
-use fb_types::library::{BasicType, Ports, Variable};
+use fb_types::function::Function;
+use fb_types::library::{BasicType, Ports, Variable, has_variable};
 use fb_types::name::Name;
 use fb_types::text::{Body, Branch, Choice, Expr, Stmt};
 use std::alloc::{AllocError, Global};
@@ -138,12 +138,6 @@ fn push_branches<'a>(all: &mut Vec<Mention<'a>>, branches: &'a [Branch]) -> Resu
     Ok(())
 }
 
-fn has_variable(variables: &[Variable], name: &Name) -> bool
-    ensures { result ≡ list_any (λ v. same_name name.now v.name) variables.now }
-{
-    variables.iter().any(|variable| name.is(&variable.name))
-}
-
 /// Whether a name is a variable of the type.
 fn is_variable(basic: &BasicType, name: &Name) -> bool
     ensures { result ≡ among (variable_names (variables_of basic.now)) name.now }
@@ -159,28 +153,12 @@ fn is_variable_among(ports: &Ports, internals: &[Variable], name: &Name) -> bool
         || has_variable(internals, name)
 }
 
-fn is_named(name: &Name, text: &str) -> bool
-    ensures { result ≡ same_name name.now text.now }
-{
-    name.as_bytes() == text.as_bytes()
-}
-
-fn is_function(name: &Name) -> bool
-    ensures { result ≡ is_some (function_named name.now) }
-{
-    is_named(name, "MIN")
-        || is_named(name, "MAX")
-        || is_named(name, "ABS")
-        || is_named(name, "LIMIT")
-        || is_named(name, "SEL")
-}
-
 /// Whether a variable is one of the type, or a function is known.
 pub fn is_mention_known(basic: &BasicType, mention: &Mention) -> bool
     ensures { result ≡ is_known basic.now (meant mention.now) }
 {
     match mention {
         Mention::Variable(name) => is_variable(basic, name),
-        Mention::Function(name) => is_function(name),
+        Mention::Function(name) => Function::named(name).is_some(),
     }
 }

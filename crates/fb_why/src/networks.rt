@@ -14,9 +14,11 @@ ghost use Rattle.fb_why.specs.Sites.{connections_of, names_of_sort, network_at};
 ghost use Rattle.fb_why.specs.declared.place.Place.TheVariants.{End};
 ghost use Rattle.fb_why.specs.Unknown.{IsUnknownIn, UnmetParameter, are_ends_known, are_parameters_met, inputs_of, is_side_known, is_type_met, outputs_of, placed};
 
-use crate::lookup::{Sort, Types, has_port, instance_named};
+use crate::lookup::{Sort, Types, has_port};
 use crate::place::{Flow, Place, Side, Site};
-use fb_types::library::{CompositeType, Connection, Instance, Network, Parameter, PortName, Ports};
+use fb_types::library::{
+    CompositeType, Connection, Instance, Network, Parameter, PortName, Ports, instance_named,
+};
 
 /// A network, with the composite type that it is inside of, or none for the application's.
 #[derive(Clone, Copy)]

@@ -1,13 +1,13 @@
 //! The text that tells a place: where it is, and what was wanted there.
 
-use crate::lookup::{Sort, Types, block_name, block_ports, instance_named};
+use crate::lookup::{Sort, Types};
 use crate::mentions::{Mention, push_body, push_expression};
 use crate::place::{ActionPart, Direction, Flow, Place, Side, Site, TransitionPart};
 use crate::words::{Text, algorithm_names, port_names, state_names};
 use fb_types::deploy::Plan;
 use fb_types::library::{
     Action, BasicType, BlockType, CompositeType, Connection, Instance, Library, Network, PortName,
-    Ports, Transition,
+    Ports, Transition, instance_named,
 };
 use fb_types::name::Name;
 use std::alloc::{AllocError, Global};
@@ -86,7 +86,7 @@ fn instance_of(library: &Library, site: Site, instance: usize) -> Option<&Instan
 
 fn push_block(text: &mut Text, library: &Library, block: usize) -> Result<(), AllocError> {
     match library.blocks.get(block) {
-        Some(block) => text.named("block type ", block_name(block)),
+        Some(block) => text.named("block type ", block.type_name()),
         None => Ok(()),
     }
 }
@@ -311,7 +311,7 @@ fn tell_with(
     direction: Direction,
     (event, variable): (usize, usize),
 ) -> Result<(), AllocError> {
-    let ports = block_ports(block);
+    let ports = block.ports();
     let (words, sort, events) = match direction {
         Direction::Input => (": event input ", Sort::Input, &ports.event_inputs),
         Direction::Output => (": event output ", Sort::Output, &ports.event_outputs),
@@ -325,7 +325,7 @@ fn tell_with(
     };
     text.named(" WITH ", variable)?;
     let names = port_names(alloc, ports, sort)?;
-    text.lacks(block_name(block), sort, variable, &names)
+    text.lacks(block.type_name(), sort, variable, &names)
 }
 
 fn tell_in_basic(

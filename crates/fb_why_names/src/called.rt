@@ -89,10 +89,7 @@ impl Called for BlockType {
     ghost called = { type_name };
 
     fn name(&self) -> &Name {
-        match self {
-            BlockType::Basic(basic) => &basic.name,
-            BlockType::Composite(composite) => &composite.name,
-        }
+        self.type_name()
     }
 }
 

@@ -5,7 +5,7 @@ use crate::pair::Pair;
 use crate::twice::{Given, InBlock, InNetwork};
 use crate::words::Text;
 use fb_types::deploy::Plan;
-use fb_types::library::{BlockType, EventPort, Instance, Library, Network, Ports};
+use fb_types::library::{BlockType, EventPort, Instance, Library, Network};
 use fb_types::name::Name;
 use std::alloc::{AllocError, Global};
 
@@ -123,11 +123,11 @@ fn push_in_block(text: &mut Text, block: &BlockType, found: InBlock) -> Result<(
     match found {
         InBlock::Port(pair) => push_ports(text, block, pair),
         InBlock::WithInput(place, pair) => {
-            let events = ports_of(block).event_inputs.as_slice();
+            let events = block.ports().event_inputs.as_slice();
             push_with(text, ": event input ", events.get(place), pair)
         }
         InBlock::WithOutput(place, pair) => {
-            let events = ports_of(block).event_outputs.as_slice();
+            let events = block.ports().event_outputs.as_slice();
             push_with(text, ": event output ", events.get(place), pair)
         }
         _ => push_inside(text, block, found),
@@ -164,13 +164,6 @@ fn push_inside(text: &mut Text, block: &BlockType, found: InBlock) -> Result<(),
     }
 }
 
-fn ports_of(block: &BlockType) -> &Ports {
-    match block {
-        BlockType::Basic(basic) => &basic.ports,
-        BlockType::Composite(composite) => &composite.ports,
-    }
-}
-
 /// The name at a place of a list, or how far on the place is behind its end.
 fn name_at<T: Called>(items: &[T], place: usize) -> Result<&Name, usize> {
     match items.get(place) {
@@ -181,7 +174,7 @@ fn name_at<T: Called>(items: &[T], place: usize) -> Result<&Name, usize> {
 
 /// The sort and the name of what stands at a place among the ports of a block type.
 fn port_at(block: &BlockType, place: usize) -> Result<(&'static str, &Name), usize> {
-    let ports = ports_of(block);
+    let ports = block.ports();
     let place = match name_at(ports.event_inputs.as_slice(), place) {
         Ok(name) => return Ok(("an event input", name)),
         Err(place) => place,

@@ -1,31 +1,22 @@
 //! Data connections between two resources that no event serves (E28).
 
 ghost use Rattle.std.specs.Prelude.{◌≡◌, ◌&&◌, MatchOption, [], Some, true, false, slice_get};
-ghost use Rattle.std.specs.Option.{option_copied};
-ghost use Rattle.std.specs.List.{find, list_all, list_any};
+ghost use Rattle.std.specs.List.{list_all, list_any};
 ghost use Rattle.fb_types.specs.Names.{same_name};
 ghost use Rattle.fb_types.specs.Blocks.{among, outputs_with, ports_of_event_block, variable_names};
-ghost use Rattle.fb_types.specs.Flat.{kind_at, port_in, type_name, type_named};
+ghost use Rattle.fb_types.specs.Flat.{kind_at, port_in, type_named};
 ghost use Rattle.fb_types.specs.Mapped.{NoEvent};
 ghost use Rattle.fb_types.specs.declared.library.Connection.{Connection};
-ghost use Rattle.fb_names.specs.Types.{ports_of_block};
 ghost use Rattle.fb_why_names.specs.Unserved.{IsUnservedAt, begin_together, brings, carries, is_served};
 
-use crate::called::Called;
 use crate::unlinked::resource_of;
 use fb_types::deploy::Plan;
 use fb_types::event_kind::EventKind;
 use fb_types::event_ports::kind_named;
 use fb_types::library::{
-    BlockType, Connection, EventPort, Instance, Library, PortName, Ports, Variable,
+    Connection, EventPort, Library, PortName, Ports, block_named, has_variable, instance_named,
 };
 use fb_types::name::Name;
-
-fn has_variable(variables: &[Variable], name: &Name) -> bool
-    ensures { result ≡ list_any (λ v. same_name name.now v.name) variables.now }
-{
-    variables.iter().any(|variable| name.is(&variable.name))
-}
 
 /// Whether a variable is WITH an event.
 fn lists(event: &EventPort, variable: &Name) -> bool
@@ -77,21 +68,6 @@ fn event_block_carries(kind: EventKind, event: &Name, variable: &Name) -> bool
     }
 }
 
-fn ports_of(block: &BlockType) -> &Ports
-    ensures { result.now ≡ ports_of_block block.now }
-{
-    match block {
-        BlockType::Basic(basic) => &basic.ports,
-        BlockType::Composite(composite) => &composite.ports,
-    }
-}
-
-fn block_named<'a>(blocks: &'a [BlockType], name: &Name) -> Option<&'a BlockType>
-    ensures { option_copied result ≡ find (λ b. same_name (type_name b) name.now) blocks.now }
-{
-    blocks.iter().find(|block| block.name().is(name))
-}
-
 /// The same of the type that a name stands for.
 fn type_carries(library: &Library, name: &Name, event: &Name, variable: &Name) -> bool
     ensures { result ≡ carries (type_named library.now name.now) event.now variable.now }
@@ -99,16 +75,10 @@ fn type_carries(library: &Library, name: &Name, event: &Name, variable: &Name) -
     match kind_named(name.as_bytes()) {
         Some(kind) => event_block_carries(kind, event, variable),
         None => match block_named(library.blocks.as_slice(), name) {
-            Some(block) => ports_carry(ports_of(block), event, variable),
+            Some(block) => ports_carry(block.ports(), event, variable),
             None => false,
         },
     }
-}
-
-fn instance_named<'a>(instances: &'a [Instance], name: &Name) -> Option<&'a Instance>
-    ensures { option_copied result ≡ find (λ i. same_name i.name name.now) instances.now }
-{
-    instances.iter().find(|instance| instance.name.is(name))
 }
 
 /// Whether an output event of the block at an end of a connection of the application has the variable there WITH it.

@@ -1,9 +1,10 @@
 -- A statement that is right by itself is right in each of its parts.
 use Rattle.std.proofs.Common.{◌≡◌, ℕ, zero, suc, Bool, true, false, not, ◌&&◌, refl, sym, ◌∙◌}
 use Rattle.std.proofs.lemmas.Bool.{and_parts, true≢false}
-use Rattle.fb_types.specs.Kinds.{Place, WholeNumber, is_condition, is_sort, is_whole, same_sort, sort_of, sort_of_type}
+use Rattle.fb_types.specs.Kinds.{Place, is_condition, is_sort, is_whole, same_sort, sort_of, sort_of_type}
 use Rattle.fb_types.specs.Names.{Name}
 use Rattle.fb_types.specs.Syntax.{Expr, Stmt, Empty, Exit, Return, Assign, If, Case, For, While, Repeat, no_stmt, Choices, no_choice, then_choices}
+use Rattle.fb_types.specs.declared.sort.Sort.TheVariants.{WholeNumber}
 use Rattle.fb_why_values.specs.declared.place.Part.{Part}
 use Rattle.fb_why_values.specs.declared.place.Part.TheVariants as part
 use Rattle.fb_why_values.specs.Statements.{choice_right, conditions_right, own_right, part_right}

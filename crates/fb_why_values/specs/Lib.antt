@@ -1,7 +1,6 @@
 pub mod Sites
 pub mod Types
 pub mod Misjoins
-pub mod Sorts
 pub mod Statements
 pub mod Misfits
 pub mod Applies

@@ -1,8 +1,9 @@
 -- The statements of an algorithm, and what is asked of each by itself (IEC 61131-3, 7.3.3).
 use Rattle.std.specs.Prelude.{◌≡◌, ℕ, zero, suc, List, [], ◌∷◌, ◌++◌, map, Bool, true, false, not, ◌&&◌, Some, slice_get}
 use Rattle.fb_types.specs.Syntax.{Stmt, Empty, Exit, Return, Assign, If, Case, For, While, Repeat, Stmts, no_stmt, then_stmts, Choices, no_choice, then_choices, Branches, no_branch, then_branches, stmt_of}
-use Rattle.fb_types.specs.Kinds.{Place, WholeNumber, is_sort, sort_of, sort_of_type, same_sort, is_whole, is_condition}
+use Rattle.fb_types.specs.Kinds.{Place, is_sort, sort_of, sort_of_type, same_sort, is_whole, is_condition}
 use Rattle.fb_types.specs.declared.library.BasicType.{BasicType}
+use Rattle.fb_types.specs.declared.sort.Sort.TheVariants.{WholeNumber}
 use Rattle.fb_kinds.specs.Checks.{in_place}
 use Rattle.fb_why_values.specs.declared.place.Part.{Part}
 use Rattle.fb_why_values.specs.declared.place.Part.TheVariants as part

@@ -5,11 +5,10 @@
 //! connection from a type to one that does not hold all its values (E23); by `laws::places_apply` the number applies where a
 //! place is told. Of the texts nothing is promised.
 //!
-//! To be read in this order: `place`; `values` and `types`, what types hold and what names stand for; `misjoins`;
-//! `sorts` and `function`, kinds of expressions; `statements`, `parameters` and `misfits`; `laws`; `words` and `tell`, a place as a text.
+//! To be read in this order: `place`; `types`, what names stand for; `misjoins`; `sorts`, kinds of expressions;
+//! `statements`, `parameters` and `misfits`; `laws`; `words` and `tell`, a place as a text.
 #![tactic(auto)]
 
-mod function;
 pub mod laws;
 pub mod misfits;
 pub mod misjoins;
@@ -19,5 +18,4 @@ mod sorts;
 mod statements;
 pub mod tell;
 mod types;
-mod values;
 mod words;

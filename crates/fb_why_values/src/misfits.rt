@@ -17,8 +17,6 @@ ghost use Rattle.fb_why_values.specs.Statements.{WrongAmong, each_in_body};
 use crate::parameters::misfit_in_network;
 use crate::place::{Misfit, Part, Site, Variables};
 use crate::statements::{is_condition, wrong_statement};
-use crate::types::block_ports;
-use crate::values::is_declared_right;
 use fb_types::library::{Algorithm, BasicType, BlockType, Library, Transition, Variable};
 use std::alloc::{AllocError, Global};
 
@@ -27,7 +25,7 @@ fn wrong_among(variables: &[Variable]) -> Option<usize>
     ensures { MatchOption result (list_all declared_right variables.now ≡ true) (MisfitAmong variables.now) }
 {
     for (place, variable) in variables.iter().enumerate() {
-        if !is_declared_right(variable) {
+        if !variable.is_declared_right() {
             return Some(place);
         }
     }
@@ -48,7 +46,7 @@ pub fn internals_of(block: &BlockType) -> &[Variable]
 fn wrong_initial(block: &BlockType) -> Option<(Variables, usize)>
     ensures { MatchOption result (are_initials_right block.now ≡ true) (InitialIn block.now) }
 {
-    let ports = block_ports(block);
+    let ports = block.ports();
     if let Some(place) = wrong_among(ports.inputs.as_slice()) {
         return Some((Variables::Inputs, place));
     }

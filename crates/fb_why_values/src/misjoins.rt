@@ -9,9 +9,11 @@ ghost use Rattle.fb_types.specs.declared.library.Connection.{Connection};
 ghost use Rattle.fb_why_values.specs.Misjoins.{IsMisjoinedAt, IsMisjoinedInside, MisjoinedIn, are_joined, are_joined_inside, is_joined, placed};
 
 use crate::place::{Misjoin, Site};
-use crate::types::{instance_named, port_type, type_named};
-use crate::values::is_within;
-use fb_types::library::{BlockType, CompositeType, Connection, Library, Network, PortName};
+use crate::types::{port_type, type_named};
+use fb_joins::values::is_within;
+use fb_types::library::{
+    BlockType, CompositeType, Connection, Library, Network, PortName, instance_named,
+};
 use fb_types::value::Ty;
 
 /// A network, with the composite type that it is inside of, or none for the application's.

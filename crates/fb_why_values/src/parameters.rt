@@ -12,7 +12,6 @@ ghost use Rattle.fb_why_values.specs.Types.{meant};
 
 use crate::place::{Misfit, Site};
 use crate::types::{Kind, type_named};
-use crate::values::is_value_of;
 use fb_types::library::{Instance, Library, Network, Parameter};
 
 /// Whether a parameter is a value of the type of the input that it sets, where the type has the input.
@@ -20,7 +19,7 @@ fn is_right(kind: Kind, parameter: &Parameter) -> bool
     ensures { result ≡ parameter_right (ports_of (meant kind.entry)) parameter.now }
 {
     match kind.input_type(&parameter.name) {
-        Some(ty) => is_value_of(ty, parameter.value),
+        Some(ty) => ty.holds(parameter.value),
         None => true,
     }
 }

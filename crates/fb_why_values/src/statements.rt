@@ -9,10 +9,12 @@ ghost use Rattle.fb_kinds.specs.Trees.{all_of, branches_of, choices_of};
 ghost use Rattle.fb_why_values.specs.Statements.{WrongAmong, all_standing, choice_right, conditions_right, each_in_body, each_in_branches, each_in_choices, each_inside, own_right, part_right, stands_right, standing_of};
 
 use crate::place::Part;
-use crate::sorts::{Sort, are_same, is_sort, sort_of_type};
+use crate::sorts::is_sort;
 use crate::types::{is_input, type_of};
+use fb_kinds::sorts::{are_same, sort_of_type};
 use fb_types::library::{Algorithm, BasicType};
 use fb_types::reference::Reference;
+use fb_types::sort::Sort;
 use fb_types::text::{Body, Branch, Choice, Expr, Stmt};
 use std::alloc::{AllocError, Global};
 

@@ -3,12 +3,14 @@
 use crate::misfits::internals_of;
 use crate::misjoins::{Scope, type_at_end};
 use crate::place::{Misfit, Misjoin, Part, Site, Variables};
-use crate::sorts::{Sort, sort_of, sort_of_type};
+use crate::sorts::sort_of;
 use crate::statements::{Standing, all_statements};
-use crate::types::{block_name, block_ports, type_named, type_of};
+use crate::types::{type_named, type_of};
 use crate::words::{Text, type_words};
+use fb_kinds::sorts::sort_of_type;
 use fb_types::library::{BasicType, BlockType, Connection, Instance, Library, Variable};
 use fb_types::reference::Reference;
+use fb_types::sort::Sort;
 use fb_types::text::{Choice, Expr, Stmt};
 use fb_types::value::Ty;
 use std::alloc::{AllocError, Global};
@@ -84,7 +86,7 @@ fn push_in_chart(
 
 fn push_block(text: &mut Text, library: &Library, block: usize) -> Result<(), AllocError> {
     match library.blocks.get(block) {
-        Some(block) => text.named("block type ", block_name(block)),
+        Some(block) => text.named("block type ", block.type_name()),
         None => Ok(()),
     }
 }
@@ -129,7 +131,7 @@ fn push_initial(
     let Some(block) = block else {
         return Ok(());
     };
-    let ports = block_ports(block);
+    let ports = block.ports();
     let (words, list) = match variables {
         Variables::Inputs => (": data input ", ports.inputs.as_slice()),
         Variables::Outputs => (": data output ", ports.outputs.as_slice()),

@@ -11,7 +11,7 @@ ghost use Rattle.fb_why_values.specs.Types.{joinable, meant};
 
 use fb_types::event_kind::EventKind;
 use fb_types::event_ports::kind_named;
-use fb_types::library::{BasicType, BlockType, Instance, Library, Ports, Variable};
+use fb_types::library::{BasicType, BlockType, Library, Ports, Variable, block_named};
 use fb_types::name::Name;
 use fb_types::value::Ty;
 
@@ -20,39 +20,6 @@ use fb_types::value::Ty;
 pub enum Kind<'a> {
     Event(EventKind),
     Declared(&'a BlockType),
-}
-
-/// The name of a block type of the declaration.
-pub fn block_name(block: &BlockType) -> &Name
-    ensures { result.now ≡ flat.type_name block.now }
-{
-    match block {
-        BlockType::Basic(basic) => &basic.name,
-        BlockType::Composite(composite) => &composite.name,
-    }
-}
-
-/// The ports of a block type of the declaration.
-pub fn block_ports(block: &BlockType) -> &Ports
-    ensures { result.now ≡ blocks.ports_of (flat.kind_of block.now) }
-{
-    match block {
-        BlockType::Basic(basic) => &basic.ports,
-        BlockType::Composite(composite) => &composite.ports,
-    }
-}
-
-fn block_named<'a>(blocks: &'a [BlockType], name: &Name) -> Option<&'a BlockType>
-    ensures { option_copied result ≡ find (λ b. same_name (flat.type_name b) name.now) blocks.now }
-{
-    blocks.iter().find(|block| block_name(block).is(name))
-}
-
-/// The instance that has the name.
-pub fn instance_named<'a>(instances: &'a [Instance], name: &Name) -> Option<&'a Instance>
-    ensures { option_copied result ≡ find (λ i. same_name i.name name.now) instances.now }
-{
-    instances.iter().find(|instance| instance.name.is(name))
 }
 
 /// What a type's name stands for.
@@ -176,7 +143,7 @@ impl Kind<'_> {
     {
         match self {
             Kind::Event(kind) => event_block_input(kind, name),
-            Kind::Declared(block) => variable_type(block_ports(block).inputs.as_slice(), name),
+            Kind::Declared(block) => variable_type(block.ports().inputs.as_slice(), name),
         }
     }
 
@@ -186,7 +153,7 @@ impl Kind<'_> {
     {
         match self {
             Kind::Event(kind) => event_block_port(kind, name),
-            Kind::Declared(block) => port_type(block_ports(block), name),
+            Kind::Declared(block) => port_type(block.ports(), name),
         }
     }
 }

@@ -13,7 +13,7 @@ returns-in-Some c =
 
 pub returns-in-Some-block_named : goal.returns-in-Some-block_named
 returns-in-Some-block_named c =
-    c.ports_carry.ensures ∙ ap (λ (p : Ports). among (outputs_with p c.args.event.now) c.args.variable.now) c.ports_of.ensures
+    c.ports_carry.ensures ∙ ap (λ (p : Ports). among (outputs_with p c.args.event.now) c.args.variable.now) c.ports.ensures
     ∙ declared_carries c.args.library.now c.as_slice.result.now c.args.name.now c.args.event.now c.args.variable.now
     (Some c.in-Some-block_named.block.now) (sym (ap event_block_named c.as_bytes.ensures) ∙ sym c.kind_named.ensures ∙ c.in-None.is) c.as_slice.ensures
     (sym (ap option_copied c.in-Some-block_named.is) ∙ c.block_named.ensures)

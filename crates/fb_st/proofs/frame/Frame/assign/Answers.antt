@@ -10,14 +10,14 @@ use Rattle.fb_st.proofs.frame.Frame.assign.Goals as goal
 pub unreachable-requires : goal.unreachable-requires
 unreachable-requires c = declared_somewhere c.args.self.now c.args.variable.now c.requires (sym c.find.ensures ∙ c.in-None.is)
 
-pub returns-then-not-is_within-clause-err : goal.returns-then-not-is_within-clause-err
-returns-then-not-is_within-clause-err c =
+pub returns-then-not-holds-clause-err : goal.returns-then-not-holds-clause-err
+returns-then-not-holds-clause-err c =
     let xs : List Slot = c.self.inside.slots.items in
     let at = ap (place_of c.args.variable.now) c.self.view_is ∙ sym c.find.ensures ∙ c.in-Some.is in
     let ty = type_here xs c.args.variable.now c.in-Some.place c.index.result.now at (read_at xs c.args.variable.now c.in-Some.place c.index.result.now at c.index.ensures) in (
       refl,
       ap (λ l. fits (types_in (declared_in l) c.args.variable.now) c.args.value) (sym c.self.view_is)
-          ∙ ap (λ t. fits t c.args.value) ty ∙ sym c.is_within.ensures ∙ c.if-not-is_within.true,
+          ∙ ap (λ t. fits t c.args.value) ty ∙ sym c.holds.ensures ∙ c.if-not-holds.true,
       refl,
     )
 
@@ -38,7 +38,7 @@ returns-clause-ok c =
     let there = read_at xs c.args.variable.now c.in-Some.place c.index_mut-slot.result.now at c.index_mut-slot.ensures.value in
     let ty = type_here xs c.args.variable.now c.in-Some.place c.index.result.now at read in (
       ap (λ l. fits (types_in (declared_in l) c.args.variable.now) c.args.value) (sym c.self.view_is)
-          ∙ ap (λ t. fits t c.args.value) ty ∙ sym c.is_within.ensures ∙ c.if-not-is_within.false,
+          ∙ ap (λ t. fits t c.args.value) ty ∙ sym c.holds.ensures ∙ c.if-not-holds.false,
       written xs c.args.variable.now c.in-Some.place c.index_mut-slot.result.now c.args.value at there
           ∙ ap (λ l. with_value c.args.variable.now c.args.value (values_of l)) c.self.view_is,
     )

@@ -22,7 +22,7 @@ returns-in_err-block-in-None c =
 
 pub returns-in_ok-block-in-None : goal.returns-in_ok-block-in-None
 returns-in_ok-block-in-None c =
-    ap (λ (p : Ports). Some p) c.block_ports.ensures
+    ap (λ (p : Ports). Some p) c.ports.ensures
     ∙ declared_ports_are c.args.self.now.library.now c.as_slice.result.now c.args.name.now (Some c.in_ok-block-in-None.block.now)
     (sym (ap event_block_named c.as_bytes.ensures) ∙ sym c.kind_named.ensures ∙ c.in-None.is) c.as_slice.ensures
     (sym (ap option_copied c.in_ok-block-in-None.was) ∙ c.block_named.ensures)
