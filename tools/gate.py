@@ -9,8 +9,8 @@ called at least once for each status (tools/calls.py), as docs/FIRST_APPLICATION
 for the waveforms of the examples, which are compared with their traces (tools/waves.py), and of what is no trace
 (tools/traces.py), on the stored cases of cases/ (tools/cases.py) and on rings of resources (tools/rings.py), with outputs that
 take little and readers that fail (tools/narrow.py), on texts that are cut or changed in one byte (tools/hostile.py), and with each
-of its requests for memory refused (tools/refuse.py). Then it tells the processor seconds and the memory of each crate. The last line is 'N passed, M failed', and the status 0 where
-none failed.
+of its requests for memory refused (tools/refuse.py). Then it tells the processor seconds and the memory of each crate. The last
+line is 'N passed, M failed', and the status 0 where none failed.
 
 With crates it does the same for these and those below them alone, on a copy of their files.
 --jobs N uses N processors, and not all.
@@ -45,14 +45,13 @@ from kit import KEEPS, TOP, rt, rtlib
 from wrong_bodies import add_edits, try_all
 
 # Runs a command and adds to a file how much processor time and memory it took, as a line 'seconds', 'MB', folder, and the
-# command's words. What ends it ends the command.
+# command's words.
 MEASURE = """
 import os, signal, sys
 log, *words = sys.argv[1:]
 child = os.fork()
 if not child:
     os.execvp(words[0], words)
-signal.signal(signal.SIGTERM, lambda *_: os.kill(child, signal.SIGTERM))
 _, status, used = os.wait4(child, 0)
 with open(log, "a") as it:
     row = [str(used.ru_utime + used.ru_stime), str(used.ru_maxrss // 1000), os.getcwd(), *words]

@@ -8,20 +8,15 @@ calls states, not by how that is proved.
 
 An edit is refused where one of its own function's goals is. Another function's goal does not count, in the same cycle of calls or
 not, nor does a name that is no longer there, nor a hole. Where anything else is refused over holes, the check is made once more with
-the other proofs whole; where an edited text cannot be read, each half of the edits is tried at once. What is not refused so is tried alone, and
-judged as the kit's own `rt must-fail` does. No check is over what an older one kept.
-
-Once a check has said what it refuses, antt runs once more, to print what to write for each goal that is left. That takes as long
-again and no try reads it, so the check is ended there."""
+the other proofs whole; where a text cannot be read, each half of the edits is tried. What is not refused so is tried alone, and
+judged as the kit's own `rt must-fail` does. No check is over what an older one kept."""
 
 import copy
 import hashlib
 import os
 import re
 import shutil
-import subprocess
 import tempfile
-import time
 
 from functions import CYCLE, Sources, without_body
 from kit import KEEPS, rt, rtlib
@@ -38,14 +33,8 @@ SAID = re.compile(
 )
 # What antt says of text that names something which is no longer there: that tells nothing of a contract.
 NAMES_WHAT_IS_GONE = re.compile(r"has no field|is not in scope|has no `|was not admitted")
-# What it says of a place that it cannot read at all.
-UNREADABLE = re.compile(r"(?:\./)?(src/\S+?):(\d+):\d+: error\[")
 # What it says of an answer whose goal has another name now. It may be for want of this answer that a goal of its kind is not proved.
 LOST_ITS_GOAL = re.compile(r"\.Goals` has no `")
-# The stage of a check in which it says what it refuses, as the prover's --stage-times tells it once it has ended.
-LAST_STAGE = re.compile(r"^stage lines ", re.M)
-# What the prover says where it gave up and so refuses nothing.
-NO_VERDICT = re.compile(r"^(rattle: no verdict|fn .*: could not tell)", re.M)
 # What the kit answers of an edit. One that keeps nothing between runs only says whether it is refused.
 if KEEPS:
     REFUSED, MISSED, BAD = rt.REFUSED, rt.MISSED, rt.BAD
@@ -127,7 +116,6 @@ class Trial:
 
     def __init__(self, crate, sources, edits):
         self.crate, self.twins, self.names, texts, of_home = crate, [], {}, dict(sources.texts), {}
-        self.is_unreadable = False
         for edit in edits:
             if edit.home not in of_home or may_have_twins(crate, edit.home):
                 of_home.setdefault(edit.home, []).append(edit)
@@ -186,20 +174,15 @@ class Trial:
         """Checks the edited functions, and returns the lines that the check says, or None where it settles nothing."""
         only = [word for it in self.functions.values() for word in ("--only", it.path_in_crate())]
         with tempfile.TemporaryDirectory(prefix="gate-edits-") as room:
-            text, has_ended = said_by_check(self.write(room, has_holes), ["--jobs", "1", "--allow-holes", *only])
-        lines = text.rstrip("\n").split("\n")
-        has_ended = has_ended and not rtlib.STALE.search(text) and not NO_VERDICT.search(text)
-        self.is_unreadable = any(self.is_of_edited(it) for it in map(UNREADABLE.match, lines) if it)
+            ran = rt.checked(self.write(room, has_holes), {}, ["--jobs", "1", "--allow-holes", *only], None)
+        lines = ran.stdout.rstrip("\n").split("\n")
+        has_ended = ran.returncode == 1 and lines[-1].startswith("only=") and not rtlib.STALE.search(ran.stdout)
         why = next((it for it in lines if rt.unread(it, self.sources.texts)), "" if has_ended else lines[-1])
         # (what else is refused over holes may be refused for them, and so may what rests on it)
         why = why or next((it for it in lines if has_holes and self.is_of_another(it)), "")
         if why:
             rt.say(f"note: {self.crate.name}: a check of {len(self.functions)} edits settles none of them: {why[:200]}")
         return None if why else lines
-
-    def is_of_edited(self, place):
-        """Says whether a place, a path and a line of the sources, stands in an edited function."""
-        return any(it.has(place[1], int(place[2])) for it in self.functions.values())
 
     def is_of_another(self, line):
         """Says whether this line tells of an error that stands in the proof of no edited function."""
@@ -210,23 +193,6 @@ class Trial:
         """Returns the line by which each edit is refused, for those that are."""
         found = {edit: refusal(self.crate.name, it, lines) for edit, it in self.functions.items()}
         return {edit: line for edit, line in found.items() if line}
-
-
-def said_by_check(crate, flags):
-    """Checks a crate in a folder of its own, until it has said what it refuses. Returns what it said, and whether it came so far."""
-    said, stages = f"{crate.folder}/said", f"{crate.folder}/stages"
-    words = [rtlib.RATTLE, "check", *crate.words([*flags, "--stage-times", stages], keeps=False)]
-    with open(said, "w", encoding="utf-8") as out:
-        how = {"cwd": crate.folder, "stdin": subprocess.DEVNULL, "stdout": out, "stderr": subprocess.STDOUT}
-        check = subprocess.Popen([*rtlib.guarded(), *words], **how)
-        is_cut = False
-        while check.poll() is None:
-            if not is_cut and LAST_STAGE.search(rtlib.text_of(stages) or ""):
-                check.terminate()
-                is_cut = True
-            time.sleep(0.2)
-    text = rtlib.text_of(said)
-    return text, is_cut or check.returncode in (0, 1) and text.rstrip("\n").split("\n")[-1].startswith("only=")
 
 
 def write_text(file, text):
@@ -266,9 +232,7 @@ def try_together(crate, sources, edits):
     """Tries edits in one check. Returns the line by which each is refused, for those that are, and the edits that do not fit into
     this check, since others of their functions stand there."""
     trial = Trial(crate, sources, edits)
-    lines = trial.check(has_holes=True)
-    if not lines and not trial.is_unreadable:
-        lines = trial.check(has_holes=False)
+    lines = trial.check(has_holes=True) or trial.check(has_holes=False)
     tried, refused = [*trial.functions], trial.refused(lines or [])
     if not lines and len(tried) > 1:
         half = len(tried) // 2
