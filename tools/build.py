@@ -14,6 +14,7 @@ import threading
 import time
 
 from kit import crates_as_built, rt, rtlib
+from lanes import in_lanes
 
 PROGRAM = "fbsim"
 
@@ -94,7 +95,7 @@ def main():
     for crate in left:
         waits = [(it.name, "proof") for it in crate.below() if it.name in names]
         tasks[crate.name, "proof"] = waits, lines_of(crate), rt.need(crate), lambda given, jobs, it=crate: work(it, given, jobs)
-    given = rt.in_lanes(tasks)
+    given = in_lanes(tasks)
     for it in held:
         os.close(it)
     return 0 if all(given.values()) else 1

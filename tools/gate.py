@@ -17,8 +17,9 @@ With crates it does the same for these and those below them alone, on a copy of 
 
 It runs the kit's own `rt ci`, so it proves and judges as that does. Some kits keep on the machine what passed, by the checksums
 of all that it stands on: with such a one a later run here, in a clone too, proves and tries only what changed and what stands
-on that. With others each run is from nothing. Only how wrong bodies are tried is another way: all of a crate stand in one check,
-each in a function of its own. See tools/wrong_bodies.py."""
+on that. With others each run is from nothing. Two things are done another way: all wrong bodies of a crate stand in one check, each in
+a function of its own (tools/wrong_bodies.py), and the processors are shared so that a check has a second job only where all else waits for it
+(tools/lanes.py)."""
 
 import os
 import re
@@ -42,6 +43,7 @@ import rings
 import traces
 import waves
 from kit import KEEPS, TOP, rt, rtlib
+from lanes import in_lanes
 from wrong_bodies import add_edits, try_all
 
 # Runs a command and adds to a file how much processor time and memory it took, as a line 'seconds', 'MB', folder, and the
@@ -177,17 +179,16 @@ def call_after_each_run():
     rt.run = run_and_call
 
 
-def begin_early_with_the_program():
-    """Has the kit reckon with what both compilers take for the program. By its own few lines it is begun after all else that can
-    go on beside it, and then alone."""
-    in_lanes = rt.in_lanes
+def share_processors():
+    """Has the tasks share the processors by lanes.py, and reckons with what both compilers take for the program. By its own few lines
+    it is begun after all else that can go on beside it, and then alone."""
 
-    def with_compilers(tasks, *more):
+    def with_compilers(tasks):
         proof = calls.PROGRAM, "proof"
         if proof in tasks:
             waits, lines, *rest = tasks[proof]
             tasks[proof] = (waits, lines + LINES_OF_COMPILERS, *rest)
-        return in_lanes(tasks, *more)
+        return in_lanes(tasks)
 
     rt.in_lanes = with_compilers
 
@@ -271,7 +272,7 @@ def main(words):
     with tempfile.TemporaryDirectory(prefix="gate-") as room:
         look = Beside("tools/wrong_bodies_test.py")
         call_after_each_run()
-        begin_early_with_the_program()
+        share_processors()
         has_failed = tell_before_the_last_line(Times(room), look)
         status = ci(words, room)
         os.chdir(TOP)

@@ -10,7 +10,7 @@ use Rattle.fb_sim.specs.declared.options.Options.{Options}
 use Rattle.fb_sim.specs.declared.outcome.Outcome.{Outcome}
 use Rattle.fb_sim.specs.declared.outcome.Outcome.TheVariants as sim_end
 use Rattle.fb_sim.specs.declared.outcome.RunError.{RunError}
-use Rattle.fb_progress.specs.Reports.{AreReports, Hears, is_at_end}
+use Rattle.fb_sim.specs.Reports.{AreReports, Hears, is_at_end}
 use Rattle.fb_command.specs.Command.{Explains, IsDoneOf, is_ended}
 use Rattle.fb_command.specs.Failures.{WritesPart}
 use Rattle.fb_command.specs.Outcomes.{End, Held}

@@ -14,7 +14,7 @@ use Rattle.fb_sim.specs.Serial.{AreWithin, IsDeclared, Writes}
 use Rattle.fb_sim.specs.declared.options.Options.{Options}
 use Rattle.fb_sim.specs.declared.outcome.Outcome.{Outcome}
 use Rattle.fb_sim.specs.declared.outcome.Outcome.TheVariants as sim_end
-use Rattle.fb_progress.specs.Reports.{AreReports}
+use Rattle.fb_sim.specs.Reports.{AreReports}
 use Rattle.fb_why.specs.Explained.{explained}
 use Rattle.fb_why.specs.declared.table.Explanation.{Explanation}
 use Rattle.fb_call.specs.Line.{AreRequest, AreNoCall, AskHelp, IsTaken}

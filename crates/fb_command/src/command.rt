@@ -2,7 +2,7 @@
 
 ghost use Rattle.std.specs.Io.KnownBytes.{Appends};
 ghost use Rattle.std.specs.Prelude.{◌≡◌, ◌++◌, ℕ, List, [], Option, None, false, true, map, option_map, Result, IfOk, IfErr, IsTrue, OnOk, string_bytes};
-ghost use Rattle.fb_progress.specs.Reports.{AreReports, Hears};
+ghost use Rattle.fb_sim.specs.Reports.{AreReports, Hears};
 ghost use Rattle.fb_command.specs.Command.{Checks, Does, ExplainsRefusal, IsDoneOf, Meets, NotesOf, Performs, Reports, Runs, is_ended};
 ghost use Rattle.fb_command.specs.Texts.{given_of};
 ghost use Rattle.fb_command.specs.Failures.{WritesPart, explained_text, status_of, told, told_of};
@@ -19,11 +19,11 @@ use crate::texts::{Texts, read_files};
 use crate::wave::show;
 use fb_call::line::{Call, LineFault, Order, Request, parse};
 use fb_phase::OpenGate;
-use fb_progress::run::{Told, run_told};
 use fb_sim::options::{Inputs, Options};
 use fb_sim::outcome::Outcome;
 use fb_sim::run::run;
 use fb_sim::serial::{check, run_serial};
+use fb_sim::told::{Told, run_told};
 use fb_why::explain::explain;
 use fb_why::table::Explanation;
 use std::alloc::{AllocError, Global};

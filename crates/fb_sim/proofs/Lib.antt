@@ -1,13 +1,16 @@
 pub mod AdvanceIs
+mod Coming
 pub mod Edges
+mod Ending
 pub mod Fronts
 pub mod Outcomes
-pub mod Rising
 pub mod Refused
+pub mod Rising
 pub mod RoundIs
 pub mod RunIs
 pub mod Seen
 pub mod SerialIs
 pub mod SessionIs
+mod Simulations
 pub mod Texts
 pub mod WindowIs

@@ -3,3 +3,4 @@ pub mod Serial
 pub mod Rounds
 pub mod Sessions
 pub mod Advances
+pub mod Reports

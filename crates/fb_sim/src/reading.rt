@@ -95,7 +95,7 @@ fn read(alloc: Global, inputs: &Inputs<'_>) -> Result<Reading, RunError>
 }
 
 /// Reads what is given, and judges it.
-pub fn judge_inputs(alloc: Global, inputs: &Inputs<'_>) -> Result<(), RunError>
+pub(crate) fn judge_inputs(alloc: Global, inputs: &Inputs<'_>) -> Result<(), RunError>
     ensures accepted { OnOk result (IsDeclared inputs.now) }
     ensures refused { IfErr result (IsRefusal inputs.now) }
 {
@@ -112,7 +112,11 @@ pub fn judge_inputs(alloc: Global, inputs: &Inputs<'_>) -> Result<(), RunError>
     }
 }
 
-/// Reads what is given, and makes the system that stands for it.
+/// Reads what is given, and makes the system that stands for it: that of the simulation, and of a trace that is looked at.
+///
+/// # Errors
+///
+/// `Refused` with the first input that refuses, as a check of the same inputs, and `Memory`.
 pub fn open(alloc: Global, inputs: &Inputs<'_>) -> Result<System, RunError>
     ensures system { IfOk result (Declares inputs.now) }
     ensures refused { IfErr result (IsRefusal inputs.now) }
@@ -123,4 +127,9 @@ pub fn open(alloc: Global, inputs: &Inputs<'_>) -> Result<System, RunError>
         Err(CheckError::Memory) => Err(RunError::Memory),
         Err(CheckError::Refused(fault)) => Err(RunError::Refused(Refusal::Check(fault))),
     }
+}
+
+/// Lets a system go. What it owns is proved to be let go here, and so not once more in a crate above.
+pub fn let_go(system: System) {
+    drop(system);
 }

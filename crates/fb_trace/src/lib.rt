@@ -4,10 +4,11 @@
 //! exactly their text, or, where it fails, a beginning of it, and the fault tells how many bytes.
 //!
 //! To be read in this order: `merge`; `trace`, `lines` and `last`, what is written; `pieces`, `names` and `number`;
-//! `page` and `fault`.
+//! `page`, `front` and `fault`.
 #![tactic(auto)]
 
 pub mod fault;
+pub mod front;
 pub mod last;
 pub mod lines;
 pub mod merge;

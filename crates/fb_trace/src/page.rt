@@ -5,6 +5,7 @@ ghost use Rattle.std.specs.Io.KnownBytes.{Appends};
 ghost use Rattle.fb_trace.specs.Progress.{Gathers, Fails, bounded};
 
 use crate::fault::WriteFault;
+use crate::front::write_front;
 use crate::number::{MOST_DIGITS, write_digits};
 use std::io::Write;
 use std::marker::Model;
@@ -36,21 +37,6 @@ impl Model for Page {
     ghost invariant = { λ p. p.used ≤ SIZE };
 }
 
-/// Writes as many of the bytes as the writer takes before it fails, and tells how many.
-fn write_out<W: Write>(out: &mut W, bytes: &[u8]) -> usize
-    ensures within { result ≤ length bytes.now }
-    ensures got { Appends (W.contents out.old) (W.contents out.new) (take result bytes.now) }
-{
-    let mut taken = 0;
-    while taken < bytes.len() {
-        match out.write(&bytes[taken..]) {
-            Ok(0) | Err(_) => return taken,
-            Ok(count) => taken += count,
-        }
-    }
-    taken
-}
-
 /// Writes all the bytes. `written` counts those that went before, and the answer those together.
 fn write_all<W: Write>(out: &mut W, bytes: &[u8], written: u128) -> Result<u128, WriteFault>
     ensures got { OnOk result (Appends (W.contents out.old) (W.contents out.new) bytes.now) }
@@ -58,7 +44,7 @@ fn write_all<W: Write>(out: &mut W, bytes: &[u8], written: u128) -> Result<u128,
     ensures part { IfErr result (λ f. Fails (W.contents out.old) (W.contents out.new)
         (record { waiting = []; written = written }) bytes.now f.written) }
 {
-    let taken = write_out(out, bytes);
+    let taken = write_front(out, bytes);
     let written = written.saturating_add(taken as u128);
     if taken < bytes.len() {
         return Err(WriteFault { written });

@@ -5,6 +5,7 @@ ghost use Rattle.std.specs.Io.KnownBytes.{Appends};
 ghost use Rattle.fb_wave.specs.Copying.{IsCut, IsFlushed};
 
 use crate::error::WaveError;
+use fb_trace::front::write_front;
 use std::alloc::Global;
 use std::io::Write;
 
@@ -16,21 +17,6 @@ const MANY: usize = 65_536;
 pub(crate) struct Page {
     pub(crate) text: Vec<u8>,
     written: u128,
-}
-
-/// Writes as many of the bytes as the writer takes before it fails, and tells how many.
-fn write_out<W: Write>(out: &mut W, bytes: &[u8]) -> usize
-    ensures within { result ≤ length bytes.now }
-    ensures got { Appends (W.contents out.old) (W.contents out.new) (take result bytes.now) }
-{
-    let mut taken = 0;
-    while taken < bytes.len() {
-        match out.write(&bytes[taken..]) {
-            Ok(0) | Err(_) => return taken,
-            Ok(count) => taken += count,
-        }
-    }
-    taken
 }
 
 impl Page {
@@ -50,7 +36,7 @@ impl Page {
         ensures empty { OnOk result (self.new.text.items ≡ []) }
         ensures part { IfErr result (λ _. IsCut (W.contents out.old) (W.contents out.new) self.old.text.items) }
     {
-        let taken = write_out(out, self.text.as_slice());
+        let taken = write_front(out, self.text.as_slice());
         self.written = self.written.saturating_add(taken as u128);
         if taken < self.text.len() {
             return Err(WaveError::Write(self.written));

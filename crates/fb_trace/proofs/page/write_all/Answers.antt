@@ -4,4 +4,4 @@ use Rattle.fb_trace.proofs.page.write_all.Goals as goal
 
 pub returns-then-taken-bytes-clause-part : goal.returns-then-taken-bytes-clause-part
 returns-then-taken-bytes-clause-part g c =
-    Fails-direct c.args.bytes.now c.write_out-taken.result c.args.written _ (omega arith) c.write_out-taken.ensures.got c.saturating_add-written.ensures
+    Fails-direct c.args.bytes.now c.write_front-taken.result c.args.written _ (omega arith) c.write_front-taken.ensures.got c.saturating_add-written.ensures

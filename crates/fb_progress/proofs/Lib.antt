@@ -1,3 +1,0 @@
-mod Simulations
-mod Coming
-mod Ending

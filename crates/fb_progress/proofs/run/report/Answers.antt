@@ -1,5 +1,0 @@
-use Rattle.fb_progress.proofs.Ending.{heard_if}
-use Rattle.fb_progress.proofs.run.report.Goals as goal
-
-pub returns : goal.returns
-returns g c = heard_if c.writeln.result c.is_ok.result _ c.is_ok.ensures.value c.writeln.ensures.bytes

@@ -1,0 +1,292 @@
+-- How a run comes from hundredth to hundredth, and what it has written then.
+use Rattle.std.proofs.Common.{◌≡◌, inl, inr, ℕ, suc, ◌+◌, ◌*◌, ◌/◌, ◌<◌, ◌≤◌, ◌&&◌, Bool, true, false, refl, sym, ap, ap₂, ◌∙◌, subst, arith, List, [], ◌∷◌, ◌++◌, length, append_assoc, append-nil, length-append, Option, mul-suc, mul-zero}
+use Rattle.std.specs.Prelude.{IsTrue, Result, Ok, Err}
+use Rattle.std.proofs.lemmas.List.Sums.{sum_by-append}
+use Rattle.std.specs.Io.KnownBytes.{Appends}
+use Rattle.std.proofs.KnownBytes.{Appends-nil, Appends-trans}
+use Rattle.fb_types.specs.Headline.{Inputs, IsTrace, system_of, stimuli_of}
+use Rattle.fb_types.specs.Simulation.{Ending, AtHorizon, AtStop, ending_of, lines_of}
+use Rattle.fb_types.specs.States.{Line}
+use Rattle.fb_types.specs.Text.{lines_text, last_line}
+use Rattle.fb_types.specs.declared.value.Reason.{Reason}
+use Rattle.fb_types.specs.declared.run.StopMark.{StopMark}
+use Rattle.fb_laws.specs.Sound.{AreGood}
+use Rattle.fb_laws.proofs.Accepting.{sound_of}
+use Rattle.fb_resource.proofs.Existence.{there_is}
+use Rattle.fb_resource.proofs.OneSimulation.{one_simulation_told}
+use Rattle.fb_trace.specs.Progress.{IsPartWritten, bounded}
+use Rattle.fb_sim.specs.Advances.{IsNext, stop_line}
+use Rattle.fb_sim.specs.Sessions.{Session}
+use Rattle.fb_sim.specs.declared.options.Options.{Options}
+use Rattle.fb_sim.specs.declared.outcome.Outcome.{Outcome}
+use Rattle.fb_sim.specs.declared.outcome.Outcome.TheVariants.{End, Stop}
+use Rattle.fb_sim.specs.declared.outcome.RunError.{RunError}
+use Rattle.fb_sim.specs.declared.outcome.RunError.TheVariants.{Refused, Memory, Write, BadOption, Failed}
+use Rattle.fb_sim.specs.declared.state.Phase.TheVariants as going
+use Rattle.fb_sim.proofs.Texts.{lines_text-append, part-after, part-before}
+use Rattle.fb_sim.specs.Reports.{Came, Comes, GoesOn, HasCome, HasTold, Hears, feeds, hundredth, report_text, session}
+use Rattle.fb_sim.specs.declared.told.Tally.{Tally}
+use Rattle.fb_sim.proofs.Simulations.{horizon_is, later_begins, lines_of-append, stopped_later, stops}
+
+module _ (i : Inputs) (o : Options) where
+  text_of : List Line → List ℕ
+  text_of ls = lines_text o.form (system_of i) ls
+
+  pub come_first : HasCome i o 0 []
+  come_first = record {
+    takings = [];
+    simulation = record { chain = tt; below = λ k d b. absurd (omega arith); rests = λ j b. absurd (omega arith) };
+    goes_on = refl;
+    text_is = refl;
+  }
+
+  module _ (from to : ℕ) (text bytes : List ℕ) (come : HasCome i o from text) where
+    -- what was written and what comes next
+    next_text : (end : Ending) (n : IsNext (session i o from) to bytes end) → text ++ bytes ≡ lines_text o.form (system_of i) (lines_of n.takings) ++ stop_line (system_of i) end
+    next_text end n =
+        let sys = system_of i in
+        let same : come.takings ≡ n.before = one_simulation_told sys (stimuli_of i) from o.steps come.takings n.before come.simulation n.was in
+        let first : text ≡ lines_text o.form sys (lines_of n.before) = come.text_is ∙ ap (λ ts. lines_text o.form sys (lines_of ts)) same in
+        let both : lines_text o.form sys (lines_of n.takings) ≡ lines_text o.form sys (lines_of n.before) ++ lines_text o.form sys n.rest =
+        ap (lines_text o.form sys) n.split ∙ lines_text-append o.form sys (lines_of n.before) n.rest in
+        ap₂ (λ (a b : List ℕ). a ++ b) first n.text
+        ∙ sym (append_assoc (lines_text o.form sys (lines_of n.before)) (lines_text o.form sys n.rest) (stop_line sys end))
+        ∙ ap (λ (a : List ℕ). a ++ stop_line sys end) (sym both)
+
+    pub come_next : IsNext (session i o from) to bytes (AtHorizon to) → HasCome i o to (text ++ bytes)
+    come_next n = record {
+      takings = n.takings;
+      simulation = n.simulation;
+      goes_on = sym n.ending;
+      text_is = next_text (AtHorizon to) n ∙ append-nil (lines_text o.form (system_of i) (lines_of n.takings));
+    }
+
+    pub come_stop : (horizon tick r : ℕ) (reason : Reason) → to ≤ horizon → IsNext (session i o from) to bytes (AtStop tick r reason) → IsTrace i o.form horizon o.steps (text ++ bytes) (AtStop tick r reason)
+    come_stop horizon tick r reason early n = record {
+      takings = n.takings;
+      simulation = stopped_later (system_of i) (stimuli_of i) o.steps to horizon tick r reason early n.takings (sym n.ending) n.simulation;
+      ending = sym (stops to horizon tick r reason n.takings (sym n.ending));
+      text = next_text (AtStop tick r reason) n;
+    }
+
+  pub come_end : (horizon : ℕ) (text : List ℕ) → HasCome i o horizon text → IsTrace i o.form horizon o.steps (text ++ last_line (system_of i) (AtHorizon horizon)) (AtHorizon horizon)
+  come_end horizon text come = record {
+    takings = come.takings;
+    simulation = come.simulation;
+    ending = sym come.goes_on;
+    text = ap (λ (t : List ℕ). t ++ last_line (system_of i) (AtHorizon horizon)) come.text_is;
+  }
+
+  -- A text that begins the trace of the run to a horizon.
+  pub record Fronts (horizon : ℕ) (text : List ℕ) : Type 0 where
+    pub rest : List ℕ
+    pub end : Ending
+    pub trace : IsTrace i o.form horizon o.steps (text ++ rest) end
+
+  pub come_front : AreGood i → (to horizon : ℕ) (text : List ℕ) → to ≤ horizon → HasCome i o to text → Fronts horizon text
+  come_front good to horizon text early come =
+      let sys = system_of i in
+      let x = there_is sys (sound_of i good) horizon o.steps (stimuli_of i) in
+      let more = later_begins sys o.steps (stimuli_of i) to horizon early come.takings x.0 come.simulation x.1 in
+      let end = ending_of horizon x.0 in
+      let rest = lines_text o.form sys (lines_of more.0) in
+      let lines : lines_text o.form sys (lines_of x.0) ≡ text ++ rest =
+      ap (λ ts. lines_text o.form sys (lines_of ts)) more.1
+      ∙ ap (lines_text o.form sys) (lines_of-append come.takings more.0)
+      ∙ lines_text-append o.form sys (lines_of come.takings) (lines_of more.0)
+      ∙ ap (λ (t : List ℕ). t ++ rest) (sym come.text_is) in
+      record {
+        rest = rest ++ last_line sys end;
+        end = end;
+        trace = record {
+          takings = x.0;
+          simulation = x.1;
+          ending = refl;
+          text = sym (append_assoc text rest (last_line sys end)) ∙ ap (λ (t : List ℕ). t ++ last_line sys end) (sym lines);
+        };
+      }
+
+  -- what is to be written on the way begins the trace
+  pub come_part : AreGood i → (from to horizon : ℕ) (text bytes : List ℕ) → to ≤ horizon → HasCome i o from text → (end : Ending) → IsNext (session i o from) to bytes end → Fronts horizon (text ++ bytes)
+  come_part good from to horizon text bytes early come end n = go end n.ending n
+    where
+      at_stop : (tick r : ℕ) (reason : Reason) → IsNext (session i o from) to bytes (AtStop tick r reason) → Fronts horizon (text ++ bytes)
+      at_stop tick r reason m =
+          let t = come_stop from to text bytes come horizon tick r reason early m in
+          record {
+            rest = [];
+            end = AtStop tick r reason;
+            trace = subst (λ (x : List ℕ). IsTrace i o.form horizon o.steps x (AtStop tick r reason)) (sym (append-nil (text ++ bytes))) t;
+          }
+
+      at_horizon : (h : ℕ) → h ≡ to → IsNext (session i o from) to bytes (AtHorizon h) → Fronts horizon (text ++ bytes)
+      at_horizon h is m =
+          come_front good to horizon (text ++ bytes) early (come_next from to text bytes come (subst (λ (k : ℕ). IsNext (session i o from) to bytes (AtHorizon k)) is m))
+
+      go : (e : Ending) → e ≡ ending_of to n.takings → IsNext (session i o from) to bytes e → Fronts horizon (text ++ bytes)
+      go (AtHorizon h) is m = at_horizon h (horizon_is to n.takings h is) m
+      go (AtStop tick r reason) is m = at_stop tick r reason m
+
+-- ---- From hundredth to hundredth
+
+-- a simulation as its own inputs say
+pub at_own : (s : Session) (i : Inputs) (o : Options) (to : ℕ) → s ≡ session i o to → s ≡ session s.inputs o to
+at_own s i o to at = at ∙ ap (λ (j : Inputs). session j o to) (sym (ap (λ (z : Session). z.inputs) at))
+
+-- what a step of the loop comes to, as the inputs are called before the loop
+pub comes_so :
+    (s : Session) (i : Inputs) (o : Options) (to : ℕ) → s ≡ session i o to → (t : Session) (first out new quiet err told : Option (List ℕ)) (k l : ℕ) (n m : Tally) (r : Result Outcome RunError)
+    → ((f : Option (List ℕ)) → (q : Option (List ℕ)) → Came s.inputs o f out q err k n → Comes s.inputs o t f new q told l m r) → Came i o first out quiet err k n → Comes i o t first new quiet told l m r
+comes_so s i o to at t first out new quiet err told k l n m r comes came =
+    let e : s.inputs ≡ i = ap (λ (z : Session). z.inputs) at in
+    subst (λ (j : Inputs). Comes j o t first new quiet told l m r) e (comes first quiet (subst (λ (j : Inputs). Came j o first out quiet err k n) (sym e) came))
+
+pub hundredth_first : (h : ℕ) → hundredth h 0 ≡ 0
+hundredth_first h = let e : h * 0 ≡ 0 = mul-zero h in ap (λ n. n / 100) e
+
+pub hundredth_last : (h : ℕ) → hundredth h 100 ≡ h
+hundredth_last h = omega arith
+
+behind_none : (x y : List ℕ) → x ++ y ≡ [] → y ≡ []
+behind_none [] y e = e
+behind_none (k ∷ x) y e = cc
+
+pub came_first : (i : Inputs) (o : Options) (out err : Option (List ℕ)) → Came i o out out err err 0 (record { bytes = 0; lines = 0; is_heard = true })
+came_first i o out err = record {
+  text = [];
+  come = subst (λ (t : ℕ). HasCome i o t []) (sym (hundredth_first o.horizon)) (come_first i o);
+  got = Appends-nil out;
+  bytes_are = omega arith;
+  lines_are = refl;
+  reports = [];
+  told = refl;
+  hears = record { all = λ h. Appends-nil err; none = λ e. refl };
+}
+
+heard_more : (told heard : Bool) (old mid new : Option (List ℕ)) (a b : List ℕ) → (b ≡ [] → ⊥) → Hears heard old mid a → (IsTrue told → Appends mid new b) → Hears (told && heard) old new (a ++ b)
+heard_more true true old mid new a b some h t = record { all = λ e. Appends-trans old mid new a b (h.all refl) (t refl); none = λ e. absurd (some (behind_none a b e)) }
+heard_more true false old mid new a b some h t = record { all = λ e. absurd (let f : false ≡ true = e in cc); none = λ e. absurd (some (behind_none a b e)) }
+heard_more false heard old mid new a b some h t = record { all = λ e. absurd (let f : false ≡ true = e in cc); none = λ e. absurd (some (behind_none a b e)) }
+
+module _ (i : Inputs) (o : Options) (first out quiet err : Option (List ℕ)) (n : Tally) (count : ℕ) (c : Came i o first out quiet err count n) where
+  abbrev now : ℕ
+  now = hundredth o.horizon count
+
+  abbrev next : ℕ
+  next = hundredth o.horizon (suc count)
+
+  same_tick : next ≤ now → next ≡ now
+  same_tick b = omega (arith, mul-suc o.horizon count)
+
+  -- the tick of the next hundredth is this one
+  pub came_same : next ≤ now → Came i o first out quiet err (suc count) n
+  came_same b =
+      let e = sym (same_tick b) in
+      record {
+        text = c.text;
+        come = subst (λ (t : ℕ). HasCome i o t c.text) e c.come;
+        got = c.got;
+        bytes_are = c.bytes_are;
+        lines_are = c.lines_are;
+        reports = c.reports;
+        told = (c.reports, [], c.told, inl (b, refl), sym (append-nil c.reports));
+        hears = c.hears;
+      }
+
+  -- and the simulation has not moved
+  pub same_session : next ≤ now → session i o now ≡ session i o next
+  same_session b = ap (session i o) (sym (same_tick b))
+
+  -- the counts behind a text
+  more_bytes : (bytes : List ℕ) → bounded (n.bytes + length bytes) ≡ bounded (length (c.text ++ bytes))
+  more_bytes bytes = let e = c.bytes_are in rw length-append (omega (arith, e))
+
+  more_lines : (bytes : List ℕ) → bounded (n.lines + feeds bytes) ≡ bounded (feeds (c.text ++ bytes))
+  more_lines bytes =
+      let e = c.lines_are in
+      let f : feeds (c.text ++ bytes) ≡ feeds c.text + feeds bytes = sum_by-append _ c.text bytes in
+      omega (arith, e, f)
+
+  -- a simulation at the tick of so many hundredths, on the way to the next
+  pub goes_here : (s t : Session) (tick : ℕ) (mid : Option (List ℕ)) (m : Tally) (r : Result Outcome RunError) → s ≡ session i o now → tick ≡ next → GoesOn s t tick out mid n m r
+      → GoesOn (session i o now) t next out mid n m r
+  goes_here s t tick mid m r at is goes =
+      subst (λ (z : Session). GoesOn z t next out mid n m r) at (subst (λ (k : ℕ). GoesOn s t k out mid n m r) is goes)
+
+  -- the run goes on to the next hundredth, and that is told
+  pub came_more : (t : Session) (mid : Option (List ℕ)) (m : Tally) (k : ℕ) (heard : Bool) (new : Option (List ℕ)) → now < next
+      → GoesOn (session i o now) t next out mid n m (Ok (End k)) → (IsTrue heard → Appends err new (report_text o.horizon next m.lines))
+      → Comes i o t first mid quiet new (suc count) (record m { is_heard = heard && m.is_heard }) (Ok (End next))
+  came_more t mid m k heard new later r told =
+      let bytes = r.0 in
+      let y : IsNext (session i o now) next bytes (AtHorizon next) = subst (λ (h : ℕ). IsNext (session i o now) next bytes (AtHorizon h)) (horizon_is next r.1.takings k r.1.ending) r.1 in
+      let come = come_next i o now next c.text bytes c.come y in
+      let lines_are = r.4.1 ∙ more_lines bytes in
+      let report = report_text o.horizon next m.lines in
+      let heard_so = heard_more heard n.is_heard quiet err new c.reports report (λ e. cc) c.hears told in (
+        record {
+          text = c.text ++ bytes;
+          come = come;
+          got = Appends-trans first out mid c.text bytes c.got r.2;
+          bytes_are = r.4.0 ∙ more_bytes bytes;
+          lines_are = lines_are;
+          reports = c.reports ++ report;
+          told = (c.reports, report, c.told, inr (later, record { text = c.text ++ bytes; come = come; is = ap (report_text o.horizon next) lines_are }), refl);
+          hears = subst (λ (h : Bool). Hears (heard && h) quiet new (c.reports ++ report)) (sym r.4.2) heard_so;
+        },
+        r.3,
+      )
+
+  -- what was told so far
+  pub has_told : count ≤ 100 → (heard : Bool) → heard ≡ n.is_heard → HasTold i o quiet err heard
+  has_told few heard same = record {
+    count = count;
+    few = few;
+    reports = c.reports;
+    told = c.told;
+    hears = subst (λ (h : Bool). Hears h quiet err c.reports) (sym same) c.hears;
+  }
+
+  -- the run stops on the way
+  pub came_stop : count ≤ 100 → next ≤ o.horizon → (t : Session) (mid : Option (List ℕ)) (m : Tally) (mark : StopMark) → GoesOn (session i o now) t next out mid n m (Ok (Stop mark))
+      → Comes i o t first mid quiet err (suc count) m (Ok (Stop mark))
+  came_stop few early t mid m mark r = (
+    ap (λ (s : Session). s.phase) r.3,
+    record {
+      bytes = c.text ++ r.0;
+      got = Appends-trans first out mid c.text r.0 c.got r.2;
+      trace = come_stop i o now next c.text r.0 c.come o.horizon mark.tick mark.resource mark.reason early r.1;
+    },
+    has_told few m.is_heard r.4.2,
+  )
+
+  -- the run finds no memory on the way, or can't write
+  pub came_failed : AreGood i → count ≤ 100 → now ≤ o.horizon → next ≤ o.horizon → (t : Session) (mid : Option (List ℕ)) (m : Tally) (e : RunError)
+      → GoesOn (session i o now) t next out mid n m (Err e) → Comes i o t first mid quiet err (suc count) m (Err e)
+  came_failed good few early later t mid m Memory r =
+      let f = come_front i o good now o.horizon c.text early c.come in (
+        record {
+          bytes = c.text;
+          rest = f.rest;
+          end = f.end;
+          got = subst (λ (z : Option (List ℕ)). Appends first z c.text) (sym r.0) c.got;
+          trace = f.trace;
+        },
+        has_told few m.is_heard (ap (λ (z : Tally). z.is_heard) r.1),
+      )
+  came_failed good few early later t mid m (Write k) r =
+      let bytes = r.0 in
+      let f = come_part i o good now next o.horizon c.text bytes later c.come r.1 r.2 in
+      let short = r.3 in
+      let part = part-before f.rest (part-after c.text c.got c.bytes_are short.1) in (
+        record {
+          bytes = (c.text ++ bytes) ++ f.rest;
+          end = f.end;
+          got = subst (λ (z : ℕ). IsPartWritten first mid ((c.text ++ bytes) ++ f.rest) z) (sym short.2) part;
+          trace = f.trace;
+        },
+        has_told few m.is_heard (ap (λ (z : Tally). z.is_heard) r.4),
+      )
+  came_failed good few early later t mid m (Refused x) bad = absurd bad
+  came_failed good few early later t mid m BadOption bad = absurd bad
+  came_failed good few early later t mid m Failed bad = absurd bad

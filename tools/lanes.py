@@ -1,0 +1,66 @@
+"""Shares the processors among the gate's tasks: the proof of each crate, that of its tests, and the tries of its wrong bodies.
+
+The kit gives a proof all processors that no other proof waits for. A check by four jobs takes up to twice the processor time of one by
+a single job, since each job loads the libraries, and the tries of wrong bodies wait meanwhile. Here each task has one job, first those
+with the longest chain of others behind them, and two things more: the proof at the head of the longest chain of all has a second job,
+since everything waits for that chain; and where fewer tasks are ready than processors are free, the proofs among them share the rest."""
+
+import os
+from concurrent.futures import FIRST_COMPLETED, ThreadPoolExecutor, wait
+
+from kit import rt
+
+# The kinds of tasks that can make use of several jobs.
+PROOFS = ("proof", "tests")
+# The most jobs of one check. What each job more takes of memory, as a part of what the first takes, is the kit's figure.
+MOST_JOBS = 4
+MORE_MEMORY = 0.6
+# The part of the free memory that is used.
+MEMORY = 0.85
+
+
+def chains(tasks):
+    """Returns for each task the work, in lines, of the longest chain of tasks that it begins. A task comes after those that it waits for."""
+    behind = dict.fromkeys(tasks, 0)
+    for key in reversed([*tasks]):
+        behind[key] += tasks[key][1]
+        for it in tasks[key][0]:
+            behind[it] = max(behind[it], behind[key])
+    return behind
+
+
+def jobs_of(key, is_longest, idle, ready):
+    """Returns how many jobs a task gets that may begin, of so many processors that are idle, while so many tasks are ready, this one among them."""
+    if key[1] not in PROOFS:
+        return 1
+    wanted = max(2 if is_longest else 1, 1 + max(idle - ready, 0))
+    return min(wanted, idle, MOST_JOBS)
+
+
+def in_lanes(tasks):
+    """Runs tasks side by side, one a processor, as many as memory holds, each once those it waits for have ended, and returns what each gave. A task is
+    what it waits for, its work in lines, its memory, and a call that gets what was given and how many jobs it may use."""
+    lanes, memory, behind = rt.processors(), MEMORY * rt.free(), chains(tasks)
+    left, running, given = sorted(tasks, key=lambda it: (it[1] not in PROOFS, -behind[it])), {}, {}
+    with rt.ending(), ThreadPoolExecutor(lanes) as pool:
+        while left or running:
+            ready = [it for it in left if all(below in given for below in tasks[it][0])]
+            longest = max((behind[it] for it in [*ready, *(it for it, _, _ in running.values())]), default=0)
+            lacks = False
+            for number, key in enumerate(ready):
+                _, _, needs, call = tasks[key]
+                idle = lanes - sum(jobs for _, _, jobs in running.values())
+                room = memory - sum(held for _, held, _ in running.values())
+                if idle <= 0 or lacks and key[1] not in PROOFS:
+                    # (a proof that waits for memory gets it before the tries of wrong bodies)
+                    break
+                if running and needs > room:
+                    lacks = True
+                    continue
+                jobs = jobs_of(key, behind[key] == longest, idle, len(ready) - number)
+                jobs = max(1, min(jobs, 1 + int((room / needs - 1) / MORE_MEMORY)))
+                left.remove(key)
+                running[pool.submit(call, given, jobs)] = key, needs * (1 + MORE_MEMORY * (jobs - 1)), jobs
+            for it in wait(running, return_when=FIRST_COMPLETED).done:
+                given[running.pop(it)[0]] = it.result()
+    return given
