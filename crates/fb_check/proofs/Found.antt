@@ -12,7 +12,7 @@ use Rattle.fb_types.specs.declared.library.BlockType.{BlockType}
 use Rattle.fb_types.specs.declared.library.Instance.{Instance}
 use Rattle.fb_types.specs.declared.library.Ports.{Ports}
 use Rattle.fb_names.proofs.Positions.{named-position}
-use Rattle.fb_check.specs.Directory.{IsFound, IsDirectory, ports_at}
+use Rattle.fb_check.specs.Directory.{IsFound, IsDirectory, ports_at, ports_at_place}
 use Rattle.fb_check.specs.declared.directory_making.Inputs.{Inputs}
 use Rattle.fb_check.specs.declared.directory.Directory.{Directory}
 
@@ -68,29 +68,31 @@ found_declared lib d n i h at is =
 abbrev pub instance_name : Instance → Name
 instance_name i = i.name
 
-instance_ports : (lib : Library) (n : Name) (o : Option Instance) → instance_in lib.application.network n ≡ o
-    → ports_at lib n ≡ option_map ports_of (option_and_then (kind_of_instance lib) o)
-instance_ports lib n o e = ap (λ o. option_map ports_of (option_and_then (kind_of_instance lib) o)) e
+-- the interface of an instance is that at the place of its name
+pub ports_placed :
+    (lib : Library) (n : Name) (i : ℕ) → position (same_name n) (map instance_name lib.application.network.instances) ≡ Some i → ports_at lib n ≡ ports_at_place lib i
+ports_placed lib n i at =
+    let instances = lib.application.network.instances in
+    ap (λ o. option_map ports_of (option_and_then (kind_of_instance lib) o)) (named-position instance_name n instances ∙ ap (option_and_then (slice_get instances)) at)
 
 pub unknown_instance :
     (lib : Library) (n : Name) → position (same_name n) (map instance_name lib.application.network.instances) ≡ None → IsFound (ports_at lib n) None
 unknown_instance lib n none =
     let P : Option Ports → Type 0 = λ o. IsFound o None in
     let instances = lib.application.network.instances in
-    subst P (sym (instance_ports lib n None (named-position instance_name n instances ∙ ap (option_and_then (slice_get instances)) none))) tt
+    subst P
+    (sym (ap (λ o. option_map ports_of (option_and_then (kind_of_instance lib) o)) (named-position instance_name n instances ∙ ap (option_and_then (slice_get instances)) none)))
+    tt
 
-pub missing_instance :
-    (lib : Library) (n : Name) (i : ℕ) → position (same_name n) (map instance_name lib.application.network.instances) ≡ Some i
-    → slice_get lib.application.network.instances i ≡ None → IsFound (ports_at lib n) None
-missing_instance lib n i at none =
-    let P : Option Ports → Type 0 = λ o. IsFound o None in
-    let instances = lib.application.network.instances in
-    subst P (sym (instance_ports lib n None (named-position instance_name n instances ∙ ap (option_and_then (slice_get instances)) at ∙ none))) tt
+abbrev ports_of_found : Library → Option Instance → Option Ports
+ports_of_found lib o = option_map ports_of (option_and_then (kind_of_instance lib) o)
+
+pub missing_instance : (lib : Library) (i : ℕ) → slice_get lib.application.network.instances i ≡ None → IsFound (ports_at_place lib i) None
+missing_instance lib i none =
+    let P : Option Instance → Type 0 = λ o. IsFound (ports_of_found lib o) None in subst P (sym none) tt
 
 pub found_instance :
-    (lib : Library) (n : Name) (i : ℕ) (x : Instance) (o : Option Inputs) → position (same_name n) (map instance_name lib.application.network.instances) ≡ Some i
-    → slice_get lib.application.network.instances i ≡ Some x → IsFound (ports_named lib x.block_type) o → IsFound (ports_at lib n) o
-found_instance lib n i x o at there found =
-    let P : Option Ports → Type 0 = λ p. IsFound p o in
-    let instances = lib.application.network.instances in
-    subst P (sym (instance_ports lib n (Some x) (named-position instance_name n instances ∙ ap (option_and_then (slice_get instances)) at ∙ there))) found
+    (lib : Library) (i : ℕ) (x : Instance) (o : Option Inputs) → slice_get lib.application.network.instances i ≡ Some x → IsFound (ports_named lib x.block_type) o
+    → IsFound (ports_at_place lib i) o
+found_instance lib i x o there found =
+    let P : Option Instance → Type 0 = λ p. IsFound (ports_of_found lib p) o in subst P (sym there) found

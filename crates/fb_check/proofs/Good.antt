@@ -1,21 +1,18 @@
 -- What the directory says of a stimulus is whether it is good.
-use Rattle.std.proofs.Common.{◌≡◌, ℕ, ◌<◌, ◌+◌, length, take, get_or, Bool, true, false, not, ◌&&◌, ◌||◌, cond, List, [], ◌∷◌, map, Option, Some, None, Contains, Bor, refl, sym, ◌∙◌, ap, subst, inl, inr}
-use Rattle.std.specs.Prelude.{◌↔◌, IsTrue, IfOk, Result, Ok, Err, option_map, is_some}
+use Rattle.std.proofs.Common.{◌≡◌, ℕ, ◌<◌, length, get_or, Bool, true, false, not, ◌&&◌, cond, List, [], ◌∷◌, map, Option, Some, None, Contains, Bor, refl, sym, ◌∙◌, ap, subst, inl, inr}
+use Rattle.std.specs.Prelude.{◌↔◌, IsTrue, MatchOption, is_none, option_map, option_and_then, is_some, position, slice_get}
 use Rattle.std.specs.Bool.{Decides}
-use Rattle.std.specs.List.{list_any, list_all, filter}
-use Rattle.std.specs.Option.{option_copied}
-use Rattle.std.proofs.lemmas.Bool.{true≢false, false_from_ne_true}
-use Rattle.std.proofs.lemmas.List.{take_more}
-use Rattle.std.proofs.lemmas.List.Folds.{list_all-append}
+use Rattle.std.specs.BTreeMap.{BTreeMap}
+use Rattle.std.specs.List.{list_all, filter}
+use Rattle.std.proofs.lemmas.Bool.{true≢false}
 use Rattle.std.proofs.lemmas.List.Elements.{Contains-get_or}
 use Rattle.fb_types.specs.Names.{Name, same_name}
 use Rattle.fb_types.specs.Values.{fits}
-use Rattle.fb_types.specs.Blocks.{Kind, named, ports_of, among, event_names, variable_names, is_event_input, inputs_with}
+use Rattle.fb_types.specs.Blocks.{Kind, named, ports_of, event_names, variable_names, is_event_input, inputs_with}
 use Rattle.fb_types.specs.Flat.{source_of}
-use Rattle.fb_types.specs.Repeated.{Twice, NameTwice}
+use Rattle.fb_types.specs.Repeated.{Twice, NameTwice, instance_names}
 use Rattle.fb_types.specs.Unknown.{NameUnknown}
 use Rattle.fb_types.specs.Accepted.{kind_of_stimulus, set_names, is_held, IsGood, BadStimulus}
-use Rattle.fb_types.specs.declared.value.Ty.{Ty}
 use Rattle.fb_types.specs.declared.library.Library.{Library}
 use Rattle.fb_types.specs.declared.library.EventPort.{EventPort}
 use Rattle.fb_types.specs.declared.library.Variable.{Variable}
@@ -24,11 +21,16 @@ use Rattle.fb_types.specs.declared.deploy.Plan.{Plan}
 use Rattle.fb_types.specs.declared.deploy.Stimulus.{Stimulus}
 use Rattle.fb_types.specs.declared.deploy.Setting.{Setting}
 use Rattle.fb_names.proofs.NameLemmas.{same_from_same_name, Contains-nil, Contains-cons_cases, Contains-here, Contains-there}
-use Rattle.fb_names.proofs.Positions.{same_name-flip}
+use Rattle.fb_names.proofs.Positions.{is_some-position, named-position, position_is}
 use Rattle.fb_names.proofs.TwiceIn.{Contains-map, map-Contains}
-use Rattle.fb_check.specs.Directory.{has_name, type_in, lists, leads_to, ports_at, is_settable, can_set, CanTake, HasRefused, IsInputs, IsFound, IsDirectory}
+use Rattle.fb_names.specs.Places.{IsIndex, place_in}
+use Rattle.fb_check.specs.Directory.{first_of, input_in, input_of, lists, leads_to, ports_at, ports_at_place, is_settable, can_set, AreTaken, CanTake, IsInputs, IsFound, IsDirectory}
+use Rattle.fb_system.specs.declared.rows.StimulusRow.{StimulusRow}
+use Rattle.fb_check.specs.declared.directory_making.Input.{Input}
 use Rattle.fb_check.specs.declared.directory_making.Inputs.{Inputs}
 use Rattle.fb_check.specs.declared.directory.Directory.{Directory}
+use Rattle.fb_check.proofs.Found.{ports_placed}
+use Rattle.fb_check.proofs.Refused.{HasRefused}
 use Rattle.fb_check.proofs.Sources.{has_source, port, and-first, and-second}
 
 -- ---- Lists
@@ -71,18 +73,6 @@ each_from_all p (y ∷ ys) all x c =
       | inr rest ↦ each_from_all p ys (and-second (p y) (list_all p ys) all) x rest
     ]
 
-pub all_more :
-    {A : Type 0} (p : A → Bool) (xs : List A) (i : ℕ) (x : A) → i < length xs → x ≡ get_or xs i x → list_all p (take i xs) ≡ true → p x ≡ true
-    → list_all p (take (i + 1) xs) ≡ true
-all_more {A} p xs i x h e so_far passes =
-    ap (list_all p) (take_more xs i x h) ∙ list_all-append p (take i xs) (get_or xs i x ∷ []) ∙ ap (λ b. b && (p (get_or xs i x) && true)) so_far
-    ∙ ap (λ (y : A). p y && true) (sym e) ∙ ap (λ b. b && true) passes
-
-pub all_fails : {A : Type 0} (p : A → Bool) (xs : List A) (i : ℕ) (x : A) → i < length xs → x ≡ get_or xs i x → p x ≡ false → list_all p xs ≡ false
-all_fails {A} p xs i x h e fails =
-    false_from_ne_true (list_all p xs)
-    (λ all. true≢false (sym (each_from_all p xs all x (subst (λ (y : A). Contains xs y) (sym e) (Contains-get_or xs i x h))) ∙ fails))
-
 named-among : {A : Type 0} (f : A → Name) (n : Name) (xs : List A) (x : A) → named f n xs ≡ Some x → Contains (map f xs) n
 named-among f n [] x h = absurd (cc)
 named-among {A} f n (y ∷ ys) x h =
@@ -93,26 +83,37 @@ named-among {A} f n (y ∷ ys) x h =
 
 -- ---- Event inputs
 
-any-event : (n : Name) (es : List EventPort) → list_any (λ q. same_name q.name n) es ≡ among (event_names es) n
-any-event n [] = refl
-any-event n (e ∷ es) =
-    ap (λ b. b || list_any (λ (q : EventPort). same_name q.name n) es) (same_name-flip e.name n) ∙ ap (λ b. same_name n e.name || b) (any-event n es)
+-- the first with a name stands at its place
+pub first_place :
+    {A : Type 0} (name : A → Name) (xs : List A) (n : Name) → first_of {A = A} {X = ℕ} name (λ k x. k) xs n ≡ position (same_name n) (map name xs)
+first_place {A} name xs n =
+    elim (position (same_name n) (map name xs)) as (λ o. position (same_name n) (map name xs) ≡ o → option_and_then (λ k. option_map (λ (x : A). k) (slice_get xs k)) o ≡ o) [
+      | None ↦ λ e. refl
+      | Some k ↦ λ e. ap (option_map (λ (x : A). k)) (position_is name n xs k e).1
+    ] refl
 
-pub is_event-is : (p : Ports) (x : Inputs) (n : Name) → IsInputs p x → has_name x.events n ≡ is_event_input p n
-is_event-is p x n is = is.events.has n ∙ any-event n p.event_inputs
+is_event-is : (p : Ports) (x : Inputs) (n : Name) → IsInputs p x → is_some (place_in x.events n) ≡ is_event_input p n
+is_event-is p x n is =
+    ap is_some (is.events.first n ∙ first_place (λ (e : EventPort). e.name) p.event_inputs n) ∙ is_some-position (same_name n) (event_names p.event_inputs)
 
 -- ---- One setting
 
 abbrev value_held : Option Variable → Setting → Bool
 value_held o v = elim o as (λ _. Bool) [ None ↦ false | Some w ↦ fits w.ty v.value ]
 
-held-is : (p : Ports) (x : Inputs) (v : Setting) → IsInputs p x → elim (type_in x.types v.variable) as (λ _. Bool) [ None ↦ false | Some t ↦ fits t v.value ] ≡ is_held p v
+abbrev input_held : Option Input → Setting → Bool
+input_held o v = elim o as (λ _. Bool) [ None ↦ false | Some i ↦ fits i.ty v.value ]
+
+held-is : (p : Ports) (x : Inputs) (v : Setting) → IsInputs p x → input_held (input_in x.variables v.variable) v ≡ is_held p v
 held-is p x v is =
-    ap (λ (o : Option Ty). elim o as (λ _. Bool) [ None ↦ false | Some t ↦ fits t v.value ]) (is.types.type v.variable)
-    ∙ (elim (named (λ w. w.name) v.variable p.inputs) as (λ o. elim (option_map (λ (w : Variable). w.ty) o) as (λ _. Bool) [ None ↦ false | Some t ↦ fits t v.value ] ≡ value_held o v) [
+    let name : Variable → Name = λ w. w.name in
+    ap (λ (o : Option Input). input_held o v) (is.variables.first v.variable)
+    ∙ (elim (position (same_name v.variable) (map name p.inputs)) as (λ o.
+    input_held (option_and_then (λ k. option_map (input_of k) (slice_get p.inputs k)) o) v ≡ value_held (option_and_then (slice_get p.inputs) o) v) [
       | None ↦ refl
-      | Some w ↦ refl
+      | Some k ↦ (elim (slice_get p.inputs k) as (λ o. input_held (option_map (input_of k) o) v ≡ value_held o v) [ None ↦ refl | Some w ↦ refl ])
     ])
+    ∙ sym (ap (λ (o : Option Variable). value_held o v) (named-position name v.variable p.inputs))
 
 settable-is : (lib : Library) (d : Directory) (p : Ports) (x : Inputs) (s : Stimulus) (v : Setting) → IsDirectory lib d → IsInputs p x → is_settable d x s v ≡ can_set lib p s v
 settable-is lib d p x s v directory is =
@@ -170,19 +171,31 @@ can_set_from lib k s v known of is =
 
 -- ---- A stimulus
 
-the_ports : (o : Option Ports) (x : Inputs) → IsFound o (Some x) → (p : Ports) × (o ≡ Some p) × IsInputs p x
+pub the_ports : (o : Option Ports) (x : Inputs) → IsFound o (Some x) → (p : Ports) × (o ≡ Some p) × IsInputs p x
 the_ports None x found = absurd found
 the_ports (Some p) x found = (p, refl, found)
 
 inputs_of_ports : (o : Option Ports) (x : Inputs) (p : Ports) → IsFound o (Some x) → o ≡ Some p → IsInputs p x
 inputs_of_ports o x p found of = let P : Option Ports → Type 0 = λ o. IsFound o (Some x) in subst P of found
 
+-- the place that a table has for a name
+pub placed_at :
+    (names : List Name) (m : BTreeMap (Bor Name) ℕ) (n b : Name) (o : Option ℕ) → IsIndex names m → b ≡ n → o ≡ place_in m b → position (same_name n) names ≡ o
+placed_at names m n b o index same is = sym (index.place n) ∙ ap (place_in m) (sym same) ∙ sym is
+
+-- what was found for the instance at the place of its name
+abbrev pub IsFoundAt : Library → Stimulus → (place : ℕ) → Option Inputs → Type 0
+IsFoundAt lib s k o = (position (same_name s.instance) (instance_names lib.application.network) ≡ Some k) × IsFound (ports_at_place lib k) o
+
+pub found_at : (lib : Library) (s : Stimulus) (k : ℕ) (o : Option Inputs) → IsFoundAt lib s k o → IsFound (ports_at lib s.instance) o
+found_at lib s k o h = let P : Option Ports → Type 0 = λ p. IsFound p o in subst P (sym (ports_placed lib s.instance k h.0)) h.1
+
 pub no_instance : (lib : Library) (s : Stimulus) → IsFound (ports_at lib s.instance) None → ¬ (CanTake lib s)
 no_instance lib s found take =
     let P : Option Ports → Type 0 = λ o. IsFound o None in
     let f : ⊥ = subst P take.of_ports found in f
 
-pub no_event : (lib : Library) (s : Stimulus) (x : Inputs) → IsFound (ports_at lib s.instance) (Some x) → has_name x.events s.event ≡ false → ¬ (CanTake lib s)
+pub no_event : (lib : Library) (s : Stimulus) (x : Inputs) → IsFound (ports_at lib s.instance) (Some x) → is_some (place_in x.events s.event) ≡ false → ¬ (CanTake lib s)
 no_event lib s x found absent take =
     let is = inputs_of_ports (ports_at lib s.instance) x take.ports found take.of_ports in
     absurd (true≢false (sym (is_event-is take.ports x s.event is ∙ take.is_event) ∙ absent))
@@ -190,12 +203,12 @@ no_event lib s x found absent take =
 pub set_twice : (lib : Library) (s : Stimulus) → Twice (set_names s) → ¬ (CanTake lib s)
 set_twice lib s twice take = take.once twice
 
-all-is : {A : Type 0} (p q : A → Bool) (xs : List A) → ((x : A) → p x ≡ q x) → list_all p xs ≡ list_all q xs
+pub all-is : {A : Type 0} (p q : A → Bool) (xs : List A) → ((x : A) → p x ≡ q x) → list_all p xs ≡ list_all q xs
 all-is p q [] same = refl
 all-is p q (x ∷ xs) same = λ i. same x i && all-is p q xs same i
 
 pub can_take :
-    (lib : Library) (d : Directory) (x : Inputs) (s : Stimulus) → IsDirectory lib d → IsFound (ports_at lib s.instance) (Some x) → has_name x.events s.event ≡ true
+    (lib : Library) (d : Directory) (x : Inputs) (s : Stimulus) → IsDirectory lib d → IsFound (ports_at lib s.instance) (Some x) → is_some (place_in x.events s.event) ≡ true
     → ¬ (Twice (set_names s)) → Decides (list_all (is_settable d x s) s.settings) (CanTake lib s)
 can_take lib d x s directory found event distinct = (
   λ all.
@@ -214,7 +227,7 @@ can_take lib d x s directory found event distinct = (
 
 -- ---- The definition
 
-kind_of_ports : (o : Option Kind) (p : Ports) → option_map ports_of o ≡ Some p → (k : Kind) × (o ≡ Some k) × (ports_of k ≡ p)
+pub kind_of_ports : (o : Option Kind) (p : Ports) → option_map ports_of o ≡ Some p → (k : Kind) × (o ≡ Some k) × (ports_of k ≡ p)
 kind_of_ports None p h = absurd (cc)
 kind_of_ports (Some k) p h = (k, refl, (let e : ports_of k ≡ p = cc in e))
 
@@ -257,55 +270,21 @@ take_from lib s known good =
           }));
     }
 
+-- a stimulus that can't be taken is bad
+pub bad_at :
+    (lib : Library) (plan : Plan) (ss : List Stimulus) (i : ℕ) (s : Stimulus) → ¬ (NameTwice lib plan) → ¬ (NameUnknown lib plan) → i < length ss → s ≡ get_or ss i s
+    → ¬ (CanTake lib s) → BadStimulus lib ss
+bad_at lib plan ss i s once known h e not =
+    let names : Known lib = record { plan = plan; once = once; known = known } in
+    (s, subst (λ (t : Stimulus). Contains ss t) (sym e) (Contains-get_or ss i s h), λ good. not (take_from lib s names good))
+
+-- none is bad where each can be taken
+pub none_bad : (lib : Library) (plan : Plan) (ss : List Stimulus) → ¬ (NameTwice lib plan) → ¬ (NameUnknown lib plan) → ¬ (HasRefused lib ss) → ¬ (BadStimulus lib ss)
+none_bad lib plan ss once known none bad =
+    let names : Known lib = record { plan = plan; once = once; known = known } in none (bad.0, bad.1, λ take. bad.2 (good_from lib bad.0 names take))
+
 pub bad_is :
-    (lib : Library) (plan : Plan) (stimuli : List Stimulus) (b : Bool) → ¬ (NameTwice lib plan) → ¬ (NameUnknown lib plan) → (IsTrue b ↔ HasRefused lib stimuli)
-    → (IsTrue b ↔ BadStimulus lib stimuli)
-bad_is lib plan stimuli b once known h =
-    let names : Known lib = record { plan = plan; once = once; known = known } in (
-      λ t. let r = h.0 t in (r.0, r.1, λ good. r.2 (take_from lib r.0 names good)),
-      λ bad. h.1 (bad.0, bad.1, λ take. bad.2 (good_from lib bad.0 names take)),
-    )
-
-pub answer_is :
-    {E : Type 0} (lib : Library) (plan : Plan) (stimuli : List Stimulus) (r : Result Bool E) → ¬ (NameTwice lib plan) → ¬ (NameUnknown lib plan)
-    → IfOk r (λ b. IsTrue b ↔ HasRefused lib stimuli) → IfOk r (λ b. IsTrue b ↔ BadStimulus lib stimuli)
-answer_is lib plan stimuli (Ok b) once known h = bad_is lib plan stimuli b once known h
-answer_is lib plan stimuli (Err e) once known h = h
-
--- ---- The answers for one stimulus
-
-abbrev Answer : Library → Stimulus → Bool → Type 0
-Answer lib s b = IsTrue b ↔ CanTake lib s
-
-answer_not : (lib : Library) (s : Stimulus) → ¬ (CanTake lib s) → Answer lib s false
-answer_not lib s not = (λ h. absurd (true≢false (sym h)), λ take. absurd (not take))
-
--- what was found for the instance
-found_as : (lib : Library) (s : Stimulus) (n : Name) (o : Option (Bor Inputs)) (r : Option Inputs) → n ≡ s.instance → IsFound (ports_at lib n) (option_copied o) → option_copied o ≡ r
-    → IsFound (ports_at lib s.instance) r
-found_as lib s n o r same found is =
-    let P : Option Inputs → Type 0 = λ r. IsFound (ports_at lib s.instance) r in
-    subst P is (subst (λ (m : Name). IsFound (ports_at lib m) (option_copied o)) same found)
-
-pub answer_none :
-    (lib : Library) (s : Stimulus) (n : Name) (o : Option (Bor Inputs)) → n ≡ s.instance → IsFound (ports_at lib n) (option_copied o) → o ≡ None → Answer lib s false
-answer_none lib s n o same found none = answer_not lib s (no_instance lib s (found_as lib s n o None same found (ap option_copied none)))
-
-pub answer_event :
-    (lib : Library) (s : Stimulus) (n m : Name) (o : Option (Bor Inputs)) (x : Bor Inputs) (b : Bool) → n ≡ s.instance → IsFound (ports_at lib n) (option_copied o) → o ≡ Some x
-    → m ≡ s.event → b ≡ has_name x.now.events m → b ≡ false → Answer lib s false
-answer_event lib s n m o x b same found some event is absent =
-    answer_not lib s (no_event lib s x.now (found_as lib s n o (Some x.now) same found (ap option_copied some)) (ap (has_name x.now.events) (sym event) ∙ sym is ∙ absent))
-
-pub answer_twice : (lib : Library) (s : Stimulus) (b : Bool) → (IsTrue b ↔ Twice (set_names s)) → b ≡ true → Answer lib s false
-answer_twice lib s b twice is = answer_not lib s (set_twice lib s (twice.0 is))
-
-pub answer_all :
-    (lib : Library) (d : Directory) (s : Stimulus) (n m : Name) (o : Option (Bor Inputs)) (x : Bor Inputs) (b twice all : Bool) → IsDirectory lib d → n ≡ s.instance
-    → IsFound (ports_at lib n) (option_copied o) → o ≡ Some x → m ≡ s.event → b ≡ has_name x.now.events m → b ≡ true → (IsTrue twice ↔ Twice (set_names s)) → twice ≡ false
-    → all ≡ list_all (is_settable d x.now s) s.settings → Answer lib s all
-answer_all lib d s n m o x b twice all directory same found some event is present twice_is once all_is =
-    let distinct : ¬ (Twice (set_names s)) = λ t. true≢false (sym (twice_is.1 t) ∙ once) in
-    let D : Bool → Type 0 = λ b. Decides b (CanTake lib s) in
-    subst D (sym all_is)
-    (can_take lib d x.now s directory (found_as lib s n o (Some x.now) same found (ap option_copied some)) (ap (has_name x.now.events) (sym event) ∙ sym is ∙ present) distinct)
+    (lib : Library) (ss : List Stimulus) (o : Option (List StimulusRow)) (b : Bool) → b ≡ is_none o → MatchOption o (BadStimulus lib ss) (AreTaken lib ss)
+    → (IsTrue b ↔ BadStimulus lib ss)
+bad_is lib ss None b is bad = (λ _. bad, λ _. is)
+bad_is lib ss (Some rows) b is taken = (λ h. absurd (true≢false (sym h ∙ is)), λ bad. absurd (taken.good bad))

@@ -6,3 +6,4 @@ pub mod Found
 pub mod Sources
 pub mod Good
 pub mod Refused
+pub mod Rows

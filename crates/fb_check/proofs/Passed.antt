@@ -1,6 +1,5 @@
 -- What acceptance says of names and stimuli.
 use Rattle.std.proofs.Common.{◌≡◌, List, refl, sym, subst, inl, inr}
-use Rattle.fb_types.specs.Accepted.{BadStimulus}
 use Rattle.fb_types.specs.Headline.{AreAccepted, Inputs, inputs}
 use Rattle.fb_types.specs.Unknown.{NameUnknown}
 use Rattle.fb_types.specs.declared.deploy.Plan.{Plan}
@@ -9,9 +8,6 @@ use Rattle.fb_types.specs.declared.library.Library.{Library}
 
 pub known_of : (i : Inputs) → AreAccepted i → ¬ (NameUnknown i.library i.plan)
 known_of i h t = h 21 (inr (inl (refl, t)))
-
-pub good_of : (i : Inputs) → AreAccepted i → ¬ (BadStimulus i.library i.stimuli)
-good_of i h t = h 29 (inr (inr (inr (inr (inr (inr (inr (inr (inr (inl (refl, t)))))))))))
 
 pub accepted_is :
     (lib : Library) (p q : Plan) (xs ys : List Stimulus) → p ≡ q → xs ≡ ys → AreAccepted (inputs lib p xs) → AreAccepted (inputs lib q ys)

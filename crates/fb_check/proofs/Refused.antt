@@ -1,17 +1,17 @@
 -- Whether the stimuli so far have one that is refused.
 use Rattle.std.proofs.Common.{◌≡◌, ℕ, ◌<◌, ◌≤◌, ◌+◌, List, [], ◌∷◌, ◌++◌, length, take, get_or, Contains, sym, ◌∙◌, ap, subst, inl, inr}
 use Rattle.std.proofs.lemmas.List.{take_more, take_all}
-use Rattle.std.proofs.lemmas.List.Elements.{Contains-push_cases, Contains-get_or}
+use Rattle.std.proofs.lemmas.List.Elements.{Contains-push_cases}
 use Rattle.fb_types.specs.declared.library.Library.{Library}
 use Rattle.fb_types.specs.declared.deploy.Stimulus.{Stimulus}
 use Rattle.fb_names.proofs.NameLemmas.{Contains-nil}
-use Rattle.fb_check.specs.Directory.{CanTake, HasRefused}
+use Rattle.fb_check.specs.Directory.{CanTake}
+
+abbrev pub HasRefused : Library → List Stimulus → Type 0
+HasRefused lib stimuli = (s : Stimulus) × Contains stimuli s × ¬ (CanTake lib s)
 
 pub refused_none : (lib : Library) → ¬ (HasRefused lib [])
 refused_none lib r = Contains-nil r.0 r.1
-
-pub refused_at : (lib : Library) (ss : List Stimulus) (i : ℕ) (s : Stimulus) → i < length ss → s ≡ get_or ss i s → ¬ (CanTake lib s) → HasRefused lib ss
-refused_at lib ss i s h e not = (s, subst (λ (t : Stimulus). Contains ss t) (sym e) (Contains-get_or ss i s h), not)
 
 pub refused_more :
     (lib : Library) (ss : List Stimulus) (i : ℕ) (s : Stimulus) → i < length ss → s ≡ get_or ss i s → ¬ (HasRefused lib (take i ss)) → CanTake lib s

@@ -1,6 +1,6 @@
 -- One more element of a loop that fills a set or a map by names.
-use Rattle.std.proofs.Common.{◌≡◌, ℕ, zero, suc, ◌<◌, ◌+◌, Bool, true, false, ◌&&◌, ◌||◌, cond, List, [], ◌∷◌, ◌++◌, length, map, take, get_or, Option, Some, None, Ordering, Bor, refl, sym, ◌∙◌, ap, subst}
-use Rattle.std.specs.Prelude.{option_map, is_some, slice_get}
+use Rattle.std.proofs.Common.{◌≡◌, ℕ, zero, suc, ◌<◌, ◌+◌, Bool, true, false, ◌&&◌, ◌||◌, cond, List, [], ◌∷◌, ◌++◌, length, map, take, get_or, Option, Some, None, Ordering, Bor, refl, sym, ◌∙◌, ap, subst, arith}
+use Rattle.std.specs.Prelude.{option_map, option_and_then, is_some, position, slice_get}
 use Rattle.std.specs.List.{list_any}
 use Rattle.std.specs.Ordering.{nat_cmp, is_eq, ordering_then}
 use Rattle.std.specs.declared.cmp.Ordering.TheVariants as order
@@ -9,21 +9,20 @@ use Rattle.std.specs.Map.{lookup}
 use Rattle.std.specs.BTreeMap as tree
 use Rattle.std.specs.BTreeSet as set
 use Rattle.std.proofs.lemmas.Bool.{true≢false}
-use Rattle.std.proofs.lemmas.List.{take_more}
+use Rattle.std.proofs.lemmas.List.{length-map, length-take-le, map-append, take_more}
 use Rattle.std.proofs.lemmas.List.Folds.{list_any_more}
 use Rattle.std.proofs.lemmas.Map.Text.{is_eq-slice_cmp}
 use Rattle.fb_types.specs.Names.{Name, same_name, same_port}
-use Rattle.fb_types.specs.Blocks.{named, among}
+use Rattle.fb_types.specs.Blocks.{among}
 use Rattle.fb_types.specs.Flat.{port_in}
-use Rattle.fb_types.specs.declared.value.Ty.{Ty}
 use Rattle.fb_types.specs.declared.library.EventPort.{EventPort}
-use Rattle.fb_types.specs.declared.library.Variable.{Variable}
 use Rattle.fb_types.specs.declared.library.Connection.{Connection}
 use Rattle.fb_types.specs.declared.library.Ports.{Ports}
 use Rattle.fb_names.proofs.NameLemmas.{same_name-is, same_from_same_name}
-use Rattle.fb_names.proofs.Positions.{same_name-flip}
+use Rattle.fb_names.proofs.Positions.{is_some-position, position-append_old, position-push_new, position_is, same_name-flip}
 use Rattle.fb_names.proofs.Seen.{more_of_part}
-use Rattle.fb_check.specs.Directory.{Pair, has_name, has_pair, type_in, lists, leads_to, AreEvents, IsExtended, AreWiths, AreTypes, AreTargets, IsInputs, IsFound, AreInputs}
+use Rattle.fb_system.proofs.EventBlocks.{slice_get-append_here, slice_get-append_left}
+use Rattle.fb_check.specs.Directory.{Pair, has_pair, first_of, read_in, lists, leads_to, AreFirst, IsExtended, AreWiths, AreTargets, IsInputs, IsFound, AreInputs}
 use Rattle.fb_check.specs.declared.directory_making.Inputs.{Inputs}
 
 -- ---- Comparisons
@@ -55,25 +54,6 @@ cond-or true true = refl
 cond-or true false = refl
 cond-or false true = refl
 cond-or false false = refl
-
--- ---- Events
-
-pub events_none : (s : set.BTreeSet (Bor Name)) → s.keys ≡ [] → AreEvents [] s
-events_none s e = record { has = λ n. ap (list_any (λ k. is_eq (slice_cmp nat_cmp n k.now))) e }
-
-pub events_more :
-    (es : List EventPort) (i : ℕ) (e : EventPort) (s t : set.BTreeSet (Bor Name)) (k : Bor Name) → i < length es → e ≡ get_or es i e → k.now ≡ e.name
-    → AreEvents (take i es) s → ((q : Bor Name) → set.contains name_cmp t q ≡ cond (is_eq (name_cmp k q)) true (set.contains name_cmp s q))
-    → AreEvents (take (i + 1) es) t
-events_more es i e s t k h at is so_far updates = record {
-  has = λ n.
-      updates (at_name n)
-      ∙ ap (λ b. cond b true (has_name s n)) (name_cmp-is k.now n ∙ ap (λ (m : Name). same_name m n) is)
-      ∙ cond-or (same_name e.name n) (has_name s n)
-      ∙ ap (λ b. b || same_name e.name n) (so_far.has n)
-      ∙ ap (λ (q : EventPort). list_any (λ q. same_name q.name n) (take i es) || same_name q.name n) at
-      ∙ sym (list_any_more (λ q. same_name q.name n) es i e h);
-}
 
 -- ---- Variables WITH events
 
@@ -128,89 +108,93 @@ withs_more es i e s t name vs h at is with so_far extended = record {
       ∙ sym (list_any_more (λ q. same_name q.name n && among q.with m) es i e h);
 }
 
--- ---- Types of variables
+-- ---- The first with a name
 
-named-append :
-    {A : Type 0} (f : A → Name) (n : Name) (xs : List A) (y : A)
-    → named f n (xs ++ y ∷ []) ≡ elim (named f n xs) as (λ _. Option A) [ None ↦ cond (same_name (f y) n) (Some y) None | Some x ↦ Some x ]
-named-append f n [] y = refl
-named-append {A} f n (x ∷ xs) y =
-    elim (same_name (f x) n) as (λ b. cond b (Some x) (named f n (xs ++ y ∷ []))
-    ≡ elim (cond b (Some x) (named f n xs)) as (λ _. Option A) [ None ↦ cond (same_name (f y) n) (Some y) None | Some x ↦ Some x ]) [
-      | true ↦ refl
-      | false ↦ named-append f n xs y
-    ]
+abbrev or_new : {X : Type 0} → Option X → Option X → Option X
+or_new {X} o new = elim o as (λ _. Option X) [ None ↦ new | Some x ↦ Some x ]
 
-abbrev type_of : List Variable → Name → Option Ty
-type_of vs n = option_map (λ v. v.ty) (named (λ v. v.name) n vs)
+first_of-append :
+    {A X : Type 0} (name : A → Name) (made : ℕ → A → X) (xs : List A) (y : A) (n : Name)
+    → first_of name made (xs ++ y ∷ []) n ≡ or_new (first_of name made xs n) (cond (same_name n (name y)) (Some (made (length xs) y)) None)
+first_of-append {A} {X} name made xs y n =
+    let new : Option X = cond (same_name n (name y)) (Some (made (length xs) y)) None in
+    let read : ℕ → Option X = λ k. option_map (made k) (slice_get (xs ++ y ∷ []) k) in
+    let names : position (same_name n) (map name (xs ++ y ∷ [])) ≡ position (same_name n) (map name xs ++ name y ∷ []) =
+    ap (position (same_name n)) (map-append name xs (y ∷ [])) in
+    elim (position (same_name n) (map name xs)) as (λ o. position (same_name n) (map name xs) ≡ o
+    → first_of name made (xs ++ y ∷ []) n ≡ or_new (option_and_then (λ k. option_map (made k) (slice_get xs k)) o) new) [
+      | Some k ↦ λ e.
+          let at = position_is name n xs k e in
+          ap (option_and_then read) (names ∙ position-append_old (same_name n) (map name xs) (name y ∷ []) k e)
+          ∙ ap (option_map (made k)) (slice_get-append_left xs (y ∷ []) k at.0 at.1)
+          ∙ sym (ap (λ (o : Option A). or_new (option_map (made k) o) new) at.1)
+      | None ↦ λ e.
+          let absent : list_any (same_name n) (map name xs) ≡ false = sym (is_some-position (same_name n) (map name xs)) ∙ ap is_some e in
+          ap (option_and_then read) (names ∙ position-push_new (same_name n) (map name xs) (name y) absent)
+          ∙ (elim (same_name n (name y)) as (λ b. option_and_then read (cond b (Some (length (map name xs))) None) ≡ cond b (Some (made (length xs) y)) None) [
+            | true ↦ ap read (length-map xs name) ∙ ap (option_map (made (length xs))) (slice_get-append_here xs y)
+            | false ↦ refl
+          ])
+    ] refl
 
-type_of-append : (vs : List Variable) (v : Variable) (n : Name)
-    → type_of (vs ++ v ∷ []) n ≡ elim (type_of vs n) as (λ _. Option Ty) [ None ↦ cond (same_name v.name n) (Some v.ty) None | Some x ↦ Some x ]
-type_of-append vs v n =
-    ap (option_map (λ (v : Variable). v.ty)) (named-append (λ v. v.name) n vs v)
-    ∙ (elim (named (λ v. v.name) n vs) as (λ o. option_map (λ (v : Variable). v.ty) (elim o as (λ _. Option Variable) [ None ↦ cond (same_name v.name n) (Some v) None | Some x ↦ Some x ])
-    ≡ elim (option_map (λ (v : Variable). v.ty) o) as (λ _. Option Ty) [ None ↦ cond (same_name v.name n) (Some v.ty) None | Some x ↦ Some x ]) [
-      | None ↦ elim (same_name v.name n) as (λ b. option_map (λ (v : Variable). v.ty) (cond b (Some v) None) ≡ cond b (Some v.ty) None) [ true ↦ refl | false ↦ refl ]
-      | Some x ↦ refl
-    ])
+pub first_none : {A X : Type 0} (name : A → Name) (made : ℕ → A → X) (m : tree.BTreeMap (Bor Name) X) → m.entries ≡ [] → AreFirst name made [] m
+first_none name made m e = record { first = λ n. ap (lookup (λ (k : Bor Name). is_eq (slice_cmp nat_cmp n k.now))) e }
 
-pub types_none : (m : tree.BTreeMap (Bor Name) Ty) → m.entries ≡ [] → AreTypes [] m
-types_none m e = record { type = λ n. ap (lookup (λ (k : Bor Name). is_eq (slice_cmp nat_cmp n k.now))) e }
-
-abbrev so_far_or : Option Ty → Option Ty → Option Ty
-so_far_or o new = elim o as (λ _. Option Ty) [ None ↦ new | Some x ↦ Some x ]
-
--- the types of one more variable, where it is there already
-pub types_kept :
-    (vs : List Variable) (i : ℕ) (v : Variable) (m : tree.BTreeMap (Bor Name) Ty) (name : Name) → i < length vs → v ≡ get_or vs i v → name ≡ v.name
-    → is_some (type_in m name) ≡ true → AreTypes (take i vs) m → AreTypes (take (i + 1) vs) m
-types_kept vs i v m name h at is there so_far =
-    let P : List Variable → Type 0 = λ us. AreTypes us m in
-    let Q : Variable → Type 0 = λ u. P (take i vs ++ u ∷ []) in
-    let found : is_some (type_of (take i vs) v.name) ≡ true = ap is_some (sym (so_far.type v.name)) ∙ ap (λ (n : Name). is_some (type_in m n)) (sym is) ∙ there in
-    subst P (sym (take_more vs i v h))
+-- one more, where one with its name is there already
+pub first_kept :
+    {A X : Type 0} (name : A → Name) (made : ℕ → A → X) (xs : List A) (i : ℕ) (x : A) (m : tree.BTreeMap (Bor Name) X) (k : Name) → i < length xs → x ≡ get_or xs i x
+    → k ≡ name x → is_some (read_in m k) ≡ true → AreFirst name made (take i xs) m → AreFirst name made (take (i + 1) xs) m
+first_kept {A} {X} name made xs i x m k h at is there so_far =
+    let old : Name → Option X = first_of name made (take i xs) in
+    let new : Option X = Some (made (length (take i xs)) x) in
+    let P : List A → Type 0 = λ ys. AreFirst name made ys m in
+    let Q : A → Type 0 = λ y. P (take i xs ++ y ∷ []) in
+    let found : is_some (old (name x)) ≡ true = ap is_some (sym (so_far.first (name x))) ∙ ap (λ (n : Name). is_some (read_in m n)) (sym is) ∙ there in
+    subst P (sym (take_more xs i x h))
     (subst Q at (record {
-      type = λ n.
-          so_far.type n
-          ∙ (elim (type_of (take i vs) n) as (λ o. type_of (take i vs) n ≡ o → o ≡ so_far_or o (cond (same_name v.name n) (Some v.ty) None)) [
-            | Some x ↦ λ e. refl
+      first = λ n.
+          so_far.first n
+          ∙ (elim (old n) as (λ o. old n ≡ o → o ≡ or_new o (cond (same_name n (name x)) new None)) [
+            | Some y ↦ λ e. refl
             | None ↦ λ e.
-                (elim (same_name v.name n) as (λ b. same_name v.name n ≡ b → None ≡ cond b (Some v.ty) None) [
-                  | true ↦ λ same.
-                      let there' = ap (λ (k : Name). is_some (type_of (take i vs) k)) (same_from_same_name v.name n same) ∙ ap is_some e in
-                      absurd (true≢false (sym found ∙ there'))
+                (elim (same_name n (name x)) as (λ b. same_name n (name x) ≡ b → None ≡ cond b new None) [
+                  | true ↦ λ same. absurd (true≢false (sym found ∙ ap (λ (w : Name). is_some (old w)) (sym (same_from_same_name n (name x) same)) ∙ ap is_some e))
                   | false ↦ λ _. refl
                 ] refl)
           ] refl)
-          ∙ sym (type_of-append (take i vs) v n);
+          ∙ sym (first_of-append name made (take i xs) x n);
     }))
 
 -- where it is new
-pub types_more :
-    (vs : List Variable) (i : ℕ) (v : Variable) (m m' : tree.BTreeMap (Bor Name) Ty) (k : Bor Name) → i < length vs → v ≡ get_or vs i v → k.now ≡ v.name
-    → is_some (type_in m k.now) ≡ false → AreTypes (take i vs) m
-    → ((q : Bor Name) → tree.get name_cmp m' q ≡ cond (is_eq (name_cmp k q)) (Some v.ty) (tree.get name_cmp m q))
-    → AreTypes (take (i + 1) vs) m'
-types_more vs i v m m' k h at is new so_far updates =
-    let P : List Variable → Type 0 = λ us. AreTypes us m' in
-    let Q : Variable → Type 0 = λ u. P (take i vs ++ u ∷ []) in
-    let absent : is_some (type_of (take i vs) v.name) ≡ false = ap is_some (sym (so_far.type v.name)) ∙ ap (λ (n : Name). is_some (type_in m n)) (sym is) ∙ new in
-    subst P (sym (take_more vs i v h))
+pub first_more :
+    {A X : Type 0} (name : A → Name) (made : ℕ → A → X) (xs : List A) (i : ℕ) (x : A) (m m' : tree.BTreeMap (Bor Name) X) (k : Bor Name) (value : X)
+    → i < length xs → x ≡ get_or xs i x → k.now ≡ name x → value ≡ made i x → is_some (read_in m k.now) ≡ false → AreFirst name made (take i xs) m
+    → ((q : Bor Name) → tree.get name_cmp m' q ≡ cond (is_eq (name_cmp k q)) (Some value) (tree.get name_cmp m q))
+    → AreFirst name made (take (i + 1) xs) m'
+first_more {A} {X} name made xs i x m m' k value h at is made_is absent so_far updates =
+    let old : Name → Option X = first_of name made (take i xs) in
+    let here : X = made (length (take i xs)) x in
+    let same_value : value ≡ here = made_is ∙ ap (λ (j : ℕ). made j x) (sym (length-take-le i xs (omega (arith, h)))) in
+    let P : List A → Type 0 = λ ys. AreFirst name made ys m' in
+    let Q : A → Type 0 = λ y. P (take i xs ++ y ∷ []) in
+    let none : is_some (old (name x)) ≡ false = ap is_some (sym (so_far.first (name x))) ∙ ap (λ (n : Name). is_some (read_in m n)) (sym is) ∙ absent in
+    subst P (sym (take_more xs i x h))
     (subst Q at (record {
-      type = λ n.
+      first = λ n.
           updates (at_name n)
-          ∙ ap (λ b. cond b (Some v.ty) (type_in m n)) (name_cmp-is k.now n ∙ ap (λ (w : Name). same_name w n) is)
-          ∙ ap (λ (o : Option Ty). cond (same_name v.name n) (Some v.ty) o) (so_far.type n)
-          ∙ (elim (same_name v.name n) as (λ b. same_name v.name n ≡ b → cond b (Some v.ty) (type_of (take i vs) n) ≡ so_far_or (type_of (take i vs) n) (cond b (Some v.ty) None)) [
+          ∙ ap (λ b. cond b (Some value) (read_in m n)) (name_cmp-is k.now n ∙ ap (λ (w : Name). same_name w n) is ∙ same_name-flip (name x) n)
+          ∙ ap (λ (o : Option X). cond (same_name n (name x)) (Some value) o) (so_far.first n)
+          ∙ ap (λ (v : X). cond (same_name n (name x)) (Some v) (old n)) same_value
+          ∙ (elim (same_name n (name x)) as (λ b. same_name n (name x) ≡ b → cond b (Some here) (old n) ≡ or_new (old n) (cond b (Some here) None)) [
             | true ↦ λ same.
-                let absent' = ap (λ (k : Name). is_some (type_of (take i vs) k)) (sym (same_from_same_name v.name n same)) ∙ absent in
-                (elim (type_of (take i vs) n) as (λ o. type_of (take i vs) n ≡ o → Some v.ty ≡ so_far_or o (Some v.ty)) [
+                let none' : is_some (old n) ≡ false = ap (λ (w : Name). is_some (old w)) (same_from_same_name n (name x) same) ∙ none in
+                (elim (old n) as (λ o. old n ≡ o → Some here ≡ or_new o (Some here)) [
                   | None ↦ λ e. refl
-                  | Some x ↦ λ e. absurd (true≢false (ap is_some (sym e) ∙ absent'))
+                  | Some y ↦ λ e. absurd (true≢false (ap is_some (sym e) ∙ none'))
                 ] refl)
-            | false ↦ λ _. (elim (type_of (take i vs) n) as (λ o. o ≡ so_far_or o None) [ None ↦ refl | Some x ↦ refl ])
+            | false ↦ λ _. (elim (old n) as (λ o. o ≡ or_new o None) [ None ↦ refl | Some y ↦ refl ])
           ] refl)
-          ∙ sym (type_of-append (take i vs) v n);
+          ∙ sym (first_of-append name made (take i xs) x n);
     }))
 
 -- ---- Targets of connections

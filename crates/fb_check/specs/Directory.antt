@@ -1,5 +1,5 @@
 -- What stimuli may name, by names: event inputs, the variables WITH them, and data inputs (IEC 61499-1, 5.2.1 and 6.1; event blocks by their kinds are this project's profile).
-use Rattle.std.specs.Prelude.{◌≡◌, ℕ, List, [], ◌∷◌, map, Bool, true, false, not, ◌&&◌, ◌||◌, Option, Some, None, Contains, slice_get, option_map, option_and_then}
+use Rattle.std.specs.Prelude.{◌≡◌, ℕ, List, [], ◌∷◌, map, Bool, true, false, not, ◌&&◌, ◌||◌, Option, Some, None, if◌then◌else◌, position, slice_get, option_map, option_and_then}
 use Rattle.std.specs.List.{list_any, list_all}
 use Rattle.std.specs.Ordering.{nat_cmp, ordering_then}
 use Rattle.std.specs.Cmp.Lexicographic.{slice_cmp}
@@ -8,13 +8,12 @@ use Rattle.std.specs.BTreeSet as set
 use Rattle.std.specs.Borrow.{Bor}
 use Rattle.fb_types.specs.Names.{Name, same_name, same_port}
 use Rattle.fb_types.specs.Values.{fits}
-use Rattle.fb_types.specs.Blocks.{named, among, ports_of, ports_of_event_block, is_event_input}
+use Rattle.fb_types.specs.Blocks.{among, ports_of, ports_of_event_block, is_event_input}
 use Rattle.fb_types.specs.EventPorts.{kind_place}
 use Rattle.fb_types.specs.Flat.{kind_of, kind_of_instance, instance_in, port_in}
 use Rattle.fb_types.specs.Repeated.{Twice}
-use Rattle.fb_types.specs.Accepted.{set_names, is_held}
+use Rattle.fb_types.specs.Accepted.{BadStimulus, set_names, is_held}
 use Rattle.fb_types.specs.declared.event_kind.EventKind.{EventKind}
-use Rattle.fb_types.specs.declared.value.Ty.{Ty}
 use Rattle.fb_types.specs.declared.value.Value.{Value}
 use Rattle.fb_types.specs.declared.library.Library.{Library}
 use Rattle.fb_types.specs.declared.library.EventPort.{EventPort}
@@ -23,6 +22,10 @@ use Rattle.fb_types.specs.declared.library.Connection.{Connection}
 use Rattle.fb_types.specs.declared.library.Ports.{Ports}
 use Rattle.fb_types.specs.declared.deploy.Stimulus.{Stimulus}
 use Rattle.fb_types.specs.declared.deploy.Setting.{Setting}
+use Rattle.fb_system.specs.Rows.{AreRows, IsRow}
+use Rattle.fb_system.specs.declared.rows.SlotValue.{SlotValue}
+use Rattle.fb_system.specs.declared.rows.StimulusRow.{StimulusRow}
+use Rattle.fb_check.specs.declared.directory_making.Input.{Input}
 use Rattle.fb_check.specs.declared.directory_making.Inputs.{Inputs}
 use Rattle.fb_check.specs.declared.directory.Directory.{Directory}
 
@@ -31,14 +34,23 @@ use Rattle.fb_check.specs.declared.directory.Directory.{Directory}
 abbrev pub Pair : Type 0
 Pair = Bor Name × Bor Name
 
-abbrev pub has_name : set.BTreeSet (Bor Name) → Name → Bool
-has_name s n = set.contains_by (λ k. slice_cmp nat_cmp n k.now) s
-
 abbrev pub has_pair : set.BTreeSet Pair → Name → Name → Bool
 has_pair s n m = set.contains_by (λ k. ordering_then (slice_cmp nat_cmp n k.0.now) (slice_cmp nat_cmp m k.1.now)) s
 
-abbrev pub type_in : tree.BTreeMap (Bor Name) Ty → Name → Option Ty
-type_in m n = tree.get_by (λ k. slice_cmp nat_cmp n k.now) m
+-- what a map has for a name
+abbrev pub read_in : {X : Type 0} → tree.BTreeMap (Bor Name) X → Name → Option X
+read_in m n = tree.get_by (λ k. slice_cmp nat_cmp n k.now) m
+
+abbrev pub input_in : tree.BTreeMap (Bor Name) Input → Name → Option Input
+input_in m n = read_in m n
+
+-- what is made of the first element with a name, from its place
+abbrev pub first_of : {A X : Type 0} → (A → Name) → (ℕ → A → X) → List A → Name → Option X
+first_of name made xs n = option_and_then (λ k. option_map (made k) (slice_get xs k)) (position (same_name n) (map name xs))
+
+-- The map has that for each name.
+pub record AreFirst {A X : Type 0} (name : A → Name) (made : ℕ → A → X) (xs : List A) (m : tree.BTreeMap (Bor Name) X) : Type 0 where
+  pub first : (n : Name) → read_in m n ≡ first_of name made xs n
 
 -- ---- One type
 
@@ -46,9 +58,9 @@ type_in m n = tree.get_by (λ k. slice_cmp nat_cmp n k.now) m
 abbrev pub lists : List EventPort → Name → Name → Bool
 lists events e v = list_any (λ q. same_name q.name e && among q.with v) events
 
--- the names of the events
-pub record AreEvents (events : List EventPort) (s : set.BTreeSet (Bor Name)) : Type 0 where
-  pub has : (n : Name) → has_name s n ≡ list_any (λ q. same_name q.name n) events
+-- the places of the events
+abbrev pub AreEvents : List EventPort → tree.BTreeMap (Bor Name) ℕ → Type 0
+AreEvents events m = AreFirst (λ (e : EventPort). e.name) (λ k e. k) events m
 
 -- beside what was there, the event with each of the variables
 pub record IsExtended (event : Name) (variables : List Name) (old new : set.BTreeSet Pair) : Type 0 where
@@ -58,15 +70,18 @@ pub record IsExtended (event : Name) (variables : List Name) (old new : set.BTre
 pub record AreWiths (events : List EventPort) (s : set.BTreeSet Pair) : Type 0 where
   pub has : (n m : Name) → has_pair s n m ≡ lists events n m
 
--- the types of the variables
-pub record AreTypes (variables : List Variable) (m : tree.BTreeMap (Bor Name) Ty) : Type 0 where
-  pub type : (n : Name) → type_in m n ≡ option_map (λ v. v.ty) (named (λ v. v.name) n variables)
+abbrev pub input_of : ℕ → Variable → Input
+input_of k v = record { place = k; ty = v.ty }
 
--- the event inputs, the variables WITH them and the types of the data inputs of an interface
+-- the places and the types of the variables
+abbrev pub AreVariables : List Variable → tree.BTreeMap (Bor Name) Input → Type 0
+AreVariables variables m = AreFirst (λ (v : Variable). v.name) input_of variables m
+
+-- the event inputs, the variables WITH them and the data inputs of an interface
 pub record IsInputs (p : Ports) (x : Inputs) : Type 0 where
   pub events : AreEvents p.event_inputs x.events
   pub withs : AreWiths p.event_inputs x.withs
-  pub types : AreTypes p.inputs x.types
+  pub variables : AreVariables p.inputs x.variables
 
 -- none for none, else those of the interface
 abbrev pub IsFound : Option Ports → Option Inputs → Type 0
@@ -97,6 +112,10 @@ pub record IsDirectory (lib : Library) (d : Directory) : Type 0 where
 
 -- ---- Stimuli
 
+-- the interface of the instance of the application at a place
+abbrev pub ports_at_place : Library → ℕ → Option Ports
+ports_at_place lib k = option_map ports_of (option_and_then (kind_of_instance lib) (slice_get lib.application.network.instances k))
+
 -- the interface of the instance with a name
 abbrev pub ports_at : Library → Name → Option Ports
 ports_at lib n = option_map ports_of (option_and_then (kind_of_instance lib) (instance_in lib.application.network n))
@@ -114,14 +133,33 @@ pub record CanTake (lib : Library) (s : Stimulus) : Type 0 where
   pub once : ¬ (Twice (set_names s))
   pub each : list_all (can_set lib ports s) s.settings ≡ true
 
-abbrev pub HasRefused : Library → List Stimulus → Type 0
-HasRefused lib stimuli = (s : Stimulus) × Contains stimuli s × ¬ (CanTake lib s)
-
--- whether there is a type with the name, and it holds the value
+-- whether there is an input with the name, and its type holds the value
 abbrev pub holds : Inputs → Name → Value → Bool
-holds x n v = elim (type_in x.types n) [ None ↦ false | Some t ↦ fits t v ]
+holds x n v = elim (input_in x.variables n) [ None ↦ false | Some i ↦ fits i.ty v ]
 
 -- the name is in the directory WITH the event and unconnected, and its type holds the value
 abbrev pub is_settable : Directory → Inputs → Stimulus → Setting → Bool
 is_settable d x s v =
     has_pair x.withs s.event v.variable && (not (has_pair d.targets s.instance v.variable) && holds x v.variable v.value)
+
+-- ---- Stimuli by number
+
+-- the slot of an input, where its type holds the value
+abbrev pub held_slot : Option Input → Value → Option SlotValue
+held_slot None v = None
+held_slot (Some i) v = if fits i.ty v then Some (record { place = i.place; value = v }) else None
+
+-- the slot of a setting, where it is settable
+abbrev pub slot_of : Directory → Inputs → Stimulus → Setting → Option SlotValue
+slot_of d x s v =
+    if has_pair x.withs s.event v.variable && not (has_pair d.targets s.instance v.variable) then held_slot (input_in x.variables v.variable) v.value else None
+
+-- A stimulus that can be taken, by number.
+pub record IsTaken (lib : Library) (s : Stimulus) (row : StimulusRow) : Type 0 where
+  pub takes : CanTake lib s
+  pub row : IsRow lib s row
+
+-- Stimuli of which none is bad, by number.
+pub record AreTaken (lib : Library) (ss : List Stimulus) (rows : List StimulusRow) : Type 0 where
+  pub good : ¬ (BadStimulus lib ss)
+  pub rows : AreRows lib ss rows

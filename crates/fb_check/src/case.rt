@@ -2,7 +2,9 @@
 
 use fb_names::catalog::Catalog;
 use fb_names::numbers::Resolved;
+use fb_system::rows::StimulusRow;
 use fb_types::deploy::{Plan, Stimulus};
+use fb_types::items::Items;
 use fb_types::library::Library;
 
 /// A declaration, a deployment and stimuli, as they were read.
@@ -20,4 +22,8 @@ pub struct Judged<'a> {
     pub catalog: Catalog<'a>,
     /// What the names stand for, by numbers.
     pub numbers: Resolved,
+    /// For each instance of the application, the resource that holds it.
+    pub holders: Items<usize>,
+    /// The stimuli by number, each at its row.
+    pub rows: Items<StimulusRow>,
 }

@@ -3,8 +3,9 @@
 ghost use Rattle.std.specs.Prelude.{◌≡◌, map, IfOk, OnOk};
 ghost use Rattle.fb_types.specs.Blocks.{ports_of};
 ghost use Rattle.fb_types.specs.Flat.{kind_of};
-ghost use Rattle.fb_check.specs.Directory.{AreInputs, IsInputs, IsExtended, AreEvents, AreWiths, AreTypes, AreTargets};
+ghost use Rattle.fb_check.specs.Directory.{AreInputs, IsInputs, IsExtended, AreEvents, AreWiths, AreVariables, AreTargets};
 
+use fb_system::rows::number_of;
 use fb_types::items::Items;
 use fb_types::library::{BlockType, Connection, EventPort, Ports, Variable};
 use fb_types::name::Name;
@@ -15,28 +16,39 @@ use std::collections::{BTreeMap, BTreeSet};
 /// Pairs of names.
 pub type Pairs<'a> = BTreeSet<(&'a [u8], &'a [u8]), Global>;
 
+/// A data input: its place among those of its type, and what values it holds.
+#[derive(Clone, Copy)]
+pub struct Input {
+    pub place: u32,
+    pub ty: Ty,
+}
+
 /// What stimuli may name of a type.
 #[derive(Drop)]
 pub struct Inputs<'a> {
-    /// The event inputs.
-    pub events: BTreeSet<&'a [u8], Global>,
+    /// The places of the event inputs.
+    pub events: BTreeMap<&'a [u8], u32, Global>,
     /// The event inputs, each with a variable that goes WITH it.
     pub withs: Pairs<'a>,
-    /// The types of the data inputs.
-    pub types: BTreeMap<&'a [u8], Ty, Global>,
+    /// The data inputs.
+    pub variables: BTreeMap<&'a [u8], Input, Global>,
 }
 
+/// The places of events. Of events with one name the first counts.
 fn events_of<'a>(
     alloc: Global,
     events: &'a [EventPort],
-) -> Result<BTreeSet<&'a [u8], Global>, AllocError>
+) -> Result<BTreeMap<&'a [u8], u32, Global>, AllocError>
     ensures { IfOk result (AreEvents events.now) }
 {
-    let mut names = BTreeSet::new(alloc);
-    for event in events {
-        names.insert(event.name.as_bytes())?;
+    let mut places = BTreeMap::new(alloc);
+    for (place, event) in events.iter().enumerate() {
+        let name = event.name.as_bytes();
+        if !places.contains_key(name) {
+            places.insert(name, number_of(place)?)?;
+        }
     }
-    Ok(names)
+    Ok(places)
 }
 
 /// Adds the variables WITH an event.
@@ -63,21 +75,23 @@ fn withs_of<'a>(alloc: Global, events: &'a [EventPort]) -> Result<Pairs<'a>, All
     Ok(withs)
 }
 
-/// The types of variables. Of variables with one name the first counts.
-fn types_of<'a>(
+/// The places and the types of variables. Of variables with one name the first counts.
+fn variables_of<'a>(
     alloc: Global,
     variables: &'a [Variable],
-) -> Result<BTreeMap<&'a [u8], Ty, Global>, AllocError>
-    ensures { IfOk result (AreTypes variables.now) }
+) -> Result<BTreeMap<&'a [u8], Input, Global>, AllocError>
+    ensures { IfOk result (AreVariables variables.now) }
 {
-    let mut types = BTreeMap::new(alloc);
-    for variable in variables {
+    let mut inputs = BTreeMap::new(alloc);
+    for (place, variable) in variables.iter().enumerate() {
         let name = variable.name.as_bytes();
-        if !types.contains_key(name) {
-            types.insert(name, variable.ty)?;
+        if !inputs.contains_key(name) {
+            let place = number_of(place)?;
+            let ty = variable.ty;
+            inputs.insert(name, Input { place, ty })?;
         }
     }
-    Ok(types)
+    Ok(inputs)
 }
 
 fn inputs_of<'a>(alloc: Global, ports: &'a Ports) -> Result<Inputs<'a>, AllocError>
@@ -86,7 +100,7 @@ fn inputs_of<'a>(alloc: Global, ports: &'a Ports) -> Result<Inputs<'a>, AllocErr
     Ok(Inputs {
         events: events_of(alloc, ports.event_inputs.as_slice())?,
         withs: withs_of(alloc, ports.event_inputs.as_slice())?,
-        types: types_of(alloc, ports.inputs.as_slice())?,
+        variables: variables_of(alloc, ports.inputs.as_slice())?,
     })
 }
 

@@ -1,20 +1,24 @@
 //! The checks in the order of their numbers.
 
-ghost use Rattle.std.specs.Prelude.{IfOk, IfErr};
+ghost use Rattle.std.specs.Prelude.{◌≡◌, IfOk, IfErr};
 ghost use Rattle.fb_names.specs.Catalog.{IsCatalog};
 ghost use Rattle.fb_names.specs.Numbers.{IsResolved};
+ghost use Rattle.fb_system.specs.Linking.{holders_of};
+ghost use Rattle.fb_system.specs.Rows.{AreRows};
 ghost use Rattle.fb_check.specs.Verdicts.{AreAccepted, HasPassed, IsRightly};
 
 use crate::case::{Case, Judged};
 use crate::fault::{Fault, Refusal};
 use crate::mapping_checks::judge_mapping;
-use crate::network_checks::{judge_heights, judge_kinds, judge_ranges, judge_sources};
-use crate::stimuli::has_bad_stimulus;
+use crate::network_checks::judge_networks;
+use crate::stimuli::rows_of;
 use fb_joins::counts::has_too_many_instances;
 use fb_kinds::parts::are_parts_known;
 use fb_names::catalog::{Catalog, catalog_of};
 use fb_names::numbers::Resolved;
 use fb_names::resolve::resolve;
+use fb_system::rows::StimulusRow;
+use fb_types::items::Items;
 use std::alloc::Global;
 
 /// The most stimuli that may be handed in.
@@ -46,17 +50,22 @@ fn numbers(alloc: Global, case: &Case, catalog: &Catalog) -> Result<Resolved, Re
     }
 }
 
-/// E29: stimuli that fit.
-fn judge_stimuli(alloc: Global, case: &Case, catalog: &Catalog) -> Result<(), Refusal>
+/// E29: the stimuli by number, where each fits.
+fn judge_stimuli(
+    alloc: Global,
+    case: &Case,
+    catalog: &Catalog,
+) -> Result<Items<StimulusRow>, Refusal>
     requires catalog { IsCatalog case.now.library.now case.now.plan.now catalog.now }
     requires passed { HasPassed 29 case.now }
+    ensures rows { IfOk result (AreRows case.now.library.now case.now.stimuli.now) }
     ensures ok { IfOk result (λ _. HasPassed 30 case.now) }
     ensures refused { IfErr result (IsRightly case.now) }
 {
-    if has_bad_stimulus(alloc, case.library, catalog, case.stimuli)? {
-        return Err(Refusal::Fault(Fault::BadStimulus));
+    match rows_of(alloc, case.library, catalog, case.stimuli)? {
+        Some(rows) => Ok(rows),
+        None => Err(Refusal::Fault(Fault::BadStimulus)),
     }
-    Ok(())
 }
 
 /// E30: not over a limit.
@@ -72,40 +81,26 @@ fn judge_limits(alloc: Global, case: &Case, resolved: &Resolved) -> Result<(), R
     Ok(())
 }
 
-/// The checks behind E21, by the places and the numbers of the names.
-fn judge_by_numbers(
-    alloc: Global,
-    case: &Case,
-    catalog: &Catalog,
-    resolved: &Resolved,
-) -> Result<(), Refusal>
-    requires catalog { IsCatalog case.now.library.now case.now.plan.now catalog.now }
-    requires resolved { IsResolved case.now.library.now case.now.plan.now resolved.now }
-    ensures accepted { IfOk result (λ _. AreAccepted case.now) }
-    ensures refused { IfErr result (IsRightly case.now) }
-{
-    judge_kinds(case, catalog, resolved)?;
-    judge_ranges(case, resolved)?;
-    judge_sources(alloc, case)?;
-    judge_heights(alloc, case, resolved)?;
-    judge_mapping(alloc, case, resolved)?;
-    judge_stimuli(alloc, case, catalog)?;
-    judge_limits(alloc, case, resolved)
-}
-
-/// The names and numbers of inputs that are accepted. Else the error is as with `judge`.
+/// What is made of inputs that are accepted. Else the error is as with `judge`.
 pub fn judged<'a>(alloc: Global, case: &Case<'a>) -> Result<Judged<'a>, Refusal>
     ensures accepted { IfOk result (λ _. AreAccepted case.now) }
     ensures catalog { IfOk result (λ j. IsCatalog case.now.library.now case.now.plan.now j.catalog) }
     ensures numbers { IfOk result (λ j. IsResolved case.now.library.now case.now.plan.now j.numbers) }
+    ensures holders { IfOk result (λ j. j.holders ≡ holders_of case.now.library.now case.now.plan.now) }
+    ensures rows { IfOk result (λ j. AreRows case.now.library.now case.now.stimuli.now j.rows) }
     ensures refused { IfErr result (IsRightly case.now) }
 {
     let catalog = catalog(alloc, case)?;
-    let resolved = numbers(alloc, case, &catalog)?;
-    judge_by_numbers(alloc, case, &catalog, &resolved)?;
+    let numbers = numbers(alloc, case, &catalog)?;
+    judge_networks(alloc, case, &catalog, &numbers)?;
+    let holders = judge_mapping(alloc, case, &numbers)?;
+    let rows = judge_stimuli(alloc, case, &catalog)?;
+    judge_limits(alloc, case, &numbers)?;
     Ok(Judged {
         catalog,
-        numbers: resolved,
+        numbers,
+        holders,
+        rows,
     })
 }
 

@@ -1,16 +1,18 @@
 //! The checks of how instances and connections are mapped, from E26 to E28.
 
-ghost use Rattle.std.specs.Prelude.{IfOk, IfErr};
+ghost use Rattle.std.specs.Prelude.{◌≡◌, IfOk, IfErr};
 ghost use Rattle.fb_joins.specs.Mapping.{IsMapping};
 ghost use Rattle.fb_names.specs.Numbers.{IsResolved};
+ghost use Rattle.fb_system.specs.Linking.{holders_of};
 ghost use Rattle.fb_check.specs.Verdicts.{HasPassed, IsRightly};
 
 use crate::case::Case;
 use crate::fault::{Fault, Refusal};
 use fb_joins::links::lacks_link;
-use fb_joins::mapping::{Mapping, mapping_of};
+use fb_joins::mapping::{Mapping, holders_of, mapping_of};
 use fb_joins::uncarried::lacks_event;
 use fb_names::numbers::Resolved;
+use fb_types::items::Items;
 use std::alloc::Global;
 
 /// E26: each instance mapped once.
@@ -58,14 +60,21 @@ fn judge_events(
     Ok(())
 }
 
-/// The checks from E26 to E28.
-pub fn judge_mapping(alloc: Global, case: &Case, resolved: &Resolved) -> Result<(), Refusal>
+/// The checks from E26 to E28. For each instance of the application the resource that holds it.
+pub fn judge_mapping(
+    alloc: Global,
+    case: &Case,
+    resolved: &Resolved,
+) -> Result<Items<usize>, Refusal>
     requires resolved { IsResolved case.now.library.now case.now.plan.now resolved.now }
     requires passed { HasPassed 26 case.now }
+    ensures holders { IfOk result (λ h. h ≡ holders_of case.now.library.now case.now.plan.now) }
     ensures ok { IfOk result (λ _. HasPassed 29 case.now) }
     ensures refused { IfErr result (IsRightly case.now) }
 {
     let mapping = mapping(alloc, case)?;
     judge_links(alloc, case, &mapping)?;
-    judge_events(alloc, case, &mapping, resolved)
+    judge_events(alloc, case, &mapping, resolved)?;
+    let holders = holders_of(alloc, case.library, &mapping)?;
+    Ok(holders)
 }

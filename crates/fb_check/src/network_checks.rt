@@ -17,7 +17,7 @@ use fb_names::numbers::Resolved;
 use std::alloc::Global;
 
 /// E22: expressions, statements and values of the right kind.
-pub fn judge_kinds(case: &Case, catalog: &Catalog, resolved: &Resolved) -> Result<(), Refusal>
+fn judge_kinds(case: &Case, catalog: &Catalog, resolved: &Resolved) -> Result<(), Refusal>
     requires catalog { IsCatalog case.now.library.now case.now.plan.now catalog.now }
     requires resolved { IsResolved case.now.library.now case.now.plan.now resolved.now }
     requires passed { HasPassed 22 case.now }
@@ -31,7 +31,7 @@ pub fn judge_kinds(case: &Case, catalog: &Catalog, resolved: &Resolved) -> Resul
 }
 
 /// E23: data connections to types that hold all values.
-pub fn judge_ranges(case: &Case, resolved: &Resolved) -> Result<(), Refusal>
+fn judge_ranges(case: &Case, resolved: &Resolved) -> Result<(), Refusal>
     requires resolved { IsResolved case.now.library.now case.now.plan.now resolved.now }
     requires passed { HasPassed 23 case.now }
     ensures ok { IfOk result (λ _. HasPassed 24 case.now) }
@@ -44,7 +44,7 @@ pub fn judge_ranges(case: &Case, resolved: &Resolved) -> Result<(), Refusal>
 }
 
 /// E24: one source for each port.
-pub fn judge_sources(alloc: Global, case: &Case) -> Result<(), Refusal>
+fn judge_sources(alloc: Global, case: &Case) -> Result<(), Refusal>
     requires passed { HasPassed 24 case.now }
     ensures ok { IfOk result (λ _. HasPassed 25 case.now) }
     ensures refused { IfErr result (IsRightly case.now) }
@@ -56,7 +56,7 @@ pub fn judge_sources(alloc: Global, case: &Case) -> Result<(), Refusal>
 }
 
 /// E25: composites of a height up to 16.
-pub fn judge_heights(alloc: Global, case: &Case, resolved: &Resolved) -> Result<(), Refusal>
+fn judge_heights(alloc: Global, case: &Case, resolved: &Resolved) -> Result<(), Refusal>
     requires resolved { IsResolved case.now.library.now case.now.plan.now resolved.now }
     requires passed { HasPassed 25 case.now }
     ensures ok { IfOk result (λ _. HasPassed 26 case.now) }
@@ -66,4 +66,22 @@ pub fn judge_heights(alloc: Global, case: &Case, resolved: &Resolved) -> Result<
         return Err(Refusal::Fault(Fault::TooHigh));
     }
     Ok(())
+}
+
+/// The checks from E22 to E25.
+pub fn judge_networks(
+    alloc: Global,
+    case: &Case,
+    catalog: &Catalog,
+    resolved: &Resolved,
+) -> Result<(), Refusal>
+    requires catalog { IsCatalog case.now.library.now case.now.plan.now catalog.now }
+    requires resolved { IsResolved case.now.library.now case.now.plan.now resolved.now }
+    ensures ok { IfOk result (λ _. HasPassed 26 case.now) }
+    ensures refused { IfErr result (IsRightly case.now) }
+{
+    judge_kinds(case, catalog, resolved)?;
+    judge_ranges(case, resolved)?;
+    judge_sources(alloc, case)?;
+    judge_heights(alloc, case, resolved)
 }

@@ -1,42 +1,50 @@
-//! Stimuli that an application can't take (E29).
+//! The stimuli by number, where an application can take them (E29).
 
-ghost use Rattle.std.specs.Prelude.{◌≡◌, ◌↔◌, ◌++◌, map, IfOk, IsTrue};
-ghost use Rattle.std.specs.List.{list_all};
+ghost use Rattle.std.specs.Prelude.{◌≡◌, ◌↔◌, ◌++◌, map, IfOk, IsTrue, MatchOption};
 ghost use Rattle.std.specs.Option.{option_copied};
 ghost use Rattle.fb_types.specs.Accepted.{BadStimulus, set_names};
 ghost use Rattle.fb_types.specs.Repeated.{Twice};
 ghost use Rattle.fb_types.specs.Unknown.{NameUnknown};
 ghost use Rattle.fb_types.specs.declared.deploy.Plan.{Plan};
 ghost use Rattle.fb_names.specs.Catalog.{IsCatalog};
-ghost use Rattle.fb_names.specs.Places.{names_in};
-ghost use Rattle.fb_check.specs.Directory.{IsDirectory, IsFound, CanTake, HasRefused, holds, is_settable, ports_at};
+ghost use Rattle.fb_names.specs.Numbers.{each_or_none};
+ghost use Rattle.fb_names.specs.Places.{names_in, place_in};
+ghost use Rattle.fb_check.specs.Directory.{IsDirectory, IsFound, CanTake, IsTaken, AreTaken, held_slot, input_in, ports_at_place, slot_of};
 
 use crate::directory::{Directory, directory_of, inputs_named};
 use crate::directory_making::Inputs;
 use fb_names::catalog::Catalog;
 use fb_names::places::{place_of, places_of};
+use fb_system::rows::{SlotValue, StimulusRow, number_of};
 use fb_types::deploy::{Setting, Stimulus};
 use fb_types::event_ports::all_ports;
+use fb_types::items::Items;
 use fb_types::library::Library;
 use fb_types::name::Name;
 use fb_types::value::Value;
 use std::alloc::{AllocError, Global};
 
-/// What a stimulus may name of the type of an instance, or `None` where the application has no such instance.
+/// What a stimulus may name of the type of the instance of the application at a place.
 fn inputs_at<'d, 'a>(
     library: &Library,
     catalog: &Catalog,
     directory: &'d Directory<'a>,
-    instance: &[u8],
+    place: usize,
 ) -> Option<&'d Inputs<'a>>
     requires catalog { (plan : Plan) × IsCatalog library.now plan catalog.now }
     requires directory { IsDirectory library.now directory.now }
-    ensures { IsFound (ports_at library.now instance.now) (option_copied result) }
+    ensures { IsFound (ports_at_place library.now place) (option_copied result) }
 {
-    let place = place_of(&catalog.instances, instance)?;
     let instance = library.application.network.instances.get(place)?;
     let name = instance.block_type.as_bytes();
     inputs_named(library, directory, &catalog.types, name)
+}
+
+/// The place of an event input.
+fn event_place(inputs: &Inputs, event: &[u8]) -> Option<u32>
+    ensures { result ≡ place_in inputs.now.events event.now }
+{
+    inputs.events.get(event).copied()
 }
 
 /// Adds the names of the variables that are set.
@@ -58,93 +66,121 @@ fn has_setting_twice(alloc: Global, stimulus: &Stimulus) -> Result<bool, AllocEr
     Ok(places_of(alloc, names.as_slice())?.is_none())
 }
 
-/// Whether a data input has a type that holds the value.
-fn can_hold(inputs: &Inputs, variable: &[u8], value: Value) -> bool
-    ensures { result ≡ holds inputs.now variable.now value }
+/// The slot of a data input with the value that it gets, where its type holds the value.
+fn held_slot(inputs: &Inputs, variable: &[u8], value: Value) -> Option<SlotValue>
+    ensures { result ≡ held_slot (input_in inputs.now.variables variable.now) value }
 {
-    match inputs.types.get(variable) {
-        Some(ty) => ty.holds(value),
-        None => false,
-    }
+    let place = match inputs.variables.get(variable) {
+        Some(input) if input.ty.holds(value) => input.place,
+        _ => return None,
+    };
+    Some(SlotValue { place, value })
 }
 
-/// Whether a variable goes WITH the event of the stimulus, is not connected, and can hold the value.
-fn can_set<'a>(
+/// The slot of a variable that goes WITH the event of the stimulus, is not connected, and can hold the value.
+fn slot_of<'a>(
     directory: &Directory<'a>,
     inputs: &Inputs<'a>,
     stimulus: &'a Stimulus,
     setting: &'a Setting,
-) -> bool
-    ensures { result ≡ is_settable directory.now inputs.now stimulus.now setting.now }
+) -> Option<SlotValue>
+    ensures { result ≡ slot_of directory.now inputs.now stimulus.now setting.now }
 {
     let variable = setting.variable.as_bytes();
     let at_event = (stimulus.event.as_bytes(), variable);
     let at_instance = (stimulus.instance.as_bytes(), variable);
-    inputs.withs.contains(&at_event)
-        && !directory.targets.contains(&at_instance)
-        && can_hold(inputs, variable, setting.value)
+    if inputs.withs.contains(&at_event) && !directory.targets.contains(&at_instance) {
+        held_slot(inputs, variable, setting.value)
+    } else {
+        None
+    }
 }
 
-/// Whether each setting of a stimulus can be made.
-fn can_set_all<'a>(directory: &Directory<'a>, inputs: &Inputs<'a>, stimulus: &'a Stimulus) -> bool
-    ensures { result ≡ list_all (is_settable directory.now inputs.now stimulus.now) stimulus.now.settings }
+/// The slots that a stimulus sets, in the order of its settings, or `None` where one can't be set.
+fn slots_of<'a>(
+    alloc: Global,
+    directory: &Directory<'a>,
+    inputs: &Inputs<'a>,
+    stimulus: &'a Stimulus,
+) -> Result<Option<Items<SlotValue>>, AllocError>
+    ensures { IfOk result (λ o. o ≡ each_or_none (slot_of directory.now inputs.now stimulus.now) stimulus.now.settings) }
 {
-    let settings = stimulus.settings.as_slice();
-    for setting in settings {
-        if !can_set(directory, inputs, stimulus, setting) {
-            return false;
+    let mut slots = Items::new(alloc);
+    for setting in stimulus.settings.as_slice() {
+        match slot_of(directory, inputs, stimulus, setting) {
+            Some(slot) => slots.push(slot)?,
+            None => return Ok(None),
         }
     }
-    true
+    Ok(Some(slots))
 }
 
-/// Whether the application can take a stimulus.
-fn can_take<'a>(
+/// A stimulus by number, or `None` where the application can't take it.
+fn row_of<'a>(
     alloc: Global,
     library: &Library,
     catalog: &Catalog,
     directory: &Directory<'a>,
     stimulus: &'a Stimulus,
-) -> Result<bool, AllocError>
+) -> Result<Option<StimulusRow>, AllocError>
     requires catalog { (plan : Plan) × IsCatalog library.now plan catalog.now }
     requires directory { IsDirectory library.now directory.now }
-    ensures { IfOk result (λ b. IsTrue b ↔ CanTake library.now stimulus.now) }
+    ensures { IfOk result (λ o. MatchOption o (¬ (CanTake library.now stimulus.now)) (IsTaken library.now stimulus.now)) }
 {
-    let instance = stimulus.instance.as_bytes();
-    let Some(inputs) = inputs_at(library, catalog, directory, instance) else {
-        return Ok(false);
+    let Some(place) = place_of(&catalog.instances, stimulus.instance.as_bytes()) else {
+        return Ok(None);
     };
-    if !inputs.events.contains(stimulus.event.as_bytes()) {
-        return Ok(false);
-    }
+    let Some(inputs) = inputs_at(library, catalog, directory, place) else {
+        return Ok(None);
+    };
+    let Some(event) = event_place(inputs, stimulus.event.as_bytes()) else {
+        return Ok(None);
+    };
     if has_setting_twice(alloc, stimulus)? {
-        return Ok(false);
+        return Ok(None);
     }
-    Ok(can_set_all(directory, inputs, stimulus))
+    let instance = number_of(place)?;
+    let tick = stimulus.tick;
+    match slots_of(alloc, directory, inputs, stimulus)? {
+        Some(sets) => Ok(Some(StimulusRow {
+            tick,
+            instance,
+            event,
+            sets,
+        })),
+        None => Ok(None),
+    }
 }
 
-/// Whether there is a stimulus that the application can't take.
-pub(crate) fn has_refused(
+/// The stimuli by number, each at its row, in near linear time; or `None` where one names no event input of an instance
+/// of the application, or sets a variable that is not WITH the event, is connected, is set twice, or can't hold the
+/// value (E29).
+///
+/// # Errors
+///
+/// Want of memory. A place of 2^32 or more counts as that.
+pub fn rows_of(
     alloc: Global,
     library: &Library,
     catalog: &Catalog,
     stimuli: &[Stimulus],
-) -> Result<bool, AllocError>
-    requires { (plan : Plan) × IsCatalog library.now plan catalog.now }
-    ensures { IfOk result (λ b. IsTrue b ↔ HasRefused library.now stimuli.now) }
+) -> Result<Option<Items<StimulusRow>>, AllocError>
+    requires { (plan : Plan) × IsCatalog library.now plan catalog.now × ¬ (NameUnknown library.now plan) }
+    ensures { IfOk result (λ o. MatchOption o (BadStimulus library.now stimuli.now) (AreTaken library.now stimuli.now)) }
 {
     let interfaces = all_ports(alloc)?;
     let directory = directory_of(alloc, library, interfaces.as_slice())?;
+    let mut rows = Items::new(alloc);
     for stimulus in stimuli {
-        if !can_take(alloc, library, catalog, &directory, stimulus)? {
-            return Ok(true);
+        match row_of(alloc, library, catalog, &directory, stimulus)? {
+            Some(row) => rows.push(row)?,
+            None => return Ok(None),
         }
     }
-    Ok(false)
+    Ok(Some(rows))
 }
 
-/// Whether a stimulus names no event input of an instance of the application, or sets a variable that is
-/// not WITH the event, is connected, is set twice, or can't hold the value (E29).
+/// Whether one of the stimuli can't be taken (E29).
 pub fn has_bad_stimulus(
     alloc: Global,
     library: &Library,
@@ -154,5 +190,6 @@ pub fn has_bad_stimulus(
     requires { (plan : Plan) × IsCatalog library.now plan catalog.now × ¬ (NameUnknown library.now plan) }
     ensures { IfOk result (λ b. IsTrue b ↔ BadStimulus library.now stimuli.now) }
 {
-    has_refused(alloc, library, catalog, stimuli)
+    let rows = rows_of(alloc, library, catalog, stimuli)?;
+    Ok(rows.is_none())
 }

@@ -1,11 +1,12 @@
 //! E26: instances of the application that are not mapped, and names that are mapped twice.
 
-ghost use Rattle.std.specs.Prelude.{◌≡◌, IfOk, MatchOption, flat_map, true};
+ghost use Rattle.std.specs.Prelude.{◌≡◌, IfOk, MatchOption, flat_map, map, true};
 ghost use Rattle.fb_types.specs.Repeated.{NameTwice, Twice};
 ghost use Rattle.fb_types.specs.Mapped.{NotMapped};
 ghost use Rattle.fb_joins.specs.Mapping.{IsMapping, IsListing, holder_in, resource_in};
 
 use fb_types::deploy::{Plan, Resource};
+use fb_types::items::Items;
 use fb_types::library::{Library, PortName};
 use std::alloc::{AllocError, Global};
 use std::collections::BTreeMap;
@@ -65,7 +66,7 @@ pub fn mapping_of<'a>(
 }
 
 /// The resource that holds an instance of the application, by its place from 0. A name that is not mapped gives 0.
-pub fn holder(mapping: &Mapping, name: &[u8]) -> usize
+fn holder(mapping: &Mapping, name: &[u8]) -> usize
     ensures { result ≡ holder_in mapping.now name.now }
 {
     match mapping {
@@ -82,4 +83,19 @@ pub fn resource_of(mapping: &Mapping, end: &PortName) -> usize
         Some(component) => holder(mapping, component.as_bytes()),
         None => 0,
     }
+}
+
+/// For each instance of the application, the resource that holds it, by its place from 0.
+pub fn holders_of(
+    alloc: Global,
+    library: &Library,
+    mapping: &Mapping,
+) -> Result<Items<usize>, AllocError>
+    ensures { IfOk result (λ h. h ≡ map (λ i. holder_in mapping.now i.name) library.now.application.network.instances) }
+{
+    let mut holders = Items::new(alloc);
+    for instance in library.application.network.instances.as_slice() {
+        holders.push(holder(mapping, instance.name.as_bytes()))?;
+    }
+    Ok(holders)
 }

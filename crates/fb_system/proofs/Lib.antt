@@ -13,7 +13,3 @@ pub mod Named
 pub mod Placing
 pub mod Naming
 pub mod Initial
-pub mod Tables
-pub mod TypesByName
-pub mod Known
-pub mod Numbered

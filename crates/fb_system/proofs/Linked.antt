@@ -1,6 +1,6 @@
 -- What the numbers of resources and links stand for.
 use Rattle.std.proofs.Common.{◌≡◌, ℕ, zero, suc, ◌<◌, ◌+◌, Bool, true, false, cond, nat_eq, ◌&&◌, List, [], ◌∷◌, length, map, get_or, Option, Some, None, refl, sym, ◌∙◌, ap, inl, arith}
-use Rattle.std.specs.Prelude.{position, slice_get, unwrap_or, option_map}
+use Rattle.std.specs.Prelude.{position, slice_get, unwrap_or, option_map, option_and_then}
 use Rattle.std.proofs.lemmas.Bool.{true≢false, false_from_ne_true}
 use Rattle.std.proofs.lemmas.Bool.Decides.{nat_tests}
 use Rattle.std.proofs.lemmas.Option.{slice_get-map, slice_get-get_or, same_Some}
@@ -19,8 +19,7 @@ use Rattle.fb_names.specs.Numbers.{IsResolved, each_or_none, link_ends, place_of
 use Rattle.fb_names.specs.declared.numbers.LinkEnds.{LinkEnds}
 use Rattle.fb_names.specs.declared.numbers.Resolved.{Resolved}
 use Rattle.fb_names.proofs.Each.{each_parts}
-use Rattle.fb_joins.proofs.Elements.{and_then_some, map_some}
-use Rattle.fb_system.specs.Linking.{IsLinked, joins}
+use Rattle.fb_system.specs.Linking.{IsLinked, holders_of, joins}
 
 -- ---- Elements of two lists, of which one was made of the other
 
@@ -50,6 +49,14 @@ each_position f p q (x ∷ xs) zs e same =
     ∙ sym (position-cons p x xs)
 
 -- ---- Links
+
+and_then_some : {A B : Type 0} (f : A → Option B) (o : Option A) (y : B) → option_and_then f o ≡ Some y → (x : A) × (o ≡ Some x) × (f x ≡ Some y)
+and_then_some f None y h = absurd (cc)
+and_then_some f (Some x) y h = (x, refl, h)
+
+map_some : {A B : Type 0} (f : A → B) (o : Option A) (y : B) → option_map f o ≡ Some y → (x : A) × (o ≡ Some x) × (f x ≡ y)
+map_some f None y h = absurd (cc)
+map_some f (Some x) y h = let e : f x ≡ y = cc in (x, refl, e)
 
 abbrev the_ends : ℕ → ℕ → LinkEnds
 the_ends x y = record { from = x; to = y }
@@ -102,7 +109,7 @@ resource_at plan n k h = sym (ap (λ (o : Option ℕ). unwrap_or o 0) h)
 
 pub linked_from :
     (lib : Library) (plan : Plan) (numbers : Resolved) (holders : List ℕ) (ends : List LinkEnds) → IsResolved lib plan numbers → ¬ (NameTwice lib plan)
-    → holders ≡ map (λ i. holder plan i.name) lib.application.network.instances → ends ≡ numbers.links
+    → holders ≡ holders_of lib plan → ends ≡ numbers.links
     → IsLinked lib plan (record { holders = holders; ends = ends })
 linked_from lib plan numbers holders ends resolved once held same =
     let all : each_or_none (link_ends plan) plan.links ≡ Some ends = resolved.links ∙ ap (λ (es : List LinkEnds). Some es) (sym same) in

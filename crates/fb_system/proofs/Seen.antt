@@ -7,7 +7,6 @@ use Rattle.std.proofs.lemmas.Option.{slice_get-get_or}
 use Rattle.fb_types.specs.Flat.{kind_at, latency_at, link_between, number_of, paths_of, source_of, targets_of}
 use Rattle.fb_types.specs.Headline.{AreAccepted, Inputs, system_of, inputs}
 use Rattle.fb_types.specs.Joined.{TooHigh}
-use Rattle.fb_types.specs.Mapped.{NotMapped}
 use Rattle.fb_types.specs.Numbers.{port_of}
 use Rattle.fb_types.specs.Repeated.{NameTwice}
 use Rattle.fb_types.specs.Text.{path_text}
@@ -44,9 +43,6 @@ known_of i h t = h 21 (inr (inl (refl, t)))
 
 pub low_of : (i : Inputs) → AreAccepted i → ¬ (TooHigh i.library)
 low_of i h t = h 25 (inr (inr (inr (inr (inr (inl (refl, t)))))))
-
-pub mapped_of : (i : Inputs) → AreAccepted i → ¬ (NotMapped i.library i.plan)
-mapped_of i h t = h 26 (inr (inr (inr (inr (inr (inr (inl (refl, t))))))))
 
 pub few_of : (i : Inputs) → AreAccepted i → length (paths_of i.library) ≤ 4096
 few_of i h =
@@ -233,14 +229,14 @@ pub ok_seen : {A E : Type 0} (r : Result A E) (a b : A) → a ≡ b → IfOk r (
 ok_seen {A} r a b e h = subst (λ (x : A). IfOk r (λ s. s ≡ x)) e h
 
 pub made :
-    (lib f : Library) (plan p q : Plan) (stimuli xs : List Stimulus) (links : Linked) (blocks : List Ports) (interfaces its : Interfaces) (rows rs : List StimulusRow)
-    → AreAccepted (inputs lib plan stimuli) → AreInterfaces lib interfaces → AreRows lib stimuli rows → q ≡ plan → IsLinked lib q links → ArePortsOfKinds blocks
+    (lib f : Library) (plan p : Plan) (stimuli xs : List Stimulus) (links : Linked) (blocks : List Ports) (interfaces its : Interfaces) (rows rs : List StimulusRow)
+    → AreAccepted (inputs lib plan stimuli) → AreInterfaces lib interfaces → AreRows lib stimuli rows → IsLinked lib plan links → ArePortsOfKinds blocks
     → f ≡ lib → p ≡ plan → xs ≡ stimuli → its ≡ interfaces → rs ≡ rows → StandFor (whole_of p xs f links blocks its rs)
-made lib f plan p q stimuli xs links blocks interfaces its rows rs accepted of_types by_number read linked of_kinds library deploy same types numbers =
+made lib f plan p stimuli xs links blocks interfaces its rows rs accepted of_types by_number linked of_kinds library deploy same types numbers =
     let view = view_made lib f plan p stimuli xs library deploy same in
     record {
       accepted = subst (λ (i : Inputs). AreAccepted i) (sym view) accepted;
-      links = subst (λ (i : Inputs). IsLinked i.library i.plan links) (sym view) (subst (λ (p : Plan). IsLinked lib p links) read linked);
+      links = subst (λ (i : Inputs). IsLinked i.library i.plan links) (sym view) linked;
       event_blocks = of_kinds;
       interfaces = subst (λ (l : Library). AreInterfaces l its) (sym library) (subst (λ (t : Interfaces). AreInterfaces lib t) (sym types) of_types);
       rows = subst (λ (i : Inputs). AreRows i.library i.stimuli rs) (sym view) (subst (λ (s : List StimulusRow). AreRows lib stimuli s) (sym numbers) by_number);

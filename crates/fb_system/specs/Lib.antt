@@ -7,5 +7,4 @@ pub mod Stands
 pub mod Lookups
 pub mod Tables
 pub mod Begins
-pub mod Interfaces
 pub mod Rows

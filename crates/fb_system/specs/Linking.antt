@@ -1,5 +1,5 @@
 -- Resources and links by their places (IEC 61499-1, 7; links are this project's profile).
-use Rattle.std.specs.Prelude.{◌≡◌, ℕ, ◌<◌, Bool, ◌&&◌, nat_eq, List, length, Option, Some, None, position, slice_get, unwrap_or}
+use Rattle.std.specs.Prelude.{◌≡◌, ℕ, ◌<◌, Bool, ◌&&◌, nat_eq, List, length, map, Option, Some, None, position, slice_get, unwrap_or}
 use Rattle.std.specs.Ordering.{nat_cmp, ordering_then}
 use Rattle.std.specs.BTreeMap.{BTreeMap, get}
 use Rattle.std.specs.declared.cmp.Ordering.{Ordering}
@@ -13,6 +13,10 @@ use Rattle.fb_names.specs.declared.numbers.LinkEnds.{LinkEnds}
 pub record Linked : Type 0 where
   pub holders : List ℕ
   pub ends : List LinkEnds
+
+-- for each instance of the application, the resource that holds it
+abbrev pub holders_of : Library → Plan → List ℕ
+holders_of lib plan = map (λ i. holder plan i.name) lib.application.network.instances
 
 -- ---- What is looked up
 

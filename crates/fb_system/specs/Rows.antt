@@ -1,9 +1,8 @@
 -- Stimuli by number (IEC 61499-1, 5.1 and 7; the numbers are this project's profile).
-use Rattle.std.specs.Prelude.{◌≡◌, ◌<◌, ℕ, List, [], map, length, true, Some, All, slice_get, unwrap_or}
-use Rattle.std.specs.List.{list_all}
-use Rattle.fb_types.specs.Blocks.{Kind, Bound, ports_of, event_names, variable_names, is_event_input}
+use Rattle.std.specs.Prelude.{◌≡◌, ◌<◌, ℕ, List, [], map, length, Some, All, slice_get, unwrap_or}
+use Rattle.fb_types.specs.Blocks.{Kind, Bound, ports_of, event_names, variable_names}
 use Rattle.fb_types.specs.Flat.{instance_in, kind_of_instance}
-use Rattle.fb_types.specs.Accepted.{kind_of_stimulus, is_held}
+use Rattle.fb_types.specs.Accepted.{kind_of_stimulus}
 use Rattle.fb_types.specs.declared.deploy.Setting.{Setting}
 use Rattle.fb_types.specs.declared.deploy.Stimulus.{Stimulus}
 use Rattle.fb_types.specs.declared.library.Instance.{Instance}
@@ -32,13 +31,6 @@ pub record AreSets (vs : List Variable) (ss : List Setting) (xs : List SlotValue
   pub within : All (λ x. x.place < length vs) xs
 
 -- ---- Stimuli
-
--- A stimulus names an event input of an instance of the application, and sets data inputs of it.
-pub record IsKnown (lib : Library) (s : Stimulus) : Type 0 where
-  pub kind : Kind
-  pub of_kind : kind_of_stimulus lib s ≡ Some kind
-  pub is_event : is_event_input (ports_of kind) s.event ≡ true
-  pub held : list_all (is_held (ports_of kind)) s.settings ≡ true
 
 -- The row stands for the stimulus: its instance among those of the application, and the ports of the instance's type.
 pub record IsRow (lib : Library) (s : Stimulus) (row : StimulusRow) : Type 0 where

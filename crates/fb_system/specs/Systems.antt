@@ -1,10 +1,20 @@
 -- What the tables of a system stand for (the numbers are this project's profile).
+use Rattle.std.specs.Prelude.{◌≡◌}
 use Rattle.fb_types.specs.EventPorts.{ArePortsOfKinds}
 use Rattle.fb_types.specs.Headline.{Inputs, AreAccepted}
+use Rattle.fb_names.specs.Numbers.{IsResolved}
 use Rattle.fb_system.specs.Tables.{AreInterfaces}
-use Rattle.fb_system.specs.Linking.{IsLinked}
+use Rattle.fb_system.specs.Linking.{IsLinked, holders_of}
 use Rattle.fb_system.specs.Rows.{AreRows}
+use Rattle.fb_system.specs.declared.given.Given.{Given}
 use Rattle.fb_system.specs.declared.whole.Whole.{Whole}
+
+-- what is known of inputs by number
+pub record IsGiven (i : Inputs) (x : Given) : Type 0 where
+  pub numbers : IsResolved i.library i.plan x.numbers
+  pub holders : x.holders ≡ holders_of i.library i.plan
+  pub interfaces : AreInterfaces i.library x.interfaces
+  pub rows : AreRows i.library i.stimuli x.rows
 
 -- the inputs that the tables were made from
 abbrev pub inputs_of : Whole → Inputs

@@ -6,16 +6,14 @@
 //!
 //! To be read in this order: `system`, what is asked; `stimulus`; `whole`, what is kept; `types`. Then the tables:
 //! `links`, resources and links; `interfaces` with `with_places` and `event_block_with_places`, the variables WITH each
-//! event; `initial_values`, what variables begin with; `rows`, the stimuli by number, with `interfaces_by_name` and
-//! `ports`, where their names are looked up.
+//! event; `initial_values`, what variables begin with; `rows`, the stimuli by number. The check above fills them: `given`.
 #![tactic(auto)]
 
 mod event_block_with_places;
+pub mod given;
 pub mod initial_values;
 pub mod interfaces;
-mod interfaces_by_name;
 pub mod links;
-mod ports;
 pub mod rows;
 pub mod stimulus;
 pub mod system;

@@ -1,18 +1,14 @@
 //! Which resource holds an instance of the application, and which link leads from one resource to another.
 
-ghost use Rattle.std.specs.Prelude.{◌≡◌, map, IfOk};
-ghost use Rattle.fb_types.specs.Flat.{holder as holder_of};
-ghost use Rattle.fb_types.specs.Mapped.{NotMapped};
+ghost use Rattle.std.specs.Prelude.{◌≡◌, IfOk};
 ghost use Rattle.fb_types.specs.Repeated.{NameTwice};
+ghost use Rattle.fb_types.specs.declared.deploy.Plan.{Plan};
+ghost use Rattle.fb_types.specs.declared.library.Library.{Library};
 ghost use Rattle.fb_names.specs.Numbers.{IsResolved};
-ghost use Rattle.fb_joins.specs.Mapping.{IsHolding};
-ghost use Rattle.fb_system.specs.Linking.{AreWays, IsLinked, holder_at, link_at, receiver_at, sender_at};
+ghost use Rattle.fb_system.specs.Linking.{AreWays, IsLinked, holder_at, holders_of, link_at, receiver_at, sender_at};
 
-use fb_joins::mapping::{Mapping, holder, mapping_of};
 use fb_names::numbers::{LinkEnds, Resolved};
-use fb_types::deploy::Plan;
 use fb_types::items::Items;
-use fb_types::library::{Instance, Library};
 use std::alloc::{AllocError, Global};
 use std::collections::BTreeMap;
 use std::marker::Model;
@@ -41,36 +37,6 @@ impl Model for Links {
     ghost invariant = { λ l. AreWays l.ends l.ways };
 }
 
-/// For each instance, the resource that holds it.
-fn resources_of(
-    alloc: Global,
-    plan: &Plan,
-    mapping: &Mapping,
-    instances: &[Instance],
-) -> Result<Items<usize>, AllocError>
-    requires { IsHolding plan.now mapping.now }
-    ensures { IfOk result (λ h. h ≡ map (λ i. holder_of plan.now i.name) instances.now) }
-{
-    let mut holders = Items::new(alloc);
-    for instance in instances {
-        holders.push(holder(mapping, instance.name.as_bytes()))?;
-    }
-    Ok(holders)
-}
-
-/// For each instance of the application, the resource that holds it.
-fn holders_of(alloc: Global, library: &Library, plan: &Plan) -> Result<Items<usize>, AllocError>
-    requires once { ¬ (NameTwice library.now plan.now) }
-    requires mapped { ¬ (NotMapped library.now plan.now) }
-    ensures { IfOk result (λ h. h ≡ map (λ i. holder_of plan.now i.name) library.now.application.network.instances) }
-{
-    let Some(mapping) = mapping_of(alloc, library, plan)? else {
-        unreachable!()
-    };
-    let instances = library.application.network.instances.as_slice();
-    resources_of(alloc, plan, &mapping, instances)
-}
-
 /// The first link from any resource to any other.
 fn ways_of(alloc: Global, links: &[LinkEnds]) -> Result<Ways, AllocError>
     ensures { IfOk result (AreWays links.now) }
@@ -86,19 +52,10 @@ fn ways_of(alloc: Global, links: &[LinkEnds]) -> Result<Ways, AllocError>
 }
 
 impl Links {
-    /// The resources and links of a deployment that maps each instance of the application once.
-    pub fn of(
-        alloc: Global,
-        library: &Library,
-        plan: &Plan,
-        numbers: &Resolved,
-    ) -> Result<Links, AllocError>
-        requires numbers { IsResolved library.now plan.now numbers.now }
-        requires once { ¬ (NameTwice library.now plan.now) }
-        requires mapped { ¬ (NotMapped library.now plan.now) }
-        ensures { IfOk result (IsLinked library.now plan.now) }
+    /// The resources and links of a deployment, from the holders of the application's instances.
+    pub fn of(alloc: Global, holders: Items<usize>, numbers: &Resolved) -> Result<Links, AllocError>
+        ensures { (library : Library) (plan : Plan) → IsResolved library plan numbers.now → ¬ (NameTwice library plan) → holders ≡ holders_of library plan → IfOk result (IsLinked library plan) }
     {
-        let holders = holders_of(alloc, library, plan)?;
         let ends = Items::from_slice(alloc, numbers.links.as_slice())?;
         let ways = ways_of(alloc, ends.as_slice())?;
         Ok(Links {

@@ -7,26 +7,23 @@ ghost use Rattle.fb_types.specs.Limits.{IsWithinLimits};
 ghost use Rattle.fb_types.specs.Numbers.{event_at, path_at, port_of, ports_at};
 ghost use Rattle.fb_types.specs.Blocks.{inputs_with, outputs_with};
 ghost use Rattle.fb_system.specs.Stands.{ArePlaces, AreWithPlaces};
-ghost use Rattle.fb_system.specs.Tables.{AreInterfaces};
-ghost use Rattle.fb_system.specs.Rows.{AreRows};
 ghost use Rattle.fb_system.specs.Stimuli.{IsStimulusAt, initial_inputs, initial_outputs};
 ghost use Rattle.fb_types.specs.Text.{path_text};
 ghost use Rattle.fb_fabric.specs.Layouts.{AreComponents, AreNumbers, IsParent, route_to};
-ghost use Rattle.fb_names.specs.Numbers.{IsResolved, kind_of_number};
+ghost use Rattle.fb_names.specs.Numbers.{kind_of_number};
 ghost use Rattle.fb_system.specs.Ports.{IsPort, IsSource, IsTarget, IsVariable, variable_of};
-ghost use Rattle.fb_system.specs.Systems.{inputs_of, StandFor};
+ghost use Rattle.fb_system.specs.Systems.{inputs_of, IsGiven, StandFor};
 
+use crate::given::Given;
 use crate::initial_values::{input_values, output_values};
-use crate::interfaces::Interfaces;
 use crate::links::Links;
-use crate::rows::StimulusRow;
 use crate::stimulus::StimulusAt;
 use crate::types::{ports_of_type, with_places_of_type};
 use crate::whole::{Whole, row_at};
 use crate::with_places::WithPlaces;
 use fb_fabric::beside::beside;
 use fb_fabric::fabric::{Fabric, Place};
-use fb_names::numbers::{Resolved, TypeNumber};
+use fb_names::numbers::TypeNumber;
 use fb_types::deploy::{Deploy, Plan, Stimulus};
 use fb_types::event_ports::all_ports;
 use fb_types::items::Items;
@@ -65,27 +62,29 @@ impl Model for System {
 }
 
 impl System {
-    /// The system of accepted inputs, with the numbers of the declaration and the deployment, which are taken apart.
+    /// The system of accepted inputs, with what is known of them by number, which is taken apart.
     pub fn of(
         alloc: Global,
         library: Library,
         deploy: Deploy,
         stimuli: Vec<Stimulus>,
-        numbers: Resolved,
-        interfaces: Interfaces,
-        rows: Items<StimulusRow>,
+        given: Given,
     ) -> Result<System, AllocError>
         requires accepted { AreAccepted (inputs library deploy stimuli.items) }
-        requires numbers { IsResolved library deploy numbers }
-        requires interfaces { AreInterfaces library interfaces }
-        requires rows { AreRows library stimuli.items rows }
+        requires given { IsGiven (inputs library deploy stimuli.items) given }
         ensures { IfOk result (λ s. s ≡ inputs library deploy stimuli.items) }
     {
-        let links = Links::of(alloc, &library, deploy.plan(), &numbers);
+        let Given {
+            numbers,
+            holders,
+            interfaces,
+            rows,
+        } = given;
+        let links = Links::of(alloc, holders, &numbers);
         let fabric = Fabric::of(alloc, library, numbers);
-        let given = (deploy, stimuli, interfaces, rows);
-        let (given, links, fabric, event_blocks) = beside(given, links, fabric, all_ports(alloc))?;
-        let (deploy, stimuli, interfaces, rows) = given;
+        let rest = (deploy, stimuli, interfaces, rows);
+        let (rest, links, fabric, event_blocks) = beside(rest, links, fabric, all_ports(alloc))?;
+        let (deploy, stimuli, interfaces, rows) = rest;
         let tables = Whole {
             deploy,
             stimuli: Items::from_vec(stimuli),

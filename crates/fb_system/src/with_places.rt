@@ -6,6 +6,7 @@ ghost use Rattle.fb_types.specs.Blocks.{among, variable_names};
 ghost use Rattle.fb_system.specs.Stands.{ArePlaces, ArePlacesOfEach, AreWithPlaces};
 ghost use Rattle.fb_system.specs.Lookups.{AreEvents, IsPlaced, IsList, StandFrom};
 
+use crate::rows::number_of;
 use fb_names::places::{Places, place_of};
 use fb_types::items::Items;
 use fb_types::library::{EventPort, Ports, Variable};
@@ -29,17 +30,6 @@ fn first_place(variables: &[Variable], places: &Places) -> usize
     match variables.first() {
         Some(variable) => place_of(places, variable.name.as_bytes()).unwrap_or(0),
         None => 0,
-    }
-}
-
-/// A place as a number of a table. One beyond all numbers would be that of one of more variables than memory
-/// holds, so it counts as want of memory.
-fn number_of(place: usize) -> Result<u32, AllocError>
-    ensures { IfOk result (λ n. n ≡ place) }
-{
-    match u32::try_from(place) {
-        Ok(number) => Ok(number),
-        Err(_) => Err(AllocError),
     }
 }
 

@@ -1,16 +1,25 @@
 use Rattle.std.proofs.Common.{arith}
+use Rattle.std.proofs.lemmas.Option.{MatchOption-at_none, MatchOption-at_some}
 use Rattle.fb_types.specs.Accepted.{BadStimulus}
-use Rattle.fb_check.proofs.Verdict.{known, not_so, passes_29}
+use Rattle.fb_check.specs.Directory.{AreTaken}
+use Rattle.fb_check.proofs.Verdict.{known, passes_29}
 use Rattle.fb_check.proofs.judge.judge_stimuli.Goals as goal
 
-pub has_bad_stimulus-requires : goal.has_bad_stimulus-requires
-has_bad_stimulus-requires c = (
+pub rows_of-requires : goal.rows_of-requires
+rows_of-requires c = (
   c.args.case.now.plan.now,
   c.requires.catalog,
   known 29 c.args.case.now.library.now c.args.case.now.plan.now c.args.case.now.stimuli.now (omega arith) c.requires.passed,
 )
 
-pub returns-clause-ok : goal.returns-clause-ok
-returns-clause-ok c =
-    passes_29 c.args.case.now.library.now c.args.case.now.plan.now c.args.case.now.stimuli.now c.requires.passed
-    (not_so c.in_ok-has_bad_stimulus.field-0 (BadStimulus c.args.case.now.library.now c.args.case.now.stimuli.now) c.in_ok-has_bad_stimulus.ensures c.if-branch.false)
+pub returns-in-Some-clause-rows : goal.returns-in-Some-clause-rows
+returns-in-Some-clause-rows c =
+    let lib = c.args.case.now.library.now in
+    let ss = c.args.case.now.stimuli.now in
+    (MatchOption-at_some (BadStimulus lib ss) (AreTaken lib ss) _ c.in-Some.is c.in_ok-rows_of.ensures).rows
+
+pub returns-in-Some-clause-ok : goal.returns-in-Some-clause-ok
+returns-in-Some-clause-ok c =
+    let lib = c.args.case.now.library.now in
+    let ss = c.args.case.now.stimuli.now in
+    passes_29 lib c.args.case.now.plan.now ss c.requires.passed (MatchOption-at_some (BadStimulus lib ss) (AreTaken lib ss) _ c.in-Some.is c.in_ok-rows_of.ensures).good

@@ -2,26 +2,15 @@ use Rattle.std.proofs.Common.{sym, ◌∙◌, ap, subst}
 use Rattle.std.specs.Option.{option_copied}
 use Rattle.fb_types.specs.Names.{Name}
 use Rattle.fb_check.specs.Directory.{IsFound}
-use Rattle.fb_check.proofs.Found.{ports_named, unknown_instance, missing_instance, found_instance}
+use Rattle.fb_check.proofs.Found.{ports_named, missing_instance, found_instance}
 use Rattle.fb_check.proofs.stimuli.inputs_at.Goals as goal
-
-pub returns-in_err-place : goal.returns-in_err-place
-returns-in_err-place c =
-    rw c.from_residual.ensures
-    (unknown_instance c.args.library.now c.args.instance.now
-    (sym (c.requires.catalog.1.instances.place c.args.instance.now) ∙ sym c.place_of.ensures ∙ c.in_err-place.was))
 
 pub returns-in_err-instance : goal.returns-in_err-instance
 returns-in_err-instance c =
-    rw c.from_residual-in_err-instance.ensures
-    (missing_instance c.args.library.now c.args.instance.now c.in_ok-place.place
-    (sym (c.requires.catalog.1.instances.place c.args.instance.now) ∙ sym c.place_of.ensures ∙ c.in_ok-place.was)
-    (sym c.get.ensures.value ∙ ap option_copied c.in_err-instance.was))
+    rw c.from_residual.ensures (missing_instance c.args.library.now c.args.place (sym c.get.ensures.value ∙ ap option_copied c.in_err-instance.was))
 
 pub returns : goal.returns
 returns c =
     let P : Name → Type 0 = λ m. IsFound (ports_named c.args.library.now m) (option_copied c.inputs_named.result) in
-    found_instance c.args.library.now c.args.instance.now c.in_ok-place.place c.in_ok-instance.instance.now (option_copied c.inputs_named.result)
-    (sym (c.requires.catalog.1.instances.place c.args.instance.now) ∙ sym c.place_of.ensures ∙ c.in_ok-place.was)
-    (sym c.get.ensures.value ∙ ap option_copied c.in_ok-instance.was)
-    (subst P c.as_bytes-name.ensures c.inputs_named.ensures)
+    found_instance c.args.library.now c.args.place c.in_ok-instance.instance.now (option_copied c.inputs_named.result)
+    (sym c.get.ensures.value ∙ ap option_copied c.in_ok-instance.was) (subst P c.as_bytes-name.ensures c.inputs_named.ensures)

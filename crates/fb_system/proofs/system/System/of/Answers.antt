@@ -1,23 +1,12 @@
-use Rattle.std.proofs.Common.{◌≡◌, ◌∙◌, subst, sym}
-use Rattle.fb_types.specs.declared.deploy.Plan.{Plan}
-use Rattle.fb_types.specs.declared.library.Library.{Library}
-use Rattle.fb_types.specs.Mapped.{NotMapped}
-use Rattle.fb_types.specs.Repeated.{NameTwice}
-use Rattle.fb_system.specs.Linking.{IsLinked}
+use Rattle.std.proofs.Common.{◌≡◌, ◌∙◌}
 use Rattle.fb_types.specs.EventPorts.{ArePortsOfKinds}
-use Rattle.fb_system.proofs.Seen.{few_of, low_of, made, mapped_of, ok_read, ok_seen, once_of, view_made}
+use Rattle.fb_types.specs.declared.library.Library.{Library}
+use Rattle.fb_system.specs.Linking.{IsLinked}
+use Rattle.fb_system.proofs.Seen.{few_of, low_of, made, ok_read, ok_seen, once_of, view_made}
 use Rattle.fb_system.proofs.system.System.of.Goals as goal
 
-pub of-links-requires-clause-once : goal.of-links-requires-clause-once
-of-links-requires-clause-once c =
-    subst (λ (p : Plan). ¬ (NameTwice c.args.library p)) (sym c.plan.ensures.value) (once_of _ c.requires.accepted)
-
-pub of-links-requires-clause-mapped : goal.of-links-requires-clause-mapped
-of-links-requires-clause-mapped c =
-    subst (λ (p : Plan). ¬ (NotMapped c.args.library p)) (sym c.plan.ensures.value) (mapped_of _ c.requires.accepted)
-
 pub of-fabric-requires-clause-resolved : goal.of-fabric-requires-clause-resolved
-of-fabric-requires-clause-resolved c = (_, once_of _ c.requires.accepted, c.requires.numbers)
+of-fabric-requires-clause-resolved c = (_, once_of _ c.requires.accepted, c.requires.given.numbers)
 
 pub of-fabric-requires-clause-height : goal.of-fabric-requires-clause-height
 of-fabric-requires-clause-height c = low_of _ c.requires.accepted
@@ -27,15 +16,16 @@ of-fabric-requires-clause-few c = few_of _ c.requires.accepted
 
 pub of_tables-requires : goal.of_tables-requires
 of_tables-requires c =
-    let all = c.in_ok-given.ensures in
-    made _ _ _ _ _ _ _ _ _ _ _ _ _ c.requires.accepted c.requires.interfaces c.requires.rows c.plan.ensures.value
-    (ok_read _ (IsLinked c.args.library _) _ c.of-links.ensures all.first) (ok_read _ ArePortsOfKinds _ c.all_ports.ensures all.third)
-    (ok_read _ (λ (f : Library). f ≡ c.args.library) _ c.of-fabric.ensures all.second) (λ j. (all.given j).0) (c.from_vec.ensures ∙ (λ j. (all.given j).1.items))
-    (λ j. (all.given j).2) (λ j. (all.given j).3)
+    let all = c.in_ok-rest.ensures in
+    let given = c.requires.given in
+    let linked = c.of-links.ensures c.args.library c.args.deploy given.numbers (once_of _ c.requires.accepted) given.holders in
+    made _ _ _ _ _ _ _ _ _ _ _ _ c.requires.accepted given.interfaces given.rows (ok_read _ (IsLinked c.args.library c.args.deploy) _ linked all.first)
+    (ok_read _ ArePortsOfKinds _ c.all_ports.ensures all.third) (ok_read _ (λ (f : Library). f ≡ c.args.library) _ c.of-fabric.ensures all.second)
+    (λ j. (all.given j).0) (c.from_vec.ensures ∙ (λ j. (all.given j).1.items)) (λ j. (all.given j).2) (λ j. (all.given j).3)
 
 pub returns : goal.returns
 returns c =
-    let all = c.in_ok-given.ensures in
+    let all = c.in_ok-rest.ensures in
     ok_seen _ _ _
     (view_made _ _ _ _ _ _ (ok_read _ (λ (f : Library). f ≡ c.args.library) _ c.of-fabric.ensures all.second) (λ j. (all.given j).0)
     (c.from_vec.ensures ∙ (λ j. (all.given j).1.items)))

@@ -1,0 +1,186 @@
+-- Stimuli by number, one after the other.
+use Rattle.std.proofs.Common.{◌≡◌, ℕ, ◌<◌, ◌+◌, Bool, true, false, not, ◌&&◌, List, [], ◌∷◌, ◌++◌, length, get_or, Option, Some, None, refl, sym, ◌∙◌, ap, subst, length-append}
+use Rattle.std.specs.Prelude.{if◌then◌else◌, is_some, option_and_then, option_map, position, slice_get, unwrap_or}
+use Rattle.std.specs.List.{list_all}
+use Rattle.std.proofs.lemmas.Bool.{true≢false}
+use Rattle.std.proofs.lemmas.List.Elements.{All-nil, All-cons}
+use Rattle.std.proofs.lemmas.Option.{slice_get-map, slice_get_read, slice_get_within, same_Some}
+use Rattle.fb_types.specs.Names.{Name, same_name}
+use Rattle.fb_types.specs.Values.{fits}
+use Rattle.fb_types.specs.Blocks.{Kind, ports_of, event_names, variable_names}
+use Rattle.fb_types.specs.Flat.{instance_in, kind_of_instance}
+use Rattle.fb_types.specs.Repeated.{Twice, instance_names}
+use Rattle.fb_types.specs.Accepted.{kind_of_stimulus, set_names}
+use Rattle.fb_types.specs.Unknown.{event_ins, data_ins}
+use Rattle.fb_types.specs.declared.value.Value.{Value}
+use Rattle.fb_types.specs.declared.deploy.Setting.{Setting}
+use Rattle.fb_types.specs.declared.deploy.Stimulus.{Stimulus}
+use Rattle.fb_types.specs.declared.library.EventPort.{EventPort}
+use Rattle.fb_types.specs.declared.library.Instance.{Instance}
+use Rattle.fb_types.specs.declared.library.Library.{Library}
+use Rattle.fb_types.specs.declared.library.Ports.{Ports}
+use Rattle.fb_types.specs.declared.library.Variable.{Variable}
+use Rattle.fb_names.proofs.Each.{each_parts, is_some-each}
+use Rattle.fb_names.proofs.Positions.{named-position, position_is}
+use Rattle.fb_names.specs.Numbers.{each_or_none, place_of}
+use Rattle.fb_names.specs.Places.{place_in}
+use Rattle.fb_system.proofs.EventBlocks.{slice_get-push}
+use Rattle.fb_system.specs.declared.rows.SlotValue.{SlotValue}
+use Rattle.fb_system.specs.declared.rows.StimulusRow.{StimulusRow}
+use Rattle.fb_system.specs.Rows.{IsSet, AreSets, IsRow, AreRows, AreRowsUpTo}
+use Rattle.fb_check.specs.Directory.{CanTake, IsDirectory, IsInputs, IsTaken, has_pair, held_slot, holds, input_in, input_of, is_settable, slot_of}
+use Rattle.fb_check.specs.declared.directory_making.Input.{Input}
+use Rattle.fb_check.specs.declared.directory_making.Inputs.{Inputs}
+use Rattle.fb_check.specs.declared.directory.Directory.{Directory}
+use Rattle.fb_check.proofs.Good.{IsFoundAt, all-is, can_take, first_place, found_at, kind_of_ports, the_ports}
+
+-- ---- Slots
+
+held_some : (o : Option Input) (v : Value) → is_some (held_slot o v) ≡ elim o as (λ _. Bool) [ None ↦ false | Some i ↦ fits i.ty v ]
+held_some None v = refl
+held_some (Some i) v =
+    elim (fits i.ty v) as (λ b. is_some (if b then Some (record { place = i.place; value = v }) else None) ≡ b) [ true ↦ refl | false ↦ refl ]
+
+-- there is a slot exactly for a setting that can be made
+slot_some : (d : Directory) (x : Inputs) (s : Stimulus) (v : Setting) → is_some (slot_of d x s v) ≡ is_settable d x s v
+slot_some d x s v =
+    let held : Option SlotValue = held_slot (input_in x.variables v.variable) v.value in
+    let can : Bool = holds x v.variable v.value in
+    let free : Bool = not (has_pair d.targets s.instance v.variable) in
+    elim (has_pair x.withs s.event v.variable) as (λ b. is_some (if b && free then held else None) ≡ (b && (free && can))) [
+      | false ↦ refl
+      | true ↦ (elim free as (λ b. is_some (if b then held else None) ≡ (b && can)) [
+        | false ↦ refl
+        | true ↦ held_some (input_in x.variables v.variable) v.value
+      ])
+    ]
+
+pub slots_some :
+    (d : Directory) (x : Inputs) (s : Stimulus) → is_some (each_or_none (slot_of d x s) s.settings) ≡ list_all (is_settable d x s) s.settings
+slots_some d x s =
+    is_some-each (slot_of d x s) s.settings ∙ all-is (λ v. is_some (slot_of d x s v)) (is_settable d x s) s.settings (slot_some d x s)
+
+-- what the place of a variable sets is the variable
+set_is : (p : Ports) (s : Setting) (k n : ℕ) → place_of (data_ins p) s.variable ≡ Some k → n ≡ k → IsSet p.inputs s (record { place = n; value = s.value })
+set_is p s k n h e =
+    let at = position_is (λ (v : Variable). v.name) s.variable p.inputs k h in
+    let name : slice_get (variable_names p.inputs) n ≡ Some s.variable =
+    ap (slice_get (variable_names p.inputs)) e ∙ slice_get-map (λ (v : Variable). v.name) p.inputs k
+    ∙ ap (option_map (λ (v : Variable). v.name)) at.1 ∙ ap (λ (m : Name). Some m) at.2 in
+    record {
+      named = ap (λ (o : Option Name). record { variable = unwrap_or o []; value = s.value }) name;
+      within = subst (λ (j : ℕ). j < length p.inputs) (sym e) (slice_get_within p.inputs k at.0 at.1);
+    }
+
+held_set : (p : Ports) (x : Inputs) (v : Setting) (y : SlotValue) → IsInputs p x → held_slot (input_in x.variables v.variable) v.value ≡ Some y → IsSet p.inputs v y
+held_set p x v y is h =
+    let name : Variable → Name = λ w. w.name in
+    let place : Option ℕ = position (same_name v.variable) (variable_names p.inputs) in
+    elim place as (λ o. place ≡ o → held_slot (option_and_then (λ k. option_map (input_of k) (slice_get p.inputs k)) o) v.value ≡ Some y → IsSet p.inputs v y) [
+      | None ↦ λ e g. absurd (cc)
+      | Some k ↦ λ e g.
+          let at = position_is name v.variable p.inputs k e in
+          (elim (fits at.0.ty v.value) as (λ b. (if b then Some (record { place = k; value = v.value }) else None) ≡ Some y → IsSet p.inputs v y) [
+            | false ↦ λ f. absurd (cc)
+            | true ↦ λ f.
+                let it : SlotValue = record { place = k; value = v.value } in
+                subst (λ (z : SlotValue). IsSet p.inputs v z) (same_Some it y f) (set_is p v k k e refl)
+          ]) (sym (ap (λ (o : Option Variable). held_slot (option_map (input_of k) o) v.value) at.1) ∙ g)
+    ] refl (sym (ap (λ (o : Option Input). held_slot o v.value) (is.variables.first v.variable)) ∙ h)
+
+slot_set : (p : Ports) (d : Directory) (x : Inputs) (s : Stimulus) (v : Setting) (y : SlotValue) → IsInputs p x → slot_of d x s v ≡ Some y → IsSet p.inputs v y
+slot_set p d x s v y is h =
+    elim (has_pair x.withs s.event v.variable && not (has_pair d.targets s.instance v.variable)) as
+    (λ b. (if b then held_slot (input_in x.variables v.variable) v.value else None) ≡ Some y → IsSet p.inputs v y) [
+      | false ↦ λ g. absurd (cc)
+      | true ↦ λ g. held_set p x v y is g
+    ] h
+
+slots_set :
+    (p : Ports) (d : Directory) (x : Inputs) (s : Stimulus) (vs : List Setting) (ys : List SlotValue) → IsInputs p x → each_or_none (slot_of d x s) vs ≡ Some ys
+    → AreSets p.inputs vs ys
+slots_set p d x s [] ys is h =
+    let none : [] ≡ ys = cc in
+    subst (λ (zs : List SlotValue). AreSets p.inputs [] zs) none (record { named = refl; within = All-nil (λ (y : SlotValue). y.place < length p.inputs) })
+slots_set p d x s (v ∷ vs) ys is h =
+    let r = each_parts (slot_of d x s) v vs ys h in
+    let here = slot_set p d x s v r.0 is r.2 in
+    let rest = slots_set p d x s vs r.1 is r.3 in
+    subst (λ (zs : List SlotValue). AreSets p.inputs (v ∷ vs) zs) (sym r.4) (record {
+      named = λ j. here.named j ∷ rest.named j;
+      within = All-cons (λ (y : SlotValue). y.place < length p.inputs) r.0 r.1 here.within rest.within;
+    })
+
+-- ---- Events
+
+event_at_place : (p : Ports) (n : Name) (k j : ℕ) → place_of (event_ins p) n ≡ Some k → j ≡ k → slice_get (event_names p.event_inputs) j ≡ Some n
+event_at_place p n k j h e =
+    let at = position_is (λ (e : EventPort). e.name) n p.event_inputs k h in
+    ap (slice_get (event_names p.event_inputs)) e ∙ slice_get-map (λ (e : EventPort). e.name) p.event_inputs k
+    ∙ ap (option_map (λ (e : EventPort). e.name)) at.1 ∙ ap (λ (m : Name). Some m) at.2
+
+-- ---- One row
+
+-- what was made of a stimulus that can be taken
+pub taken_is :
+    (lib : Library) (d : Directory) (s : Stimulus) (x : Inputs) (row : StimulusRow) (k e : ℕ) → IsDirectory lib d → IsFoundAt lib s k (Some x)
+    → place_in x.events s.event ≡ Some e → ¬ (Twice (set_names s)) → each_or_none (slot_of d x s) s.settings ≡ Some row.sets
+    → row.tick ≡ s.tick → row.instance ≡ k → row.event ≡ e → IsTaken lib s row
+taken_is lib d s x row k e directory placed event distinct slots tick instance event_is =
+    let instances = lib.application.network.instances in
+    let found = found_at lib s k (Some x) placed in
+    let all : list_all (is_settable d x s) s.settings ≡ true = sym (slots_some d x s) ∙ ap is_some slots in
+    let its = the_ports (Rattle.fb_check.specs.Directory.ports_at lib s.instance) x found in
+    let p : Ports = its.0 in
+    let kind = kind_of_ports (kind_of_stimulus lib s) p its.1 in
+    let at = position_is (λ (i : Instance). i.name) s.instance instances k placed.0 in
+    let named_is : instance_in lib.application.network s.instance ≡ Some at.0 =
+    named-position (λ (i : Instance). i.name) s.instance instances ∙ ap (option_and_then (slice_get instances)) placed.0 ∙ at.1 in
+    let place : place_of (event_ins p) s.event ≡ Some e =
+    sym (first_place (λ (e : EventPort). e.name) p.event_inputs s.event) ∙ sym (its.2.events.first s.event) ∙ event in
+    let Event : Ports → Type 0 = λ q. slice_get (event_names q.event_inputs) row.event ≡ Some s.event in
+    let Sets : Ports → Type 0 = λ q. AreSets q.inputs s.settings row.sets in
+    record {
+      takes = (can_take lib d x s directory found (ap is_some event) distinct).0 all;
+      row = record {
+        tick = tick;
+        instance = at.0;
+        at = ap (slice_get instances) instance ∙ at.1;
+        called = at.2;
+        found = named_is;
+        kind = kind.0;
+        of_instance = sym (ap (option_and_then (kind_of_instance lib)) named_is) ∙ kind.1;
+        of_kind = kind.1;
+        event = subst Event (sym kind.2) (event_at_place p s.event e row.event place event_is);
+        sets = subst Sets (sym kind.2) (slots_set p d x s s.settings row.sets its.2 slots);
+      };
+    }
+
+-- a stimulus of which a slot can't be set
+pub slots_none :
+    (lib : Library) (d : Directory) (s : Stimulus) (x : Inputs) (k e : ℕ) → IsDirectory lib d → IsFoundAt lib s k (Some x) → place_in x.events s.event ≡ Some e
+    → ¬ (Twice (set_names s)) → each_or_none (slot_of d x s) s.settings ≡ None → ¬ (CanTake lib s)
+slots_none lib d s x k e directory placed event distinct slots takes =
+    let all = (can_take lib d x s directory (found_at lib s k (Some x) placed) (ap is_some event) distinct).1 takes in
+    true≢false (sym all ∙ sym (slots_some d x s) ∙ ap is_some slots)
+
+-- ---- Rows
+
+pub rows_none : (lib : Library) (ss : List Stimulus) → AreRowsUpTo 0 lib ss []
+rows_none lib ss = record { counted = refl; each = λ k s row h g. absurd (cc) }
+
+-- one more stimulus
+pub rows_more :
+    (lib : Library) (ss : List Stimulus) (n : ℕ) (s : Stimulus) (all more : List StimulusRow) (row : StimulusRow) → n < length ss → s ≡ get_or ss n s
+    → AreRowsUpTo n lib ss all → IsRow lib s row → more ≡ all ++ row ∷ [] → AreRowsUpTo (n + 1) lib ss more
+rows_more lib ss n s all more row h e so_far is grown =
+    let P : ℕ → StimulusRow → Type 0 = λ k x. (t : Stimulus) → slice_get ss k ≡ Some t → IsRow lib t x in
+    let there = slice_get_read ss (length ss) n s refl h e in
+    let here : P n row = λ t g. let same : s ≡ t = same_Some s t (sym there ∙ g) in subst (λ (u : Stimulus). IsRow lib u row) same is in
+    subst (λ (l : List StimulusRow). AreRowsUpTo (n + 1) lib ss l) (sym grown) (record {
+      counted = length-append all (row ∷ []) ∙ ap (λ m. m + 1) so_far.counted;
+      each = λ k t x g l. slice_get-push P all row (λ k x l t g. so_far.each k t x g l) (subst (λ (m : ℕ). P m row) (sym so_far.counted) here) k x l t g;
+    })
+
+pub rows_all : (lib : Library) (ss : List Stimulus) (n : ℕ) (rows : List StimulusRow) → length ss ≡ n → AreRowsUpTo n lib ss rows → AreRows lib ss rows
+rows_all lib ss n rows all is = subst (λ (m : ℕ). AreRowsUpTo m lib ss rows) (sym all) is

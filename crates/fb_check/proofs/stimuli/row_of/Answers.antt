@@ -1,0 +1,73 @@
+use Rattle.std.proofs.Common.{◌≡◌, Bool, Option, Some, None, false, refl, sym, ◌∙◌, ap, subst}
+use Rattle.std.specs.Option.{option_copied}
+use Rattle.std.specs.Prelude.{is_some}
+use Rattle.std.proofs.lemmas.Bool.{true≢false}
+use Rattle.fb_types.specs.Repeated.{instance_names}
+use Rattle.fb_names.specs.Places.{place_in}
+use Rattle.fb_names.specs.Numbers.{each_or_none}
+use Rattle.fb_check.specs.Directory.{IsFound, ports_at_place, slot_of}
+use Rattle.fb_check.specs.declared.directory_making.Inputs.{Inputs}
+use Rattle.fb_check.proofs.Found.{unknown_instance}
+use Rattle.fb_check.proofs.Good.{found_at, no_event, no_instance, placed_at, set_twice}
+use Rattle.fb_check.proofs.Rows.{slots_none, taken_is}
+use Rattle.fb_check.proofs.stimuli.row_of.Goals as goal
+
+pub returns-in_default : goal.returns-in_default
+returns-in_default c =
+    let lib = c.args.library.now in
+    let s = c.args.stimulus.now in
+    let at = placed_at (instance_names lib.application.network) c.args.catalog.now.instances s.instance c.as_bytes.result.now c.place_of.result
+    c.requires.catalog.1.instances c.as_bytes.ensures c.place_of.ensures in
+    no_instance lib s (unknown_instance lib s.instance (at ∙ c.in_default.is))
+
+pub returns-in_default-inputs_at : goal.returns-in_default-inputs_at
+returns-in_default-inputs_at c =
+    let lib = c.args.library.now in
+    let s = c.args.stimulus.now in
+    let at = placed_at (instance_names lib.application.network) c.args.catalog.now.instances s.instance c.as_bytes.result.now c.place_of.result
+    c.requires.catalog.1.instances c.as_bytes.ensures c.place_of.ensures in
+    let P : Option Inputs → Type 0 = λ o. IsFound (ports_at_place lib c.in-Some.place) o in
+    no_instance lib s (found_at lib s c.in-Some.place None (at ∙ c.in-Some.is, subst P (ap option_copied c.in_default-inputs_at.is) c.inputs_at.ensures))
+
+pub returns-in_default-event_place : goal.returns-in_default-event_place
+returns-in_default-event_place c =
+    let lib = c.args.library.now in
+    let s = c.args.stimulus.now in
+    let at = placed_at (instance_names lib.application.network) c.args.catalog.now.instances s.instance c.as_bytes.result.now c.place_of.result
+    c.requires.catalog.1.instances c.as_bytes.ensures c.place_of.ensures in
+    let x = c.in-Some-inputs_at.inputs.now in
+    let P : Option Inputs → Type 0 = λ o. IsFound (ports_at_place lib c.in-Some.place) o in
+    no_event lib s x (found_at lib s c.in-Some.place (Some x) (at ∙ c.in-Some.is, subst P (ap option_copied c.in-Some-inputs_at.is) c.inputs_at.ensures))
+    (ap is_some (ap (place_in x.events) (sym c.as_bytes-2.ensures) ∙ sym c.event_place.ensures ∙ c.in_default-event_place.is))
+
+pub returns-then-branch : goal.returns-then-branch
+returns-then-branch c = set_twice c.args.library.now c.args.stimulus.now (c.in_ok-has_setting_twice.ensures.0 c.if-branch.true)
+
+pub returns-in-None : goal.returns-in-None
+returns-in-None c =
+    let lib = c.args.library.now in
+    let d = c.args.directory.now in
+    let s = c.args.stimulus.now in
+    let at = placed_at (instance_names lib.application.network) c.args.catalog.now.instances s.instance c.as_bytes.result.now c.place_of.result
+    c.requires.catalog.1.instances c.as_bytes.ensures c.place_of.ensures in
+    let x = c.in-Some-inputs_at.inputs.now in
+    let P : Option Inputs → Type 0 = λ o. IsFound (ports_at_place lib c.in-Some.place) o in
+    slots_none lib d s x c.in-Some.place c.in-Some-event_place.event c.requires.directory
+    (at ∙ c.in-Some.is, subst P (ap option_copied c.in-Some-inputs_at.is) c.inputs_at.ensures)
+    (ap (place_in x.events) (sym c.as_bytes-2.ensures) ∙ sym c.event_place.ensures ∙ c.in-Some-event_place.is)
+    (λ t. true≢false (sym (c.in_ok-has_setting_twice.ensures.1 t) ∙ c.if-branch.false)) (sym c.in_ok-slots_of.ensures ∙ c.in-None.is)
+
+pub returns-in-Some : goal.returns-in-Some
+returns-in-Some c =
+    let lib = c.args.library.now in
+    let d = c.args.directory.now in
+    let s = c.args.stimulus.now in
+    let at = placed_at (instance_names lib.application.network) c.args.catalog.now.instances s.instance c.as_bytes.result.now c.place_of.result
+    c.requires.catalog.1.instances c.as_bytes.ensures c.place_of.ensures in
+    let x = c.in-Some-inputs_at.inputs.now in
+    let P : Option Inputs → Type 0 = λ o. IsFound (ports_at_place lib c.in-Some.place) o in
+    taken_is lib d s x _ c.in-Some.place c.in-Some-event_place.event c.requires.directory
+    (at ∙ c.in-Some.is, subst P (ap option_copied c.in-Some-inputs_at.is) c.inputs_at.ensures)
+    (ap (place_in x.events) (sym c.as_bytes-2.ensures) ∙ sym c.event_place.ensures ∙ c.in-Some-event_place.is)
+    (λ t. true≢false (sym (c.in_ok-has_setting_twice.ensures.1 t) ∙ c.if-branch.false)) (sym c.in_ok-slots_of.ensures ∙ c.in-Some-slots_of.is)
+    refl c.in_ok-instance.ensures refl

@@ -1,0 +1,7 @@
+use Rattle.std.proofs.Common.{◌≡◌, Some, take}
+use Rattle.fb_names.specs.Numbers.{each_or_none}
+use Rattle.fb_check.specs.Directory.{slot_of}
+use Rattle.fb_check.proofs.stimuli.slots_of.Given as goal
+
+abbrev pub invariant-loop-setting : goal.invariant-loop-setting
+invariant-loop-setting l = each_or_none (slot_of l.directory l.inputs l.stimulus) (take l.setting-index l.setting-items) ≡ Some l.slots

@@ -1,0 +1,19 @@
+//! What the check of inputs makes of them on the way.
+
+use crate::interfaces::Interfaces;
+use crate::rows::StimulusRow;
+use fb_names::numbers::Resolved;
+use fb_types::items::Items;
+
+/// What is known of accepted inputs by number.
+#[derive(Drop)]
+pub struct Given {
+    /// What the names stand for.
+    pub numbers: Resolved,
+    /// For each instance of the application, the resource that holds it.
+    pub holders: Items<usize>,
+    /// The variables WITH the events of each type.
+    pub interfaces: Interfaces,
+    /// The stimuli, each at its row.
+    pub rows: Items<StimulusRow>,
+}
