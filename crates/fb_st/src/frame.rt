@@ -3,8 +3,9 @@
 ghost use Rattle.std.specs.Prelude.{◌≡◌, [], ◌∷◌, ◌++◌, true, false, not, if◌then◌else◌, IfSome, IfOk, IfErr, OnOk, OnErr};
 ghost use Rattle.std.specs.List.{list_any};
 ghost use Rattle.fb_types.specs.Names.{same_name, with_value};
+ghost use Rattle.fb_types.specs.Repeated.{Twice};
 ghost use Rattle.fb_types.specs.Values.{fits, whole};
-ghost use Rattle.fb_st.specs.Frames.{place_of, values_of, declared_in, is_declared, types_in};
+ghost use Rattle.fb_st.specs.Frames.{place_of, values_of, declared_in, is_declared, names_of, types_in};
 
 use crate::operator::whole_of;
 use fb_types::name::Name;
@@ -48,6 +49,14 @@ impl Frame {
         Frame {
             slots: Vec::new(alloc),
         }
+    }
+
+    /// The frame of variables whose names differ, which nothing judges again.
+    pub fn of(slots: Vec<Slot>) -> Frame
+        requires { ¬ (Twice (names_of slots.items)) }
+        ensures { result ≡ slots.items }
+    {
+        Frame { slots }
     }
 
     /// Whether there is a variable of the name.
