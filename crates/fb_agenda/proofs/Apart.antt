@@ -13,16 +13,13 @@ use Rattle.fb_types.specs.Keys.{Precedes, key_cmp, or_else, same_key}
 use Rattle.fb_types.specs.declared.key.Key.{Key}
 use Rattle.fb_types.proofs.KeyLaws.{earlier_precedes, key_cmp_total, same_key_is, same_key_from, same_key_itself}
 use Rattle.fb_agenda.specs.Agendas.{Contents, waiting, AreRising, AreApart, IsFirst, IsFirstTick, IsLeast, IsNext}
-use Rattle.fb_agenda.specs.declared.agenda.Event.{Event}
+use Rattle.fb_types.specs.declared.run.Event.{Event}
 use Rattle.fb_agenda.proofs.Orders.{less_from, not_none, absent, all_later, found_after, rise_after, not_after, precedes, without_first}
+use Rattle.fb_types.proofs.Lookups.{or_else_none, or_else_nones}
 
 -- new has w at the key, and at each other key what old has
 abbrev pub Sets : (k : Key) (w : Option Event) (old new : List (Key × Event)) → Type 0
 Sets k w old new = (j : Key) → lookup (same_key j) new ≡ cond (same_key k j) w (lookup (same_key j) old)
-
-pub or_else_none : {X : Type 0} (o : Option X) → or_else o None ≡ o
-or_else_none None = refl
-or_else_none (Some x) = refl
 
 module _ (c : Contents) (apart : AreApart c) (k : Key) (w : Option Event) where
   -- ---- Changes of the local events
@@ -106,15 +103,12 @@ pub first_some : {X : Type 0} (o p : Option X) → IsSome o → IsSome (or_else 
 first_some {X} None p there = absurd (not_none {X = X} None there refl)
 first_some (Some x) p there = refl
 
-neither : {X : Type 0} (o p : Option X) → o ≡ None → p ≡ None → or_else o p ≡ None
-neither o p h k = ap (λ z. or_else z p) h ∙ k
-
 -- where no local event waits
 pub least_of_later : (c : Contents) (o : Option Key) → c.local ≡ [] → IfSome o (IsFirst c.later) → IfSome o (IsLeast c)
 least_of_later c None none first = tt
 least_of_later c (Some k) none first = record {
   waits = either_some (lookup (same_key k) c.local) (lookup (same_key k) c.later) first.there;
-  none_before = λ j before. neither (lookup (same_key j) c.local) (lookup (same_key j) c.later) (ap (λ es. lookup (same_key j) es) none) (first.none_before j before);
+  none_before = λ j before. or_else_nones (lookup (same_key j) c.local) (lookup (same_key j) c.later) (ap (λ es. lookup (same_key j) es) none) (first.none_before j before);
 }
 
 -- where the first of the others comes before the first local event
@@ -122,14 +116,14 @@ pub least_is_later : (c : Contents) (k l : Key) → IsFirst c.local l → IsFirs
 least_is_later c k l local later less = record {
   waits = either_some (lookup (same_key k) c.local) (lookup (same_key k) c.later) later.there;
   none_before = λ j before.
-      neither (lookup (same_key j) c.local) (lookup (same_key j) c.later) (local.none_before j (key_cmp_total.trans j k l before less)) (later.none_before j before);
+      or_else_nones (lookup (same_key j) c.local) (lookup (same_key j) c.later) (local.none_before j (key_cmp_total.trans j k l before less)) (later.none_before j before);
 }
 
 -- where no other event comes before the first local event
 pub least_is_local : (c : Contents) (k : Key) → IsFirst c.local k → ((j : Key) → Precedes j k → lookup (same_key j) c.later ≡ None) → IsLeast c k
 least_is_local c k local none = record {
   waits = first_some (lookup (same_key k) c.local) (lookup (same_key k) c.later) local.there;
-  none_before = λ j before. neither (lookup (same_key j) c.local) (lookup (same_key j) c.later) (local.none_before j before) (none j before);
+  none_before = λ j before. or_else_nones (lookup (same_key j) c.local) (lookup (same_key j) c.later) (local.none_before j before) (none j before);
 }
 
 before_both : (j k l : Key) → Precedes j k → is_lt (key_cmp l k) ≡ false → Precedes j l

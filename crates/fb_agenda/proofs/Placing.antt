@@ -13,7 +13,7 @@ use Rattle.fb_types.proofs.Lookups.{found-append, none_since, or_else_nones, or_
 use Rattle.fb_types.proofs.TakeLaws.{found-put}
 use Rattle.fb_agenda.specs.Agendas.{Contents, AreApart, waiting}
 use Rattle.fb_agenda.specs.Arrivals.{AreNew, HasKeys, KeepsOthers, LacksKeys, arrival_at, arrivals_at}
-use Rattle.fb_agenda.specs.declared.agenda.Event.{Event}
+use Rattle.fb_types.specs.declared.run.Event.{Event}
 use Rattle.fb_agenda.proofs.Apart.{Sets, either_some, first_some}
 use Rattle.fb_agenda.proofs.Orders.{not_none}
 

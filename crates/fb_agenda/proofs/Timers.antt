@@ -10,8 +10,8 @@ use Rattle.fb_types.specs.declared.run.TimerAsk.{TimerAsk}
 use Rattle.fb_types.specs.declared.run.TimerAsk.TheVariants.{Keep, Clear, At}
 use Rattle.fb_types.proofs.KeyLaws.{same_key_is}
 use Rattle.fb_agenda.specs.Agendas.{Contents, waiting, IsTimed, LiesIn, timer_set}
-use Rattle.fb_agenda.specs.declared.agenda.Event.{Event}
-use Rattle.fb_agenda.specs.declared.agenda.Event.TheVariants.{Timer}
+use Rattle.fb_types.specs.declared.run.Event.{Event}
+use Rattle.fb_types.specs.declared.run.Event.TheVariants.{Timer}
 
 pub timer_of_timer_key : (t r i : ℕ) → is_timer_of r i (timer_key t r i) ≡ true
 timer_of_timer_key t r i = ap (λ b. b && true && eqb i i) (eq-eqb r r refl) ∙ eq-eqb i i refl

@@ -5,8 +5,8 @@ use Rattle.fb_types.specs.Keys.{found, message_key, same_key}
 use Rattle.fb_types.specs.declared.key.Key.{Key}
 use Rattle.fb_types.specs.declared.run.Message.{Message}
 use Rattle.fb_agenda.specs.Agendas.{Contents, waiting}
-use Rattle.fb_agenda.specs.declared.agenda.Event.{Event}
-use Rattle.fb_agenda.specs.declared.agenda.Event.TheVariants.{Arrival}
+use Rattle.fb_types.specs.declared.run.Event.{Event}
+use Rattle.fb_types.specs.declared.run.Event.TheVariants.{Arrival}
 
 -- the key under which a message waits at its receiver, and what it is there
 abbrev pub arrival_at : (receiver : ℕ) → Message → Key × Event

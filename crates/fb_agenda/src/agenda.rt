@@ -5,11 +5,11 @@ ghost use Rattle.fb_types.specs.Keys.{Precedes, changed_to, found, or_else, same
 ghost use Rattle.fb_types.specs.Takes.{is_timer_of};
 ghost use Rattle.fb_agenda.specs.Agendas.{waiting, IsFirst, IsFirstTick, IsLeast, IsNext, IsTimed, LiesIn, timer_set};
 ghost use Rattle.fb_agenda.specs.Arrivals.{AreNew, arrivals_at};
-ghost use Rattle.fb_agenda.specs.declared.agenda.Event.TheVariants.{Timer};
+ghost use Rattle.fb_types.specs.declared.run.Event.TheVariants.{Timer};
 
 use crate::{arrivals, rising};
 use fb_types::key::Key;
-use fb_types::run::{Message, Target, TimerAsk};
+use fb_types::run::{Event, Message, TimerAsk};
 use std::alloc::{AllocError, Global};
 use std::collections::{BTreeMap, VecDeque};
 use std::marker::Model;
@@ -19,19 +19,6 @@ const TIMER: u8 = 1;
 
 /// The class of the keys of local events.
 const LOCAL: u8 = 3;
-
-/// An event that waits.
-#[derive(Drop)]
-pub enum Event {
-    /// A stimulus, by its row.
-    Stimulus(u32),
-    /// The timer of an instance.
-    Timer(u32),
-    /// A message, at its arrival.
-    Arrival(Message),
-    /// A local event, at its target.
-    Local(Target),
-}
 
 /// The events that wait, one at most under each key, and when the timers of the instances go off.
 #[derive(Drop)]

@@ -8,11 +8,10 @@ ghost use Rattle.std.specs.Map.{lookup};
 ghost use Rattle.fb_types.specs.Keys.{found, or_else, same_key};
 ghost use Rattle.fb_types.specs.declared.key.Key as keys;
 ghost use Rattle.fb_agenda.specs.Arrivals.{HasKeys, KeepsOthers, LacksKeys, arrival_at, arrivals_at};
-ghost use Rattle.fb_agenda.specs.declared.agenda.Event.TheVariants.{Arrival};
+ghost use Rattle.fb_types.specs.declared.run.Event.TheVariants.{Arrival};
 
-use crate::agenda::Event;
 use fb_types::key::Key;
-use fb_types::run::Message;
+use fb_types::run::{Event, Message};
 use std::alloc::AllocError;
 use std::collections::BTreeMap;
 

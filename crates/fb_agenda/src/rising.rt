@@ -8,8 +8,8 @@ ghost use Rattle.std.specs.BTreeMap.{insert_entry};
 ghost use Rattle.fb_types.specs.Keys.{Precedes, key_cmp};
 ghost use Rattle.fb_agenda.specs.Agendas.{AreRising, IsFirst, IsFirstTick};
 
-use crate::agenda::Event;
 use fb_types::key::Key;
+use fb_types::run::Event;
 use std::alloc::AllocError;
 use std::collections::VecDeque;
 

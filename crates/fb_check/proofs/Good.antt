@@ -20,15 +20,17 @@ use Rattle.fb_types.specs.declared.library.Ports.{Ports}
 use Rattle.fb_types.specs.declared.deploy.Plan.{Plan}
 use Rattle.fb_types.specs.declared.deploy.Stimulus.{Stimulus}
 use Rattle.fb_types.specs.declared.deploy.Setting.{Setting}
-use Rattle.fb_names.proofs.NameLemmas.{same_from_same_name, Contains-nil, Contains-cons_cases, Contains-here, Contains-there}
-use Rattle.fb_names.proofs.Positions.{is_some-position, named-position, position_is}
-use Rattle.fb_names.proofs.TwiceIn.{Contains-map, map-Contains}
+use Rattle.fb_types.proofs.Positions.{is_some-position, named-position, position_is}
+use Rattle.fb_types.proofs.Elements.{Contains-nil, Contains-cons_cases, Contains-here, Contains-there, Contains-map, map-Contains}
+use Rattle.fb_types.proofs.NameLaws.{same_from_same_name}
 use Rattle.fb_names.specs.Places.{IsIndex, place_in}
 use Rattle.fb_check.specs.Directory.{first_of, input_in, input_of, lists, leads_to, ports_at, ports_at_place, is_settable, can_set, AreTaken, CanTake, IsInputs, IsFound, IsDirectory}
 use Rattle.fb_system.specs.declared.rows.StimulusRow.{StimulusRow}
 use Rattle.fb_check.specs.declared.directory_making.Input.{Input}
 use Rattle.fb_check.specs.declared.directory_making.Inputs.{Inputs}
 use Rattle.fb_check.specs.declared.directory.Directory.{Directory}
+use Rattle.fb_types.proofs.Options.{none_from_is_some}
+use Rattle.fb_types.proofs.ListTests.{passes_from}
 use Rattle.fb_check.proofs.Found.{ports_placed}
 use Rattle.fb_check.proofs.Refused.{HasRefused}
 use Rattle.fb_check.proofs.Sources.{has_source, port, and-first, and-second}
@@ -59,11 +61,6 @@ filter-passes {A} p (y ∷ ys) x c =
       ]
       | false ↦ λ e c. filter-passes p ys x c
     ] refl c
-
-all_from_each : {A : Type 0} (p : A → Bool) (xs : List A) → ((x : A) → Contains xs x → p x ≡ true) → list_all p xs ≡ true
-all_from_each p [] each = refl
-all_from_each p (x ∷ xs) each =
-    ap (λ b. b && list_all p xs) (each x (Contains-here x xs)) ∙ all_from_each p xs (λ y c. each y (Contains-there x xs y c))
 
 each_from_all : {A : Type 0} (p : A → Bool) (xs : List A) → list_all p xs ≡ true → (x : A) → Contains xs x → p x ≡ true
 each_from_all p [] all x c = absurd (Contains-nil x c)
@@ -126,10 +123,6 @@ input_of_held p v h =
       | Some w ↦ λ e _. named-among (λ w. w.name) v.variable p.inputs w e
     ] refl h
 
-none_from : {A : Type 0} (o : Option A) → is_some o ≡ false → o ≡ None
-none_from None h = refl
-none_from (Some x) h = absurd (true≢false h)
-
 not-true : (b : Bool) → not b ≡ true → b ≡ false
 not-true true h = absurd (true≢false (sym h))
 not-true false h = refl
@@ -156,7 +149,7 @@ settable_from lib k s v known of h =
     record {
       with_event = Contains-filter (lists p.event_inputs s.event) (variable_names p.inputs) v.variable input (and-first with (not led && is_held p v) h);
       unconnected =
-          none_from (source_of lib (port s.instance v.variable))
+          none_from_is_some (source_of lib (port s.instance v.variable))
           (has_source lib known.plan s.instance v.variable k known.once known.known of input ∙ not-true led (and-first (not led) (is_held p v) rest));
       held = held;
     }
@@ -249,7 +242,7 @@ good_from lib s known take =
       unconnected = λ n c.
           let r = map-Contains (λ (v : Setting). v.variable) s.settings n c in
           subst (λ (m : Name). source_of lib (port s.instance m) ≡ None) r.2 (each r.0 r.1).unconnected;
-      held = all_from_each (is_held (ports_of k)) s.settings (λ v c. (each v c).held);
+      held = passes_from (is_held (ports_of k)) s.settings (λ v c. (each v c).held);
     }
 
 take_from : (lib : Library) (s : Stimulus) → Known lib → IsGood lib s → CanTake lib s
@@ -260,7 +253,7 @@ take_from lib s known good =
       of_ports = ap (option_map ports_of) good.of_kind;
       is_event = good.is_event;
       once = good.once;
-      each = all_from_each (can_set lib (ports_of k) s) s.settings
+      each = passes_from (can_set lib (ports_of k) s) s.settings
           (λ v c.
           let n = Contains-map (λ (v : Setting). v.variable) s.settings v c in
           can_set_from lib k s v known good.of_kind (record {

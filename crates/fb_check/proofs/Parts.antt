@@ -1,8 +1,8 @@
 -- Where not all parts of block types are known, some name is unknown.
-use Rattle.std.proofs.Common.{◌≡◌, Bool, true, false, List, [], ◌∷◌, ◌++◌, Contains, refl, sym, ◌∙◌, subst, inl, inr, ⊎_elim}
+use Rattle.std.proofs.Common.{◌≡◌, Bool, true, false, ◌++◌, Contains, refl, sym, ◌∙◌, inl, inr, ⊎_elim}
 use Rattle.std.specs.Prelude.{flat_map}
 use Rattle.std.specs.List.{list_all}
-use Rattle.std.proofs.lemmas.Bool.{true≢false, and_parts}
+use Rattle.std.proofs.lemmas.Bool.{true≢false}
 use Rattle.std.proofs.lemmas.List.Elements.{Contains-append_left, Contains-append_right, Contains-append_cases}
 use Rattle.fb_types.specs.Blocks.{among}
 use Rattle.fb_types.specs.Repeated.{networks, interfaces, basics}
@@ -11,15 +11,8 @@ use Rattle.fb_types.specs.declared.library.Library.{Library}
 use Rattle.fb_types.specs.declared.library.BasicType.{BasicType}
 use Rattle.fb_types.specs.declared.deploy.Plan.{Plan}
 use Rattle.fb_names.specs.Parts.{ArePartsKnown, parts_wanted}
-use Rattle.fb_names.proofs.NameLemmas.{Contains-nil, Contains-cons_cases, contains_from_any, any_from_contains}
-use Rattle.fb_names.proofs.Elements.{fails_at}
-
--- what holds of all holds of each
-holds_at : {A : Type 0} (p : A → Bool) (xs : List A) (y : A) → list_all p xs ≡ true → Contains xs y → p y ≡ true
-holds_at p [] y h c = absurd (Contains-nil y c)
-holds_at {A} p (x ∷ xs) y h c =
-    let parts = and_parts (p x) (list_all p xs) h in
-    ⊎_elim (λ (e : x ≡ y). subst (λ (z : A). p z ≡ true) e parts.0) (λ d. holds_at p xs y parts.1 d) (Contains-cons_cases x xs y c)
+use Rattle.fb_types.proofs.ListTests.{fails_at, passes_at}
+use Rattle.fb_types.proofs.NameLaws.{contains_from_any, any_from_contains}
 
 abbrev is_there : Wanted → Bool
 is_there w = among w.1 w.0
@@ -54,6 +47,6 @@ unknown_part lib plan unknown = names (list_all is_there (parts_wanted lib)) (li
         let m = fails_at (is_known t.0) (mentioned t.0) t.2 in
         inr (inl (t.0, m.0, t.1, m.1, m.2))
     names true true e f = absurd (unknown (record {
-      names = λ w c. contains_from_any w.0 w.1 (holds_at is_there (parts_wanted lib) w e c);
-      mentions = λ t m c d. holds_at (is_known t) (mentioned t) m (holds_at are_mentions_known (basics lib) t f c) d;
+      names = λ w c. contains_from_any w.0 w.1 (passes_at is_there (parts_wanted lib) w e c);
+      mentions = λ t m c d. passes_at (is_known t) (mentioned t) m (passes_at are_mentions_known (basics lib) t f c) d;
     }))

@@ -19,19 +19,11 @@ use Rattle.fb_types.specs.declared.library.Connection.{Connection}
 use Rattle.fb_types.specs.declared.library.PortName.{PortName}
 use Rattle.fb_types.specs.declared.deploy.Plan.{Plan}
 use Rattle.fb_names.specs.GivenTwice.{TwiceIn}
-use Rattle.fb_names.proofs.NameLemmas.{same_from_same_name, contains_from_any, Twice-append_left, Contains-nil, Contains-cons_cases, Contains-here, Contains-there}
-use Rattle.fb_names.proofs.TwiceIn.{Contains-flat_map, Contains-map, TwiceIn-left}
+use Rattle.fb_types.proofs.Elements.{Contains-here, Contains-there, Contains-flat_map, Contains-map}
+use Rattle.fb_types.proofs.TwiceLaws.{Twice-append_left, Twice-both}
+use Rattle.fb_types.proofs.NameLaws.{same_from_same_name, contains_from_any, named-Contains}
+use Rattle.fb_names.proofs.TwiceIn.{TwiceIn-left}
 use Rattle.fb_check.specs.Directory.{leads_to}
-
--- ---- A name twice
-
-Twice-both : {A : Type 0} (xs ys : List A) (x : A) → Contains xs x → Contains ys x → Twice (xs ++ ys)
-Twice-both [] ys x h g = absurd (Contains-nil x h)
-Twice-both {A} (z ∷ zs) ys x h g =
-    elim (Contains-cons_cases z zs x h) [
-      | inl e ↦ inl (subst (λ (w : A). Contains (zs ++ ys) w) (sym e) (Contains-append_right zs ys x g))
-      | inr rest ↦ inr (Twice-both zs ys x rest g)
-    ]
 
 -- ---- A name twice among the ports of a type
 
@@ -125,14 +117,6 @@ inside_apart lib t c n (w ∷ ws) apart known =
     ∙ inside_apart lib t c n ws apart (and-second (from && to) rest known)
 
 -- ---- Types of instances
-
-named-Contains : {A : Type 0} (f : A → Name) (n : Name) (xs : List A) (x : A) → named f n xs ≡ Some x → Contains xs x
-named-Contains f n [] x h = absurd (cc)
-named-Contains {A} f n (y ∷ ys) x h =
-    elim (same_name (f y) n) as (λ b. cond b (Some y) (named f n ys) ≡ Some x → Contains (y ∷ ys) x) [
-      | true ↦ λ g. let e : y ≡ x = cc in subst (λ (z : A). Contains (y ∷ ys) z) e (Contains-here y ys)
-      | false ↦ λ g. Contains-there y ys x (named-Contains f n ys x g)
-    ] h
 
 block_of : (b : BlockType) (t : CompositeType) → kind_of b ≡ Composite t → b ≡ block.Composite t
 block_of (block.Basic s) t h = absurd (cc)

@@ -18,10 +18,10 @@ use Rattle.fb_types.specs.Flat.{port_in}
 use Rattle.fb_types.specs.declared.library.EventPort.{EventPort}
 use Rattle.fb_types.specs.declared.library.Connection.{Connection}
 use Rattle.fb_types.specs.declared.library.Ports.{Ports}
-use Rattle.fb_names.proofs.NameLemmas.{same_name-is, same_from_same_name}
-use Rattle.fb_names.proofs.Positions.{is_some-position, position-append_old, position-push_new, position_is, same_name-flip}
-use Rattle.fb_names.proofs.Seen.{more_of_part}
-use Rattle.fb_system.proofs.EventBlocks.{slice_get-append_here, slice_get-append_left}
+use Rattle.fb_types.proofs.ByPlace.{slice_get-append_here, slice_get-append_left}
+use Rattle.fb_types.proofs.LoopSteps.{more_of_part}
+use Rattle.fb_types.proofs.Positions.{is_some-position, position-append_old, position-push_new, position_is}
+use Rattle.fb_types.proofs.NameLaws.{same_name-is, same_from_same_name, same_name-flip}
 use Rattle.fb_check.specs.Directory.{Pair, has_pair, first_of, read_in, lists, leads_to, AreFirst, IsExtended, AreWiths, AreTargets, IsInputs, IsFound, AreInputs}
 use Rattle.fb_check.specs.declared.directory_making.Inputs.{Inputs}
 

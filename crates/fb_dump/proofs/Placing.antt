@@ -12,8 +12,8 @@ use Rattle.fb_types.specs.Repeated.{Twice}
 use Rattle.fb_types.specs.declared.library.Instance.{Instance}
 use Rattle.fb_types.specs.declared.library.Ports.{Ports}
 use Rattle.fb_types.specs.declared.library.Variable.{Variable}
-use Rattle.fb_names.proofs.NameLemmas.{Twice-append_left}
-use Rattle.fb_names.proofs.Positions.{position_of_once}
+use Rattle.fb_types.proofs.Positions.{position_of_once}
+use Rattle.fb_types.proofs.TwiceLaws.{Twice-append_left}
 use Rattle.fb_system.specs.Stands.{ArePlaces, variable_at}
 use Rattle.fb_tree.proofs.Known.{kind_once, kind_there, known_of, once_of, stood}
 use Rattle.fb_dump.specs.Told.{place_of}

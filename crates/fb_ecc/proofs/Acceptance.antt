@@ -1,7 +1,6 @@
 -- A basic type of an accepted declaration is sound.
-use Rattle.std.proofs.Common.{◌≡◌, ◌<◌, ℕ, zero, suc, Bool, true, false, ◌&&◌, ◌||◌, List, [], ◌∷◌, ◌++◌, map, length, Option, Some, None, Contains, refl, sym, ◌∙◌, ap, subst, inl, inr, append_assoc}
-use Rattle.std.specs.Prelude.{slice_get, flat_map}
-use Rattle.std.specs.List.{list_all}
+use Rattle.std.proofs.Common.{◌≡◌, ◌<◌, Bool, true, false, ◌&&◌, ◌||◌, List, [], ◌∷◌, ◌++◌, map, length, Option, Some, None, Contains, refl, sym, ◌∙◌, ap, subst, inl, inr, append_assoc}
+use Rattle.std.specs.Prelude.{flat_map}
 use Rattle.std.proofs.lemmas.Bool.{true≢false}
 use Rattle.std.proofs.lemmas.List.{map-append}
 use Rattle.std.proofs.lemmas.List.Elements.{Contains-append_left, Contains-append_right}
@@ -22,66 +21,37 @@ use Rattle.fb_types.specs.declared.library.State.{State}
 use Rattle.fb_types.specs.declared.library.Transition.{Transition}
 use Rattle.fb_types.specs.declared.library.Variable.{Variable}
 use Rattle.fb_types.specs.declared.deploy.Plan.{Plan}
-use Rattle.fb_types.proofs.PathLaws.{same_name_itself}
+use Rattle.fb_types.proofs.NameLaws.{same_name-itself}
 use Rattle.fb_st.specs.Frames.{Declared, is_declared}
 use Rattle.fb_st.specs.Known.{AssignsKnown, AllKnown, ChoicesKnown, BranchesKnown}
 use Rattle.fb_st.proofs.Places.{place_of_once}
 use Rattle.fb_ecc.specs.Opened.{IsOfDeclaration}
 use Rattle.fb_ecc.specs.Sound.{Each, IsSound, StandFirst, action_known, actions_known, declared_by, is_named}
+use Rattle.fb_types.proofs.ListTests.{passes_from}
+use Rattle.fb_types.proofs.ByPlace.{element_of_place}
+use Rattle.fb_types.proofs.TwiceLaws.{Twice-append_left, Twice-append_right}
+use Rattle.fb_types.proofs.Elements.{Contains-cons_cases, Contains-nil, Contains-here, Contains-there, Contains-map, Contains-flat_map}
 use Rattle.fb_ecc.proofs.Links.{names_declared}
-use Rattle.fb_ecc.proofs.Soundness.{first_or_later, nothing_in, here, twice_before}
 
 -- ---- Lists
-
-there : {A : Type 0} (x : A) (xs : List A) (y : A) → Contains xs y → Contains (x ∷ xs) y
-there x xs y h = Contains-append_right (x ∷ []) xs y h
-
-Contains-at : {A : Type 0} (xs : List A) (i : ℕ) (x : A) → slice_get xs i ≡ Some x → Contains xs x
-Contains-at [] i x h = absurd (cc)
-Contains-at {A} (y ∷ ys) zero x h = let e : y ≡ x = cc in subst (λ (z : A). Contains (y ∷ ys) z) e (here y ys)
-Contains-at (y ∷ ys) (suc i) x h = there y ys x (Contains-at ys i x h)
-
-Contains-map : {A B : Type 0} (f : A → B) (xs : List A) (x : A) → Contains xs x → Contains (map f xs) (f x)
-Contains-map f [] x h = absurd (nothing_in x h)
-Contains-map {A} f (y ∷ ys) x h =
-    elim (first_or_later y ys x h) [
-      | inl e ↦ subst (λ (z : A). Contains (f y ∷ map f ys) (f z)) e (here (f y) (map f ys))
-      | inr rest ↦ there (f y) (map f ys) (f x) (Contains-map f ys x rest)
-    ]
-
-Contains-flat_map : {A B : Type 0} (f : A → List B) (xs : List A) (x : A) (y : B) → Contains xs x → Contains (f x) y → Contains (flat_map f xs) y
-Contains-flat_map f [] x y h g = absurd (nothing_in x h)
-Contains-flat_map {A} f (z ∷ zs) x y h g =
-    elim (first_or_later z zs x h) [
-      | inl e ↦ Contains-append_left (f z) (flat_map f zs) y (subst (λ (w : A). Contains (f w) y) (sym e) g)
-      | inr rest ↦ Contains-append_right (f z) (flat_map f zs) y (Contains-flat_map f zs x y rest g)
-    ]
-
-list_all-each : {A : Type 0} (p : A → Bool) (xs : List A) → ((x : A) → Contains xs x → p x ≡ true) → list_all p xs ≡ true
-list_all-each p [] h = refl
-list_all-each p (x ∷ xs) h = rw (h x (here x xs)) (list_all-each p xs (λ y c. h y (there x xs y c)))
 
 both : (a b : Bool) → a ≡ true → b ≡ true → (a && b) ≡ true
 both true b h g = g
 both false b h g = h
 
 contains-among : (ns : List Name) (n : Name) → Contains ns n → among ns n ≡ true
-contains-among [] n h = absurd (nothing_in n h)
+contains-among [] n h = absurd (Contains-nil n h)
 contains-among (m ∷ ms) n h =
-    elim (first_or_later m ms n h) [
-      | inl e ↦ let same : same_name n m ≡ true = subst (λ (k : Name). same_name n k ≡ true) (sym e) (same_name_itself n) in rw same refl
+    elim (Contains-cons_cases m ms n h) [
+      | inl e ↦ let same : same_name n m ≡ true = subst (λ (k : Name). same_name n k ≡ true) (sym e) (same_name-itself n) in rw same refl
       | inr rest ↦
           let later = contains-among ms n rest in
           elim (same_name n m) as (λ b. (b || among ms n) ≡ true) [ true ↦ refl | false ↦ later ]
     ]
 
-twice_behind : {A : Type 0} (xs ys : List A) → Twice ys → Twice (xs ++ ys)
-twice_behind [] ys t = t
-twice_behind (x ∷ xs) ys t = inr (twice_behind xs ys t)
-
 -- names that differ stand first
 first_from_once : {A : Type 0} (f : A → Name) (xs : List A) → ¬ (Twice (map f xs)) → StandFirst f xs
-first_from_once f xs once i x at = place_of_once f (f x) xs i x once at (same_name_itself (f x))
+first_from_once f xs once i x at = place_of_once f (f x) xs i x once at (same_name-itself (f x))
 
 -- ---- Algorithms
 
@@ -94,7 +64,7 @@ mutual
   assigns_known ds Empty fine = tt
   assigns_known ds Exit fine = tt
   assigns_known ds Return fine = tt
-  assigns_known ds (Assign n e) fine = fine (OfVariable n) (here (OfVariable n) (mentions e))
+  assigns_known ds (Assign n e) fine = fine (OfVariable n) (Contains-here (OfVariable n) (mentions e))
   assigns_known ds (If cs others) fine = (
     choices_known ds cs (λ m c. fine m (Contains-append_left (mentions_choices cs) (mentions_body others) m c)),
     all_known ds others (λ m c. fine m (Contains-append_right (mentions_choices cs) (mentions_body others) m c)),
@@ -109,7 +79,7 @@ mutual
         fine (OfVariable n)
             (Contains-append_left (bounds ++ mentions c) (mentions_body body) (OfVariable n)
             (Contains-append_left bounds (mentions c) (OfVariable n)
-            (Contains-append_left (OfVariable n ∷ mentions a) (mentions b) (OfVariable n) (here (OfVariable n) (mentions a))))),
+            (Contains-append_left (OfVariable n ∷ mentions a) (mentions b) (OfVariable n) (Contains-here (OfVariable n) (mentions a))))),
         all_known ds body (λ m d. fine m (Contains-append_right (bounds ++ mentions c) (mentions_body body) m d)),
       )
   assigns_known ds (While e body) fine = all_known ds body (λ m c. fine m (Contains-append_right (mentions e) (mentions_body body) m c))
@@ -140,13 +110,13 @@ mutual
 -- ---- Types of a declaration
 
 basic_among : (bs : List BlockType) (t : BasicType) → Contains (flat_map basics_in bs) t → Contains bs (block.Basic t)
-basic_among [] t h = absurd (nothing_in t h)
+basic_among [] t h = absurd (Contains-nil t h)
 basic_among (block.Basic b ∷ bs) t h =
-    elim (first_or_later b (flat_map basics_in bs) t h) [
-      | inl e ↦ subst (λ (z : BasicType). Contains (block.Basic b ∷ bs) (block.Basic z)) e (here (block.Basic b) bs)
-      | inr rest ↦ there (block.Basic b) bs (block.Basic t) (basic_among bs t rest)
+    elim (Contains-cons_cases b (flat_map basics_in bs) t h) [
+      | inl e ↦ subst (λ (z : BasicType). Contains (block.Basic b ∷ bs) (block.Basic z)) e (Contains-here (block.Basic b) bs)
+      | inr rest ↦ Contains-there (block.Basic b) bs (block.Basic t) (basic_among bs t rest)
     ]
-basic_among (block.Composite c ∷ bs) t h = there (block.Composite c) bs (block.Basic t) (basic_among bs t h)
+basic_among (block.Composite c ∷ bs) t h = Contains-there (block.Composite c) bs (block.Basic t) (basic_among bs t h)
 
 module _ (lib : Library) (plan : Plan) (t : BasicType) (once : ¬ (NameTwice lib plan)) (unknown : ¬ (NameUnknown lib plan)) (declared : Contains (basics lib) t) where
   -- a name space of the first three sorts
@@ -176,7 +146,7 @@ module _ (lib : Library) (plan : Plan) (t : BasicType) (once : ¬ (NameTwice lib
       space_once ns
       (Contains-append_left (types ++ map algorithm_names (basics lib)) (map state_names (basics lib)) ns
       (Contains-append_left types (map algorithm_names (basics lib)) ns
-      (there (block_type_names lib) (map port_names lib.blocks) ns (Contains-map port_names lib.blocks (block.Basic t) (basic_among lib.blocks t declared)))))
+      (Contains-there (block_type_names lib) (map port_names lib.blocks) ns (Contains-map port_names lib.blocks (block.Basic t) (basic_among lib.blocks t declared)))))
 
   events_once : ¬ (Twice (event_names t.ports.event_inputs))
   events_once twice =
@@ -185,8 +155,8 @@ module _ (lib : Library) (plan : Plan) (t : BasicType) (once : ¬ (NameTwice lib
       let inputs : List Name = variable_names t.ports.inputs in
       let outputs : List Name = variable_names t.ports.outputs in
       ports_once
-      (twice_before (ins ++ outs ++ inputs ++ outputs) (variable_names t.internals)
-      (twice_before (ins ++ outs ++ inputs) outputs (twice_before (ins ++ outs) inputs (twice_before ins outs twice))))
+      (Twice-append_left (ins ++ outs ++ inputs ++ outputs) (variable_names t.internals)
+      (Twice-append_left (ins ++ outs ++ inputs) outputs (Twice-append_left (ins ++ outs) inputs (Twice-append_left ins outs twice))))
 
   variables_once : ¬ (Twice (variable_names (variables_of t)))
   variables_once twice =
@@ -200,7 +170,7 @@ module _ (lib : Library) (plan : Plan) (t : BasicType) (once : ¬ (NameTwice lib
       let all : events ++ ((inputs ++ outputs) ++ internals) ≡ port_names (block.Basic t) =
       sym (append_assoc events (inputs ++ outputs) internals) ∙ ap (λ (ns : List Name). ns ++ internals) (sym (append_assoc events inputs outputs)) in
       let P : List Name → Type 0 = λ ns. Twice ns in
-      ports_once (subst P all (twice_behind events ((inputs ++ outputs) ++ internals) (subst P names twice)))
+      ports_once (subst P all (Twice-append_right events ((inputs ++ outputs) ++ internals) (subst P names twice)))
 
   -- what the chart names is there
   chart_named : (w : Wanted) → Contains (chart_wanted t) w → among w.1 w.0 ≡ true
@@ -224,7 +194,7 @@ module _ (lib : Library) (plan : Plan) (t : BasicType) (once : ¬ (NameTwice lib
       let others : List Wanted = (x.to, state_names t) ∷ all_of (optional x.condition.event) (event_names t.ports.event_inputs) in
       chart_named w
       (Contains-append_left (flat_map (transition_wanted t) t.transitions) (flat_map (actions_wanted t) t.states) w
-      (Contains-flat_map (transition_wanted t) t.transitions x w at (here w others)))
+      (Contains-flat_map (transition_wanted t) t.transitions x w at (Contains-here w others)))
 
   target_named : (x : Transition) → Contains t.transitions x → among (state_names t) x.to ≡ true
   target_named x at =
@@ -232,12 +202,12 @@ module _ (lib : Library) (plan : Plan) (t : BasicType) (once : ¬ (NameTwice lib
       let events : List Wanted = all_of (optional x.condition.event) (event_names t.ports.event_inputs) in
       chart_named w
       (Contains-append_left (flat_map (transition_wanted t) t.transitions) (flat_map (actions_wanted t) t.states) w
-      (Contains-flat_map (transition_wanted t) t.transitions x w at (there (x.from, state_names t) (w ∷ events) w (here w events))))
+      (Contains-flat_map (transition_wanted t) t.transitions x w at (Contains-there (x.from, state_names t) (w ∷ events) w (Contains-here w events))))
 
   optional_named :
       (names : List Name) (n : Option Name) → ((m : Name) → Contains (all_of (optional n) names) (m, names) → among names m ≡ true) → is_named names n ≡ true
   optional_named names None each = refl
-  optional_named names (Some n) each = each n (here (n, names) [])
+  optional_named names (Some n) each = each n (Contains-here (n, names) [])
 
   action_named : (s : State) (a : Action) → Contains t.states s → Contains s.actions a → action_known t a ≡ true
   action_named s a at in_actions =
@@ -271,7 +241,7 @@ module _ (lib : Library) (plan : Plan) (t : BasicType) (once : ¬ (NameTwice lib
       (λ m c. mention_fine m
       (mention_known m
       (Contains-append_left (flat_map (λ (x : Algorithm). mentions_body (body_of x.body)) t.algorithms) (flat_map mentions (guards_of t)) m
-      (Contains-flat_map (λ (x : Algorithm). mentions_body (body_of x.body)) t.algorithms a m (Contains-at t.algorithms i a at) c))))
+      (Contains-flat_map (λ (x : Algorithm). mentions_body (body_of x.body)) t.algorithms a m (element_of_place t.algorithms i a at) c))))
 
   -- Each basic type of an accepted declaration is sound.
   sound_when_accepted : IsSound t
@@ -280,9 +250,9 @@ module _ (lib : Library) (plan : Plan) (t : BasicType) (once : ¬ (NameTwice lib
         states = first_from_once (λ (s : State). s.name) t.states states_once;
         events = first_from_once (λ (p : EventPort). p.name) t.ports.event_inputs events_once;
         variables = variables_once;
-        sources = list_all-each (λ (x : Transition). among (state_names t) x.from) t.transitions source_named;
-        targets = list_all-each (λ (x : Transition). among (state_names t) x.to) t.transitions target_named;
-        actions = list_all-each (actions_known t) t.states (λ s c. list_all-each (action_known t) s.actions (λ a d. action_named s a c d));
+        sources = passes_from (λ (x : Transition). among (state_names t) x.from) t.transitions source_named;
+        targets = passes_from (λ (x : Transition). among (state_names t) x.to) t.transitions target_named;
+        actions = passes_from (actions_known t) t.states (λ s c. passes_from (action_known t) s.actions (λ a d. action_named s a c d));
         bodies = body_known;
       }
 

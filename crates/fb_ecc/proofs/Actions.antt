@@ -24,7 +24,7 @@ use Rattle.fb_types.specs.declared.run.Halt.TheVariants as halt
 use Rattle.fb_types.specs.declared.value.Reason.{Reason}
 use Rattle.fb_types.specs.declared.value.Ty.{Ty}
 use Rattle.fb_types.specs.declared.value.Ty.TheVariants.{Bool as Boolean}
-use Rattle.fb_types.proofs.PathLaws.{same_name_is}
+use Rattle.fb_types.proofs.NameLaws.{same_from_same_name}
 use Rattle.fb_st.specs.Frames.{Declared, types_in, values_of}
 use Rattle.fb_st.specs.declared.frame.Slot.{Slot}
 use Rattle.fb_st.proofs.Places.{named_at_place}
@@ -94,7 +94,7 @@ pair_up-bound (n ∷ ns) vars = ap (λ bs. record { variable = n; value = vars n
 pub event_is : (events : List EventPort) (n : Name) (s : Stands (λ p. p.name) events n) → event_at events s.place ≡ n
 event_is events n s =
     ap (λ (o : Option Name). unwrap_or o []) (slice_get-map (λ (e : EventPort). e.name) events s.place ∙ ap (option_map (λ (e : EventPort). e.name)) s.at)
-    ∙ sym (same_name_is n s.element.name s.named)
+    ∙ sym (same_from_same_name n s.element.name s.named)
 
 -- what the place of an event output says
 pub record Output (t : BasicType) (k : ℕ) (name : Option Name) : Type 0 where
@@ -111,7 +111,7 @@ output_here t k (Some n) o =
     let s = stands (λ p. p.name) events n o.known in
     let numbered : Some k ≡ Some (number_in (λ p. p.name) events n) = o.is in
     let here : k ≡ s.place = same_Some k (number_in (λ p. p.name) events n) numbered ∙ number_is (λ p. p.name) events n s in
-    let names : s.element.name ≡ n = sym (same_name_is n s.element.name s.named) in
+    let names : s.element.name ≡ n = sym (same_from_same_name n s.element.name s.named) in
     record {
       event = n;
       is = refl;

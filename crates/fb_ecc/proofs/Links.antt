@@ -9,7 +9,7 @@ use Rattle.fb_types.specs.Names.{Name, same_name, with_value}
 use Rattle.fb_types.specs.Blocks.{named, among, variable_names, variables_of, inputs_with, Bound}
 use Rattle.fb_types.specs.Numbers.{event_at, pair_up}
 use Rattle.fb_types.specs.Reactions.{with_values}
-use Rattle.fb_types.proofs.PathLaws.{same_name_itself}
+use Rattle.fb_types.proofs.NameLaws.{same_name-itself}
 use Rattle.fb_types.specs.declared.library.Variable.{Variable}
 use Rattle.fb_types.specs.declared.run.Halt.{Halt}
 use Rattle.fb_types.specs.declared.run.Halt.TheVariants as halt
@@ -32,8 +32,9 @@ use Rattle.fb_ecc.specs.Sound.{Each, IsSound, action_known, actions_known, decla
 use Rattle.fb_ecc.specs.Trials.{transitions_at, IsExit}
 use Rattle.fb_ecc.specs.declared.chart.Exit.{Exit}
 use Rattle.fb_ecc.specs.declared.chart.Row.{Row}
+use Rattle.fb_types.proofs.ByPlace.{element_at}
 use Rattle.fb_ecc.specs.declared.chart.Chart.{Chart}
-use Rattle.fb_ecc.proofs.Trials.{transition_here, state_here, list_all-at, and_left, and_right, somewhere, cut_at, event_here}
+use Rattle.fb_ecc.proofs.Trials.{transition_here, state_here, list_all-at, and_left, and_right, cut_at, event_here}
 
 -- ---- Links
 
@@ -133,7 +134,7 @@ row_here t i s sound at =
 pub row_is :
     (t : BasicType) (rows : List Row) (i : ℕ) (d : Row) → IsSound t → rows ≡ map (row_of t) t.states → i < length t.states → IsRow t i (get_or rows i d)
 row_is t rows i d sound all within =
-    let s = somewhere t.states i within in
+    let s = element_at t.states i within in
     let inside : i < length rows = subst (λ (l : List Row). i < length l) (sym all) (subst (λ n. i < n) (sym (length-map t.states (row_of t))) within) in
     let read : slice_get rows i ≡ Some (get_or rows i d) = slice_get-get_or rows i d inside in
     let same : row_of t s.0 ≡ get_or rows i d =
@@ -166,7 +167,7 @@ exits_of_state t i sound (inl none) =
       each = subst (λ (l : List Exit). Each (IsExit t) l) (sym exits) (λ k e at. absurd (cc));
     }
 exits_of_state t i sound (inr within) =
-    let s = somewhere t.states i within in
+    let s = element_at t.states i within in
     let row = row_here t i s.0 sound s.1 in
     let exits : exits_at (map (row_of t) t.states) i ≡ (row_of t s.0).exits =
     ap exits_or (slice_get-map (row_of t) t.states i ∙ ap (option_map (row_of t)) s.1) in
@@ -276,7 +277,7 @@ among-each : (vs xs ys : List Variable) → Each (λ n. among (variable_names (v
 among-each [] xs ys i n at = absurd (cc)
 among-each (v ∷ vs) xs ys zero n at =
     let same : v.name ≡ n = cc in
-    subst (λ (m : Name). (same_name m v.name || among (variable_names (vs ++ xs ++ ys)) m) ≡ true) same (rw (same_name_itself v.name) refl)
+    subst (λ (m : Name). (same_name m v.name || among (variable_names (vs ++ xs ++ ys)) m) ≡ true) same (rw (same_name-itself v.name) refl)
 among-each (v ∷ vs) xs ys (suc i) n at = or_right (same_name n v.name) (among (variable_names (vs ++ xs ++ ys)) n) (among-each vs xs ys i n at)
 
 pub names_declared : (vs : List Variable) → map (λ (d : Declared). d.0) (map declared_as vs) ≡ variable_names vs
@@ -299,7 +300,7 @@ pub variables_here :
     → read ≡ get_or all e d → read ≡ inputs_with t.ports (event_at t.ports.event_inputs e)
 variables_here t chart all e read d is told within here =
     let events : List EventPort = t.ports.event_inputs in
-    let p = somewhere events e within in
+    let p = element_at events e within in
     let names : all ≡ names_with_each events t.ports.inputs = told ∙ ap (λ (c : Chart). c.sampled) is in
     let at : slice_get all e ≡ Some (inputs_with t.ports p.0.name) =
     ap (λ (l : List (List Name)). slice_get l e) names ∙ slice_get-map (λ (q : EventPort). inputs_with t.ports q.name) events e

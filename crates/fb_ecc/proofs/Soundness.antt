@@ -1,20 +1,22 @@
 -- Names that stand once, and what a type has that is sound.
-use Rattle.std.proofs.Common.{◌≡◌, ℕ, ◌+◌, ◌<◌, ◌≤◌, Bool, true, false, not, ◌||◌, List, [], ◌∷◌, ◌++◌, length, get_or, take, drop, map, Option, Some, None, Contains, refl, sym, ◌∙◌, ap, subst, arith, inl, inr, below_more, append_assoc, ◌⊎◌}
+use Rattle.std.proofs.Common.{◌≡◌, ℕ, ◌+◌, ◌<◌, ◌≤◌, Bool, true, false, not, ◌||◌, List, [], ◌∷◌, ◌++◌, length, get_or, take, drop, map, Option, Some, None, Contains, refl, sym, ◌∙◌, ap, subst, arith, inl, inr, below_more, append_assoc}
 use Rattle.std.specs.Prelude.{position, slice_get, unwrap_or}
 use Rattle.std.specs.List.{list_any}
 use Rattle.std.proofs.lemmas.List.{take-append-drop, map-append}
-use Rattle.std.proofs.lemmas.List.Elements.{Contains-append_left, Contains-append_right, Contains-push, Contains-push_cases, Contains-append_cases}
+use Rattle.std.proofs.lemmas.List.Elements.{Contains-append_right}
 use Rattle.std.proofs.lemmas.Option.{slice_get_within, slice_get_read, same_Some}
 use Rattle.fb_types.specs.Names.{Name, same_name}
 use Rattle.fb_types.specs.Blocks.{among, variable_names}
 use Rattle.fb_types.specs.Repeated.{Twice}
 use Rattle.fb_types.specs.declared.library.Variable.{Variable}
-use Rattle.fb_types.proofs.PathLaws.{same_name_is}
+use Rattle.fb_types.proofs.NameLaws.{same_from_same_name}
 use Rattle.fb_st.specs.Frames.{Declared, declared_in, is_declared, names_of}
 use Rattle.fb_st.specs.declared.frame.Slot.{Slot}
 use Rattle.fb_ecc.specs.Numbered.{number_in}
 use Rattle.fb_ecc.specs.Opened.{slot_of}
 use Rattle.fb_ecc.specs.Sound.{Each, StandFirst, declared_as}
+use Rattle.fb_types.proofs.TwiceLaws.{Twice-append_left}
+use Rattle.fb_types.proofs.Elements.{Contains-nil, Contains-cons_cases, Contains-here}
 use Rattle.fb_ecc.proofs.Trials.{cut_at}
 
 -- ---- What holds of each element below a place
@@ -71,41 +73,23 @@ pub among_names : {A : Type 0} (f : A → Name) (n : Name) (xs : List A) → lis
 among_names f n [] = refl
 among_names f n (x ∷ xs) = ap (λ b. same_name n (f x) || b) (among_names f n xs)
 
-pub nothing_in : {A : Type 0} (x : A) → ¬ (Contains [] x)
-nothing_in x h = absurd (omega (arith, h.1))
-
-pub first_or_later : {A : Type 0} (x : A) (xs : List A) (y : A) → Contains (x ∷ xs) y → (x ≡ y) ⊎ Contains xs y
-first_or_later x xs y h =
-    elim (Contains-append_cases (x ∷ []) xs y h) [
-      | inl one ↦ elim (Contains-push_cases [] x y one) [ inl none ↦ absurd (nothing_in y none) | inr e ↦ inl e ]
-      | inr rest ↦ inr rest
-    ]
-
-pub here : {A : Type 0} (x : A) (xs : List A) → Contains (x ∷ xs) x
-here x xs = Contains-append_left (x ∷ []) xs x (Contains-push [] x)
-
 pub among-contains : (ns : List Name) (n : Name) → among ns n ≡ true → Contains ns n
 among-contains [] n h = absurd (cc)
 among-contains (m ∷ ms) n h =
     elim (same_name n m) as (λ b. same_name n m ≡ b → (b || among ms n) ≡ true → Contains (m ∷ ms) n) [
-      | true ↦ λ e g. let P : Name → Type 0 = λ k. Contains (m ∷ ms) k in subst P (sym (same_name_is n m e)) (here m ms)
+      | true ↦ λ e g. let P : Name → Type 0 = λ k. Contains (m ∷ ms) k in subst P (sym (same_from_same_name n m e)) (Contains-here m ms)
       | false ↦ λ e g. Contains-append_right (m ∷ []) ms n (among-contains ms n g)
     ] refl h
 
 -- ---- Names that stand twice
 
 twice_again : (ns : List Name) (n : Name) (rest : List Name) → Contains ns n → Twice (ns ++ n ∷ rest)
-twice_again [] n rest h = absurd (nothing_in n h)
+twice_again [] n rest h = absurd (Contains-nil n h)
 twice_again (m ∷ ns) n rest h =
-    elim (first_or_later m ns n h) [
-      | inl e ↦ inl (let P : Name → Type 0 = λ k. Contains (ns ++ n ∷ rest) k in subst P (sym e) (Contains-append_right ns (n ∷ rest) n (here n rest)))
+    elim (Contains-cons_cases m ns n h) [
+      | inl e ↦ inl (let P : Name → Type 0 = λ k. Contains (ns ++ n ∷ rest) k in subst P (sym e) (Contains-append_right ns (n ∷ rest) n (Contains-here n rest)))
       | inr later ↦ inr (twice_again ns n rest later)
     ]
-
-pub twice_before : {A : Type 0} (xs ys : List A) → Twice xs → Twice (xs ++ ys)
-twice_before [] ys t = absurd t
-twice_before (x ∷ xs) ys (inl again) = inl (Contains-append_left xs ys x again)
-twice_before (x ∷ xs) ys (inr later) = inr (twice_before xs ys later)
 
 -- ---- Variables that are declared
 
@@ -152,4 +136,4 @@ twice_opened vs ws more all slots read opened is whole twice =
     ∙ ap (λ (l : List Variable). names_of (map slot_of vs ++ map slot_of l)) is
     ∙ ap names_of (sym (map-append slot_of vs ws)) ∙ names_opened (vs ++ ws) in
     subst P (sym (map-append (λ (v : Variable). v.name) (vs ++ ws) more) ∙ ap variable_names whole)
-    (twice_before (variable_names (vs ++ ws)) (variable_names more) (subst P names twice))
+    (Twice-append_left (variable_names (vs ++ ws)) (variable_names more) (subst P names twice))

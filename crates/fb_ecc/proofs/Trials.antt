@@ -12,7 +12,8 @@ use Rattle.fb_types.specs.Blocks.{among}
 use Rattle.fb_types.specs.Repeated.{state_names}
 use Rattle.fb_types.specs.declared.library.State.{State}
 use Rattle.fb_types.specs.declared.value.Reason.TheVariants.{Steps}
-use Rattle.fb_st.proofs.Places.{position-first, position-later}
+use Rattle.fb_types.proofs.Positions.{position-first}
+use Rattle.fb_st.proofs.Places.{position-later}
 use Rattle.fb_ecc.specs.Places.{state_at}
 use Rattle.fb_types.specs.Values.{Values}
 use Rattle.fb_types.specs.Charts.{Fails, is_present, is_true, guard_value, trial_of, by_condition}
@@ -20,10 +21,11 @@ use Rattle.fb_types.specs.Numbers.{event_at}
 use Rattle.fb_types.specs.declared.library.BasicType.{BasicType}
 use Rattle.fb_types.specs.declared.library.EventPort.{EventPort}
 use Rattle.fb_types.specs.declared.library.Transition.{Transition}
+use Rattle.fb_types.proofs.NameLaws.{same_from_same_name}
 use Rattle.fb_types.specs.declared.value.Reason.{Reason}
-use Rattle.fb_types.proofs.PathLaws.{same_name_is}
 use Rattle.fb_ecc.specs.Numbered.{number_in}
 use Rattle.fb_ecc.specs.Sound.{Each, IsSound, StandFirst}
+use Rattle.fb_types.proofs.ByPlace.{element_at}
 use Rattle.fb_ecc.specs.Trials.{nowhere, transition_at, transitions_at, IsExit, is_number_present}
 use Rattle.fb_ecc.specs.declared.chart.Exit.{Exit}
 
@@ -66,7 +68,7 @@ same_event events f m p first at =
     elim (same_name f p.name) as (λ b. same_name f p.name ≡ b → b ≡ nat_eq (number_in (λ e. e.name) events f) m) [
       | true ↦ λ e.
           let there : position (λ x. same_name f x.name) events ≡ Some m =
-          subst (λ (n : Name). position (λ (x : EventPort). same_name n x.name) events ≡ Some m) (sym (same_name_is f p.name e)) (first m p at) in
+          subst (λ (n : Name). position (λ (x : EventPort). same_name n x.name) events ≡ Some m) (sym (same_from_same_name f p.name e)) (first m p at) in
           rw there (sym (nat_eq-itself m))
       | false ↦ λ e. sym (false_from_ne_true (nat_eq (number_in (λ e. e.name) events f) m) (λ h.
           let within : m < length events = slice_get_within events m p at in
@@ -77,12 +79,6 @@ same_event events f m p first at =
           true≢false (sym here ∙ e)))
     ] refl
 
--- an element stands at each place within
-pub somewhere : {A : Type 0} (xs : List A) (i : ℕ) → i < length xs → (x : A) × (slice_get xs i ≡ Some x)
-somewhere [] i h = absurd (omega arith)
-somewhere (x ∷ xs) zero h = (x, refl)
-somewhere (x ∷ xs) (suc i) h = somewhere xs i (omega arith)
-
 -- whether the event of a condition is present, by its place
 pub present_by_place :
     (events : List EventPort) (present : Option ℕ) (n : Option Name) → StandFirst (λ e. e.name) events → IfSome present (λ m. m < length events)
@@ -91,7 +87,7 @@ present_by_place events None None first within = refl
 present_by_place events (Some m) None first within = refl
 present_by_place events None (Some f) first within = refl
 present_by_place events (Some m) (Some f) first within =
-    let p = somewhere events m within in
+    let p = element_at events m within in
     ap (same_name f) (event_here events m p.0 p.1) ∙ same_event events f m p.0 first p.1
 
 -- ---- Names
@@ -187,7 +183,7 @@ target_meant t e sound (x, at, is) =
     let s = stands (λ y. y.name) t.states x.to (list_all-at (λ y. among (state_names t) y.to) t.transitions e.transition x sound.targets at) in
     let target : e.target ≡ s.place = ap (λ (f : Exit). f.target) is ∙ number_is (λ y. y.name) t.states x.to s in
     record {
-      named = ap (state_at t) target ∙ state_here t s.place s.element s.at ∙ sym (same_name_is x.to s.element.name s.named)
+      named = ap (state_at t) target ∙ state_here t s.place s.element s.at ∙ sym (same_from_same_name x.to s.element.name s.named)
           ∙ ap (λ (y : Transition). y.to) (sym (transition_here t e.transition x at));
       within = subst (λ k. k < length t.states) (sym target) (slice_get_within t.states s.place s.element s.at);
     }

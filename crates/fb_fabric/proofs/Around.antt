@@ -11,15 +11,15 @@ use Rattle.fb_types.specs.declared.library.Ports.{Ports}
 use Rattle.fb_types.specs.declared.run.Target.{Target}
 use Rattle.fb_names.specs.declared.numbers.End.{End}
 use Rattle.fb_names.specs.declared.numbers.NetworkNumbers.{NetworkNumbers}
-use Rattle.fb_names.proofs.Elements.{element_of_place}
+use Rattle.fb_types.proofs.ByPlace.{element_of_place, element_at}
 use Rattle.fb_fabric.specs.Layouts.{IsRow, path_of}
 use Rattle.fb_fabric.specs.declared.layout.Layout.{Layout}
 use Rattle.fb_fabric.specs.declared.layout.Row.{Row}
-use Rattle.fb_fabric.specs.declared.fabric.Place.{Place}
+use Rattle.fb_types.specs.declared.run.Place.{Place}
 use Rattle.fb_fabric.specs.Fabrics.{IsPort, IsVariable, ports_here, port_of, variable_of, event_input, event_output, data_input, data_output}
 use Rattle.fb_fabric.specs.Networks.{AreTables, IsEndOf, IsThere, path_around, side, source_along, targets_along}
 use Rattle.fb_fabric.proofs.Leading.{MayBeWired, input_source, input_targets, output_source, output_targets}
-use Rattle.fb_fabric.proofs.Wired.{around_wired, element_at, last_of_route, parent_around, parent_within, row_there, stands_there}
+use Rattle.fb_fabric.proofs.Wired.{around_wired, last_of_route, parent_around, parent_within, row_there, stands_there}
 
 -- ---- Names at their places
 

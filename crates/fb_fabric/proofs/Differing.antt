@@ -16,19 +16,16 @@ use Rattle.fb_types.specs.declared.library.Ports.{Ports}
 use Rattle.fb_types.specs.declared.event_kind.EventKind.{EventKind}
 use Rattle.fb_types.specs.declared.event_kind.EventKind.TheVariants.{Restart, Split, Merge, Rendezvous, Permit, Select, Switch, Delay, Cycle, SetReset, DataLatch, RisingEdge, FallingEdge, CountUp}
 use Rattle.fb_types.specs.declared.deploy.Plan.{Plan}
-use Rattle.fb_names.proofs.NameLemmas.{Contains-nil, Contains-cons_cases, Contains-there, Twice-append_left, any_from_contains}
-use Rattle.fb_names.proofs.TwiceIn.{Contains-map}
+use Rattle.fb_types.proofs.NameLaws.{any_from_contains}
+use Rattle.fb_types.proofs.TwiceLaws.{Twice-append_left, Twice-append_right}
+use Rattle.fb_types.proofs.Elements.{Contains-nil, Contains-cons_cases, Contains-there, Contains-map}
+use Rattle.fb_types.proofs.ByPlace.{element_of_place}
 use Rattle.fb_names.specs.declared.numbers.TypeNumber.{TypeNumber}
 use Rattle.fb_names.specs.declared.numbers.TypeNumber.TheVariants as number
 use Rattle.fb_names.specs.Numbers.{type_number, kind_of_number}
-use Rattle.fb_names.proofs.Elements.{element_of_place}
 use Rattle.fb_names.proofs.Lookups.{type_named-number}
 
 -- ---- Parts of a list in which nothing stands twice
-
-Twice-append_right : {A : Type 0} (xs ys : List A) → Twice ys → Twice (xs ++ ys)
-Twice-append_right [] ys h = h
-Twice-append_right (x ∷ xs) ys h = inr (Twice-append_right xs ys h)
 
 Twice-both : (xs ys : List Name) (n : Name) → Contains xs n → Contains ys n → Twice (xs ++ ys)
 Twice-both [] ys n c d = absurd (Contains-nil n c)

@@ -11,9 +11,9 @@ use Rattle.fb_types.specs.declared.library.Library.{Library}
 use Rattle.fb_types.specs.declared.library.Instance.{Instance}
 use Rattle.fb_types.specs.declared.library.Network.{Network}
 use Rattle.fb_types.proofs.PathLaws.{same_path_is, same_path_itself}
-use Rattle.fb_names.proofs.NameLemmas.{Contains-nil, Contains-cons_cases, Contains-here, Contains-there}
-use Rattle.fb_names.proofs.Positions.{position-first, position-later}
-use Rattle.fb_names.proofs.TwiceIn.{Contains-map}
+use Rattle.fb_types.proofs.Positions.{position-first, position-later}
+use Rattle.fb_types.proofs.ByPlace.{element_of_place}
+use Rattle.fb_types.proofs.Elements.{Contains-nil, Contains-cons_cases, Contains-here, Contains-there, Contains-map}
 use Rattle.fb_fabric.proofs.Inside.{network_known}
 
 -- ---- Lists with an element twice
@@ -144,11 +144,6 @@ paths_once (suc d) lib p n once h =
 
 -- ---- Numbers of paths
 
-pub at_Contains : {A : Type 0} (xs : List A) (k : ℕ) (x : A) → slice_get xs k ≡ Some x → Contains xs x
-at_Contains [] k x h = absurd (cc)
-at_Contains {A} (y ∷ ys) zero x h = let e : y ≡ x = cc in subst (λ (z : A). Contains (y ∷ ys) z) e (Contains-here y ys)
-at_Contains (y ∷ ys) (suc k) x h = Contains-there y ys x (at_Contains ys k x h)
-
 pub position_of_path : (ps : List Path) (k : ℕ) (p : Path) → ¬ (Twice ps) → slice_get ps k ≡ Some p → position (same_path p) ps ≡ Some k
 position_of_path [] k p once h = absurd (cc)
 position_of_path (q ∷ qs) zero p once h =
@@ -157,7 +152,7 @@ position_of_path (q ∷ qs) zero p once h =
 position_of_path (q ∷ qs) (suc k) p once h =
     let apart : same_path p q ≡ false =
     false_from_ne_true (same_path p q)
-    (λ t. once (inl (subst (λ (p : Path). Contains qs p) (same_path_is p q t) (at_Contains qs k p h)))) in
+    (λ t. once (inl (subst (λ (p : Path). Contains qs p) (same_path_is p q t) (element_of_place qs k p h)))) in
     position-later (same_path p) q qs apart
     ∙ ap (option_map (λ i. i + 1)) (position_of_path qs k p (λ t. once (inr t)) h)
     ∙ (let e : k + 1 ≡ suc k = omega arith in ap (λ n. Some n) e)

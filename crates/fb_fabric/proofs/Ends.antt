@@ -13,24 +13,15 @@ use Rattle.fb_types.specs.declared.library.Instance.{Instance}
 use Rattle.fb_types.specs.declared.library.Network.{Network}
 use Rattle.fb_types.specs.declared.library.PortName.{PortName}
 use Rattle.fb_types.specs.declared.library.Ports.{Ports}
-use Rattle.fb_types.proofs.PathLaws.{same_path_is, same_path_itself, same_name_is, same_name_itself}
-use Rattle.fb_names.proofs.Positions.{named-position, position_is, position_of_once}
+use Rattle.fb_types.proofs.NameLaws.{same_from_same_name, same_name-itself}
+use Rattle.fb_types.proofs.Positions.{named-position, position_is, position_of_once}
+use Rattle.fb_types.proofs.PathLaws.{same_path_is, same_path_itself}
 use Rattle.fb_names.specs.Numbers.{place_of, ports_at_place, end_at, end_number}
 use Rattle.fb_names.specs.declared.numbers.End.{End}
 use Rattle.fb_fabric.specs.Wirings.{same_component, same_end}
+use Rattle.fb_types.proofs.Options.{and_then_parts, map_parts}
 use Rattle.fb_fabric.specs.Networks.{IsThere, IsEndOf, side, composite_of}
 use Rattle.fb_fabric.proofs.Differing.{Differ}
-
--- ---- Options
-
-pub and_then_parts :
-    {A B : Type 0} (f : A → Option B) (o : Option A) (y : B) → option_and_then f o ≡ Some y → (x : A) × (o ≡ Some x) × (f x ≡ Some y)
-and_then_parts f None y h = absurd (cc)
-and_then_parts f (Some x) y h = (x, refl, h)
-
-pub map_parts : {A B : Type 0} (f : A → B) (o : Option A) (y : B) → option_map f o ≡ Some y → (x : A) × (o ≡ Some x) × (f x ≡ y)
-map_parts f None y h = absurd (cc)
-map_parts f (Some x) y h = (x, refl, same_Some (f x) y h)
 
 -- ---- Names and places
 
@@ -57,10 +48,10 @@ same_name_at ns i j m n once h g =
     elim (cases_eq i j) [
       | inl e ↦
           let same : m ≡ n = same_Some m n (sym h ∙ ap (slice_get ns) e ∙ g) in
-          ap (λ (k : Name). same_name k n) same ∙ same_name_itself n ∙ sym (eq-eqb i j e)
+          ap (λ (k : Name). same_name k n) same ∙ same_name-itself n ∙ sym (eq-eqb i j e)
       | inr apart ↦
           let once' : ¬ (Twice (map (λ (m : Name). m) ns)) = λ t. once (subst (λ (ns : List Name). Twice ns) (map-itself ns) t) in
-          false_from_ne_true (same_name m n) (λ t. apart (same_at (λ (m : Name). m) ns i j m n once' h g (same_name_is m n t)))
+          false_from_ne_true (same_name m n) (λ t. apart (same_at (λ (m : Name). m) ns i j m n once' h g (same_from_same_name m n t)))
           ∙ sym (ne_eqb i j apart)
     ]
 

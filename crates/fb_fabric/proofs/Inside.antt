@@ -1,5 +1,5 @@
 -- What stands inside an instance: a network of the declaration, with its numbers.
-use Rattle.std.proofs.Common.{◌≡◌, ℕ, true, false, cond, List, [], ◌∷◌, map, Option, Some, None, Contains, refl, sym, ◌∙◌, ap, subst}
+use Rattle.std.proofs.Common.{◌≡◌, ℕ, [], map, Option, Some, None, Contains, refl, sym, ◌∙◌, ap, subst}
 use Rattle.std.specs.Prelude.{slice_get, option_map, option_and_then, position, flat_map}
 use Rattle.fb_types.specs.Names.{Name, same_name}
 use Rattle.fb_types.specs.Blocks.{Kind, Basic, Event, Composite, named, event_blocks}
@@ -12,34 +12,16 @@ use Rattle.fb_types.specs.declared.library.CompositeType.{CompositeType}
 use Rattle.fb_types.specs.declared.library.Instance.{Instance}
 use Rattle.fb_types.specs.declared.library.Network.{Network}
 use Rattle.fb_types.specs.declared.deploy.Plan.{Plan}
-use Rattle.fb_names.proofs.NameLemmas.{Contains-here, Contains-there}
-use Rattle.fb_names.proofs.Positions.{named-position, position_is}
-use Rattle.fb_names.proofs.TwiceIn.{Contains-flat_map}
+use Rattle.fb_types.proofs.Positions.{named-position, position_is}
+use Rattle.fb_types.proofs.Elements.{Contains-here, Contains-there, Contains-flat_map}
 use Rattle.fb_names.specs.Numbers.{IsNetwork, IsResolved, place_of, type_number, kind_of_number}
 use Rattle.fb_names.specs.declared.numbers.TypeNumber.{TypeNumber}
 use Rattle.fb_names.specs.declared.numbers.TypeNumber.TheVariants as number
 use Rattle.fb_names.specs.declared.numbers.NetworkNumbers.{NetworkNumbers}
+use Rattle.fb_types.proofs.Options.{and_then_parts, map_parts}
+use Rattle.fb_types.proofs.NameLaws.{named-Contains}
 use Rattle.fb_names.specs.declared.numbers.Resolved.{Resolved}
 use Rattle.fb_fabric.specs.Layers.{network_inside, network_of_block}
-
--- ---- Elements of lists and of options
-
-pub Contains-named : {A : Type 0} (f : A → Name) (n : Name) (xs : List A) (x : A) → named f n xs ≡ Some x → Contains xs x
-Contains-named f n [] x h = absurd (cc)
-Contains-named {A} f n (y ∷ ys) x h =
-    elim (same_name (f y) n) as (λ b. cond b (Some y) (named f n ys) ≡ Some x → Contains (y ∷ ys) x) [
-      | true ↦ λ h. let e : y ≡ x = cc in subst (λ (z : A). Contains (y ∷ ys) z) e (Contains-here y ys)
-      | false ↦ λ h. Contains-there y ys x (Contains-named f n ys x h)
-    ] h
-
-pub and_then_parts :
-    {A B : Type 0} (f : A → Option B) (o : Option A) (y : B) → option_and_then f o ≡ Some y → (x : A) × (o ≡ Some x) × (f x ≡ Some y)
-and_then_parts f None y h = absurd (cc)
-and_then_parts f (Some x) y h = (x, refl, h)
-
-pub map_parts : {A B : Type 0} (f : A → B) (o : Option A) (y : B) → option_map f o ≡ Some y → (x : A) × (o ≡ Some x) × (f x ≡ y)
-map_parts f None y h = absurd (cc)
-map_parts f (Some x) y h = (x, refl, let same : f x ≡ y = cc in same)
 
 -- ---- Composite types
 
@@ -56,7 +38,7 @@ composite_known lib n t =
       | Some e ↦ λ h. absurd (cc)
       | None ↦ λ h.
           let b = map_parts kind_of (named type_name n lib.blocks) (Composite t) h in
-          subst (λ (b : BlockType). Contains lib.blocks b) (composite_block b.0 t b.2) (Contains-named type_name n lib.blocks b.0 b.1)
+          subst (λ (b : BlockType). Contains lib.blocks b) (composite_block b.0 t b.2) (named-Contains type_name n lib.blocks b.0 b.1)
     ]
 
 -- the composite type of an instance with a network inside it

@@ -14,7 +14,7 @@ use Rattle.fb_types.specs.declared.library.CompositeType.{CompositeType}
 use Rattle.fb_types.specs.declared.library.Instance.{Instance}
 use Rattle.fb_types.specs.declared.library.Network.{Network}
 use Rattle.fb_types.specs.declared.deploy.Plan.{Plan}
-use Rattle.fb_names.proofs.NameLemmas.{Contains-here}
+use Rattle.fb_types.proofs.Elements.{Contains-here}
 use Rattle.fb_names.proofs.Each.{each_parts}
 use Rattle.fb_names.specs.Numbers.{IsResolved, each_or_none, type_number}
 use Rattle.fb_names.specs.declared.numbers.NetworkNumbers.{NetworkNumbers}
@@ -24,8 +24,9 @@ use Rattle.fb_fabric.specs.declared.layout.Row.{Row}
 use Rattle.fb_fabric.specs.declared.layout.Layout.{Layout}
 use Rattle.fb_fabric.specs.Layers.{Around, Layer, layer_of, layer_inside, layer_among, layer, network_inside, row_under, with_components}
 use Rattle.fb_fabric.specs.Layouts.{path_of, place_at, route_to, AreNumbers, AreComponents, IsRow, IsLayout}
+use Rattle.fb_types.proofs.ByPlace.{element_of_place}
 use Rattle.fb_fabric.proofs.Inside.{IsFound, found_inside, type_by_number, kind_known, network_known}
-use Rattle.fb_fabric.proofs.Distinct.{AreOnce, below, paths_from, paths_once, position_of_path, at_Contains}
+use Rattle.fb_fabric.proofs.Distinct.{AreOnce, below, paths_from, paths_once, position_of_path}
 use Rattle.fb_fabric.proofs.Parts.{AreEach, each-nil, each-head, each-tail, each-left, each-right, each-append, each-cons, IsPart, part_whole}
 use Rattle.fb_fabric.proofs.Sites.{all_once, IsDeep, deep_inside, never_deeper, IsAround, IsRound, around_later, text_is, route_is, parent_is, IsSite, instance_is, inside_is, place_is}
 
@@ -157,7 +158,7 @@ inside_laid lib r d p o number net place i t fit h deep laid part =
     } in
     inside_found lib r d number (i.name ∷ p) (row_under o i t place []) i net (inside lib i) (network_inside lib r t) refl
     (inside_is lib p net place i h.site h.instance) (found_inside lib fit.plan r i t fit.resolved h.typed) round deep
-    (at_Contains net.instances place i h.instance) laid part
+    (element_of_place net.instances place i h.instance) laid part
 
 -- ---- The instances of a network
 

@@ -19,11 +19,12 @@ use Rattle.fb_names.specs.declared.numbers.End.{End}
 use Rattle.fb_names.specs.declared.numbers.Wire.{Wire}
 use Rattle.fb_names.specs.declared.numbers.NetworkNumbers.{NetworkNumbers}
 use Rattle.fb_names.specs.Numbers.{both_ends, data_wire, end_number, event_wire}
-use Rattle.fb_names.proofs.Elements.{element_of_place}
+use Rattle.fb_types.proofs.ByPlace.{element_of_place}
 use Rattle.fb_fabric.specs.Wirings.{same_end, targets_in}
 use Rattle.fb_fabric.specs.Networks.{IsEndOf, IsWired, composite_of, side, source_along, targets_along}
+use Rattle.fb_types.proofs.Options.{and_then_parts, map_parts}
 use Rattle.fb_fabric.proofs.Differing.{flip, kind_apart}
-use Rattle.fb_fabric.proofs.Ends.{AreApart, and_then_parts, at_boundary, at_component, end_there, ends_there, map_parts}
+use Rattle.fb_fabric.proofs.Ends.{AreApart, at_boundary, at_component, end_there, ends_there}
 use Rattle.fb_fabric.proofs.Lists.{Pairwise, alike, first_part_chosen, none_chosen, second_part_chosen}
 
 -- ---- Sorts of ports whose names differ

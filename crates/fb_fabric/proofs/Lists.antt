@@ -1,5 +1,5 @@
 -- Two lists that are made side by side, the one by numbers and the other by names.
-use Rattle.std.proofs.Common.{◌≡◌, ℕ, zero, suc, Bool, true, false, cond, List, [], ◌∷◌, ◌++◌, map, Option, Some, None, refl, sym, ◌∙◌, ap, subst}
+use Rattle.std.proofs.Common.{◌≡◌, ℕ, zero, suc, Bool, true, false, cond, List, [], ◌∷◌, ◌++◌, map, Option, Some, None, refl, sym, ◌∙◌, ap, subst, append-nil}
 use Rattle.std.specs.Prelude.{slice_get}
 use Rattle.std.specs.List.{filter}
 use Rattle.fb_types.specs.Flat.{first_of}
@@ -82,10 +82,6 @@ no_first R [] (y ∷ ys) h g = absurd h
 no_first R (x ∷ xs) ys h g = absurd (cc)
 
 -- ---- Lists of which one part is empty
-
-append-nil : {A : Type 0} (xs : List A) → xs ++ [] ≡ xs
-append-nil [] = refl
-append-nil (x ∷ xs) = ap (λ ys. x ∷ ys) (append-nil xs)
 
 pub parts_chosen :
     {P B : Type 0} (chosen : P → Bool) (part : P → B) (xs ys : List P)

@@ -30,7 +30,8 @@ use Rattle.fb_fabric.specs.Fabrics.{IsCompositeHere, IsPort, IsVariable, ports_h
 use Rattle.fb_fabric.specs.Networks.{AreNarrow, IsEndOf, IsNarrow, IsThere, IsWired, side, source_along, targets_along}
 use Rattle.fb_fabric.proofs.Leading.{sources_there, targets_there}
 use Rattle.fb_fabric.proofs.Lists.{first_pair, no_first, none_at, pair_at}
-use Rattle.fb_fabric.proofs.Wired.{all_at, component_path, component_within, number_within}
+use Rattle.fb_types.proofs.ByPlace.{all_at}
+use Rattle.fb_fabric.proofs.Wired.{component_path, component_within, number_within}
 
 -- ---- Ports of 32 bits
 

@@ -1,13 +1,9 @@
 -- Parts of a list, and what holds of each element at its place.
 use Rattle.std.proofs.Common.{◌≡◌, ◌⊎◌, ℕ, zero, suc, ◌+◌, List, [], ◌∷◌, ◌++◌, length, Some, refl, ◌∙◌, ap, subst, inl, inr, arith}
 use Rattle.std.specs.Prelude.{slice_get}
+use Rattle.fb_types.proofs.ByPlace.{slice_get-append_left}
 
 -- ---- Elements of lists put together
-
-pub at_left : {A : Type 0} (xs ys : List A) (j : ℕ) (x : A) → slice_get xs j ≡ Some x → slice_get (xs ++ ys) j ≡ Some x
-at_left [] ys j x h = absurd (cc)
-at_left (y ∷ xs) ys zero x h = h
-at_left (y ∷ xs) ys (suc j) x h = at_left xs ys j x h
 
 pub at_right : {A : Type 0} (xs ys : List A) (j : ℕ) (x : A) → slice_get ys j ≡ Some x → slice_get (xs ++ ys) (length xs + j) ≡ Some x
 at_right {A} [] ys j x h = let e : 0 + j ≡ j = omega arith in ap (slice_get ys) e ∙ h
@@ -43,7 +39,7 @@ each-tail {A} P first x xs e = record {
 }
 
 pub each-left : {A : Type 0} (P : ℕ → A → Type 0) (first : ℕ) (xs ys : List A) → AreEach P first (xs ++ ys) → AreEach P first xs
-each-left P first xs ys e = record { at = λ j x h. e.at j x (at_left xs ys j x h) }
+each-left P first xs ys e = record { at = λ j x h. e.at j x (slice_get-append_left xs ys j x h) }
 
 pub each-right : {A : Type 0} (P : ℕ → A → Type 0) (first : ℕ) (xs ys : List A) → AreEach P first (xs ++ ys) → AreEach P (first + length xs) ys
 each-right {A} P first xs ys e = record {

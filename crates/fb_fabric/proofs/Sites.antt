@@ -14,8 +14,8 @@ use Rattle.fb_types.specs.declared.library.CompositeType.{CompositeType}
 use Rattle.fb_types.specs.declared.library.Instance.{Instance}
 use Rattle.fb_types.specs.declared.library.Network.{Network}
 use Rattle.fb_types.specs.declared.deploy.Plan.{Plan}
-use Rattle.fb_names.proofs.Positions.{position_of_once, named_of_once}
-use Rattle.fb_names.proofs.TwiceIn.{Contains-map}
+use Rattle.fb_types.proofs.Elements.{Contains-map}
+use Rattle.fb_types.proofs.Positions.{position_of_once, named_of_once}
 use Rattle.fb_fabric.specs.declared.layout.Row.{Row}
 use Rattle.fb_fabric.specs.Layers.{Around, path_under, route_under}
 use Rattle.fb_fabric.specs.Layouts.{path_of, place_at, route_to, IsParent}

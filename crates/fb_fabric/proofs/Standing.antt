@@ -7,7 +7,7 @@ use Rattle.fb_types.specs.Flat.{instance_at, instance_in, last_of, network_at, n
 use Rattle.fb_types.specs.declared.library.Instance.{Instance}
 use Rattle.fb_types.specs.declared.library.Library.{Library}
 use Rattle.fb_types.specs.declared.library.Network.{Network}
-use Rattle.fb_names.proofs.Positions.{named_of_once}
+use Rattle.fb_types.proofs.Positions.{named_of_once}
 use Rattle.fb_names.specs.Numbers.{kind_of_number, parameter_numbers}
 use Rattle.fb_names.specs.declared.numbers.NetworkNumbers.{NetworkNumbers}
 use Rattle.fb_names.proofs.Each.{each_at}

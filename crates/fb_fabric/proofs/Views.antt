@@ -7,7 +7,7 @@ use Rattle.fb_names.specs.Numbers.{kind_of_number, parameter_numbers}
 use Rattle.fb_fabric.specs.Layouts.{AreComponents, IsRow, path_of}
 use Rattle.fb_fabric.specs.declared.layout.Row.{Row}
 use Rattle.fb_types.specs.declared.run.Target.{Target}
-use Rattle.fb_fabric.specs.declared.fabric.Place.{Place}
+use Rattle.fb_types.specs.declared.run.Place.{Place}
 use Rattle.fb_fabric.specs.Fabrics.{IsPort, IsVariable}
 use Rattle.fb_fabric.specs.Networks.{IsFabric}
 use Rattle.fb_fabric.proofs.Around.{Comes, Leads}

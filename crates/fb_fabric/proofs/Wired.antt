@@ -1,9 +1,9 @@
 -- The networks that the tables have, and the rows of instances.
 use Rattle.std.proofs.Common.{◌≡◌, ℕ, zero, suc, ◌<◌, ◌-◌, List, [], ◌∷◌, ◌++◌, map, length, get_or, Bor, Option, Some, None, Contains, MatchOption, refl, sym, ◌∙◌, ap, subst, arith}
-use Rattle.std.specs.Prelude.{slice_get, option_map, option_and_then, flat_map, All}
+use Rattle.std.specs.Prelude.{slice_get, option_map, option_and_then, flat_map}
 use Rattle.std.specs.Option.{option_copied}
 use Rattle.std.proofs.lemmas.List.{length-map}
-use Rattle.std.proofs.lemmas.Option.{same_Some, slice_get_within, slice_get-map, get_or_from_slice_get, slice_get_read}
+use Rattle.std.proofs.lemmas.Option.{same_Some, slice_get_within, slice_get-map, slice_get_read}
 use Rattle.fb_types.specs.Names.{Name, Path}
 use Rattle.fb_types.specs.Blocks.{Kind, Composite}
 use Rattle.fb_types.specs.Flat.{kind_of, kind_at, kind_of_instance, network_at, network_of, inside, instance_at, paths_of, parent, last_of}
@@ -15,7 +15,7 @@ use Rattle.fb_types.specs.declared.library.CompositeType.{CompositeType}
 use Rattle.fb_types.specs.declared.library.Instance.{Instance}
 use Rattle.fb_types.specs.declared.library.Network.{Network}
 use Rattle.fb_types.specs.declared.event_kind.EventKind.{EventKind}
-use Rattle.fb_names.proofs.NameLemmas.{Contains-here, Contains-there}
+use Rattle.fb_types.proofs.Elements.{Contains-here, Contains-there}
 use Rattle.fb_names.specs.declared.numbers.NetworkNumbers.{NetworkNumbers}
 use Rattle.fb_names.specs.declared.numbers.TypeNumber.{TypeNumber}
 use Rattle.fb_names.specs.declared.numbers.TypeNumber.TheVariants as number
@@ -24,18 +24,10 @@ use Rattle.fb_fabric.specs.Layouts.{AreComponents, AreNumbers, IsParent, IsPlace
 use Rattle.fb_fabric.specs.declared.layout.Layout.{Layout}
 use Rattle.fb_fabric.specs.declared.layout.Row.{Row}
 use Rattle.fb_fabric.specs.Networks.{AreTables, IsAround, IsThere, IsWired, composite_of, path_around}
+use Rattle.fb_types.proofs.ByPlace.{element_at, all_at}
 use Rattle.fb_fabric.proofs.Differing.{instances_once}
 
 -- ---- Elements at places
-
-pub element_at : {A : Type 0} (xs : List A) (k : ℕ) → k < length xs → (x : A) × (slice_get xs k ≡ Some x)
-element_at [] k h = absurd (omega arith)
-element_at (x ∷ xs) zero h = (x, refl)
-element_at (x ∷ xs) (suc k) h = let h' : k < length xs = omega arith in element_at xs k h'
-
-pub all_at : {A : Type 0} (P : A → Type 0) (xs : List A) (i : ℕ) (x : A) → All P xs → slice_get xs i ≡ Some x → P x
-all_at {A} P xs i x all h =
-    subst P (get_or_from_slice_get xs i x x h) (all i x (slice_get_within xs i x h))
 
 pub last_pushed : (xs : List ℕ) (x : ℕ) → last_of (xs ++ x ∷ []) ≡ Some x
 last_pushed [] x = refl

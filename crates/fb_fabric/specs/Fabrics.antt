@@ -12,7 +12,7 @@ use Rattle.fb_types.specs.declared.library.Variable.{Variable}
 use Rattle.fb_types.specs.declared.run.Target.{Target}
 use Rattle.std.specs.Prelude.{List}
 use Rattle.fb_fabric.specs.Layouts.{path_of}
-use Rattle.fb_fabric.specs.declared.fabric.Place.{Place}
+use Rattle.fb_types.specs.declared.run.Place.{Place}
 
 -- the ports of an instance's type
 abbrev pub ports_here : Library → (instance : ℕ) → Ports

@@ -19,17 +19,9 @@ use crate::tables::{Tables, last_place, row_at, source_in, target_in};
 use crate::wiring::Wiring;
 use fb_names::numbers::{End, Resolved, TypeNumber};
 use fb_types::library::{Instance, Library};
-use fb_types::run::Target;
+use fb_types::run::{Place, Target};
 use std::alloc::{AllocError, Global};
 use std::marker::Model;
-
-/// A variable of an instance, by its place among the data inputs or the data outputs of the instance's type.
-#[derive(Clone, Copy, Debug, PartialEq, Eq)]
-pub struct Place {
-    pub instance: u32,
-    pub variable: u32,
-    pub is_output: bool,
-}
 
 /// The instances of an accepted declaration, and what their ports are connected to. Contracts see the declaration.
 #[derive(Drop)]

@@ -9,13 +9,12 @@ ghost use Rattle.fb_types.specs.declared.library.Network.{Network};
 ghost use Rattle.fb_fabric.specs.Fabrics.{IsSource, IsTarget, port_of, variable_of};
 ghost use Rattle.fb_fabric.specs.Networks.{DataEnters, DataLeaves, EventEnters, EventLeaves, IsAround, IsFabric, IsThere, IsWired, path_around, source_along, targets_along};
 
-use crate::fabric::Place;
 use crate::layout::{Layout, Row};
 use crate::wiring::Wiring;
 use fb_names::numbers::{End, TypeNumber};
 use fb_types::items::Items;
 use fb_types::library::Library;
-use fb_types::run::Target;
+use fb_types::run::{Place, Target};
 
 /// The instances of a declaration and its networks.
 #[derive(Drop)]

@@ -10,12 +10,11 @@ use Rattle.fb_types.specs.declared.library.Library.{Library}
 use Rattle.fb_types.specs.declared.library.Connection.{Connection}
 use Rattle.fb_types.specs.declared.library.PortName.{PortName}
 use Rattle.fb_types.specs.declared.deploy.Plan.{Plan}
-use Rattle.fb_names.proofs.NameLemmas.{Contains-nil}
+use Rattle.fb_types.proofs.Elements.{Contains-nil, Contains-map, map-Contains}
 use Rattle.fb_joins.specs.Mapping.{IsHolding, resource_in}
 use Rattle.fb_joins.specs.Links.{pair_of}
 use Rattle.fb_joins.specs.Serving.{Lead, lead_cmp, lead_port, path_of, withs_of, IsExtended, Serves, AreServed}
 use Rattle.fb_joins.specs.declared.mapping.Mapping.{Mapping}
-use Rattle.fb_joins.proofs.Mapped.{Contains-map, map-Contains}
 use Rattle.fb_joins.proofs.Unlinked.{resource-is}
 use Rattle.fb_joins.proofs.Sets.{Has, has_none, has_more, lead_view, lead_cmp-exact}
 

@@ -22,7 +22,8 @@ use Rattle.fb_names.specs.declared.numbers.NetworkNumbers.{NetworkNumbers}
 use Rattle.fb_names.specs.declared.numbers.Resolved.{Resolved}
 use Rattle.fb_names.specs.Numbers.{IsNetwork, IsResolved, each_or_none, type_number, kind_of_number}
 use Rattle.fb_joins.specs.Counts.{inside_count, count_of, count_inside, no_count, counts_after}
-use Rattle.fb_joins.proofs.Lists.{each_parts, past_both}
+use Rattle.fb_names.proofs.Each.{each_parts}
+use Rattle.fb_joins.proofs.Lists.{past_both}
 use Rattle.fb_joins.proofs.Naming.{type_by_number}
 
 -- ---- Counts

@@ -1,12 +1,11 @@
 -- Elements of lists, one element at a time.
-use Rattle.std.proofs.Common.{◌≡◌, ℕ, ◌<◌, ◌≤◌, ◌+◌, Bool, true, false, cond, ◌||◌, List, [], ◌∷◌, ◌++◌, length, map, take, get_or, Option, Some, None, Contains, refl, sym, ◌∙◌, ap, subst, inl, inr}
-use Rattle.std.specs.Prelude.{option_map, option_and_then}
+use Rattle.std.proofs.Common.{◌≡◌, ℕ, ◌<◌, ◌≤◌, ◌+◌, Bool, true, false, cond, ◌||◌, List, [], ◌∷◌, ◌++◌, length, map, take, get_or, Some, Contains, refl, sym, ◌∙◌, ap, subst, inl, inr}
 use Rattle.std.specs.List.{filter, list_any}
 use Rattle.std.specs.Bool.{Decides}
 use Rattle.std.proofs.lemmas.Bool.{true≢false}
 use Rattle.std.proofs.lemmas.List.{take_more, take_all}
 use Rattle.std.proofs.lemmas.List.Elements.{Contains-push_cases, Contains-get_or}
-use Rattle.fb_names.proofs.NameLemmas.{Contains-nil, Contains-cons_cases, Contains-here, Contains-there}
+use Rattle.fb_types.proofs.Elements.{Contains-nil, Contains-cons_cases, Contains-here, Contains-there}
 
 -- ---- Some element of a list
 
@@ -76,13 +75,3 @@ Contains-filter {A} p (y ∷ ys) x c h =
             | false ↦ Contains-filter p ys x rest h
           ])
     ]
-
--- ---- Steps that may fail
-
-pub and_then_some : {A B : Type 0} (f : A → Option B) (o : Option A) (y : B) → option_and_then f o ≡ Some y → (x : A) × (o ≡ Some x) × (f x ≡ Some y)
-and_then_some f None y h = absurd (cc)
-and_then_some f (Some x) y h = (x, refl, h)
-
-pub map_some : {A B : Type 0} (f : A → B) (o : Option A) (y : B) → option_map f o ≡ Some y → (x : A) × (o ≡ Some x) × (f x ≡ y)
-map_some f None y h = absurd (cc)
-map_some f (Some x) y h = let e : f x ≡ y = cc in (x, refl, e)

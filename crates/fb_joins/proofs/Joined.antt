@@ -18,8 +18,8 @@ use Rattle.fb_types.specs.declared.library.PortName.{PortName}
 use Rattle.fb_types.specs.declared.library.Ports.{Ports}
 use Rattle.fb_types.specs.declared.library.Variable.{Variable}
 use Rattle.fb_types.specs.declared.deploy.Plan.{Plan}
-use Rattle.fb_names.proofs.NameLemmas.{Contains-cons_cases}
-use Rattle.fb_names.proofs.Positions.{named-position, position_is, slice_get-Contains}
+use Rattle.fb_types.proofs.Positions.{named-position, position_is, slice_get-Contains}
+use Rattle.fb_types.proofs.Elements.{Contains-cons_cases}
 use Rattle.fb_names.specs.declared.numbers.TypeNumber.{TypeNumber}
 use Rattle.fb_names.specs.declared.numbers.End.{End}
 use Rattle.fb_names.specs.declared.numbers.Wire.{Wire}
@@ -28,9 +28,12 @@ use Rattle.fb_names.specs.declared.numbers.Resolved.{Resolved}
 use Rattle.fb_names.specs.Numbers.{IsNetwork, IsResolved, place_of, type_number, kind_of_number, ports_at_place, end_at, end_number, both_ends, data_wire}
 use Rattle.fb_joins.specs.Ranges.{is_within}
 use Rattle.fb_joins.specs.Variables.{type_at, source_type, target_type}
+use Rattle.fb_types.proofs.Options.{and_then_parts, map_parts}
+use Rattle.fb_names.proofs.Each.{each_at, each_from}
+use Rattle.fb_types.proofs.ByPlace.{element_of_place, place_of_element}
 use Rattle.fb_joins.specs.Networks.{boundary, network_passes}
 use Rattle.fb_joins.specs.Joins.{is_out, leads_out, leads_out_in}
-use Rattle.fb_joins.proofs.Lists.{Contains-at, at_from_Contains, any_at, any_from, each_at, each_from, and_then_parts, map_parts}
+use Rattle.fb_joins.proofs.Lists.{any_at, any_from}
 use Rattle.fb_joins.proofs.Naming.{IsApart, type_by_number, composite_at, kind_apart, composite_apart}
 use Rattle.fb_joins.proofs.Placing.{network_tells}
 use Rattle.fb_joins.proofs.Ranged.{within-Decides}
@@ -234,9 +237,9 @@ network_by_number lib plan n x once there is = (
       let c = each_from (data_wire lib n) n.1.data_connections x.data_wires at.0 at.1 is.data_wires at.2 in
       let types = wire_types lib plan n x c.0 at.1 once there is c.2 in
       let same = ap (λ (o : Option Ty). is_out o (target_type lib (boundary n) x.types at.1.to)) types.0 ∙ ap (is_out (type_at_end lib n c.0.from)) types.1 in
-      (c.0, Contains-at n.1.data_connections at.0 c.0 c.1, (out-Decides (type_at_end lib n c.0.from) (type_at_end lib n c.0.to)).0 (sym same ∙ at.3)),
+      (c.0, element_of_place n.1.data_connections at.0 c.0 c.1, (out-Decides (type_at_end lib n c.0.from) (type_at_end lib n c.0.to)).0 (sym same ∙ at.3)),
   λ w.
-      let at = at_from_Contains n.1.data_connections w.0 w.1 in
+      let at = place_of_element n.1.data_connections w.0 w.1 in
       let wire = each_at (data_wire lib n) n.1.data_connections x.data_wires at.0 w.0 is.data_wires at.1 in
       let types = wire_types lib plan n x w.0 wire.0 once there is wire.2 in
       let same = ap (λ (o : Option Ty). is_out o (target_type lib (boundary n) x.types wire.0.to)) types.0 ∙ ap (is_out (type_at_end lib n w.0.from)) types.1 in

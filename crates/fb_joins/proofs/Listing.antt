@@ -1,5 +1,5 @@
 -- The resources that list names, one name at a time.
-use Rattle.std.proofs.Common.{◌≡◌, ℕ, suc, ◌<◌, ◌≤◌, ◌+◌, Bool, true, false, cond, ◌||◌, List, [], ◌∷◌, ◌++◌, length, map, take, drop, get_or, Option, Some, None, Contains, Bor, refl, sym, ◌∙◌, ap, subst, arith, append_assoc}
+use Rattle.std.proofs.Common.{◌≡◌, ℕ, suc, ◌<◌, ◌≤◌, ◌+◌, Bool, true, false, cond, ◌||◌, List, [], ◌∷◌, ◌++◌, length, map, take, drop, get_or, Option, Some, None, Contains, Bor, refl, sym, ◌∙◌, ap, subst, arith, append_assoc, append-nil}
 use Rattle.std.specs.Prelude.{position, is_some, option_map, flat_map}
 use Rattle.std.specs.List.{list_any}
 use Rattle.std.specs.Ordering.{nat_cmp, is_eq}
@@ -14,9 +14,12 @@ use Rattle.fb_types.specs.Blocks.{named, among}
 use Rattle.fb_types.specs.Repeated.{Twice}
 use Rattle.fb_types.specs.declared.deploy.Resource.{Resource}
 use Rattle.fb_names.specs.Places.{place_in}
-use Rattle.fb_names.proofs.NameLemmas.{same_name-itself, same_from_same_name, contains_from_any, any_from_contains, Twice-push, Twice-append_left, once_push}
-use Rattle.fb_names.proofs.Positions.{position-cons, same_name-flip}
-use Rattle.fb_names.proofs.Seen.{name_cmp, slice_cmp-Decides, more_of_part}
+use Rattle.fb_types.proofs.LoopSteps.{more_of_part}
+use Rattle.fb_types.proofs.Positions.{position-cons}
+use Rattle.fb_types.proofs.Options.{none_from_is_some}
+use Rattle.fb_types.proofs.TwiceLaws.{Twice-push, Twice-append_left, once_push}
+use Rattle.fb_types.proofs.NameLaws.{same_name-itself, same_from_same_name, contains_from_any, any_from_contains, same_name-flip}
+use Rattle.fb_names.proofs.Seen.{name_cmp, slice_cmp-Decides}
 use Rattle.fb_joins.specs.Mapping.{IsListing}
 
 -- ---- Names with the numbers of the resources that list them
@@ -38,10 +41,6 @@ number_in ps n = option_map (λ p. p.1) (named (λ p. p.0) n ps)
 abbrev or_else : {A : Type 0} → Option A → Option A → Option A
 or_else None o = o
 or_else (Some x) o = Some x
-
-pub append-nil : {A : Type 0} (xs : List A) → xs ++ [] ≡ xs
-append-nil [] = refl
-append-nil (x ∷ xs) = ap (λ ys. x ∷ ys) (append-nil xs)
 
 holdings-push :
     (k : ℕ) (rs : List Resource) (r : Resource) → holdings k (rs ++ r ∷ []) ≡ holdings k rs ++ at_number (k + length rs) r.instances
@@ -122,10 +121,6 @@ held_none m e = record {
 
 abbrev at_name : Name → Bor Name
 at_name n = record { ref_ptr = (0, 0); now = n }
-
-pub none_from_is_some : {X : Type 0} (o : Option X) → is_some o ≡ false → o ≡ None
-none_from_is_some None h = refl
-none_from_is_some (Some x) h = absurd (true≢false h)
 
 or_else-None : {X : Type 0} (o : Option X) → o ≡ or_else o None
 or_else-None None = refl

@@ -17,27 +17,12 @@ use Rattle.fb_types.specs.declared.library.Instance.{Instance}
 use Rattle.fb_types.specs.declared.deploy.Plan.{Plan}
 use Rattle.fb_types.specs.declared.deploy.Resource.{Resource}
 use Rattle.fb_names.specs.Places.{place_in}
-use Rattle.fb_names.proofs.NameLemmas.{Contains-nil, Contains-cons_cases, Contains-here, Contains-there, contains_from_any, any_from_contains}
-use Rattle.fb_names.proofs.Positions.{is_some-position}
+use Rattle.fb_types.proofs.Positions.{is_some-position}
+use Rattle.fb_types.proofs.NameLaws.{contains_from_any, any_from_contains}
+use Rattle.fb_types.proofs.Elements.{Contains-nil, Contains-here, Contains-map}
 use Rattle.fb_names.proofs.Seen.{name_cmp}
 use Rattle.fb_joins.specs.Mapping.{IsListing, IsMapping}
 use Rattle.fb_joins.specs.declared.mapping.Mapping.TheVariants.{All, Listed}
-
-pub Contains-map : {A B : Type 0} (f : A → B) (xs : List A) (x : A) → Contains xs x → Contains (map f xs) (f x)
-Contains-map f [] x h = absurd (Contains-nil x h)
-Contains-map {A} f (y ∷ ys) x h =
-    elim (Contains-cons_cases y ys x h) [
-      | inl e ↦ subst (λ (z : A). Contains (f y ∷ map f ys) (f z)) e (Contains-here (f y) (map f ys))
-      | inr rest ↦ Contains-there (f y) (map f ys) (f x) (Contains-map f ys x rest)
-    ]
-
-pub map-Contains : {A B : Type 0} (f : A → B) (xs : List A) (z : B) → Contains (map f xs) z → (x : A) × Contains xs x × (f x ≡ z)
-map-Contains f [] z h = absurd (Contains-nil z h)
-map-Contains f (y ∷ ys) z h =
-    elim (Contains-cons_cases (f y) (map f ys) z h) [
-      | inl e ↦ (y, Contains-here y ys, e)
-      | inr rest ↦ let r = map-Contains f ys z rest in (r.0, Contains-there y ys r.0 r.1, r.2)
-    ]
 
 -- ---- One resource holds all
 

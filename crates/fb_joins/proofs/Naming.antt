@@ -16,12 +16,13 @@ use Rattle.fb_types.specs.declared.library.Ports.{Ports}
 use Rattle.fb_types.specs.declared.event_kind.EventKind.{EventKind}
 use Rattle.fb_types.specs.declared.event_kind.EventKind.TheVariants.{Restart, Split, Merge, Rendezvous, Permit, Select, Switch, Delay, Cycle, SetReset, DataLatch, RisingEdge, FallingEdge, CountUp}
 use Rattle.fb_types.specs.declared.deploy.Plan.{Plan}
-use Rattle.fb_names.proofs.NameLemmas.{Contains-nil, Contains-cons_cases, Contains-here, Contains-there, Twice-append_left}
-use Rattle.fb_names.proofs.Positions.{named-position, position_is, slice_get-Contains}
+use Rattle.fb_types.proofs.Positions.{named-position}
+use Rattle.fb_types.proofs.TwiceLaws.{Twice-append_left, Twice-both}
+use Rattle.fb_types.proofs.Elements.{Contains-nil, Contains-cons_cases, Contains-here, Contains-there, Contains-map}
+use Rattle.fb_types.proofs.ByPlace.{element_of_place}
 use Rattle.fb_names.specs.declared.numbers.TypeNumber.{TypeNumber}
 use Rattle.fb_names.specs.declared.numbers.TypeNumber.TheVariants as number
 use Rattle.fb_names.specs.Numbers.{place_of, type_number, kind_of_number}
-use Rattle.fb_joins.proofs.Lists.{Contains-at, Contains-map, Twice-both}
 
 -- ---- Types
 
@@ -143,9 +144,9 @@ kind_apart lib plan (number.Declared t) k once h =
       | Some b ↦ λ e g.
           let same : kind_of b ≡ k = cc in
           let P : Kind → Type 0 = λ k. IsApart (ports_of k) in
-          subst P same (declared_apart lib plan b once (Contains-at lib.blocks t b e))
+          subst P same (declared_apart lib plan b once (element_of_place lib.blocks t b e))
     ] refl h
 
 pub composite_apart :
     (lib : Library) (plan : Plan) (k : ℕ) (t : CompositeType) → ¬ (NameTwice lib plan) → slice_get lib.blocks k ≡ Some (block.Composite t) → IsApart t.ports
-composite_apart lib plan k t once h = declared_apart lib plan (block.Composite t) once (Contains-at lib.blocks k (block.Composite t) h)
+composite_apart lib plan k t once h = declared_apart lib plan (block.Composite t) once (element_of_place lib.blocks k (block.Composite t) h)

@@ -21,9 +21,9 @@ use Rattle.fb_names.specs.declared.numbers.End.{End}
 use Rattle.fb_names.specs.declared.numbers.Wire.{Wire}
 use Rattle.fb_names.specs.declared.numbers.NetworkNumbers.{NetworkNumbers}
 use Rattle.fb_names.proofs.Each.{each_at}
-use Rattle.fb_names.proofs.Positions.{named-position}
+use Rattle.fb_types.proofs.Positions.{named-position}
+use Rattle.fb_types.proofs.Options.{and_then_parts, map_parts}
 use Rattle.fb_joins.specs.Serving.{listed_with, withs_of, output_at, withs_at}
-use Rattle.fb_joins.proofs.Elements.{and_then_some, map_some}
 
 -- ---- Types
 
@@ -34,7 +34,7 @@ kind_of_type lib n t h =
     → kind_of_number lib t ≡ elim o as (λ _. Option Kind) [ Some e ↦ Some (Event e.1) | None ↦ option_map kind_of (named type_name n lib.blocks) ]) [
       | Some e ↦ λ h. let same : number.Event e.1 ≡ t = cc in ap (kind_of_number lib) (sym same)
       | None ↦ λ h.
-          let i = map_some (λ (k : ℕ). number.Declared k) (place_of (map type_name lib.blocks) n) t h in
+          let i = map_parts (λ (k : ℕ). number.Declared k) (place_of (map type_name lib.blocks) n) t h in
           ap (kind_of_number lib) (sym i.2)
           ∙ ap (option_map kind_of) (sym (named-position type_name n lib.blocks ∙ ap (option_and_then (slice_get lib.blocks)) i.1))
     ] h
@@ -71,11 +71,11 @@ end_known lib component boundary p e h =
     → elim o as (λ _. Option End) [ None ↦ None | Some c ↦ option_and_then at_place (place_of (instance_names lib.application.network) c) ] ≡ Some e → IsKnown lib component p e) [
       | None ↦ λ o h. absurd (cc)
       | Some c ↦ λ o h.
-          let a = and_then_some at_place (place_of (instance_names lib.application.network) c) e h in
-          let b = and_then_some (λ (ps : Ports). end_at (Some a.0) (component ps) p) (ports_at_place lib (None, lib.application.network) a.0) e a.2 in
-          let k = map_some ports_of (option_and_then (kind_of_instance lib) (slice_get is a.0)) b.0 b.1 in
-          let s = and_then_some (kind_of_instance lib) (slice_get is a.0) k.0 k.1 in
-          let d = map_some (λ (j : ℕ). the_end (Some a.0) j) (place_of (component b.0) p.port) e b.2 in
+          let a = and_then_parts at_place (place_of (instance_names lib.application.network) c) e h in
+          let b = and_then_parts (λ (ps : Ports). end_at (Some a.0) (component ps) p) (ports_at_place lib (None, lib.application.network) a.0) e a.2 in
+          let k = map_parts ports_of (option_and_then (kind_of_instance lib) (slice_get is a.0)) b.0 b.1 in
+          let s = and_then_parts (kind_of_instance lib) (slice_get is a.0) k.0 k.1 in
+          let d = map_parts (λ (j : ℕ). the_end (Some a.0) j) (place_of (component b.0) p.port) e b.2 in
           record {
             name = c;
             place = a.0;
@@ -118,8 +118,8 @@ withs_known lib x i c network h =
     let w = each_at (event_wire lib (None, net)) net.event_connections x.event_wires i c network.event_wires h in
     let from_end = end_number lib (None, net) event_outs event_ins c.from in
     let to_end = end_number lib (None, net) event_ins event_outs c.to in
-    let a = and_then_some (λ (y : End). option_map (λ (z : End). wire y z) to_end) from_end w.0 w.2 in
-    let b = map_some (λ (z : End). wire a.0 z) to_end w.0 a.2 in
+    let a = and_then_parts (λ (y : End). option_map (λ (z : End). wire y z) to_end) from_end w.0 w.2 in
+    let b = map_parts (λ (z : End). wire a.0 z) to_end w.0 a.2 in
     let k = end_known lib event_outs event_ins c.from a.0 a.1 in
     let from : w.0.from ≡ record { component = Some k.place; port = k.port } = sym (ap (λ (y : Wire). y.from) b.2) ∙ sym k.is in
     let t = each_at (λ (j : Instance). type_number lib j.block_type) net.instances x.types k.place k.instance network.types k.stands in
@@ -153,5 +153,5 @@ data_known lib x c network there =
     (slice_get_read net.data_connections (length net.data_connections) there.0 c refl there.1 (sym there.2)) in
     let from_end = end_number lib (None, net) data_outs data_ins c.from in
     let to_end = end_number lib (None, net) data_ins data_outs c.to in
-    let a = and_then_some (λ (y : End). option_map (λ (z : End). wire y z) to_end) from_end w.0 w.2 in
+    let a = and_then_parts (λ (y : End). option_map (λ (z : End). wire y z) to_end) from_end w.0 w.2 in
     (a.0, end_known lib data_outs data_ins c.from a.0 a.1)

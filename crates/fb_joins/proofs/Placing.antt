@@ -10,7 +10,7 @@ use Rattle.fb_types.specs.declared.library.BlockType.{BlockType}
 use Rattle.fb_types.specs.declared.library.BlockType.TheVariants as block
 use Rattle.fb_types.specs.declared.library.CompositeType.{CompositeType}
 use Rattle.fb_types.specs.declared.deploy.Plan.{Plan}
-use Rattle.fb_names.proofs.NameLemmas.{Contains-cons_cases, Contains-here, Contains-there}
+use Rattle.fb_types.proofs.Elements.{Contains-cons_cases, Contains-here, Contains-there}
 use Rattle.fb_names.specs.declared.numbers.NetworkNumbers.{NetworkNumbers}
 use Rattle.fb_names.specs.declared.numbers.Resolved.{Resolved}
 use Rattle.fb_names.specs.Numbers.{IsNetwork, IsResolved}

@@ -9,7 +9,8 @@ use Rattle.std.specs.BTreeSet as set
 use Rattle.std.proofs.lemmas.Bool.{true≢false}
 use Rattle.std.proofs.lemmas.List.Elements.{Contains-append_left, Contains-push, Contains-push_cases}
 use Rattle.fb_types.specs.Names.{Name, Port}
-use Rattle.fb_names.proofs.Seen.{IsExact, more_of_part, slice_cmp-Decides}
+use Rattle.fb_types.proofs.LoopSteps.{more_of_part}
+use Rattle.fb_names.proofs.Seen.{IsExact, slice_cmp-Decides}
 use Rattle.fb_joins.specs.Serving.{Lead, lead_cmp, lead_port, path_of, name_cmp}
 
 -- ---- Comparisons that decide equality

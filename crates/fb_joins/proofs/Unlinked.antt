@@ -14,14 +14,14 @@ use Rattle.fb_types.specs.declared.library.Connection.{Connection}
 use Rattle.fb_types.specs.declared.library.PortName.{PortName}
 use Rattle.fb_types.specs.declared.deploy.Plan.{Plan}
 use Rattle.fb_types.specs.declared.deploy.Link.{Link}
-use Rattle.fb_names.proofs.NameLemmas.{same_name-Decides, same_from_same_name}
-use Rattle.fb_names.proofs.Positions.{is_some-position}
+use Rattle.fb_types.proofs.Positions.{is_some-position}
+use Rattle.fb_types.proofs.NameLaws.{same_name-Decides, same_from_same_name}
 use Rattle.fb_joins.specs.Mapping.{IsHolding, resource_in, holder_in}
+use Rattle.fb_types.proofs.Options.{none_from_is_some}
+use Rattle.fb_types.proofs.Elements.{Contains-map, map-Contains}
 use Rattle.fb_joins.specs.Links.{AreWays, IsUnlinked, HasUnlinked, pair_of, names_of_link}
 use Rattle.fb_joins.specs.declared.mapping.Mapping.{Mapping}
-use Rattle.fb_joins.proofs.Listing.{none_from_is_some}
 use Rattle.fb_joins.proofs.Elements.{any-Decides}
-use Rattle.fb_joins.proofs.Mapped.{Contains-map, map-Contains}
 use Rattle.fb_joins.proofs.Sets.{Has, Pair, pair_cmp, pair_view}
 
 pub resource-is : (plan : Plan) (m : Mapping) (p : PortName) → IsHolding plan m → resource_in m p ≡ resource_of plan (port_in [] p).at

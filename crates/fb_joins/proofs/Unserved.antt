@@ -12,16 +12,16 @@ use Rattle.fb_types.specs.Mapped.{IsCut, IsServed, NoEvent}
 use Rattle.fb_types.specs.declared.library.Library.{Library}
 use Rattle.fb_types.specs.declared.library.Connection.{Connection}
 use Rattle.fb_types.specs.declared.deploy.Plan.{Plan}
-use Rattle.fb_names.proofs.NameLemmas.{contains_from_any}
-use Rattle.fb_names.proofs.Positions.{is_some-position}
+use Rattle.fb_types.proofs.Positions.{is_some-position}
+use Rattle.fb_types.proofs.NameLaws.{contains_from_any}
 use Rattle.fb_names.specs.Numbers.{IsNetwork}
 use Rattle.fb_names.specs.declared.numbers.NetworkNumbers.{NetworkNumbers}
 use Rattle.fb_joins.specs.Mapping.{IsHolding, resource_in}
 use Rattle.fb_joins.specs.Links.{pair_of}
 use Rattle.fb_joins.specs.Serving.{Lead, lead_cmp, Serves, AreServed, IsUnserved, listed_with, withs_of}
+use Rattle.fb_types.proofs.Elements.{Contains-map, map-Contains}
 use Rattle.fb_joins.specs.declared.mapping.Mapping.{Mapping}
 use Rattle.fb_joins.proofs.Carried.{IsLead, lead-is}
-use Rattle.fb_joins.proofs.Mapped.{Contains-map, map-Contains}
 use Rattle.fb_joins.proofs.Numbers.{data_known, known_port}
 use Rattle.fb_joins.proofs.Sets.{lead_view}
 use Rattle.fb_joins.proofs.Unlinked.{resource-is}

@@ -17,15 +17,17 @@ use Rattle.fb_types.specs.declared.library.Parameter.{Parameter}
 use Rattle.fb_types.specs.declared.library.Ports.{Ports}
 use Rattle.fb_types.specs.declared.library.Variable.{Variable}
 use Rattle.fb_types.specs.declared.deploy.Plan.{Plan}
-use Rattle.fb_names.proofs.Positions.{named-position}
+use Rattle.fb_types.proofs.Positions.{named-position}
 use Rattle.fb_names.specs.declared.numbers.TypeNumber.{TypeNumber}
 use Rattle.fb_names.specs.declared.numbers.NetworkNumbers.{NetworkNumbers}
 use Rattle.fb_names.specs.declared.numbers.Resolved.{Resolved}
 use Rattle.fb_names.specs.Numbers.{IsNetwork, IsResolved, each_or_none, place_of, type_number, kind_of_number, parameter_numbers}
 use Rattle.fb_joins.specs.Variables.{type_at, input_type}
 use Rattle.fb_joins.specs.Networks.{network_passes}
+use Rattle.fb_names.proofs.Each.{each_parts}
+use Rattle.fb_types.proofs.ByPlace.{element_of_place, place_of_element}
 use Rattle.fb_joins.specs.Parameters.{ParameterWrong, is_wrong, has_wrong, has_wrong_in}
-use Rattle.fb_joins.proofs.Lists.{Contains-at, at_from_Contains, any_at, any_from, each_parts}
+use Rattle.fb_joins.proofs.Lists.{any_at, any_from}
 use Rattle.fb_joins.proofs.Naming.{type_by_number}
 use Rattle.fb_joins.proofs.Placing.{network_tells}
 
@@ -103,9 +105,9 @@ network_by_number lib n x is =
     let by_names = instances_by_number lib n.1.instances x.types x.parameters is.types is.parameters in (
       λ h.
           let at = any_at (λ i. not (parameters_right lib i)) n.1.instances (sym by_names ∙ h) in
-          (at.1, Contains-at n.1.instances at.0 at.1 at.2, false_of_not (parameters_right lib at.1) at.3),
+          (at.1, element_of_place n.1.instances at.0 at.1 at.2, false_of_not (parameters_right lib at.1) at.3),
       λ w.
-          let at = at_from_Contains n.1.instances w.0 w.1 in
+          let at = place_of_element n.1.instances w.0 w.1 in
           by_names ∙ any_from (λ i. not (parameters_right lib i)) n.1.instances at.0 w.0 at.1 (ap not w.2),
     )
 

@@ -15,10 +15,12 @@ use Rattle.fb_types.specs.declared.library.BlockType.{BlockType}
 use Rattle.fb_types.specs.declared.library.EventPort.{EventPort}
 use Rattle.fb_types.specs.declared.library.Variable.{Variable}
 use Rattle.fb_types.specs.declared.deploy.Plan.{Plan}
-use Rattle.fb_names.proofs.NameLemmas.{Contains-nil, Contains-here, Contains-there, contains_from_any, any_from_contains, same_from_same_name, Twice-append_left}
+use Rattle.fb_types.proofs.TwiceLaws.{Twice-append_left, Twice-append_right}
+use Rattle.fb_types.proofs.Options.{map_parts}
+use Rattle.fb_types.proofs.NameLaws.{contains_from_any, any_from_contains, same_from_same_name, named-Contains}
+use Rattle.fb_types.proofs.Elements.{Contains-nil, Contains-here, Contains-there, Contains-map}
 use Rattle.fb_joins.specs.Serving.{listed_with}
-use Rattle.fb_joins.proofs.Elements.{Contains-filter, filter-Contains, map_some}
-use Rattle.fb_joins.proofs.Mapped.{Contains-map}
+use Rattle.fb_joins.proofs.Elements.{Contains-filter, filter-Contains}
 
 -- ---- One list of events
 
@@ -112,18 +114,6 @@ no_repeats RisingEdge = refl
 no_repeats FallingEdge = refl
 no_repeats CountUp = refl
 
-named_Contains : {A : Type 0} (f : A → Name) (n : Name) (xs : List A) (x : A) → named f n xs ≡ Some x → Contains xs x
-named_Contains f n [] x h = absurd (cc)
-named_Contains {A} f n (y ∷ ys) x h =
-    elim (same_name (f y) n) as (λ b. cond b (Some y) (named f n ys) ≡ Some x → Contains (y ∷ ys) x) [
-      | true ↦ λ h. let e : y ≡ x = cc in subst (λ (z : A). Contains (y ∷ ys) z) e (Contains-here y ys)
-      | false ↦ λ h. Contains-there y ys x (named_Contains f n ys x h)
-    ] h
-
-Twice-append_right : {A : Type 0} (xs ys : List A) → Twice ys → Twice (xs ++ ys)
-Twice-append_right [] ys h = h
-Twice-append_right (x ∷ xs) ys h = inr (Twice-append_right xs ys h)
-
 -- the ports of a declared type are a name space
 declared_once : (lib : Library) (plan : Plan) (t : BlockType) → ¬ (NameTwice lib plan) → Contains lib.blocks t → ¬ (Twice (event_names (ports_of (kind_of t)).event_outputs))
 declared_once lib plan t once there twice =
@@ -160,6 +150,6 @@ outputs_once lib plan n k once h =
           let same : Event e.1 ≡ k = cc in
           subst P same (once_from_test (event_names (ports_of_event_block e.1).event_outputs) (no_repeats e.1))
       | None ↦ λ h.
-          let t = map_some kind_of (named type_name n lib.blocks) k h in
-          subst P t.2 (declared_once lib plan t.0 once (named_Contains type_name n lib.blocks t.0 t.1))
+          let t = map_parts kind_of (named type_name n lib.blocks) k h in
+          subst P t.2 (declared_once lib plan t.0 once (named-Contains type_name n lib.blocks t.0 t.1))
     ] h

@@ -1,9 +1,8 @@
 -- What the tests of each block type say of the whole declaration.
-use Rattle.std.proofs.Common.{◌≡◌, ◌⊎◌, ◌||◌, ◌&&◌, ℕ, Bool, true, false, cond, not, List, [], ◌∷◌, ◌++◌, map, Some, None, Option, Contains, refl, sym, ◌∙◌, ap, subst, inl, inr}
+use Rattle.std.proofs.Common.{◌≡◌, ◌⊎◌, ◌||◌, ◌&&◌, ℕ, Bool, true, false, cond, not, List, [], ◌∷◌, ◌++◌, map, Some, None, Option, refl, sym, ◌∙◌, ap, subst, inl, inr}
 use Rattle.std.specs.Prelude.{flat_map, ◌↔◌, IsTrue}
 use Rattle.std.specs.List.{list_all, list_any}
 use Rattle.std.proofs.lemmas.Bool.{true≢false, false_from_ne_true}
-use Rattle.std.proofs.lemmas.List.Concat.{flat_map-cons}
 use Rattle.std.proofs.lemmas.List.Folds.{list_all-append, list_all-map}
 use Rattle.fb_types.specs.Names.{Name}
 use Rattle.fb_types.specs.Syntax.{Expr, Stmts, expr_of, body_of}
@@ -22,7 +21,8 @@ use Rattle.fb_types.specs.declared.library.Ports.{Ports}
 use Rattle.fb_types.specs.declared.library.Transition.{Transition}
 use Rattle.fb_types.specs.declared.library.Variable as declared
 use Rattle.fb_names.specs.Parts.{parts_wanted, ArePartsKnown, PartWrong}
-use Rattle.fb_names.proofs.NameLemmas.{Contains-nil, Contains-cons_cases, Contains-here, Contains-there, contains_from_any, any_from_contains}
+use Rattle.fb_types.proofs.NameLaws.{contains_from_any, any_from_contains}
+use Rattle.fb_types.proofs.ListTests.{list_all-flat_map, list_all-agree, fails_at, passes_at, passes_from}
 use Rattle.fb_kinds.specs.Checks.{is_met, all_met, with_inputs, with_outputs, transition_met, actions_met, body_known, guard_known, algorithm_right, action_wanted, all_known, guard_mentions, is_known_chart, is_known_block, is_guard_right, chart_right, is_right_chart, is_right_block}
 
 -- ---- Truth values
@@ -63,39 +63,6 @@ shuffle_three true true true lw lc lm = refl
 shuffle_three true true false true true lm = refl
 shuffle_three true true false true false lm = refl
 shuffle_three true true false false lc lm = refl
-
--- ---- Tests of lists
-
-pub list_all-flat_map : {A B : Type 0} (p : B → Bool) (f : A → List B) (xs : List A) → list_all p (flat_map f xs) ≡ list_all (λ x. list_all p (f x)) xs
-list_all-flat_map p f [] = refl
-list_all-flat_map p f (x ∷ xs) =
-    ap (list_all p) (flat_map-cons f x xs) ∙ list_all-append p (f x) (flat_map f xs) ∙ ap (λ b. list_all p (f x) && b) (list_all-flat_map p f xs)
-
-pub list_all-agree : {A : Type 0} (p q : A → Bool) → ((x : A) → p x ≡ q x) → (xs : List A) → list_all p xs ≡ list_all q xs
-list_all-agree p q e [] = refl
-list_all-agree p q e (x ∷ xs) = λ k. e x k && list_all-agree p q e xs k
-
--- what fails of a list fails at an element
-fails_at : {A : Type 0} (p : A → Bool) (xs : List A) → list_all p xs ≡ false → (x : A) × Contains xs x × (p x ≡ false)
-fails_at p [] h = absurd (true≢false h)
-fails_at {A} p (x ∷ xs) h =
-    elim (p x) as (λ b. p x ≡ b → (b && list_all p xs) ≡ false → (y : A) × Contains (x ∷ xs) y × (p y ≡ false)) [
-      | false ↦ λ e h. (x, Contains-here x xs, e)
-      | true ↦ λ e h. let r = fails_at p xs h in (r.0, Contains-there x xs r.0 r.1, r.2)
-    ] refl h
-
-passes : {A : Type 0} (p : A → Bool) (xs : List A) (x : A) → list_all p xs ≡ true → Contains xs x → p x ≡ true
-passes p [] x h c = absurd (Contains-nil x c)
-passes {A} p (y ∷ ys) x h c =
-    let b = both (p y) (list_all p ys) h in
-    elim (Contains-cons_cases y ys x c) [
-      | inl e ↦ ap p (sym e) ∙ b.0
-      | inr rest ↦ passes p ys x b.1 rest
-    ]
-
-all_pass : {A : Type 0} (p : A → Bool) (xs : List A) → ((x : A) → Contains xs x → p x ≡ true) → list_all p xs ≡ true
-all_pass p [] h = refl
-all_pass p (x ∷ xs) h = λ k. h x (Contains-here x xs) k && all_pass p xs (λ y c. h y (Contains-there x xs y c)) k
 
 -- ---- Names of one type
 
@@ -202,14 +169,14 @@ known_answer lib b says = (there, back)
     there h =
         let r = both (all_met (parts_wanted lib)) (mentions_known lib) (known_is lib ∙ sym says ∙ h) in
         record {
-          names = λ w c. contains_from_any w.0 w.1 (passes is_met (parts_wanted lib) w r.0 c);
-          mentions = λ t m c d. passes (is_known t) (mentioned t) m (passes (λ t. all_known t (mentioned t)) (basics lib) t r.1 c) d;
+          names = λ w c. contains_from_any w.0 w.1 (passes_at is_met (parts_wanted lib) w r.0 c);
+          mentions = λ t m c d. passes_at (is_known t) (mentioned t) m (passes_at (λ t. all_known t (mentioned t)) (basics lib) t r.1 c) d;
         }
 
     back : ArePartsKnown lib → b ≡ true
     back known =
-        let names = all_pass is_met (parts_wanted lib) (λ w c. any_from_contains w.0 w.1 (known.names w c)) in
-        let mentioned_known = all_pass (λ t. all_known t (mentioned t)) (basics lib) (λ t c. all_pass (is_known t) (mentioned t) (λ m d. known.mentions t m c d)) in
+        let names = passes_from is_met (parts_wanted lib) (λ w c. any_from_contains w.0 w.1 (known.names w c)) in
+        let mentioned_known = passes_from (λ t. all_known t (mentioned t)) (basics lib) (λ t c. passes_from (is_known t) (mentioned t) (λ m d. known.mentions t m c d)) in
         says ∙ sym (known_is lib) ∙ and_both names mentioned_known
 
 -- ---- Kinds of a declaration
@@ -247,8 +214,8 @@ chart_not_wrong : (t : BasicType) → chart_right t ≡ true → ¬ (ChartWrong 
 chart_not_wrong t h wrong =
     let r = both (list_all (is_condition (place_in t)) (guards_of t)) (list_all (body_right (place_in t)) (bodies_of t)) h in
     elim wrong [
-      | inl g ↦ true≢false (sym (passes (is_condition (place_in t)) (guards_of t) g.0 r.0 g.1) ∙ g.2)
-      | inr b ↦ true≢false (sym (passes (body_right (place_in t)) (bodies_of t) b.0 r.1 b.1) ∙ b.2)
+      | inl g ↦ true≢false (sym (passes_at (is_condition (place_in t)) (guards_of t) g.0 r.0 g.1) ∙ g.2)
+      | inr b ↦ true≢false (sym (passes_at (body_right (place_in t)) (bodies_of t) b.0 r.1 b.1) ∙ b.2)
     ]
 
 part_wrong : (lib : Library) → list_all is_right_block lib.blocks ≡ false → PartWrong lib
@@ -265,8 +232,8 @@ part_not_wrong : (lib : Library) → list_all is_right_block lib.blocks ≡ true
 part_not_wrong lib h wrong =
     let r = both (list_all values_right lib.blocks) (list_all chart_right (basics lib)) (right_is lib ∙ h) in
     elim wrong [
-      | inl c ↦ chart_not_wrong c.0 (passes chart_right (basics lib) c.0 r.1 c.1) c.2
-      | inr v ↦ true≢false (sym (passes declared_right (variables_in (kind_of v.0)) v.1 (passes values_right lib.blocks v.0 r.0 v.2) v.3) ∙ v.4)
+      | inl c ↦ chart_not_wrong c.0 (passes_at chart_right (basics lib) c.0 r.1 c.1) c.2
+      | inr v ↦ true≢false (sym (passes_at declared_right (variables_in (kind_of v.0)) v.1 (passes_at values_right lib.blocks v.0 r.0 v.2) v.3) ∙ v.4)
     ]
 
 pub wrong_answer : (lib : Library) (b : Bool) → b ≡ list_all is_right_block lib.blocks → IsTrue (not b) ↔ PartWrong lib

@@ -1,12 +1,11 @@
 -- What a name of an interface stands for: each name is in one of its lists.
-use Rattle.std.proofs.Common.{◌≡◌, ℕ, zero, suc, ◌<◌, ◌≤◌, ◌-◌, length, Bool, true, false, cond, ◌||◌, List, [], ◌∷◌, ◌++◌, append_assoc, map, Option, Some, None, Contains, refl, sym, ◌∙◌, ap, subst, inl, inr, arith}
+use Rattle.std.proofs.Common.{◌≡◌, ℕ, zero, suc, ◌≤◌, ◌-◌, length, Bool, true, false, cond, ◌||◌, List, [], ◌∷◌, ◌++◌, append_assoc, map, Option, Some, None, refl, sym, ◌∙◌, ap, subst, arith}
 use Rattle.std.specs.Prelude.{position, slice_get, option_map, option_and_then, is_some}
 use Rattle.std.specs.List.{list_any}
 use Rattle.std.proofs.lemmas.Bool.{true≢false, false_from_ne_true}
 use Rattle.std.proofs.lemmas.Option.{slice_get-map}
 use Rattle.std.proofs.lemmas.List.{map-append}
 use Rattle.std.proofs.lemmas.List.Folds.{list_any-append}
-use Rattle.std.proofs.lemmas.List.Elements.{Contains-append_right}
 use Rattle.fb_types.specs.Names.{Name, same_name}
 use Rattle.fb_types.specs.Blocks.{named, among, event_names, variable_names}
 use Rattle.fb_types.specs.Repeated.{Twice}
@@ -14,9 +13,12 @@ use Rattle.fb_types.specs.declared.library.EventPort.{EventPort}
 use Rattle.fb_types.specs.declared.library.Variable.{Variable}
 use Rattle.fb_types.specs.declared.value.Ty.{Ty}
 use Rattle.fb_names.specs.Places.{IsIndex, place_in}
-use Rattle.fb_names.proofs.NameLemmas.{contains_from_any, Contains-cons_cases}
-use Rattle.fb_names.proofs.Positions.{named-position, same_name-flip}
+use Rattle.fb_types.proofs.Positions.{named-position}
+use Rattle.fb_types.proofs.NameLaws.{contains_from_any, same_name-flip}
 use Rattle.fb_kinds.specs.declared.interface.Role.{Role}
+use Rattle.fb_types.proofs.ByPlace.{element_at}
+use Rattle.fb_types.proofs.Options.{none_from_is_some}
+use Rattle.fb_types.proofs.TwiceLaws.{Twice-both, Twice-append_right}
 use Rattle.fb_kinds.specs.declared.interface.Role.TheVariants.{EventInput, EventOutput, Input, Output, Internal}
 use Rattle.fb_kinds.specs.Roles.{Declared, names_of, events_as, variables_as, with_roles, role_of, variables_of, type_named, is_event_input, is_event_output, is_input, is_output, type_in}
 
@@ -49,21 +51,9 @@ is_some-named f n (x ∷ xs) =
 
 -- ---- Lists in which no name stands twice
 
-twice-both : {A : Type 0} (xs ys : List A) (x : A) → Contains xs x → Contains ys x → Twice (xs ++ ys)
-twice-both [] ys x c d = absurd (omega (arith, c.1))
-twice-both {A} (z ∷ xs) ys x c d =
-    elim (Contains-cons_cases z xs x c) [
-      | inl e ↦ inl (subst (λ (w : A). Contains (xs ++ ys) w) (sym e) (Contains-append_right xs ys x d))
-      | inr rest ↦ inr (twice-both xs ys x rest d)
-    ]
-
-twice-right : {A : Type 0} (xs ys : List A) → Twice ys → Twice (xs ++ ys)
-twice-right [] ys t = t
-twice-right (x ∷ xs) ys t = inr (twice-right xs ys t)
-
 apart : (n : Name) (xs ys : List Name) → ¬ (Twice (xs ++ ys)) → among xs n ≡ true → among ys n ≡ false
 apart n xs ys once h =
-    false_from_ne_true (among ys n) (λ t. once (twice-both xs ys n (contains_from_any n xs h) (contains_from_any n ys t)))
+    false_from_ne_true (among ys n) (λ t. once (Twice-both xs ys n (contains_from_any n xs h) (contains_from_any n ys t)))
 
 -- ---- The five lists of an interface
 
@@ -181,9 +171,9 @@ in_one d n differ =
     let fiol = or_or f iol ∙ sym (among-append n fs (is ++ (os ++ ls))) in
     let P : List Name → Type 0 = λ ns. ¬ (Twice ns) in
     let once : ¬ (Twice (es ++ (fs ++ (is ++ (os ++ ls))))) = subst P (names_right d) differ in
-    let once_f : ¬ (Twice (fs ++ (is ++ (os ++ ls)))) = λ t. once (twice-right es (fs ++ (is ++ (os ++ ls))) t) in
-    let once_i : ¬ (Twice (is ++ (os ++ ls))) = λ t. once_f (twice-right fs (is ++ (os ++ ls)) t) in
-    let once_o : ¬ (Twice (os ++ ls)) = λ t. once_i (twice-right is (os ++ ls) t) in
+    let once_f : ¬ (Twice (fs ++ (is ++ (os ++ ls)))) = λ t. once (Twice-append_right es (fs ++ (is ++ (os ++ ls))) t) in
+    let once_i : ¬ (Twice (is ++ (os ++ ls))) = λ t. once_f (Twice-append_right fs (is ++ (os ++ ls)) t) in
+    let once_o : ¬ (Twice (os ++ ls)) = λ t. once_i (Twice-append_right is (os ++ ls) t) in
     record {
       after_first = λ h. fiol ∙ apart n es (fs ++ (is ++ (os ++ ls))) once (sym e ∙ h);
       after_second = λ h. iol ∙ apart n fs (is ++ (os ++ ls)) once_f (sym f ∙ h);
@@ -202,10 +192,6 @@ says_type o = elim o [ None ↦ None | Some r ↦ type_in r ]
 or_false : (b c : Bool) → (b || c) ≡ false → (b ≡ false) × (c ≡ false)
 or_false true c h = absurd (true≢false h)
 or_false false c h = (refl, h)
-
-none_is : {A : Type 0} (o : Option A) → is_some o ≡ false → o ≡ None
-none_is None h = refl
-none_is (Some x) h = absurd (true≢false h)
 
 event_input_said : (e f : Option EventPort) (i o l : Option Variable) → says is_event_input (first_role e f i o l) ≡ is_some e
 event_input_said (Some x) f i o l = refl
@@ -246,11 +232,11 @@ type_is : (e f : Option EventPort) (i o l : Option Variable) → IsOne e f i o l
 type_is (Some x) f i o l one =
     let iol = (or_false (is_some f) _ (one.after_first refl)).1 in
     let ol = (or_false (is_some i) _ iol).1 in
-    sym (ap variable_type (λ k. or_else (or_else (none_is i (or_false (is_some i) _ iol).0 k) (none_is o (or_false (is_some o) _ ol).0 k)) (none_is l (or_false (is_some o) _ ol).1 k)))
+    sym (ap variable_type (λ k. or_else (or_else (none_from_is_some i (or_false (is_some i) _ iol).0 k) (none_from_is_some o (or_false (is_some o) _ ol).0 k)) (none_from_is_some l (or_false (is_some o) _ ol).1 k)))
 type_is None (Some x) i o l one =
     let iol = one.after_second refl in
     let ol = (or_false (is_some i) _ iol).1 in
-    sym (ap variable_type (λ k. or_else (or_else (none_is i (or_false (is_some i) _ iol).0 k) (none_is o (or_false (is_some o) _ ol).0 k)) (none_is l (or_false (is_some o) _ ol).1 k)))
+    sym (ap variable_type (λ k. or_else (or_else (none_from_is_some i (or_false (is_some i) _ iol).0 k) (none_from_is_some o (or_false (is_some o) _ ol).0 k)) (none_from_is_some l (or_false (is_some o) _ ol).1 k)))
 type_is None None (Some x) o l one = refl
 type_is None None None (Some x) l one = refl
 type_is None None None None (Some x) one = refl
@@ -348,11 +334,6 @@ here g [] rest i x h = absurd (cc)
 here g (y ∷ xs) rest zero x h = let e : y ≡ x = cc in ap (λ z. Some (g z)) e
 here g (y ∷ xs) rest (suc i) x h = here g xs rest i x h
 
-within : {A : Type 0} (xs : List A) (i : ℕ) → i < length xs → (x : A) × (slice_get xs i ≡ Some x)
-within [] i h = absurd (omega (arith, h))
-within (x ∷ xs) zero h = (x, refl)
-within (x ∷ xs) (suc i) h = within xs i (omega (arith, h))
-
 abbrev second : Option (Name × Role) → Option Role
 second o = option_map (λ d. d.1) o
 
@@ -363,7 +344,7 @@ role_at d i = second (slice_get (with_roles d) i)
 event_here : (r : Role) (es : List EventPort) (rest : List (Name × Role)) (i : ℕ) → ¬ (length es ≤ i)
     → Some r ≡ second (slice_get (events_as r es ++ rest) i)
 event_here r es rest i h =
-    let x = within es i (omega (arith, h)) in
+    let x = element_at es i (omega (arith, h)) in
     sym (ap second (here (λ e. (e.name, r)) es rest i x.0 x.1))
 
 pub at_event_input : (d : Declared) (i n : ℕ) → n ≡ length d.ports.event_inputs → ¬ (n ≤ i) → Some EventInput ≡ role_at d i

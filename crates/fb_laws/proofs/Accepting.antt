@@ -7,7 +7,7 @@ use Rattle.std.proofs.lemmas.List.{length-map}
 use Rattle.std.proofs.lemmas.List.Elements.{All-contains, Contains-append_left, Contains-append_right}
 use Rattle.std.proofs.lemmas.List.Quantifiers.{position-Some}
 use Rattle.std.proofs.lemmas.List.Sums.{position_or_len_is}
-use Rattle.std.proofs.lemmas.Option.{slice_get_within, get_or_from_slice_get, slice_get-get_or, unwrap_or-slice_get}
+use Rattle.std.proofs.lemmas.Option.{slice_get_within, slice_get-get_or, unwrap_or-slice_get}
 use Rattle.fb_types.specs.Names.{Name, Path, same_name, Port, same_port}
 use Rattle.fb_types.specs.Blocks.{among}
 use Rattle.fb_types.specs.Flat.{flat, last_of, network_at, parent, port_in, pairs_in, events_inside, events_at, targets_of, resource_names_of, holder, resource_of, name_of_resource, link_between, latency_at, latency_of, end_of}
@@ -23,19 +23,18 @@ use Rattle.fb_types.specs.declared.library.Network.{Network}
 use Rattle.fb_types.specs.declared.latency.Entry.{Entry}
 use Rattle.fb_types.specs.declared.deploy.Plan.{Plan}
 use Rattle.fb_types.specs.declared.deploy.Link.{Link}
-use Rattle.fb_types.proofs.PathLaws.{same_name_is, same_name_itself, same_port_is}
+use Rattle.fb_types.proofs.NameLaws.{same_from_same_name, same_name-itself}
+use Rattle.fb_types.proofs.PathLaws.{same_port_is}
 use Rattle.fb_laws.specs.Sound.{AreGood, IsLink, IsLinked, IsSound}
 use Rattle.fb_types.proofs.Lookups.{option_cases, none_some}
+use Rattle.fb_types.proofs.ByPlace.{element_of_place}
 use Rattle.fb_types.proofs.EachLaws.{each_append}
 
 -- ---- Places in lists
 
-contains_at : {X : Type 0} (xs : List X) (i : ℕ) (x : X) → slice_get xs i ≡ Some x → Contains xs x
-contains_at xs i x e = (i, slice_get_within xs i x e, get_or_from_slice_get xs i x x e)
-
 each_contained : {X : Type 0} (P : X → Type 0) (xs : List X) → ((x : X) → Contains xs x → P x) → Each P xs
 each_contained P [] h = tt
-each_contained P (x ∷ xs) h = (h x (contains_at (x ∷ xs) 0 x refl), each_contained P xs (λ y c. h y (Contains-append_right (x ∷ []) xs y c)))
+each_contained P (x ∷ xs) h = (h x (element_of_place (x ∷ xs) 0 x refl), each_contained P xs (λ y c. h y (Contains-append_right (x ∷ []) xs y c)))
 
 place_below : {X : Type 0} (p : X → Bool) (xs : List X) → 1 ≤ length xs → unwrap_or (position p xs) 0 < length xs
 place_below p xs h =
@@ -58,7 +57,7 @@ twice_at (y ∷ ys) i zero x b e f = absurd (omega arith)
 twice_at (y ∷ ys) zero (suc j) x b e f =
     let g : Some y ≡ Some x = e in
     let h : y ≡ x = cc in
-    inl (subst (λ z. Contains ys z) (sym h) (contains_at ys j x f))
+    inl (subst (λ z. Contains ys z) (sym h) (element_of_place ys j x f))
 twice_at (y ∷ ys) (suc i) (suc j) x b e f = inr (twice_at ys i j x (omega arith) e f)
 
 -- a name that stands once is found at its place
@@ -70,10 +69,10 @@ name_place names once r b =
     place_is (same_name n) names r
     (position_or_len_is (same_name n) names r [] (omega arith)
     (λ k c. ⊎_elim
-    (λ t. let e : n ≡ slice_index_or names k [] = same_name_is n (slice_index_or names k []) t in
+    (λ t. let e : n ≡ slice_index_or names k [] = same_from_same_name n (slice_index_or names k []) t in
     absurd (once (twice_at names k r n c (slice_get-get_or names k [] (omega arith) ∙ ap Some (sym e)) at_r)))
     (λ f. f) (cases_Bool (same_name n (slice_index_or names k []))))
-    (λ c. subst (λ (z : Name). same_name n z ≡ true) here (same_name_itself n)))
+    (λ c. subst (λ (z : Name). same_name n z ≡ true) here (same_name-itself n)))
     b
 
 -- ---- Latencies
@@ -136,8 +135,8 @@ module _ (lib : Library) (plan : Plan) (some : 1 ≤ length plan.resources) (onc
   link_is r s l b c e =
       let x = placed (λ l. same_name l.from (name_of_resource plan r) && same_name l.to (name_of_resource plan s)) plan.links l e in
       let parts = and_parts _ _ x.2 in
-      let from : x.0.from ≡ name_of_resource plan r = same_name_is _ _ parts.0 in
-      let to : x.0.to ≡ name_of_resource plan s = same_name_is _ _ parts.1 in
+      let from : x.0.from ≡ name_of_resource plan r = same_from_same_name _ _ parts.0 in
+      let to : x.0.to ≡ name_of_resource plan s = same_from_same_name _ _ parts.1 in
       let link : unwrap_or (link_between plan r s) 0 ≡ l = ap (λ o. unwrap_or o 0) e in
       record {
         there = rw link (slice_get_within plan.links l x.0 x.1);
@@ -193,7 +192,7 @@ module _ (lib : Library) (plan : Plan) (some : 1 ≤ length plan.resources) (onc
 -- ---- Acceptance
 
 last_contained : {X : Type 0} (xs : List X) (x : X) → Contains (xs ++ x ∷ []) x
-last_contained xs x = Contains-append_right xs (x ∷ []) x (contains_at (x ∷ []) 0 x refl)
+last_contained xs x = Contains-append_right xs (x ∷ []) x (element_of_place (x ∷ []) 0 x refl)
 
 names_spaced : (lib : Library) (plan : Plan) → Contains (name_spaces lib plan) (resource_names_of plan)
 names_spaced lib plan =
@@ -216,7 +215,7 @@ sound_of i good =
           ⊎_elim
           (λ (n : slice_get i.plan.links l ≡ None). let e : latency_of i.plan l sent ≡ 1 = rw (latency_of, n) refl in omega arith)
           (λ (x : (y : Link) × (slice_get i.plan.links l ≡ Some y)). let e : latency_of i.plan l sent ≡ latency_at x.0.latency sent = rw (latency_of, x.1) refl in
-          let p = latency_positive x.0.latency (good.limits.latencies x.0 (contains_at i.plan.links l x.0 x.1)) sent in omega arith)
+          let p = latency_positive x.0.latency (good.limits.latencies x.0 (element_of_place i.plan.links l x.0 x.1)) sent in omega arith)
           (option_cases (slice_get i.plan.links l));
       linked = λ p. targets_linked i.library i.plan some (no_twice i good) (no_link i good) p;
       counted = λ p. resource_below i.plan some p;

@@ -5,7 +5,7 @@ use Rattle.fb_types.specs.Keys.{or_else, found, same_key, changed_to, without, M
 use Rattle.fb_types.specs.Takes.{put_of}
 use Rattle.fb_types.specs.States.{Event}
 use Rattle.fb_types.specs.declared.key.Key.{Key}
-use Rattle.fb_laws.proofs.Lookups.{some_one}
+use Rattle.std.proofs.lemmas.Option.{same_Some}
 
 -- said of what is there, if anything is
 abbrev pub Holds : {X : Type 0} → (X → Type 0) → Option X → Type 0
@@ -15,7 +15,7 @@ pub holds_none : {X : Type 0} (P : X → Type 0) → Holds P None
 holds_none P x e = absurd cc
 
 pub holds_some : {X : Type 0} (P : X → Type 0) (y : X) → P y → Holds P (Some y)
-holds_some P y p x e = subst P (some_one y x e) p
+holds_some P y p x e = subst P (same_Some y x e) p
 
 pub holds_if : {X : Type 0} (P : X → Type 0) (b : Bool) (o p : Option X) → Holds P o → Holds P p → Holds P (cond b o p)
 holds_if P true o p f g = f

@@ -11,37 +11,21 @@ use Rattle.fb_types.specs.declared.library.BlockType.{BlockType}
 use Rattle.fb_types.specs.declared.library.BlockType.TheVariants as block
 use Rattle.fb_types.specs.declared.library.CompositeType.{CompositeType}
 use Rattle.fb_types.specs.declared.library.Network.{Network}
-use Rattle.fb_types.proofs.PathLaws.{same_name_is}
-use Rattle.fb_names.proofs.NameLemmas.{Contains-here, Contains-there}
-use Rattle.fb_names.proofs.TwiceIn.{Contains-flat_map}
-use Rattle.fb_laws.proofs.Lookups.{some_one}
+use Rattle.fb_types.proofs.Options.{and_then_parts, map_parts}
+use Rattle.std.proofs.lemmas.Option.{same_Some}
+use Rattle.fb_types.proofs.Elements.{Contains-here, Contains-there, Contains-flat_map}
+use Rattle.fb_types.proofs.NameLaws.{same_from_same_name, named-Contains}
 
 -- ---- Elements of lists and of options
-
-pub Contains-named : {A : Type 0} (f : A → Name) (n : Name) (xs : List A) (x : A) → named f n xs ≡ Some x → Contains xs x
-Contains-named f n [] x h = absurd cc
-Contains-named {A} f n (y ∷ ys) x h =
-    elim (same_name (f y) n) as (λ b. cond b (Some y) (named f n ys) ≡ Some x → Contains (y ∷ ys) x) [
-      | true ↦ λ h. subst (λ (z : A). Contains (y ∷ ys) z) (some_one y x h) (Contains-here y ys)
-      | false ↦ λ h. Contains-there y ys x (Contains-named f n ys x h)
-    ] h
 
 -- .. and it has the name
 pub named-name : {A : Type 0} (f : A → Name) (n : Name) (xs : List A) (x : A) → named f n xs ≡ Some x → f x ≡ n
 named-name f n [] x h = absurd cc
 named-name {A} f n (y ∷ ys) x h =
     elim (same_name (f y) n) as (λ b. same_name (f y) n ≡ b → cond b (Some y) (named f n ys) ≡ Some x → f x ≡ n) [
-      | true ↦ λ e h. ap f (sym (some_one y x h)) ∙ same_name_is (f y) n e
+      | true ↦ λ e h. ap f (sym (same_Some y x h)) ∙ same_from_same_name (f y) n e
       | false ↦ λ e h. named-name f n ys x h
     ] refl h
-
-pub and_then-parts : {A B : Type 0} (f : A → Option B) (o : Option A) (y : B) → option_and_then f o ≡ Some y → (x : A) × (o ≡ Some x) × (f x ≡ Some y)
-and_then-parts f None y h = absurd cc
-and_then-parts f (Some x) y h = (x, refl, h)
-
-map-parts : {A B : Type 0} (f : A → B) (o : Option A) (y : B) → option_map f o ≡ Some y → (x : A) × (o ≡ Some x) × (f x ≡ y)
-map-parts f None y h = absurd cc
-map-parts f (Some x) y h = (x, refl, some_one (f x) y h)
 
 -- ---- Kinds
 
@@ -53,15 +37,15 @@ pub type-declared : (lib : Library) (n : Name) (k : Kind) → type_named lib n �
 type-declared lib n k =
     elim (named (λ e. e.0) n event_blocks) as
     (λ o. elim o [ Some e ↦ Some (Event e.1) | None ↦ option_map kind_of (named type_name n lib.blocks) ] ≡ Some k → IsDeclared lib k) [
-      | Some e ↦ λ h. inl (e.1, sym (some_one (Event e.1) k h))
+      | Some e ↦ λ h. inl (e.1, sym (same_Some (Event e.1) k h))
       | None ↦ λ h.
-          let b = map-parts kind_of (named type_name n lib.blocks) k h in
-          inr (b.0, Contains-named type_name n lib.blocks b.0 b.1, sym b.2)
+          let b = map_parts kind_of (named type_name n lib.blocks) k h in
+          inr (b.0, named-Contains type_name n lib.blocks b.0 b.1, sym b.2)
     ]
 
 pub kind-declared : (lib : Library) (p : Path) (k : Kind) → kind_at lib p ≡ Some k → IsDeclared lib k
 kind-declared lib p k h =
-    let i = and_then-parts (kind_of_instance lib) (instance_at lib p) k h in type-declared lib i.0.block_type k i.2
+    let i = and_then_parts (kind_of_instance lib) (instance_at lib p) k h in type-declared lib i.0.block_type k i.2
 
 composite-declared : (lib : Library) (t : CompositeType) → IsDeclared lib (Composite t) → Contains lib.blocks (block.Composite t)
 composite-declared lib t (inl e) = absurd (other e.0 e.1)
@@ -87,7 +71,7 @@ inside-at lib p net (Basic t) is h = absurd cc
 inside-at lib p net (Event k) is h = absurd cc
 inside-at lib p net (Composite t) is h = record {
   composite = Some t;
-  declared = subst (λ (z : Network). Contains (networks lib) (Some t, z)) (some_one t.network net h)
+  declared = subst (λ (z : Network). Contains (networks lib) (Some t, z)) (same_Some t.network net h)
       (Contains-there (None, lib.application.network) (flat_map networks_in lib.blocks) (Some t, t.network)
       (Contains-flat_map networks_in lib.blocks (block.Composite t) (Some t, t.network) (composite-declared lib t (kind-declared lib p (Composite t) is))
       (Contains-here (Some t, t.network) [])));
@@ -97,11 +81,11 @@ inside-at lib p net (Composite t) is h = record {
 pub network-declared : (lib : Library) (p : Path) (net : Network) → network_at lib p ≡ Some net → IsNetworkAt lib p net
 network-declared lib [] net h = record {
   composite = None;
-  declared = subst (λ (z : Network). Contains (networks lib) (None, z)) (some_one lib.application.network net h)
+  declared = subst (λ (z : Network). Contains (networks lib) (None, z)) (same_Some lib.application.network net h)
       (Contains-here (None, lib.application.network) (flat_map networks_in lib.blocks));
   around = λ t e. absurd cc;
 }
 network-declared lib (n ∷ p) net h =
-    let i = and_then-parts (inside lib) (instance_at lib (n ∷ p)) net h in
-    let k = and_then-parts network_of (kind_of_instance lib i.0) net i.2 in
+    let i = and_then_parts (inside lib) (instance_at lib (n ∷ p)) net h in
+    let k = and_then_parts network_of (kind_of_instance lib i.0) net i.2 in
     inside-at lib (n ∷ p) net k.0 (ap (option_and_then (kind_of_instance lib)) i.1 ∙ k.1) k.2

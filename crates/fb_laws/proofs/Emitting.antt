@@ -11,7 +11,8 @@ use Rattle.fb_types.specs.declared.key.Key.{Key}
 use Rattle.fb_types.specs.declared.library.Variable.{Variable}
 use Rattle.fb_types.specs.declared.value.Value.{Value}
 use Rattle.fb_laws.specs.Typed.{variable_named, AllFit, FitsAt, IsTypedOut, AreTyped, KeepsTypes, IsTypedSystem}
-use Rattle.fb_laws.proofs.Lookups.{some_one, among-filter, named-among, All-bound}
+use Rattle.std.proofs.lemmas.Option.{same_Some}
+use Rattle.fb_laws.proofs.Lookups.{among-filter, named-among, All-bound}
 use Rattle.fb_laws.proofs.Values.{FitsIn, with_values-fit, kind_one, output-found}
 use Rattle.fb_laws.proofs.Worlds.{with_block-typed}
 
@@ -78,5 +79,5 @@ module _ (sys : System) (sound : IsTypedSystem sys) where
       go : (n : Name) (y : Variable) → variable_named n (ports_of k).outputs ≡ Some y → (x : Variable)
           → variable_named n ((ports_of k).inputs ++ (ports_of k).outputs) ≡ Some x → fits x.ty (vars n) ≡ true
       go n y output x h =
-          let same : y ≡ x = some_one y x (sym (output-found sys sound p k n y is output) ∙ h) in
+          let same : y ≡ x = same_Some y x (sym (output-found sys sound p k n y is output) ∙ h) in
           fit n x (output ∙ ap Some same)

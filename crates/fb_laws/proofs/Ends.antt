@@ -1,9 +1,7 @@
 -- A data connection leads from a variable to one that holds all its values.
 use Rattle.std.proofs.Common.{◌≡◌, ◌⊎◌, inl, inr, ⊎_elim, refl, subst, ap, ◌∙◌, Bool, true, false, cond, List, [], ◌∷◌, map, filter, Option, Some, None, Contains}
 use Rattle.std.specs.Prelude.{option_and_then}
-use Rattle.std.specs.List.{list_all}
-use Rattle.std.proofs.lemmas.List.Elements.{All-contains, Contains-append_cases}
-use Rattle.std.proofs.lemmas.List.Sums.{AllPass-from_list_all}
+use Rattle.std.proofs.lemmas.List.Elements.{Contains-append_cases}
 use Rattle.fb_types.specs.Names.{Name, Path, Port, same_port}
 use Rattle.fb_types.specs.Blocks.{Kind, Composite, ports_of, among}
 use Rattle.fb_types.specs.Flat.{first_of, parent, port_in, pairs_in, instance_in, kind_of_instance, network_at, kind_at, data_inside, data_at, source_of}
@@ -16,12 +14,8 @@ use Rattle.fb_types.specs.declared.library.Network.{Network}
 use Rattle.fb_types.specs.declared.library.PortName.{PortName}
 use Rattle.fb_types.specs.declared.library.Ports.{Ports}
 use Rattle.fb_types.proofs.PathLaws.{same_port_is}
-use Rattle.fb_names.proofs.NameLemmas.{Contains-nil, Contains-here, Contains-there}
-use Rattle.fb_names.proofs.TwiceIn.{map-Contains}
-use Rattle.fb_laws.proofs.Lookups.{some_one}
-
-pub passes : {A : Type 0} (p : A → Bool) (xs : List A) (x : A) → list_all p xs ≡ true → Contains xs x → p x ≡ true
-passes p xs x h c = All-contains (λ y. p y ≡ true) xs x (AllPass-from_list_all p xs h) c
+use Rattle.std.proofs.lemmas.Option.{same_Some}
+use Rattle.fb_types.proofs.Elements.{Contains-nil, Contains-here, Contains-there, map-Contains}
 
 -- ---- The connection that leads to a port
 
@@ -39,7 +33,7 @@ first-leads q s (c ∷ cs) h = go (same_port c.1 q) refl h (first-leads q s cs)
 
     go : (b : Bool) → same_port c.1 q ≡ b → first_of (map (λ (d : Port × Port). d.0) (cond b (c ∷ rest) rest)) ≡ Some s
         → (first_of (map (λ (d : Port × Port). d.0) rest) ≡ Some s → Leads cs s q) → Leads (c ∷ cs) s q
-    go true e h more = (c, Contains-here c cs, some_one c.0 s h, same_port_is c.1 q e)
+    go true e h more = (c, Contains-here c cs, same_Some c.0 s h, same_port_is c.1 q e)
     go false e h more = let m = more h in (m.0, Contains-there c cs m.0 m.1, m.2, m.3)
 
 -- A connection of the network at a path leads from the source to the port.

@@ -11,9 +11,9 @@ use Rattle.fb_types.specs.declared.event_kind.EventKind.{EventKind}
 use Rattle.fb_types.specs.declared.event_kind.EventKind.TheVariants.{SetReset, DataLatch, CountUp}
 use Rattle.fb_types.specs.declared.library.Variable.{Variable}
 use Rattle.fb_types.specs.declared.value.Ty.TheVariants.{Uint, Bool as Boolean}
-use Rattle.fb_types.proofs.PathLaws.{same_name_is}
+use Rattle.fb_types.proofs.NameLaws.{same_from_same_name}
+use Rattle.std.proofs.lemmas.Option.{same_Some}
 use Rattle.fb_laws.specs.Typed.{variable_named, AllFit, IsCount, IsTypedMemory}
-use Rattle.fb_laws.proofs.Lookups.{some_one}
 
 -- ---- Outputs
 
@@ -25,8 +25,8 @@ one_more-fits v vs all f g n x h = go (same_name v.name n) refl h
   where
     go : (b : Bool) → same_name v.name n ≡ b → cond b (Some v) (variable_named n vs) ≡ Some x → fits x.ty (all n) ≡ true
     go true e h =
-        subst (λ (z : Variable). fits z.ty (all n) ≡ true) (some_one v x h)
-        (subst (λ (z : Name). fits v.ty (all z) ≡ true) (same_name_is v.name n e) f)
+        subst (λ (z : Variable). fits z.ty (all n) ≡ true) (same_Some v x h)
+        (subst (λ (z : Name). fits v.ty (all z) ≡ true) (same_from_same_name v.name n e) f)
     go false e h = g n x h
 
 flag-fits : (m : Memory) → fits Boolean (output_of m (codes "Q")) ≡ true

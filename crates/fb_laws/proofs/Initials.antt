@@ -26,14 +26,16 @@ use Rattle.fb_types.specs.declared.deploy.Stimulus.{Stimulus}
 use Rattle.fb_types.specs.declared.value.Ty.{Ty}
 use Rattle.fb_types.specs.declared.value.Ty.TheVariants.{Sint}
 use Rattle.fb_types.specs.declared.value.Value.{Value}
-use Rattle.fb_names.proofs.NameLemmas.{any_from_contains}
-use Rattle.fb_names.proofs.TwiceIn.{Contains-map, Contains-flat_map}
+use Rattle.fb_types.proofs.Elements.{Contains-map, Contains-flat_map}
+use Rattle.fb_types.proofs.NameLaws.{any_from_contains, named-Contains}
+use Rattle.std.proofs.lemmas.Option.{same_Some}
 use Rattle.fb_laws.specs.Typed.{variable_named, FitsAt}
+use Rattle.fb_types.proofs.Options.{and_then_parts}
+use Rattle.fb_types.proofs.ListTests.{passes_at}
 use Rattle.fb_laws.specs.Simulations.{BeginsTyped, IsTypedStimulus}
-use Rattle.fb_laws.proofs.Lookups.{some_one, IsNamed, named-among}
+use Rattle.fb_laws.proofs.Lookups.{IsNamed, named-among}
 use Rattle.fb_laws.proofs.Values.{kind_one, port_variables, port-found, input-found}
-use Rattle.fb_laws.proofs.Declared.{IsDeclared, kind-declared, network-declared, Contains-named, named-name, and_then-parts}
-use Rattle.fb_laws.proofs.Ends.{passes}
+use Rattle.fb_laws.proofs.Declared.{IsDeclared, kind-declared, network-declared, named-name}
 
 -- ---- Declared values
 
@@ -54,7 +56,7 @@ event-declared _ = refl
 
 kind-right : (lib : Library) → (KindWrong lib → ⊥) → (k : Kind) → IsDeclared lib k → (x : Variable) → Contains (variables_in k) x → declared_right x ≡ true
 kind-right lib right k (inl e) x c =
-    passes declared_right (variables_in (Event e.0)) x (event-declared e.0) (subst (λ (z : Kind). Contains (variables_in z) x) e.1 c)
+    passes_at declared_right (variables_in (Event e.0)) x (event-declared e.0) (subst (λ (z : Kind). Contains (variables_in z) x) e.1 c)
 kind-right lib right k (inr b) x c =
     true_from_ne_false (declared_right x) (λ no. right (inr (inl (b.0, x, b.1, subst (λ (z : Kind). Contains (variables_in z) x) b.2 c, no))))
 
@@ -63,7 +65,7 @@ declared-fits : (lib : Library) → (KindWrong lib → ⊥) → (p : Path) (k : 
 declared-fits lib right p k n x is h =
     subst (λ (o : Option Kind). fits x.ty (declared_initial o n) ≡ true) (sym is)
     (subst (λ (o : Option Variable). fits x.ty (elim o [ None ↦ zero_value | Some y ↦ initial_of y ]) ≡ true) (sym h)
-    (initial-fits x (kind-right lib right k (kind-declared lib p k is) x (Contains-named (λ v. v.name) n (variables_in k) x h))))
+    (initial-fits x (kind-right lib right k (kind-declared lib p k is) x (named-Contains (λ v. v.name) n (variables_in k) x h))))
 
 -- ---- Parameters
 
@@ -71,9 +73,9 @@ declared-fits lib right p k n x is h =
 instance-known : (lib : Library) (p : Path) (i : Instance) → instance_at lib p ≡ Some i → (n : Placed) × Contains (networks lib) n × Contains n.1.instances i
 instance-known lib [] i h = absurd cc
 instance-known lib (m ∷ p) i h =
-    let net = and_then-parts (λ (z : Network). instance_in z m) (network_at lib p) i h in
+    let net = and_then_parts (λ (z : Network). instance_in z m) (network_at lib p) i h in
     let a = network-declared lib p net.0 net.1 in
-    ((a.composite, net.0), a.declared, Contains-named (λ (z : Instance). z.name) m net.0.instances i net.2)
+    ((a.composite, net.0), a.declared, named-Contains (λ (z : Instance). z.name) m net.0.instances i net.2)
 
 module _ (lib : Library) (plan : Plan) (known : NameUnknown lib plan → ⊥) (right : KindWrong lib → ⊥) where
   parameter-wanted : (n : Placed) → Contains (networks lib) n → (i : Instance) → Contains n.1.instances i → (k : Kind) → kind_of_instance lib i ≡ Some k
@@ -118,13 +120,13 @@ module _ (lib : Library) (plan : Plan) (known : NameUnknown lib plan → ⊥) (r
       → (x : Parameter) → Contains i.parameters x → (y : Variable) → variable_named x.name (variables_in k) ≡ Some y → fits y.ty x.value ≡ true
   parameter-fits n cn i ci k is x c y h =
       let v = parameter-input n cn i ci k is x c in
-      let same : v.0 ≡ y = some_one v.0 y (sym (port-found k x.name v.0 (input-found k x.name v.0 v.1)) ∙ h) in
+      let same : v.0 ≡ y = same_Some v.0 y (sym (port-found k x.name v.0 (input-found k x.name v.0 v.1)) ∙ h) in
       let all : parameters_right lib i ≡ true = true_from_ne_false (parameters_right lib i) (λ no. right (inr (inr (n, i, cn, ci, no)))) in
       let listed : list_all (parameter_right (ports_of k)) i.parameters ≡ true =
       subst (λ (o : Option Kind). elim o [ None ↦ true | Some l ↦ list_all (parameter_right (ports_of l)) i.parameters ] ≡ true) is all in
       subst (λ (z : Variable). fits z.ty x.value ≡ true) same
       (subst (λ (o : Option Variable). elim o [ None ↦ true | Some z ↦ fits z.ty x.value ] ≡ true) v.1
-      (passes (parameter_right (ports_of k)) i.parameters x listed c))
+      (passes_at (parameter_right (ports_of k)) i.parameters x listed c))
 
   pub begins-typed : BeginsTyped (flat lib plan)
   begins-typed p k is n y h = go (option_and_then (λ (i : Instance). named (λ x. x.name) n i.parameters) (instance_at lib p)) refl
@@ -133,10 +135,10 @@ module _ (lib : Library) (plan : Plan) (known : NameUnknown lib plan → ⊥) (r
           → fits y.ty (elim o [ Some x ↦ x.value | None ↦ declared_initial (kind_at lib p) n ]) ≡ true
       go None e = declared-fits lib right p k n y is h
       go (Some x) e =
-          let i = and_then-parts (λ (i : Instance). named (λ x. x.name) n i.parameters) (instance_at lib p) x e in
+          let i = and_then_parts (λ (i : Instance). named (λ x. x.name) n i.parameters) (instance_at lib p) x e in
           let there = instance-known lib p i.0 i.1 in
           let kind : kind_of_instance lib i.0 ≡ Some k = sym (ap (option_and_then (kind_of_instance lib)) i.1) ∙ is in
-          parameter-fits there.0 there.1 i.0 there.2 k kind x (Contains-named (λ (z : Parameter). z.name) n i.0.parameters x i.2) y
+          parameter-fits there.0 there.1 i.0 there.2 k kind x (named-Contains (λ (z : Parameter). z.name) n i.0.parameters x i.2) y
           (subst (λ (z : Name). variable_named z (variables_in k) ≡ Some y) (sym (named-name (λ (z : Parameter). z.name) n i.0.parameters x i.2)) h)
 
 -- ---- Stimuli
@@ -146,7 +148,7 @@ all-contained P xs h k d lt = h _ (Contains-get_or xs k d lt)
 
 held-fits : (lib : Library) (plan : Plan) (s : Stimulus) → IsGood lib s → (x : Setting) → Contains s.settings x
     → FitsAt (flat lib plan) (record { at = s.instance ∷ []; name = x.variable }) x.value
-held-fits lib plan s good x c l y there h = go (variable_named x.variable (ports_of good.kind).inputs) refl (passes (is_held (ports_of good.kind)) s.settings x good.held c)
+held-fits lib plan s good x c l y there h = go (variable_named x.variable (ports_of good.kind).inputs) refl (passes_at (is_held (ports_of good.kind)) s.settings x good.held c)
   where
     same : l ≡ good.kind
     same = kind_one (kind_at lib (s.instance ∷ [])) l good.kind there good.of_kind
@@ -156,7 +158,7 @@ held-fits lib plan s good x c l y there h = go (variable_named x.variable (ports
     go None e f = absurd cc
     go (Some v) e f =
         let named : variable_named x.variable (port_variables good.kind) ≡ Some y = subst (λ (z : Kind). variable_named x.variable (port_variables z) ≡ Some y) same h in
-        subst (λ (z : Variable). fits z.ty x.value ≡ true) (some_one v y (sym (input-found good.kind x.variable v e) ∙ named)) f
+        subst (λ (z : Variable). fits z.ty x.value ≡ true) (same_Some v y (sym (input-found good.kind x.variable v e) ∙ named)) f
 
 stimulus-typed : (lib : Library) (plan : Plan) (ss : List Stimulus) → (BadStimulus lib ss → ⊥) → (s : Stimulus) → Contains ss s
     → IsTypedStimulus (flat lib plan) (stimulus_of s)

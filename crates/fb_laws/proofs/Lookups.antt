@@ -6,14 +6,11 @@ use Rattle.fb_types.specs.Names.{Name, same_name}
 use Rattle.fb_types.specs.Values.{Values}
 use Rattle.fb_types.specs.Blocks.{Bound, bound, among, variable_names}
 use Rattle.fb_types.specs.declared.library.Variable.{Variable}
-use Rattle.fb_types.proofs.PathLaws.{same_name_is, same_name_itself}
+use Rattle.fb_types.proofs.NameLaws.{same_from_same_name, same_name-itself}
 use Rattle.fb_laws.specs.Typed.{variable_named}
 
-pub some_one : {A : Type 0} (x y : A) → Some x ≡ Some y → x ≡ y
-some_one x y e = cc
-
 same_name_turned : (m n : Name) → same_name m n ≡ true → same_name n m ≡ true
-same_name_turned m n h = let e : m ≡ n = same_name_is m n h in rw e (same_name_itself n)
+same_name_turned m n h = let e : m ≡ n = same_from_same_name m n h in rw e (same_name-itself n)
 
 same_name_apart : (m n : Name) → same_name m n ≡ false → same_name n m ≡ false
 same_name_apart m n h = false_from_ne_true (same_name n m) (λ e. both_ways (same_name m n) h (same_name_turned n m e))
@@ -84,5 +81,5 @@ pub All-bound : (P : Bound → Type 0) (vars : Values) (ns : List Name)
 All-bound P vars [] h = All-nil P
 All-bound P vars (n ∷ ns) h =
     All-cons P (record { variable = n; value = vars n }) (bound ns vars)
-    (h n (or_left (same_name n n) (among ns n) (same_name_itself n)))
+    (h n (or_left (same_name n n) (among ns n) (same_name-itself n)))
     (All-bound P vars ns (λ m e. h m (or_right (same_name m n) (among ns m) e)))

@@ -10,7 +10,8 @@ use Rattle.fb_types.specs.Reactions.{World, sampled_from, sampled, taking, shown
 use Rattle.fb_types.specs.declared.key.Key.{Key}
 use Rattle.fb_types.specs.declared.library.Variable.{Variable}
 use Rattle.fb_laws.specs.Typed.{variable_named, AllFit, IsTypedBlock, AreTyped, IsTypedSystem}
-use Rattle.fb_laws.proofs.Lookups.{some_one, among-filter, named-among}
+use Rattle.std.proofs.lemmas.Option.{same_Some}
+use Rattle.fb_laws.proofs.Lookups.{among-filter, named-among}
 use Rattle.fb_laws.proofs.Values.{port-found, input-found}
 use Rattle.fb_laws.proofs.Worlds.{with_block-typed, at_kind, shown-fits}
 
@@ -39,7 +40,7 @@ module _ (sys : System) (sound : IsTypedSystem sys) (r : ℕ) (w : World) (typed
           → fits x.ty (cond b (sampled_from sys r w (record { at = p; name = n })) ((w.blocks p).variables n)) ≡ true
       go true a =
           let input = named-among (ports_of k).inputs n (among-filter _ (variable_names (ports_of k).inputs) n a) in
-          let same : input.0 ≡ x = some_one input.0 x (sym (port-found k n input.0 (input-found k n input.0 input.1)) ∙ h) in
+          let same : input.0 ≡ x = same_Some input.0 x (sym (port-found k n input.0 (input-found k n input.0 input.1)) ∙ h) in
           sampled_from-fits (record { at = p; name = n }) k x is (input.1 ∙ ap Some same)
       go false a = t.variables n x h
 

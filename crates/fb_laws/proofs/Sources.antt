@@ -22,16 +22,18 @@ use Rattle.fb_types.specs.declared.library.Ports.{Ports}
 use Rattle.fb_types.specs.declared.library.Variable.{Variable}
 use Rattle.fb_types.specs.declared.deploy.Plan.{Plan}
 use Rattle.fb_types.specs.declared.value.Ty.TheVariants.{Uint, Bool as Boolean}
-use Rattle.fb_types.proofs.PathLaws.{same_name_is}
-use Rattle.fb_names.proofs.NameLemmas.{Contains-nil, Contains-cons_cases, Twice-append_left}
+use Rattle.fb_types.proofs.TwiceLaws.{Twice-append_left, Twice-both}
+use Rattle.fb_types.proofs.Elements.{Contains-map}
+use Rattle.fb_types.proofs.NameLaws.{same_from_same_name, named-Contains}
 use Rattle.fb_names.proofs.NameTwice.{block_twice}
-use Rattle.fb_names.proofs.TwiceIn.{Contains-map}
 use Rattle.fb_names.specs.GivenTwice.{BlockTwice, names_of_ports}
 use Rattle.fb_laws.specs.Typed.{variable_named, IsFitting}
+use Rattle.fb_types.proofs.ListTests.{passes_at}
+use Rattle.std.proofs.lemmas.Option.{none-some}
 use Rattle.fb_laws.proofs.Lookups.{IsNamed, named-among, named-front, named-back}
 use Rattle.fb_laws.proofs.Values.{kind_one, port_variables, port-found}
-use Rattle.fb_laws.proofs.Declared.{IsDeclared, kind-declared, IsNetworkAt, network-declared, Contains-named, named-name}
-use Rattle.fb_laws.proofs.Ends.{passes, IsLed, source-led, IsEnd, is-end}
+use Rattle.fb_laws.proofs.Declared.{IsDeclared, kind-declared, IsNetworkAt, network-declared, named-name}
+use Rattle.fb_laws.proofs.Ends.{IsLed, source-led, IsEnd, is-end}
 
 -- ---- Sources
 
@@ -85,7 +87,7 @@ source-fitting lib plan known within q s k x h is named = record {
         (is_end lib net data_outs data_ins l.connection.from ≡ true) × (is_end lib net data_ins data_outs l.connection.to ≡ true)
     ends =
         and_parts (is_end lib net data_outs data_ins l.connection.from) (is_end lib net data_ins data_outs l.connection.to)
-        (passes (λ (c : Connection). is_end lib net data_outs data_ins c.from && is_end lib net data_ins data_outs c.to)
+        (passes_at (λ (c : Connection). is_end lib net data_outs data_ins c.from && is_end lib net data_ins data_outs c.to)
         l.network.data_connections l.connection
         (and_parts
         (list_all (λ (c : Connection). is_end lib net event_outs event_ins c.from && is_end lib net event_ins event_outs c.to) l.network.event_connections)
@@ -123,16 +125,10 @@ source-fitting lib plan known within q s k x h is named = record {
 
 -- ---- Outputs
 
-twice-of-both : {A : Type 0} (xs ys : List A) (z : A) → Contains xs z → Contains ys z → Twice (xs ++ ys)
-twice-of-both [] ys z c d = absurd (Contains-nil z c)
-twice-of-both {A} (x ∷ xs) ys z c d =
-    ⊎_elim (λ e. inl (Contains-append_right xs ys x (subst (λ (w : A). Contains ys w) (sym e) d)))
-    (λ rest. inr (twice-of-both xs ys z rest d)) (Contains-cons_cases x xs z c)
-
 Contains-name : (vs : List Variable) (n : Name) (x : Variable) → variable_named n vs ≡ Some x → Contains (variable_names vs) n
 Contains-name vs n x h =
     subst (λ (z : Name). Contains (variable_names vs) z) (named-name (λ v. v.name) n vs x h)
-    (Contains-map (λ (v : Variable). v.name) vs x (Contains-named (λ v. v.name) n vs x h))
+    (Contains-map (λ (v : Variable). v.name) vs x (named-Contains (λ v. v.name) n vs x h))
 
 output-behind : (k : Kind) (n : Name) (x : Variable) → (IsNamed (ports_of k).inputs n → ⊥) → variable_named n (ports_of k).outputs ≡ Some x
     → variable_named n (variables_in k) ≡ Some x
@@ -142,14 +138,11 @@ output-behind k n x apart h = go (variable_named n (ports_of k).inputs) refl
     go None e = port-found k n x (named-back (ports_of k).inputs (ports_of k).outputs n e ∙ h)
     go (Some y) e = absurd (apart (y, e))
 
-none-some : {A : Type 0} (x : A) → None ≡ Some x → ⊥
-none-some x e = cc
-
 only-name : (v x : Variable) (n : Name) → variable_named n (v ∷ []) ≡ Some x → n ≡ v.name
 only-name v x n h = go (same_name v.name n) refl h
   where
     go : (b : Bool) → same_name v.name n ≡ b → cond b (Some v) None ≡ Some x → n ≡ v.name
-    go true e h = sym (same_name_is v.name n e)
+    go true e h = sym (same_from_same_name v.name n e)
     go false e h = absurd (none-some x h)
 
 -- the inputs of event blocks have other names than their outputs
@@ -171,7 +164,7 @@ ports-twice : (p : Ports) (vs : List Variable) (n : Name) → Contains (variable
 ports-twice p vs n i o =
     let events = event_names p.event_inputs ++ event_names p.event_outputs in
     Twice-append_left (events ++ variable_names p.inputs ++ variable_names p.outputs) (variable_names vs)
-    (twice-of-both (events ++ variable_names p.inputs) (variable_names p.outputs) n
+    (Twice-both (events ++ variable_names p.inputs) (variable_names p.outputs) n
     (Contains-append_right events (variable_names p.inputs) n i) o)
 
 both-twice : (b : BlockType) (n : Name) → Contains (variable_names (ports_of (kind_of b)).inputs) n

@@ -9,9 +9,10 @@ use Rattle.fb_types.specs.Reactions.{with_values}
 use Rattle.fb_types.specs.Systems.{System}
 use Rattle.fb_types.specs.declared.library.Variable.{Variable}
 use Rattle.fb_types.specs.declared.value.Value.{Value}
-use Rattle.fb_types.proofs.PathLaws.{same_name_is}
+use Rattle.fb_types.proofs.NameLaws.{same_from_same_name}
+use Rattle.std.proofs.lemmas.Option.{same_Some}
 use Rattle.fb_laws.specs.Typed.{variable_named, AllFit, IsTypedSystem}
-use Rattle.fb_laws.proofs.Lookups.{some_one, named-front, named-back}
+use Rattle.fb_laws.proofs.Lookups.{named-front, named-back}
 
 -- ---- Changes of values
 
@@ -23,7 +24,7 @@ pub with_value-fits : (vs : List Variable) (n : Name) (v : Value) (all : Values)
 with_value-fits vs n v all f g m x h = go (same_name m n) refl
   where
     go : (b : Bool) → same_name m n ≡ b → fits x.ty (cond b v (all m)) ≡ true
-    go true e = f x (subst (λ z. variable_named z vs ≡ Some x) (same_name_is m n e) h)
+    go true e = f x (subst (λ z. variable_named z vs ≡ Some x) (same_from_same_name m n e) h)
     go false e = g m x h
 
 pub with_values-fit : (vs : List Variable) (bs : List Bound) (all : Values) → All (λ b. FitsIn vs b.variable b.value) bs → AllFit vs all
@@ -36,7 +37,7 @@ with_values-fit vs (b ∷ bs) all f g =
 -- ---- Ports among all variables
 
 pub kind_one : (o : Option Kind) (k l : Kind) → o ≡ Some k → o ≡ Some l → k ≡ l
-kind_one o k l e f = some_one k l (sym e ∙ f)
+kind_one o k l e f = same_Some k l (sym e ∙ f)
 
 abbrev pub port_variables : Kind → List Variable
 port_variables k = (ports_of k).inputs ++ (ports_of k).outputs
@@ -52,7 +53,7 @@ input-found k n x h = named-front (ports_of k).inputs (ports_of k).outputs n x h
 
 -- what stands among the variables is the port of its name, where there is one
 port-first : (k : Kind) (n : Name) (x y : Variable) → variable_named n (variables_in k) ≡ Some x → variable_named n (port_variables k) ≡ Some y → x ≡ y
-port-first k n x y h g = some_one x y (sym h ∙ port-found k n y g)
+port-first k n x y h g = same_Some x y (sym h ∙ port-found k n y g)
 
 pub output-found : (sys : System) → IsTypedSystem sys → (p : Path) (k : Kind) (n : Name) (x : Variable) → sys.kind p ≡ Some k
     → variable_named n (ports_of k).outputs ≡ Some x → variable_named n (port_variables k) ≡ Some x

@@ -17,6 +17,7 @@ use Rattle.fb_types.specs.declared.run.Message.{Message}
 use Rattle.fb_types.proofs.Lookups.{cmp_equal, same_cases}
 use Rattle.fb_link.specs.Exchanges.{receiver_of, key_of, goes_to, keyed, AreSorted}
 use Rattle.fb_link.proofs.Keyed.{found_kept, found_stable, keys_rise}
+use Rattle.fb_types.proofs.EachLaws.{each_map}
 
 -- the parts of a key in which the messages for one resource differ
 abbrev pub place_of : Message → ℕ × ℕ × ℕ
@@ -46,10 +47,6 @@ passing : {X : Type 0} (p : X → Bool) (xs : List X) → Each (λ x. p x ≡ tr
 passing p [] = tt
 passing p (x ∷ xs) = cond_both (p x) (x ∷ filter p xs) (filter p xs) (Each (λ x. p x ≡ true)) (λ e. (e, passing p xs)) (λ e. passing p xs)
 
-each_of : {X : Type 0} (P Q : X → Type 0) (xs : List X) → ((x : X) → P x → Q x) → Each P xs → Each Q xs
-each_of P Q [] f h = tt
-each_of P Q (x ∷ xs) f h = (f x h.0, each_of P Q xs f h.1)
-
 each_all : {X : Type 0} (P : X → Type 0) (xs : List X) → ((x : X) → P x) → Each P xs
 each_all P [] f = tt
 each_all P (x ∷ xs) f = (f x, each_all P xs f)
@@ -58,7 +55,7 @@ each_all P (x ∷ xs) f = (f x, each_all P xs f)
 pub sorted : (xs ys : List Message) → IsPermutation xs ys → IsSortedByKey place_of place_cmp ys → IsStableByKey place_of place_cmp xs ys → AreSorted xs ys
 sorted xs ys moved up stable sys r all e =
     let mine : Each (λ m. receiver_of sys m ≡ r) xs =
-    subst (Each (λ m. receiver_of sys m ≡ r)) (sym e) (each_of _ _ (filter (goes_to sys r) all) (λ m h. eqb-true (receiver_of sys m) r h) (passing (goes_to sys r) all)) in
+    subst (Each (λ m. receiver_of sys m ≡ r)) (sym e) (each_map _ _ (filter (goes_to sys r) all) (λ m h. eqb-true (receiver_of sys m) r h) (passing (goes_to sys r) all)) in
     let same : Each (λ m. receiver_of sys m ≡ r) ys =
     recursion_from_All (λ m. receiver_of sys m ≡ r) ys (All-permutation (λ m. receiver_of sys m ≡ r) xs ys moved (All-from_recursion (λ m. receiver_of sys m ≡ r) xs mine)) in
     record {

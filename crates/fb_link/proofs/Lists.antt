@@ -1,5 +1,5 @@
 -- Lists in which one element was set, or that got one more.
-use Rattle.std.proofs.Common.{◌≡◌, ◌≢◌, ℕ, zero, suc, ◌<◌, List, [], ◌∷◌, ◌++◌, length, sym, ap, subst, ◌∙◌, Some, ⊎_elim, get_or, get_or-set_same, get_or-set_other, arith}
+use Rattle.std.proofs.Common.{◌≡◌, ◌≢◌, ℕ, ◌<◌, List, [], ◌∷◌, ◌++◌, length, sym, ap, subst, ◌∙◌, Some, ⊎_elim, get_or, get_or-set_same, get_or-set_other, arith}
 use Rattle.std.specs.Prelude.{All, slice_get, slice_set}
 use Rattle.std.proofs.lemmas.Bool.{cases_eq}
 use Rattle.std.proofs.lemmas.List.{length-set}
@@ -32,14 +32,6 @@ set_each {A} P xs i x within here apart j y read = ⊎_elim same other (cases_eq
 
     other : j ≢ i → P j y
     other n = apart j y n (set_apart xs i j x y n read)
-
--- what holds of each element by its place, and of one more behind them
-pub got_snoc : {A : Type 0} (P : ℕ → A → Type 0) (xs : List A) (y : A) → ((r : ℕ) (t : A) → slice_get xs r ≡ Some t → P r t) → P (length xs) y
-    → (r : ℕ) (t : A) → slice_get (xs ++ y ∷ []) r ≡ Some t → P r t
-got_snoc P [] y each here zero t h = subst (P 0) (let same : y ≡ t = cc in same) here
-got_snoc P [] y each here (suc r) t h = absurd cc
-got_snoc P (x ∷ xs) y each here zero t h = each zero t h
-got_snoc P (x ∷ xs) y each here (suc r) t h = got_snoc (λ k. P (suc k)) xs y (λ k. each (suc k)) here r t h
 
 -- what holds of all elements holds of the next one
 pub next_of : {A : Type 0} (P : A → Type 0) (xs ys : List A) (y : A) → All P (xs ++ y ∷ ys) → P y

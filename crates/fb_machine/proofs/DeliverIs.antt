@@ -10,7 +10,7 @@ use Rattle.fb_types.specs.declared.key.Key.{Key}
 use Rattle.fb_types.specs.declared.run.Message.{Message}
 use Rattle.fb_types.proofs.TakeLaws.{found-put}
 use Rattle.fb_agenda.specs.Agendas.{Contents}
-use Rattle.fb_agenda.specs.declared.agenda.Event.TheVariants.{Arrival}
+use Rattle.fb_types.specs.declared.run.Event.TheVariants.{Arrival}
 use Rattle.fb_net.specs.Events.{event_of}
 use Rattle.fb_take.specs.Posts.{IsMessage, IsPut, arriving, key_of, receiver_of}
 use Rattle.fb_take.specs.Waiting.{MayWait, meaning}

@@ -13,7 +13,8 @@ use Rattle.fb_take.specs.Posts.{CountsAre}
 use Rattle.fb_take.specs.Takings.{AreReady, IsHere}
 use Rattle.fb_take.specs.declared.meter.Meter.{Meter}
 use Rattle.fb_take.proofs.Begins.{here_opened, metered_opened}
-use Rattle.fb_take.proofs.Lists.{got_snoc, of_replicate}
+use Rattle.fb_types.proofs.ByPlace.{slice_get-push}
+use Rattle.fb_take.proofs.Lists.{of_replicate}
 use Rattle.fb_machine.specs.Machines.{IsAt, IsReady}
 use Rattle.fb_machine.specs.Openings.{AreOpened}
 use Rattle.fb_machine.specs.declared.machine.Machine.{Machine}
@@ -55,7 +56,7 @@ pub opened_more : (i : Inputs) (n : ℕ) (xs ys : List Forest) (t : Forest) → 
 opened_more i n xs ys t opened is forest resource = record {
   counted = ap (λ (zs : List Forest). length zs) is ∙ length-append xs (t ∷ []) ∙ ap (λ k. k + 1) opened.counted;
   each = λ r u h.
-      got_snoc (λ k v. IsForest i v (world_of (opening_state (system_of i)) k) × (v.resource ≡ k)) xs t opened.each
+      slice_get-push (λ k v. IsForest i v (world_of (opening_state (system_of i)) k) × (v.resource ≡ k)) xs t opened.each
       (subst (λ k. IsForest i t (world_of (opening_state (system_of i)) k) × (t.resource ≡ k)) (sym opened.counted) (forest, resource)) r u
       (sym (ap (λ zs. slice_get zs r) is) ∙ h);
 }

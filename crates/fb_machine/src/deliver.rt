@@ -7,10 +7,10 @@ ghost use Rattle.fb_types.specs.declared.key.Key as keys;
 ghost use Rattle.fb_take.specs.Posts.{IsMessage, arriving, key_of};
 ghost use Rattle.fb_take.specs.Waiting.{IsInOrder, meaning};
 
-use fb_agenda::agenda::{Agenda, Event};
+use fb_agenda::agenda::Agenda;
 use fb_system::system::System;
 use fb_types::key::Key;
-use fb_types::run::Message;
+use fb_types::run::{Event, Message};
 use std::alloc::AllocError;
 
 /// The class of the keys of arrivals.

@@ -13,14 +13,13 @@ ghost use Rattle.fb_machine.specs.Machines.{IsAt, IsReady, IsTaken};
 ghost use Rattle.fb_machine.specs.Runs.{IsSpent};
 
 use crate::deliver::deliver;
-use fb_agenda::agenda::Event;
 use fb_net::tree::Tree;
 use fb_system::system::System;
 use fb_take::meter::Meter;
 use fb_take::queues::Queues;
 use fb_take::take::take;
 use fb_types::key::Key;
-use fb_types::run::StopMark;
+use fb_types::run::{Event, StopMark};
 use fb_types::value::Reason;
 use std::alloc::AllocError;
 

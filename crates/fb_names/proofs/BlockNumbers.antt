@@ -1,5 +1,5 @@
 -- The networks of the first block types by numbers.
-use Rattle.std.proofs.Common.{◌≡◌, ℕ, zero, suc, ◌<◌, ◌+◌, List, [], ◌∷◌, ◌++◌, length, get_or, Some, None, Option, MatchOption, refl, sym, ◌∙◌, ap, subst, length-append, arith}
+use Rattle.std.proofs.Common.{◌≡◌, ℕ, ◌<◌, ◌+◌, List, [], ◌∷◌, ◌++◌, length, get_or, Some, None, Option, MatchOption, refl, sym, ◌∙◌, ap, subst, length-append}
 use Rattle.std.specs.Prelude.{slice_get}
 use Rattle.std.proofs.lemmas.Option.{slice_get_within, slice_get_read, same_Some}
 use Rattle.fb_types.specs.Repeated.{Placed, networks_in, instance_names}
@@ -11,14 +11,15 @@ use Rattle.fb_types.specs.declared.library.Library.{Library}
 use Rattle.fb_names.specs.Places.{IsIndex}
 use Rattle.fb_names.specs.declared.catalog.BlockPlaces.{BlockPlaces}
 use Rattle.fb_names.specs.declared.catalog.Catalog.{Catalog}
-use Rattle.fb_names.proofs.NameLemmas.{Contains-here}
+use Rattle.fb_types.proofs.Elements.{Contains-here, Contains-flat_map}
 use Rattle.fb_names.specs.Numbers.{IsNetwork}
 use Rattle.fb_names.specs.Sorts.{ArePlacesOf}
 use Rattle.fb_names.specs.Types.{HasTypes}
 use Rattle.fb_names.specs.Unknown.{AreBlocks, BlockUnknown, NetworkUnknown}
 use Rattle.fb_names.specs.declared.numbers.NetworkNumbers.{NetworkNumbers}
+use Rattle.fb_types.proofs.Options.{match_none, match_some}
+use Rattle.fb_types.proofs.ByPlace.{element_of_place, slice_get-push, element_at}
 use Rattle.fb_names.proofs.Lookups.{block_places}
-use Rattle.fb_names.proofs.Elements.{Contains-flat_map, element_of_place, match_none, match_some}
 
 -- the network of a block type by numbers, none of a basic type
 abbrev pub IsBlockNumbers : Library → BlockType → Option NetworkNumbers → Type 0
@@ -29,14 +30,6 @@ IsBlockNumbers lib (block.Composite t) o = (x : NetworkNumbers) × (o ≡ Some x
 pub record AreFirst (lib : Library) (n : ℕ) (all : List (Option NetworkNumbers)) : Type 0 where
   pub counted : length all ≡ n
   pub each : (k : ℕ) (o : Option NetworkNumbers) → slice_get all k ≡ Some o → (t : BlockType) → slice_get lib.blocks k ≡ Some t → IsBlockNumbers lib t o
-
-slice_get-push : {A : Type 0} (P : ℕ → A → Type 0) (xs : List A) (y : A) → ((k : ℕ) (x : A) → slice_get xs k ≡ Some x → P k x) → P (length xs) y
-    → (k : ℕ) (x : A) → slice_get (xs ++ y ∷ []) k ≡ Some x → P k x
-slice_get-push {A} P [] y old new zero x h = let e : y ≡ x = cc in subst (λ (z : A). P 0 z) e new
-slice_get-push P [] y old new (suc k) x h = absurd (cc)
-slice_get-push {A} P (z ∷ zs) y old new zero x h = old zero x h
-slice_get-push {A} P (z ∷ zs) y old new (suc k) x h =
-    slice_get-push (λ k x. P (suc k) x) zs y (λ k x h. old (suc k) x h) new k x h
 
 pub first_none : (lib : Library) (all : List (Option NetworkNumbers)) → all ≡ [] → AreFirst lib 0 all
 first_none lib all e =
@@ -102,11 +95,6 @@ pub composite_instances :
 composite_instances lib c bs n b t x has e h at is there =
     let within : n < length c.blocks.items = subst (λ (m : ℕ). n < m) (ap length e ∙ sym has.counted) h in
     (has.blocks n (block.Composite t) x (reached lib bs n b (block.Composite t) e h at is) (slice_get_read c.blocks.items (length c.blocks.items) n x refl within there)).instances
-
-element_at : {A : Type 0} (xs : List A) (k : ℕ) → k < length xs → (x : A) × (slice_get xs k ≡ Some x)
-element_at [] k h = absurd (omega (arith, h))
-element_at (x ∷ xs) zero h = (x, refl)
-element_at (x ∷ xs) (suc k) h = element_at xs k (omega (arith, h))
 
 pub first_all : (lib : Library) (n : ℕ) (all : List (Option NetworkNumbers)) → n ≡ length lib.blocks → AreFirst lib n all → AreBlocks lib all
 first_all lib n all counted are =

@@ -1,13 +1,10 @@
 pub mod Seen
-pub mod Positions
-pub mod NameLemmas
 pub mod TwiceIn
 pub mod NameTwice
 pub mod Unless
 pub mod PartAnswers
 pub mod Catalogs
 pub mod Each
-pub mod Elements
 pub mod Parts
 pub mod Lookups
 pub mod NetworkUnknown

@@ -18,7 +18,7 @@ use Rattle.fb_types.specs.declared.library.Ports.{Ports}
 use Rattle.fb_names.specs.Places.{IsIndex, place_in}
 use Rattle.fb_names.specs.declared.catalog.BlockPlaces.{BlockPlaces}
 use Rattle.fb_names.specs.declared.catalog.Catalog.{Catalog}
-use Rattle.fb_names.proofs.Positions.{named-position, position_is}
+use Rattle.fb_types.proofs.Positions.{named-position, position_is}
 use Rattle.fb_names.specs.Numbers.{each_or_none, place_of, type_number, kind_of_number, ports_at_place, end_at, parameter_numbers}
 use Rattle.fb_names.specs.Scopes.{AreTyped, component_number}
 use Rattle.fb_names.specs.Sorts.{ArePlacesOf}
@@ -26,8 +26,9 @@ use Rattle.fb_names.specs.Types.{HasTypes, port_number, ports_of_block}
 use Rattle.fb_names.specs.declared.numbers.End.{End}
 use Rattle.fb_names.specs.declared.numbers.TypeNumber.{TypeNumber}
 use Rattle.fb_names.specs.declared.numbers.TypeNumber.TheVariants as number
+use Rattle.fb_types.proofs.TwiceLaws.{once_right}
 use Rattle.fb_names.proofs.Each.{each_at}
-use Rattle.fb_names.proofs.Parts.{after_part, first_part, once_right}
+use Rattle.fb_names.proofs.Parts.{after_part, first_part}
 
 -- ---- Ports by the places of all names of their type
 

@@ -12,8 +12,8 @@ use Rattle.fb_types.specs.declared.library.BasicType.{BasicType}
 use Rattle.fb_types.specs.declared.library.CompositeType.{CompositeType}
 use Rattle.fb_types.specs.declared.deploy.Plan.{Plan}
 use Rattle.fb_names.specs.GivenTwice.{TwiceIn, BlockTwice, NetworkTwice, PlanTwice, TypeTwice}
-use Rattle.fb_names.proofs.NameLemmas.{Contains-nil, Contains-cons_cases, Contains-here, Contains-there}
-use Rattle.fb_names.proofs.TwiceIn.{Contains-flat_map, flat_map-Contains, Contains-map, map-Contains, TwiceIn-left, TwiceIn-right, TwiceIn-cases, TwiceIn-one, TwiceIn-only, TwiceIn-map, map-TwiceIn, TwiceIn-flat_map, flat_map-TwiceIn}
+use Rattle.fb_types.proofs.Elements.{Contains-nil, Contains-cons_cases, Contains-here, Contains-there, Contains-flat_map, flat_map-Contains, Contains-map, map-Contains}
+use Rattle.fb_names.proofs.TwiceIn.{TwiceIn-left, TwiceIn-right, TwiceIn-cases, TwiceIn-one, TwiceIn-only, TwiceIn-map, map-TwiceIn, TwiceIn-flat_map, flat_map-TwiceIn}
 
 -- ---- The name spaces, one kind at a time
 

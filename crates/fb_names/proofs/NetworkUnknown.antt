@@ -17,8 +17,8 @@ use Rattle.fb_types.specs.declared.library.Network.{Network}
 use Rattle.fb_types.specs.declared.library.Parameter.{Parameter}
 use Rattle.fb_types.specs.declared.library.PortName.{PortName}
 use Rattle.fb_types.specs.declared.library.Ports.{Ports}
-use Rattle.fb_names.proofs.NameLemmas.{any_from_contains, contains_from_any}
-use Rattle.fb_names.proofs.Positions.{named-position, is_some-position}
+use Rattle.fb_types.proofs.Positions.{named-position, is_some-position}
+use Rattle.fb_types.proofs.NameLaws.{any_from_contains, contains_from_any, any-named}
 use Rattle.fb_names.specs.Numbers.{IsNetwork, each_or_none, place_of, type_number, end_at, end_number, both_ends, event_wire, data_wire, parameter_numbers, ports_at_place}
 use Rattle.fb_names.specs.Unknown.{NetworkUnknown, network_wanted}
 use Rattle.fb_names.specs.declared.numbers.End.{End}
@@ -26,9 +26,10 @@ use Rattle.fb_names.specs.declared.numbers.NetworkNumbers.{NetworkNumbers}
 use Rattle.fb_names.specs.declared.numbers.TypeNumber.{TypeNumber}
 use Rattle.fb_names.specs.declared.numbers.TypeNumber.TheVariants as number
 use Rattle.fb_names.specs.declared.numbers.Wire.{Wire}
+use Rattle.fb_types.proofs.Options.{is_some-option_map}
+use Rattle.fb_types.proofs.ListTests.{fails_at, fails_from, list_all-map, list_all-flat_map, list_all-agree, list_all-both}
 use Rattle.fb_names.proofs.Each.{is_some-each}
 use Rattle.fb_names.proofs.Lookups.{kind_known, kind_of_numbered, type_named-number}
-use Rattle.fb_names.proofs.Elements.{fails_at, fails_from, list_all-map, list_all-flat_map, list_all-agree, list_all-both, any-named, is_some-option_map}
 
 -- ---- Wanted names
 

@@ -21,9 +21,10 @@ use Rattle.fb_names.specs.declared.catalog.BlockPlaces.{BlockPlaces}
 use Rattle.fb_names.specs.Catalog.{IsBlock}
 use Rattle.fb_names.specs.GivenTwice.{TwiceIn, Unless, AreBlocks, BlockTwice, NetworkTwice, PortTwice, TypeTwice, names_of_ports}
 use Rattle.fb_names.specs.Places.{IsIndex, names_in}
-use Rattle.fb_names.proofs.NameLemmas.{Contains-nil, Contains-cons_cases, Contains-here, Contains-there, any_from_contains, contains_from_any}
-use Rattle.fb_names.proofs.Positions.{same_name-flip}
-use Rattle.fb_names.proofs.TwiceIn.{TwiceIn-map, map-TwiceIn, Contains-map, map-Contains}
+use Rattle.fb_types.proofs.NameLaws.{any_from_contains, contains_from_any, same_name-flip}
+use Rattle.fb_types.proofs.Elements.{Contains-nil, Contains-cons_cases, Contains-here, Contains-there, Contains-map, map-Contains}
+use Rattle.fb_types.proofs.TwiceLaws.{Twice-append_right, Twice-both}
+use Rattle.fb_names.proofs.TwiceIn.{TwiceIn-map, map-TwiceIn}
 use Rattle.fb_names.proofs.Unless.{Unless-from, Unless-some}
 
 -- ---- Ports
@@ -117,18 +118,6 @@ network_answer r net is js cs a b same says fails same' says' fails' taken h =
     h
 
 -- ---- Block types by their names
-
-pub Twice-append_right : {A : Type 0} (xs ys : List A) → Twice ys → Twice (xs ++ ys)
-Twice-append_right [] ys t = t
-Twice-append_right (x ∷ xs) ys t = inr (Twice-append_right xs ys t)
-
-Twice-both : {A : Type 0} (xs ys : List A) (z : A) → Contains xs z → Contains ys z → Twice (xs ++ ys)
-Twice-both [] ys z c d = absurd (Contains-nil z c)
-Twice-both {A} (x ∷ xs) ys z c d =
-    elim (Contains-cons_cases x xs z c) [
-      | inl e ↦ inl (Contains-append_right xs ys x (subst (λ (w : A). Contains ys w) (sym e) d))
-      | inr rest ↦ inr (Twice-both xs ys z rest d)
-    ]
 
 Twice-cases : {A : Type 0} (xs ys : List A) → Twice (xs ++ ys) → Twice xs ⊎ Twice ys ⊎ ((z : A) × Contains xs z × Contains ys z)
 Twice-cases [] ys t = inr (inl t)

@@ -1,21 +1,13 @@
 -- Places in a list of names that differ, and in the parts of which it is made.
-use Rattle.std.proofs.Common.{◌≡◌, ℕ, suc, ◌<◌, ◌≤◌, ◌+◌, ◌-◌, Bool, true, false, cond, List, [], ◌∷◌, ◌++◌, length, map, Some, None, Option, Contains, MatchOption, SomeIff, refl, sym, ◌∙◌, ap, subst, inl, inr, arith}
+use Rattle.std.proofs.Common.{◌≡◌, ℕ, suc, ◌<◌, ◌≤◌, ◌+◌, ◌-◌, Bool, true, false, cond, List, [], ◌∷◌, ◌++◌, length, Some, None, Option, Contains, MatchOption, SomeIff, refl, sym, ◌∙◌, ap, subst, inl, inr, arith}
 use Rattle.std.specs.Prelude.{position, option_map, is_some}
 use Rattle.std.proofs.lemmas.List.Elements.{Contains-append_right}
 use Rattle.std.proofs.lemmas.List.Quantifiers.{position-Some}
 use Rattle.fb_types.specs.Names.{Name, same_name}
 use Rattle.fb_types.specs.Repeated.{Twice}
-use Rattle.fb_names.proofs.NameLemmas.{Contains-nil, Contains-cons_cases, contains_from_any}
-use Rattle.fb_names.proofs.Positions.{position-cons, is_some-position, same_name-flip}
-
--- ---- Elements by their names
-
-pub position-flip : {A : Type 0} (f : A → Name) (n : Name) (xs : List A) → position (λ x. same_name (f x) n) xs ≡ position (same_name n) (map f xs)
-position-flip f n [] = refl
-position-flip f n (x ∷ xs) =
-    position-cons (λ x. same_name (f x) n) x xs
-    ∙ (λ i. cond (same_name-flip (f x) n i) (Some 0) (option_map (λ i. i + 1) (position-flip f n xs i)))
-    ∙ sym (position-cons (same_name n) (f x) (map f xs))
+use Rattle.fb_types.proofs.Positions.{position-cons, is_some-position}
+use Rattle.fb_types.proofs.NameLaws.{contains_from_any}
+use Rattle.fb_types.proofs.Elements.{Contains-nil, Contains-cons_cases}
 
 -- ---- Lists that are appended
 
@@ -53,13 +45,6 @@ Twice-both n (x ∷ xs) ys c d =
       | inl e ↦ inl (Contains-append_right xs ys x (subst (λ (m : Name). Contains ys m) (sym e) d))
       | inr rest ↦ inr (Twice-both n xs ys rest d)
     ]
-
-Twice-append_right : {A : Type 0} (xs ys : List A) → Twice ys → Twice (xs ++ ys)
-Twice-append_right [] ys h = h
-Twice-append_right (x ∷ xs) ys h = inr (Twice-append_right xs ys h)
-
-pub once_right : {A : Type 0} (xs ys : List A) → ¬ (Twice (xs ++ ys)) → ¬ (Twice ys)
-once_right xs ys once t = once (Twice-append_right xs ys t)
 
 place_contains : (n : Name) (xs : List Name) (i : ℕ) → position (same_name n) xs ≡ Some i → Contains xs n
 place_contains n xs i h = contains_from_any n xs (sym (is_some-position (same_name n) xs) ∙ ap is_some h)

@@ -18,15 +18,17 @@ use Rattle.fb_types.specs.declared.deploy.Link.{Link}
 use Rattle.fb_types.specs.declared.deploy.Resource.{Resource}
 use Rattle.fb_names.specs.Places.{IsIndex, place_in}
 use Rattle.fb_names.specs.Parts.{ArePartsKnown}
-use Rattle.fb_names.proofs.NameLemmas.{Contains-nil, Contains-cons_cases, Contains-here, Contains-there}
-use Rattle.fb_names.proofs.Positions.{is_some-position}
+use Rattle.fb_types.proofs.Positions.{is_some-position}
+use Rattle.fb_types.proofs.Elements.{Contains-nil, Contains-cons_cases, Contains-here, Contains-there, Contains-flat_map, flat_map-Contains}
 use Rattle.fb_names.specs.Numbers.{IsNetwork, IsResolved, each_or_none, place_of, held_numbers, link_ends}
 use Rattle.fb_names.specs.Unknown.{NetworkUnknown, BlockUnknown, DeploymentUnknown, AreBlocks}
 use Rattle.fb_names.specs.declared.numbers.LinkEnds.{LinkEnds}
 use Rattle.fb_names.specs.declared.numbers.NetworkNumbers.{NetworkNumbers}
-use Rattle.fb_names.proofs.Each.{is_some-each}
+use Rattle.fb_types.proofs.Options.{match_none, match_some}
+use Rattle.fb_types.proofs.ByPlace.{place_of_element}
+use Rattle.fb_types.proofs.ListTests.{list_all-flat_map, list_all-agree}
+use Rattle.fb_names.proofs.Each.{is_some-each, each-agree}
 use Rattle.fb_names.proofs.NetworkUnknown.{met, places_met, unmet_wanted, met_wanted, network_known}
-use Rattle.fb_names.proofs.Elements.{list_all-flat_map, list_all-agree, Contains-flat_map, Contains-flat_map_from, place_of_element, each-agree, match_none, match_some}
 
 -- ---- The names of a declaration and a deployment, by their parts
 
@@ -105,14 +107,14 @@ wanted_known lib plan w parts nets deployment c out =
       | inr d ↦ deployment (w, d, out)
       | inl c ↦ elim (Contains-append_cases (before_parameters lib) (parameters_part lib) w c) [
         | inr p ↦
-            let r = Contains-flat_map_from (λ (n : Placed). flat_map (parameters_wanted lib) n.1.instances) (networks lib) w p in
+            let r = flat_map-Contains (λ (n : Placed). flat_map (parameters_wanted lib) n.1.instances) (networks lib) w p in
             nets r.0 r.1 (inl (w, Contains-append_right (types_wanted lib r.0.1) (flat_map (parameters_wanted lib) r.0.1.instances) w r.2, out))
         | inl c ↦ elim (Contains-append_cases (types_part lib ++ withs_part lib) (charts_part lib) w c) [
           | inr p ↦ out (parts.names w (Contains-append_right (withs_part lib) (charts_part lib) w p))
           | inl c ↦ elim (Contains-append_cases (types_part lib) (withs_part lib) w c) [
             | inr p ↦ out (parts.names w (Contains-append_left (withs_part lib) (charts_part lib) w p))
             | inl t ↦
-                let r = Contains-flat_map_from (λ (n : Placed). types_wanted lib n.1) (networks lib) w t in
+                let r = flat_map-Contains (λ (n : Placed). types_wanted lib n.1) (networks lib) w t in
                 nets r.0 r.1 (inl (w, Contains-append_left (types_wanted lib r.0.1) (flat_map (parameters_wanted lib) r.0.1.instances) w r.2, out))
           ]
         ]
@@ -228,7 +230,7 @@ pub networks_known :
 networks_known lib x xs is are n c =
     elim (Contains-cons_cases (of_application_at lib) (flat_map networks_in lib.blocks) n c) [
       | inl e ↦ subst (λ (n : Placed). ¬ (NetworkUnknown lib n)) e (network_known lib (of_application_at lib) x is)
-      | inr rest ↦ let r = Contains-flat_map_from networks_in lib.blocks n rest in block_known lib xs r.0 n are r.1 r.2
+      | inr rest ↦ let r = flat_map-Contains networks_in lib.blocks n rest in block_known lib xs r.0 n are r.1 r.2
     ]
 
 -- ---- All numbers

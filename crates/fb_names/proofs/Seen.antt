@@ -1,5 +1,5 @@
 -- What a map or a set of the names so far says of one more name.
-use Rattle.std.proofs.Common.{◌≡◌, ℕ, ◌<◌, ◌+◌, Bool, true, false, not, cond, List, [], ◌∷◌, ◌++◌, length, map, take, drop, get_or, Option, Some, None, Contains, Ordering, Bor, refl, sym, ◌∙◌, ap, subst, inl, inr, arith}
+use Rattle.std.proofs.Common.{◌≡◌, ℕ, ◌<◌, ◌+◌, Bool, true, false, not, cond, List, [], ◌∷◌, ◌++◌, length, map, take, get_or, Option, Some, None, Contains, Ordering, Bor, refl, sym, ◌∙◌, ap, subst, inl, inr, arith}
 use Rattle.std.specs.Prelude.{position, is_some}
 use Rattle.std.specs.List.{list_any}
 use Rattle.std.specs.Bool.{Decides}
@@ -10,7 +10,7 @@ use Rattle.std.specs.Cmp.Lexicographic.{slice_cmp}
 use Rattle.std.specs.Map.{lookup}
 use Rattle.std.specs.BTreeMap as tree
 use Rattle.std.specs.BTreeSet as set
-use Rattle.std.proofs.lemmas.List.{take_more, map-append, length-map, length-take, take-append-drop}
+use Rattle.std.proofs.lemmas.List.{length-map, length-take}
 use Rattle.std.proofs.lemmas.Map.Text.{is_eq-slice_cmp}
 use Rattle.std.proofs.lemmas.Slice.Eq.{bytes_eq-Decides}
 use Rattle.std.proofs.lemmas.Bool.{false_from_ne_true, true≢false}
@@ -19,34 +19,12 @@ use Rattle.fb_types.specs.Names.{Name, Path, Port, same_name}
 use Rattle.fb_types.specs.Repeated.{Twice}
 use Rattle.fb_names.specs.Places.{IsIndex}
 use Rattle.fb_names.specs.Ends.{End, end_port}
-use Rattle.fb_names.proofs.NameLemmas.{same_name-itself, same_from_same_name, contains_from_any, any_from_contains, Contains-nil, Twice-push, Twice-append_left, once_push}
-use Rattle.fb_names.proofs.Positions.{position-append_old, position-push_new, is_some-position}
-
--- ---- Steps of a loop over a list
-
--- the part that a function makes of the elements so far, with one more
-pub map_take_more :
-    {A B : Type 0} (f : A → B) (xs : List A) (i : ℕ) (x : A) → i < length xs → x ≡ get_or xs i x
-    → map f (take (i + 1) xs) ≡ map f (take i xs) ++ f x ∷ []
-map_take_more {A} f xs i x h e =
-    ap (map f) (take_more xs i x h) ∙ map-append f (take i xs) (get_or xs i x ∷ []) ∙ ap (λ (y : A). map f (take i xs) ++ f y ∷ []) (sym e)
-
--- the same, where what the function makes of the element is known by another name
-pub more_of_part :
-    {A B : Type 0} (P : List B → Type 0) (f : A → B) (xs : List A) (i : ℕ) (x : A) (y : B) → i < length xs → x ≡ get_or xs i x → y ≡ f x
-    → P (map f (take i xs) ++ y ∷ []) → P (map f (take (i + 1) xs))
-more_of_part {A} {B} P f xs i x y h e g p =
-    subst P (sym (map_take_more f xs i x h e)) (subst (λ (z : B). P (map f (take i xs) ++ z ∷ [])) g p)
-
--- what stands twice up to an element stands twice in all
-pub twice_of_part :
-    {A B : Type 0} (f : A → B) (xs : List A) (i : ℕ) (x : A) (y : B) → i < length xs → x ≡ get_or xs i x → y ≡ f x
-    → Twice (map f (take i xs) ++ y ∷ []) → Twice (map f xs)
-twice_of_part {A} {B} f xs i x y h e g t =
-    let P : List B → Type 0 = λ ys. Twice ys in
-    let part : Twice (map f (take (i + 1) xs)) = more_of_part P f xs i x y h e g t in
-    subst P (sym (map-append f (take (i + 1) xs) (drop (i + 1) xs)) ∙ ap (map f) (take-append-drop (i + 1) xs))
-    (Twice-append_left (map f (take (i + 1) xs)) (map f (drop (i + 1) xs)) part)
+use Rattle.fb_types.proofs.Options.{none_from_is_some}
+use Rattle.fb_types.proofs.LoopSteps.{more_of_part, twice_of_part}
+use Rattle.fb_types.proofs.Positions.{position-append_old, position-push_new, is_some-position}
+use Rattle.fb_types.proofs.TwiceLaws.{Twice-push, once_push}
+use Rattle.fb_types.proofs.Elements.{Contains-nil}
+use Rattle.fb_types.proofs.NameLaws.{same_name-itself, same_from_same_name, contains_from_any, any_from_contains}
 
 -- ---- Comparisons that decide equality
 
@@ -227,10 +205,6 @@ index_push names i m m' k is counted new updates =
                 ] refl)
           ] refl);
     }
-
-none_from_is_some : {X : Type 0} (o : Option X) → is_some o ≡ false → o ≡ None
-none_from_is_some None h = refl
-none_from_is_some (Some x) h = absurd (true≢false h)
 
 pub index_more :
     {A : Type 0} (f : A → Name) (xs : List A) (i : ℕ) (x : A) (m m' : tree.BTreeMap (Bor Name) ℕ) (k : Bor Name) (o : Option ℕ)

@@ -20,7 +20,7 @@ use Rattle.fb_types.specs.declared.run.Emission as run
 use Rattle.fb_types.specs.declared.run.Target.{Target}
 use Rattle.fb_types.specs.declared.run.TimerAsk.{TimerAsk}
 use Rattle.fb_types.specs.declared.value.Value.{Value}
-use Rattle.fb_types.proofs.PathLaws.{same_name_itself}
+use Rattle.fb_types.proofs.NameLaws.{same_name-itself}
 use Rattle.fb_net.specs.Outs.{Stands, out_of}
 use Rattle.fb_net.specs.declared.outbox.Outbox.{Outbox}
 use Rattle.fb_event.specs.Reactions.{FitTheirTypes}
@@ -53,7 +53,7 @@ one_input kind.FallingEdge = omega arith
 one_input kind.CountUp = omega arith
 
 first_named : (x : Variable) (vs : List Variable) → variable_named x.name (x ∷ vs) ≡ Some x
-first_named x vs = rw (same_name_itself x.name) refl
+first_named x vs = rw (same_name-itself x.name) refl
 
 one_fits : (vs ws : List Variable) (all : Values) → length vs ≤ 1 → AllFit (vs ++ ws) all → FitTheirTypes vs (map all (variable_names vs))
 one_fits [] ws all few fit = tt

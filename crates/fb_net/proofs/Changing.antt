@@ -17,7 +17,7 @@ use Rattle.fb_types.proofs.PathLaws.{same_path_is, same_path_itself}
 use Rattle.fb_system.specs.Stands.{ArePlaces, variable_at}
 use Rattle.fb_system.specs.Stimuli.{set_of}
 use Rattle.fb_system.specs.declared.rows.SlotValue.{SlotValue}
-use Rattle.fb_fabric.specs.declared.fabric.Place.{Place}
+use Rattle.fb_types.specs.declared.run.Place.{Place}
 use Rattle.fb_tree.specs.Changes.{Changes, Holds, block_in, input_sampled, slot_set, with_instance}
 use Rattle.fb_tree.specs.Worlds.{IsForest}
 use Rattle.fb_tree.specs.declared.resource.Forest.{Forest}

@@ -24,7 +24,9 @@ use Rattle.fb_types.specs.declared.run.Halt.{Halt}
 use Rattle.fb_types.specs.declared.run.Halt.TheVariants as halt
 use Rattle.fb_types.specs.declared.run.Target.{Target}
 use Rattle.fb_net.specs.declared.outbox.Outbox.{Outbox}
-use Rattle.fb_names.proofs.NameLemmas.{Contains-cons_cases, Contains-nil, Twice-append_left, any_from_contains, contains_from_any}
+use Rattle.fb_types.proofs.NameLaws.{any_from_contains, contains_from_any}
+use Rattle.fb_types.proofs.TwiceLaws.{Twice-append_left}
+use Rattle.fb_types.proofs.Elements.{Contains-cons_cases, Contains-nil}
 use Rattle.fb_names.proofs.NameTwice.{block_twice}
 use Rattle.fb_system.specs.Ports.{IsPort}
 use Rattle.fb_tree.specs.declared.resource.Forest.{Forest}

@@ -16,7 +16,7 @@ use Rattle.fb_types.specs.declared.library.Ports.{Ports}
 use Rattle.fb_types.specs.declared.run.Line as run_line
 use Rattle.fb_types.specs.declared.run.Target.{Target}
 use Rattle.fb_types.specs.declared.value.Value.{Value}
-use Rattle.fb_types.proofs.PathLaws.{same_name_is, same_name_itself}
+use Rattle.fb_types.proofs.NameLaws.{same_from_same_name, same_name-itself}
 use Rattle.fb_net.specs.Outs.{Stands, out_of}
 use Rattle.fb_net.specs.declared.outbox.Outbox.{Outbox}
 use Rattle.fb_net.specs.Samples.{AreSampled, all_sampled, names_in}
@@ -39,7 +39,7 @@ with_values-paired : (g : Name → Value) (ns : List Name) (vars : Values) (n : 
 with_values-paired g [] vars n = refl
 with_values-paired g (m ∷ ms) vars n =
     with_values-paired g ms (with_value m (g m) vars) n
-    ∙ paired_step g m n (vars n) (same_name n m) (λ e. ap g (sym (same_name_is n m e))) (among ms n)
+    ∙ paired_step g m n (vars n) (same_name n m) (λ e. ap g (sym (same_from_same_name n m e))) (among ms n)
 
 -- values that stand for names are what the names hold
 pub bound-paired : (h : Values) (ns : List Name) → pair_up ns (map h ns) ≡ bound ns h
@@ -49,7 +49,7 @@ bound-paired h (n ∷ ns) = ap (λ (l : List Bound). record { variable = n; valu
 map-among : (g h : Name → Value) (ns : List Name) → ((n : Name) → among ns n ≡ true → g n ≡ h n) → map g ns ≡ map h ns
 map-among g h [] f = refl
 map-among g h (n ∷ ns) f =
-    let here : g n ≡ h n = f n (or_left (same_name n n) (among ns n) (same_name_itself n)) in
+    let here : g n ≡ h n = f n (or_left (same_name n n) (among ns n) (same_name-itself n)) in
     let rest : map g ns ≡ map h ns = map-among g h ns (λ m e. f m (or_right (same_name m n) (among ns m) e)) in
     cc
 

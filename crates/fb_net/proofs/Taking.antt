@@ -26,8 +26,8 @@ use Rattle.fb_types.specs.declared.run.Target.{Target}
 use Rattle.fb_types.specs.declared.run.TimerAsk.{TimerAsk}
 use Rattle.fb_types.specs.declared.value.Reason.{Reason}
 use Rattle.fb_types.specs.declared.value.Value.{Value}
-use Rattle.fb_agenda.specs.declared.agenda.Event.{Event as Waiting}
-use Rattle.fb_agenda.specs.declared.agenda.Event.TheVariants as waits
+use Rattle.fb_types.specs.declared.run.Event.{Event as Waiting}
+use Rattle.fb_types.specs.declared.run.Event.TheVariants as waits
 use Rattle.fb_net.specs.Outs.{Stands, out_of}
 use Rattle.fb_net.specs.declared.outbox.Outbox.{Outbox}
 use Rattle.fb_net.specs.Leaves.{EventCame, expiry_reaction}

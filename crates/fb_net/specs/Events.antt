@@ -10,8 +10,8 @@ use Rattle.fb_types.specs.declared.key.Key.{Key}
 use Rattle.fb_types.specs.declared.run.Halt.{Halt}
 use Rattle.fb_types.specs.declared.run.Halt.TheVariants as halt
 use Rattle.fb_types.specs.declared.value.Reason.{Reason}
-use Rattle.fb_agenda.specs.declared.agenda.Event.{Event}
-use Rattle.fb_agenda.specs.declared.agenda.Event.TheVariants as waits
+use Rattle.fb_types.specs.declared.run.Event.{Event}
+use Rattle.fb_types.specs.declared.run.Event.TheVariants as waits
 use Rattle.fb_net.specs.Outs.{Stands}
 use Rattle.fb_net.specs.declared.outbox.Outbox.{Outbox}
 use Rattle.fb_system.specs.Ports.{IsCarried, IsTarget}

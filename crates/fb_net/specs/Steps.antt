@@ -5,7 +5,7 @@ use Rattle.fb_types.specs.Reactions.{World}
 use Rattle.fb_types.specs.declared.key.Key.{Key}
 use Rattle.fb_types.specs.declared.run.Halt.{Halt}
 use Rattle.fb_types.specs.declared.run.Target.{Target}
-use Rattle.fb_agenda.specs.declared.agenda.Event.{Event}
+use Rattle.fb_types.specs.declared.run.Event.{Event}
 use Rattle.fb_laws.specs.Typed.{IsTypedEvent}
 use Rattle.fb_net.specs.Arrivals.{IsReady, StandTyped}
 use Rattle.fb_net.specs.Events.{HasTaken, IsEventIn, Remembered, event_of}

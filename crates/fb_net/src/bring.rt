@@ -9,11 +9,10 @@ ghost use Rattle.fb_system.specs.Ports.{IsCarried, IsPort};
 ghost use Rattle.fb_tree.specs.Changes.{Changes};
 ghost use Rattle.fb_net.specs.Samples.{HoldsAll, all_sampled, names_in, slots_set};
 
-use fb_fabric::fabric::Place;
 use fb_system::stimulus::SlotValue;
 use fb_system::system::System;
 use fb_tree::resource::Forest;
-use fb_types::run::{Carried, Target};
+use fb_types::run::{Carried, Place, Target};
 use fb_types::value::Value;
 
 /// Gives the variables WITH an event input the values that they sampled. The instance is an event block or a

@@ -12,12 +12,11 @@ ghost use Rattle.fb_net.specs.Outs.{AreOuts, IsOut, out_of};
 ghost use Rattle.fb_net.specs.Steps.{IsKept, MayEmit};
 
 use crate::outbox::{Out, Outbox, Sending};
-use fb_fabric::fabric::Place;
 use fb_system::system::System;
 use fb_tree::resource::Forest;
 use fb_types::items::Items;
 use fb_types::key::Key;
-use fb_types::run::{Carried, Emission, Emits, Line, Target};
+use fb_types::run::{Carried, Emission, Emits, Line, Place, Target};
 use fb_types::value::Value;
 use std::alloc::{AllocError, Global};
 

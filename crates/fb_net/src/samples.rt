@@ -5,11 +5,10 @@ ghost use Rattle.fb_types.specs.Headline.{system_of};
 ghost use Rattle.fb_system.specs.Ports.{IsCompositeAt, IsPort};
 ghost use Rattle.fb_net.specs.Samples.{AreSampled, AreShown, names_in, names_out};
 
-use fb_fabric::fabric::Place;
 use fb_system::system::System;
 use fb_tree::resource::Forest;
 use fb_types::items::Items;
-use fb_types::run::Target;
+use fb_types::run::{Place, Target};
 use fb_types::value::Value;
 use std::alloc::{AllocError, Global};
 

@@ -16,7 +16,6 @@ use crate::bring::{hold_carried, set_slots};
 use crate::emit::emit_all;
 use crate::event_blocks::expire_event;
 use crate::outbox::Outbox;
-use fb_agenda::agenda::Event;
 use fb_names::numbers::TypeNumber;
 use fb_st::meter::Meter;
 use fb_system::system::System;
@@ -24,7 +23,7 @@ use fb_tree::resource::Forest;
 use fb_types::event_kind::EventKind;
 use fb_types::items::Items;
 use fb_types::key::Key;
-use fb_types::run::{Halt, Message};
+use fb_types::run::{Event, Halt, Message};
 use std::alloc::AllocError;
 
 /// Takes a stimulus, which sets slots before its event arrives.

@@ -13,12 +13,11 @@ ghost use Rattle.fb_net.specs.Events.{HasTaken, IsEventIn, Remembered, event_of}
 
 use crate::outbox::Outbox;
 use crate::take::take_event;
-use fb_agenda::agenda::Event;
 use fb_st::meter::Meter;
 use fb_system::system::System;
 use fb_tree::resource::Forest;
 use fb_types::key::Key;
-use fb_types::run::Halt;
+use fb_types::run::{Event, Halt};
 use std::alloc::{AllocError, Global};
 use std::marker::Model;
 

@@ -14,7 +14,6 @@ use Rattle.fb_types.specs.declared.value.Value.{Value}
 use Rattle.fb_types.specs.declared.value.Reason.{Reason}
 use Rattle.fb_types.specs.declared.library.Ports.{Ports}
 use Rattle.fb_types.specs.declared.event_kind.EventKind.{EventKind}
-use Rattle.fb_resource.proofs.ChartLaws.{chart_one}
 
 -- Two worlds agree on a resource.
 pub record SameWorld (sys : System) (r : ℕ) (v w : World) : Type 0 where
@@ -194,20 +193,3 @@ module _ (sys : System) (k : Key) where
       reacts_at_same (record v { held = hold_all cs v.held }) (record w { held = hold_all cs w.held }) q left (sys.kind q.at) o home
       (record { blocks = h.blocks; held = hold_same cs v.held w.held h.held }) y
   reacts_same v w (Raised q) left o home h y = reacts_at_same v w q left (sys.kind q.at) o home h y
-
-  -- ---- A reaction is determined by what there is before it
-
-  reacts_at_one : (w : World) (q : Port) (left : ℕ) (kind : Option Kind) (o x : Outcome) → ReactsAt sys k w q left kind o → ReactsAt sys k w q left kind x → o ≡ x
-  reacts_at_one w q left None o x h i = h ∙ sym i
-  reacts_at_one w q left (Some (Basic t)) o x h i =
-      let begun = taking sys k w q t.ports left in
-      let e = chart_one t q.name (start_of begun q.at) h.0 i.0 h.1 i.1 h.2 i.2 in
-      h.3 ∙ ((λ j. charted sys k q.at begun (e.1 j) (e.0 j)) ∙ sym i.3)
-  reacts_at_one w q left (Some (Event kind)) o x h i = h ∙ sym i
-  reacts_at_one w q left (Some (Composite t)) o x h i = h ∙ sym i
-
-  pub reacts_one : (w : World) (e : AnEvent) (left : ℕ) (o x : Outcome) → Reacts sys k w e left o → Reacts sys k w e left x → o ≡ x
-  reacts_one w (Stimulated q bs) left o x h i = reacts_at_one (with_slots q.at bs w) q left (sys.kind q.at) o x h i
-  reacts_one w (Expired p) left o x h i = h ∙ sym i
-  reacts_one w (Arrived q cs) left o x h i = reacts_at_one (record w { held = hold_all cs w.held }) q left (sys.kind q.at) o x h i
-  reacts_one w (Raised q) left o x h i = reacts_at_one w q left (sys.kind q.at) o x h i

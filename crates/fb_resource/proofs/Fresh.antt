@@ -10,7 +10,7 @@ use Rattle.fb_types.specs.Takes.{world_of}
 use Rattle.fb_types.specs.declared.key.Key.{Key}
 use Rattle.fb_types.proofs.Lookups.{or_else_none}
 use Rattle.fb_agenda.specs.Agendas.{waiting}
-use Rattle.fb_agenda.specs.declared.agenda.Event.{Event}
+use Rattle.fb_types.specs.declared.run.Event.{Event}
 use Rattle.fb_net.specs.Events.{event_of}
 use Rattle.fb_take.specs.Openings.{IsOpened}
 use Rattle.fb_take.specs.Posts.{CountsAre}
@@ -19,7 +19,7 @@ use Rattle.fb_take.specs.Waiting.{meaning}
 use Rattle.fb_take.specs.declared.meter.Meter.{Meter}
 use Rattle.fb_take.specs.declared.queues.Queues.{Queues}
 use Rattle.fb_take.proofs.Begins.{here_opened, metered_opened}
-use Rattle.fb_take.proofs.Lists.{got_snoc}
+use Rattle.fb_types.proofs.ByPlace.{slice_get-push}
 use Rattle.fb_tree.specs.Worlds.{IsForest}
 use Rattle.fb_tree.specs.declared.resource.Forest.{Forest}
 use Rattle.fb_resource.specs.Resources.{AreOpened, IsFresh, StandsFor}
@@ -88,7 +88,7 @@ abbrev pub AreFresh : Inputs → List Inner → Type 0
 AreFresh i xs = (limit r : ℕ) (x : Inner) → slice_get xs r ≡ Some x → IsFresh i limit r x
 
 pub fresh_more : (i : Inputs) (xs : List Inner) (x : Inner) → AreFresh i xs → ((limit : ℕ) → IsFresh i limit (length xs) x) → AreFresh i (xs ++ x ∷ [])
-fresh_more i xs x before one limit r y is = got_snoc (λ k z. IsFresh i limit k z) xs x (λ k z h. before limit k z h) (one limit) r y is
+fresh_more i xs x before one limit r y is = slice_get-push (λ k z. IsFresh i limit k z) xs x (λ k z h. before limit k z h) (one limit) r y is
 
 pub all_opened : (i : Inputs) (limit : ℕ) (xs : List Inner) → length xs ≡ count_of (system_of i) → AreFresh i xs → AreOpened i limit xs
 all_opened i limit xs counted each = record {

@@ -9,8 +9,6 @@ pub mod Stops
 pub mod Lines
 pub mod Alone
 pub mod Stopping
-pub mod BodyLaws
-pub mod ChartLaws
 pub mod Alike
 pub mod Posting
 pub mod Effects
@@ -19,7 +17,6 @@ pub mod Bridge
 pub mod Opening
 pub mod Told
 pub mod Back
-pub mod OneSimulation
 pub mod BodyTotal
 pub mod ChartTotal
 pub mod TakeTotal

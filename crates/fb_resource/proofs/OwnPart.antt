@@ -16,11 +16,13 @@ use Rattle.fb_types.proofs.PathLaws.{same_path_is}
 use Rattle.fb_laws.specs.Sound.{IsSound}
 use Rattle.fb_resource.specs.Facts.{IsLawful, IsTaking}
 use Rattle.fb_resource.proofs.Global.{with_at_same, with_at_other}
-use Rattle.fb_resource.proofs.Alike.{SameWorld, SameOutcome, reacts_same, reacts_one}
+use Rattle.fb_types.proofs.SimulationLaws.{reacts-one}
+use Rattle.fb_resource.proofs.Alike.{SameWorld, SameOutcome, reacts_same}
 use Rattle.fb_laws.proofs.Stays.{reacts_stays}
 use Rattle.fb_laws.proofs.Outs.{GoodOutcome, reacts_good}
 use Rattle.fb_resource.proofs.Posting.{SamePosts, post_all_same, post_all_stays}
 use Rattle.fb_resource.proofs.Effects.{takes_good, is_taking}
+use Rattle.std.proofs.lemmas.Option.{same_Some}
 
 part_equal : (p q : Part) → ((x : Path) → p.blocks x ≡ q.blocks x) → ((x : Port) → p.held x ≡ q.held x) → ((l : ℕ) → p.sent l ≡ q.sent l) → p.meter ≡ q.meter → p ≡ q
 part_equal p q b h s m i = record { blocks = λ x. b x i; held = λ x. h x i; sent = λ l. s l i; meter = m i }
@@ -32,11 +34,8 @@ only_same : {A : Type 0} (t : Bool) (x y : A) → (t ≡ true → x ≡ y) → (
 only_same true x y h = ap Some (h refl)
 only_same false x y h = refl
 
-some_same : {A : Type 0} (x y : A) → Some x ≡ Some y → x ≡ y
-some_same x y e = cc
-
 only_true : {A : Type 0} (t : Bool) (x y : A) → t ≡ true → (if t then Some x else None) ≡ (if t then Some y else None) → x ≡ y
-only_true t x y h e = some_same x y (sym (cond-true t (Some x) None h) ∙ e ∙ cond-true t (Some y) None h)
+only_true t x y h e = same_Some x y (sym (cond-true t (Some x) None h) ∙ e ∙ cond-true t (Some y) None h)
 
 module _ (sys : System) (sound : IsSound sys) (k : Key) where
   -- ---- It reads its resource's part alone
@@ -83,7 +82,7 @@ module _ (sys : System) (sound : IsSound sys) (k : Key) where
       ap (λ z. outcome_of sys k z) a ∙ outcome_equal _ _ h (λ j. refl) refl refl refl ∙ sym (ap (λ z. outcome_of sys k z) b)
   takes_with_same e home m (suc left) s u x y h a b =
       let c = reacts_same sys k (world_of s r) (world_of u r) e left a.0 home (same_world s u h) a.1 in
-      let one : c.0 ≡ b.0 = reacts_one sys k (world_of u r) e left c.0 b.0 c.1 b.1 in
+      let one : c.0 ≡ b.0 = reacts-one sys k (world_of u r) e left c.0 b.0 c.1 b.1 in
       let same : SameOutcome sys r a.0 b.0 = subst (λ (z : Outcome). SameOutcome sys r a.0 z) one c.2 in
       ap (λ z. outcome_of sys k z) a.2 ∙ effect_same e m s u a.0 b.0 h (reacts_good sys sound k (world_of s r) e left a.0 home a.1) same ∙ sym (ap (λ z. outcome_of sys k z) b.2)
 

@@ -13,8 +13,8 @@ use Rattle.fb_types.proofs.KeyLaws.{same_key_is}
 use Rattle.fb_types.proofs.Lookups.{none_since, or_else_some}
 use Rattle.fb_agenda.specs.Agendas.{Contents, waiting}
 use Rattle.fb_agenda.specs.Arrivals.{arrival_at, arrivals_at}
-use Rattle.fb_agenda.specs.declared.agenda.Event.{Event}
-use Rattle.fb_agenda.specs.declared.agenda.Event.TheVariants.{Arrival}
+use Rattle.fb_types.specs.declared.run.Event.{Event}
+use Rattle.fb_types.specs.declared.run.Event.TheVariants.{Arrival}
 use Rattle.fb_agenda.proofs.Placing.{arrival_class}
 use Rattle.fb_agenda.proofs.Timers.{timer_class}
 use Rattle.fb_net.specs.Events.{event_of, IsEventIn}

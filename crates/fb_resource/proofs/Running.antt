@@ -16,7 +16,7 @@ use Rattle.fb_types.specs.declared.run.StopMark.{StopMark}
 use Rattle.fb_types.specs.declared.value.Reason.{Reason}
 use Rattle.fb_laws.specs.Sound.{IsSound}
 use Rattle.fb_agenda.specs.Agendas.{Contents, waiting}
-use Rattle.fb_agenda.specs.declared.agenda.Event.{Event}
+use Rattle.fb_types.specs.declared.run.Event.{Event}
 use Rattle.fb_net.specs.Events.{event_of}
 use Rattle.fb_system.specs.Lines.{BelongsTo}
 use Rattle.fb_take.specs.Counts.{IsMetered}

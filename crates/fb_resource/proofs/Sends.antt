@@ -28,7 +28,6 @@ use Rattle.fb_system.proofs.interfaces.Interfaces.TheSendSync as interfaces
 use Rattle.fb_system.proofs.rows.StimulusRow.TheSendSync as row
 use Rattle.fb_tree.proofs.block.BasicBlock.TheSendSync as basic
 use Rattle.fb_tree.proofs.block.EventBlock.TheSendSync as event
-use Rattle.fb_tree.proofs.places.Places.TheSendSync as places
 use Rattle.fb_tree.proofs.shell.Shell.TheSendSync as shell
 use Rattle.fb_take.proofs.meter.Meter.TheSendSync as meter
 use Rattle.fb_take.proofs.queues.Queues.TheSendSync as queues
@@ -137,10 +136,10 @@ system_send =
     (recorded_send (I.the_field).row _ _ (I.the_type).to_one (struct_send (shape I.the_type) (Arc-send Whole.the_row whole seen, tt)))
 
 pub block_send : IsSend (Block.the_field).row
-block_send = search (sendable, crosses, block.crosses, basic.the_field_send, event.the_field_send, places.the_send, shell.the_field_send, value.the_field_send) depth 40
+block_send = search (sendable, crosses, block.crosses, basic.the_field_send, event.the_field_send, items.the_send, shell.the_field_send, value.the_field_send) depth 40
 
 pub forest_send : IsSend (Forest.the_field).row
-forest_send = search (sendable, crosses, maps.crosses, block_send, places.the_send, value.the_field_send) depth 40
+forest_send = search (sendable, crosses, maps.crosses, block_send, items.the_send, value.the_field_send) depth 40
 
 pub tree_send : IsSend Tree.the_row
 tree_send = search (sendable, crosses, forest_send) depth 40

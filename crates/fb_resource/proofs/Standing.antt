@@ -13,7 +13,7 @@ use Rattle.fb_types.specs.declared.value.Reason.{Reason}
 use Rattle.fb_types.proofs.Lookups.{edit_some}
 use Rattle.fb_laws.specs.Sound.{IsSound}
 use Rattle.fb_agenda.specs.Agendas.{Contents, waiting}
-use Rattle.fb_agenda.specs.declared.agenda.Event.{Event}
+use Rattle.fb_types.specs.declared.run.Event.{Event}
 use Rattle.fb_net.specs.Events.{event_of}
 use Rattle.fb_take.specs.Takings.{IsHere, IsTakenHere}
 use Rattle.fb_take.specs.Waiting.{meaning}

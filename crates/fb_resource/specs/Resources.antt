@@ -15,7 +15,7 @@ use Rattle.fb_types.specs.declared.run.Message.{Message}
 use Rattle.fb_types.specs.declared.run.StopMark.{StopMark}
 use Rattle.fb_types.specs.declared.value.Reason.{Reason}
 use Rattle.fb_agenda.specs.Agendas.{waiting}
-use Rattle.fb_agenda.specs.declared.agenda.Event.{Event}
+use Rattle.fb_types.specs.declared.run.Event.{Event}
 use Rattle.fb_system.specs.Lines.{BelongsTo}
 use Rattle.fb_take.specs.Counts.{IsMetered}
 use Rattle.fb_take.specs.Posts.{CountsAre, IsMessage, arriving, receiver_of}

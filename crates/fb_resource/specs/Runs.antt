@@ -7,7 +7,7 @@ use Rattle.fb_types.specs.Numbers.{line_of}
 use Rattle.fb_types.specs.Parts.{count_of, machine}
 use Rattle.fb_types.specs.declared.key.Key.{Key}
 use Rattle.fb_agenda.specs.Agendas.{waiting}
-use Rattle.fb_agenda.specs.declared.agenda.Event.{Event}
+use Rattle.fb_types.specs.declared.run.Event.{Event}
 use Rattle.fb_take.specs.Counts.{IsMetered}
 use Rattle.fb_take.specs.Posts.{arriving}
 use Rattle.fb_take.specs.Takings.{AreReady}

@@ -1,15 +1,13 @@
-//! The one-thread simulation is one thing, is there, and takes keys in rising order.
+//! The one-thread simulation is there, and takes keys in rising order.
 
 ghost use Rattle.fb_resource.specs.Law.{HasSimulation, HasRisingKeys, OfEach};
-ghost use Rattle.fb_types.specs.Headline.{OneSimulation};
 
-/// A system with its stimuli, a horizon and a limit on steps has one simulation at most, and where the inputs are
-/// accepted it has one.
+/// Accepted inputs have a simulation, to each horizon and with each limit on steps. `fb_types::laws::one_simulation` says
+/// that it is the only one.
 ///
 /// This function does nothing when it runs, and no program calls it: it is there for its contract.
-pub fn one_simulation()
-    ensures most { OneSimulation }
-    ensures there { HasSimulation }
+pub fn simulation_exists()
+    ensures { HasSimulation }
 {}
 
 /// Every new key is greater than the one taken.

@@ -1,6 +1,5 @@
 -- What holds of each message that one resource sent holds of each that another gets.
-use Rattle.std.proofs.Common.{◌≡◌, ℕ, List, [], ◌∷◌, ◌++◌, length, filter, refl, sym, subst, All, Vec, Some, append-nil}
-use Rattle.std.specs.Prelude.{slice_get}
+use Rattle.std.proofs.Common.{◌≡◌, ℕ, List, [], ◌∷◌, filter, sym, subst, All, Vec, append-nil}
 use Rattle.std.specs.declared.alloc.Global.{Global}
 use Rattle.std.proofs.lemmas.List.Elements.{All-filter}
 use Rattle.std.proofs.lemmas.List.Sorted.{All-permutation}
@@ -14,7 +13,3 @@ handed P sys r sent boxes ms is each are =
     All-permutation P (filter (goes_to sys r) (all_of boxes)) ms are.those
     (All-filter (goes_to sys r) P (all_of boxes)
     (subst (λ (zs : List (Vec Message Global)). All P (all_of zs)) (sym is) (subst (All P) (sym (append-nil sent.items)) each)))
-
-pub last_at : {A : Type 0} (xs : List A) (x : A) → slice_get (xs ++ x ∷ []) (length xs) ≡ Some x
-last_at [] x = refl
-last_at (y ∷ xs) x = last_at xs x

@@ -13,7 +13,7 @@ use Rattle.fb_types.specs.declared.run.StopMark.{StopMark}
 use Rattle.fb_laws.specs.Sound.{AreGood}
 use Rattle.fb_laws.proofs.Accepting.{sound_of}
 use Rattle.fb_resource.proofs.Existence.{there_is}
-use Rattle.fb_resource.proofs.OneSimulation.{one_simulation_told}
+use Rattle.fb_types.proofs.SimulationLaws.{one-simulation}
 use Rattle.fb_trace.specs.Progress.{IsPartWritten, bounded}
 use Rattle.fb_sim.specs.Advances.{IsNext, stop_line}
 use Rattle.fb_sim.specs.Sessions.{Session}
@@ -45,7 +45,7 @@ module _ (i : Inputs) (o : Options) where
     next_text : (end : Ending) (n : IsNext (session i o from) to bytes end) → text ++ bytes ≡ lines_text o.form (system_of i) (lines_of n.takings) ++ stop_line (system_of i) end
     next_text end n =
         let sys = system_of i in
-        let same : come.takings ≡ n.before = one_simulation_told sys (stimuli_of i) from o.steps come.takings n.before come.simulation n.was in
+        let same : come.takings ≡ n.before = one-simulation sys (stimuli_of i) from o.steps come.takings n.before come.simulation n.was in
         let first : text ≡ lines_text o.form sys (lines_of n.before) = come.text_is ∙ ap (λ ts. lines_text o.form sys (lines_of ts)) same in
         let both : lines_text o.form sys (lines_of n.takings) ≡ lines_text o.form sys (lines_of n.before) ++ lines_text o.form sys n.rest =
         ap (lines_text o.form sys) n.split ∙ lines_text-append o.form sys (lines_of n.before) n.rest in

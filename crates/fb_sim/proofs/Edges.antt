@@ -1,5 +1,5 @@
 -- Lines up to an edge are what a list in trace order begins with.
-use Rattle.std.proofs.Common.{◌≡◌, ℕ, ◌+◌, ◌<◌, ◌≤◌, ◌⊎◌, Bool, true, false, List, [], ◌∷◌, ◌++◌, refl, sym, ap, ◌∙◌, subst, inl, inr, ⊎_elim, arith}
+use Rattle.std.proofs.Common.{◌≡◌, ℕ, ◌+◌, ◌<◌, ◌≤◌, ◌⊎◌, Bool, true, false, List, [], ◌∷◌, ◌++◌, refl, sym, ap, ◌∙◌, subst, inl, inr, ⊎_elim, arith, append-nil}
 use Rattle.std.specs.Prelude.{if◌then◌else◌, ◌==◌, ◌&&◌, ◌||◌, nat_lt}
 use Rattle.std.proofs.lemmas.Bool.{cases_lt, cases_eq, cond-true, cond-false, lt-ltb, le-ltb, eq-eqb, ne_eqb, eqb-true}
 use Rattle.std.specs.List.{filter}
@@ -78,10 +78,6 @@ each_left : {A : Type 0} (P : A → Type 0) (xs ys : List A) → Each P (xs ++ y
 each_left P [] ys h = tt
 each_left P (x ∷ xs) ys h = (h.0, each_left P xs ys h.1)
 
-append_nil : {A : Type 0} (xs : List A) → xs ++ [] ≡ xs
-append_nil [] = refl
-append_nil (x ∷ xs) = ap (λ z. x ∷ z) (append_nil xs)
-
 module _ (M : Machine) where
   -- where all lines are below a tick, those below it or a later tick are all
   pub all_before : (t : ℕ) (xs : List M.Line) → Each (λ (x : M.Line). M.line_tick x < t) xs → lines_before M t xs ≡ xs
@@ -155,7 +151,7 @@ module _ (M : Machine) where
         let a : lines_before M (until e q) (lines_at M q s.front) ≡ lines_at M q s.front = filter_all p (lines_at M q s.front) (each_map _ _ (lines_at M q s.front) (λ x h. low x h.0 (eqb-true (M.line_resource x) q h.1)) here) in
         let b : lines_before M (until e q) (lines_at M q s.rest) ≡ [] = filter_nothing p (lines_at M q s.rest) (each_map _ _ (lines_at M q s.rest) (λ x h. high x h.0 (eqb-true (M.line_resource x) q h.1)) there) in
         let c : lines_at M q xs ≡ lines_at M q s.front ++ lines_at M q s.rest = ap (λ z. lines_at M q z) s.split ∙ filter_joined (λ x. M.line_resource x == q) s.front s.rest in
-        sym (ap (λ z. lines_before M (until e q) z) c ∙ filter_joined p (lines_at M q s.front) (lines_at M q s.rest) ∙ ap (λ z. z ++ lines_before M (until e q) (lines_at M q s.rest)) a ∙ ap (λ z. lines_at M q s.front ++ z) b ∙ append_nil (lines_at M q s.front))
+        sym (ap (λ z. lines_before M (until e q) z) c ∙ filter_joined p (lines_at M q s.front) (lines_at M q s.rest) ∙ ap (λ z. z ++ lines_before M (until e q) (lines_at M q s.rest)) a ∙ ap (λ z. lines_at M q s.front ++ z) b ∙ append-nil (lines_at M q s.front))
       where
         low : (x : M.Line) → In x → M.line_resource x ≡ q → nat_lt (M.line_tick x) (until e q) ≡ true
         low x u d = lt-ltb (M.line_tick x) (until e q) (subst (λ (r : ℕ). M.line_tick x < until e r) d u)

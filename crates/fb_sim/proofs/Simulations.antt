@@ -8,7 +8,7 @@ use Rattle.fb_types.specs.Machines.{Each}
 use Rattle.fb_types.specs.declared.key.Key.{Key}
 use Rattle.fb_types.specs.declared.value.Reason.{Reason}
 use Rattle.fb_types.proofs.Lookups.{key_cases, none_some, option_cases}
-use Rattle.fb_resource.proofs.OneSimulation.{takes_one}
+use Rattle.fb_types.proofs.SimulationLaws.{takes-one}
 use Rattle.fb_resource.proofs.Bridge.{all_each}
 
 -- ---- Lines
@@ -33,7 +33,7 @@ module _ (sys : System) (limit : ℕ) where
           let p : Some t.event ≡ Some u.event = sym x.waits ∙ ap c.agenda e ∙ y.waits in
           let q : t.event ≡ u.event = cc in
           let g : Takes sys limit c.state u.key u.event t.effect = subst (λ (v : Event). Takes sys limit c.state u.key v t.effect) q (subst (λ (k : Key). Takes sys limit c.state k t.event t.effect) e x.takes) in
-          let o : t.effect ≡ u.effect = takes_one sys limit c.state u.key u.event t.effect u.effect g y.takes in
+          let o : t.effect ≡ u.effect = takes-one sys limit c.state u.key u.event t.effect u.effect g y.takes in
           λ i. taken_of (e i) (q i) (o i)
 
   -- Whatever is taken up to one tick is taken first up to a later one.

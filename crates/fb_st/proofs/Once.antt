@@ -1,33 +1,24 @@
 -- A name that is new, behind names that differ.
-use Rattle.std.proofs.Common.{◌≡◌, ◌⊎◌, ◌||◌, true, false, List, [], ◌∷◌, ◌++◌, Contains, refl, sym, ◌∙◌, ap, subst, inl, inr, arith}
+use Rattle.std.proofs.Common.{◌≡◌, ◌⊎◌, ◌||◌, true, false, List, [], ◌∷◌, ◌++◌, Contains, refl, sym, ◌∙◌, ap, subst, inl, inr}
 use Rattle.std.specs.List.{list_any}
 use Rattle.std.proofs.lemmas.Bool.{true≢false}
-use Rattle.std.proofs.lemmas.List.Elements.{Contains-append_left, Contains-append_right, Contains-push, Contains-push_cases, Contains-append_cases}
+use Rattle.std.proofs.lemmas.List.Elements.{Contains-append_left, Contains-append_right, Contains-push, Contains-push_cases}
 use Rattle.fb_types.specs.Names.{Name, same_name}
 use Rattle.fb_types.specs.Repeated.{Twice}
-use Rattle.fb_types.proofs.PathLaws.{same_name_itself}
+use Rattle.fb_types.proofs.NameLaws.{same_name-itself}
 use Rattle.fb_st.specs.declared.frame.Slot.{Slot}
+use Rattle.fb_types.proofs.Elements.{Contains-nil, Contains-cons_cases}
 use Rattle.fb_st.specs.Frames.{names_of, declared_in, is_declared}
-
-nothing_in : {A : Type 0} (x : A) → ¬ (Contains [] x)
-nothing_in x h = absurd (omega (arith, h.1))
-
-first_or_later : {A : Type 0} (x : A) (xs : List A) (y : A) → Contains (x ∷ xs) y → (x ≡ y) ⊎ Contains xs y
-first_or_later x xs y h =
-    elim (Contains-append_cases (x ∷ []) xs y h) [
-      | inl one ↦ elim (Contains-push_cases [] x y one) [ inl none ↦ absurd (nothing_in y none) | inr e ↦ inl e ]
-      | inr rest ↦ inr rest
-    ]
 
 pub tested : (slots : List Slot) (n : Name) → is_declared (declared_in slots) n ≡ list_any (λ s. same_name n s.name) slots
 tested [] n = refl
 tested (s ∷ slots) n = ap (λ b. same_name n s.name || b) (tested slots n)
 
 declared_from_name : (slots : List Slot) (n : Name) → Contains (names_of slots) n → is_declared (declared_in slots) n ≡ true
-declared_from_name [] n h = absurd (nothing_in n h)
+declared_from_name [] n h = absurd (Contains-nil n h)
 declared_from_name (s ∷ slots) n h =
-    elim (first_or_later s.name (names_of slots) n h) [
-      | inl e ↦ let same : same_name n s.name ≡ true = subst (λ (k : Name). same_name n k ≡ true) (sym e) (same_name_itself n) in rw same refl
+    elim (Contains-cons_cases s.name (names_of slots) n h) [
+      | inl e ↦ let same : same_name n s.name ≡ true = subst (λ (k : Name). same_name n k ≡ true) (sym e) (same_name-itself n) in rw same refl
       | inr rest ↦
           let later = declared_from_name slots n rest in
           elim (same_name n s.name) as (λ b. (b || is_declared (declared_in slots) n) ≡ true) [ true ↦ refl | false ↦ later ]

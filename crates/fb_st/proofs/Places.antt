@@ -3,12 +3,12 @@ use Rattle.std.proofs.Common.{◌≡◌, ℕ, zero, suc, ◌+◌, Bool, true, fa
 use Rattle.std.specs.Prelude.{position, slice_get, option_map, option_and_then, nat_lt}
 use Rattle.std.specs.List.{prefix_len}
 use Rattle.std.proofs.lemmas.Bool.Decides.{nat_tests}
-use Rattle.std.proofs.lemmas.Bool.{false_from_ne_true, true≢false}
-use Rattle.std.proofs.lemmas.List.Elements.{Contains-append_left, Contains-append_right, Contains-push}
+use Rattle.std.proofs.lemmas.Bool.{false_from_ne_true}
 use Rattle.fb_types.specs.Names.{Name, same_name}
 use Rattle.fb_types.specs.Blocks.{named}
 use Rattle.fb_types.specs.Repeated.{Twice}
-use Rattle.fb_types.proofs.PathLaws.{same_name_is, same_name_itself}
+use Rattle.fb_types.proofs.Positions.{position-first, slice_get-Contains}
+use Rattle.fb_types.proofs.NameLaws.{same_from_same_name, same_name-flip}
 
 -- ---- `position` by recursion
 
@@ -31,25 +31,11 @@ position-cons p x xs =
           ])
     ]
 
-pub position-first : {X : Type 0} (p : X → Bool) (x : X) (xs : List X) → p x ≡ true → position p (x ∷ xs) ≡ Some 0
-position-first p x xs h =
-    position-cons p x xs ∙ ap (λ b. cond b (Some 0) (option_map (λ i. suc i) (position p xs))) h
-
 pub position-later : {X : Type 0} (p : X → Bool) (x : X) (xs : List X) → p x ≡ false → position p (x ∷ xs) ≡ option_map (λ i. suc i) (position p xs)
 position-later p x xs h =
     position-cons p x xs ∙ ap (λ b. cond b (Some 0) (option_map (λ i. suc i) (position p xs))) h
 
 -- ---- Names
-
-pub same_name-flip : (n m : Name) → same_name n m ≡ same_name m n
-same_name-flip n m =
-    elim (same_name m n) as (λ b. same_name m n ≡ b → same_name n m ≡ b) [
-      | true ↦ λ e. let same : m ≡ n = same_name_is m n e in subst (λ (k : Name). same_name n k ≡ true) (sym same) (same_name_itself n)
-      | false ↦ λ e. false_from_ne_true (same_name n m) (λ t.
-          let same : n ≡ m = same_name_is n m t in
-          let one : same_name m n ≡ true = subst (λ (k : Name). same_name m k ≡ true) (sym same) (same_name_itself m) in
-          true≢false (sym one ∙ e))
-    ] refl
 
 -- the element with a name stands at the place of the name
 pub named_at_place :
@@ -68,15 +54,6 @@ named_at_place f n (x ∷ xs) =
 
 -- ---- Names that differ
 
-Contains-here : {A : Type 0} (x : A) (xs : List A) → Contains (x ∷ xs) x
-Contains-here x xs = Contains-append_left (x ∷ []) xs x (Contains-push [] x)
-
-slice_get-Contains : {A : Type 0} (f : A → Name) (xs : List A) (i : ℕ) (x : A) → slice_get xs i ≡ Some x → Contains (map f xs) (f x)
-slice_get-Contains f [] i x h = absurd (cc)
-slice_get-Contains {A} f (y ∷ ys) zero x h =
-    let e : y ≡ x = cc in subst (λ (z : A). Contains (f y ∷ map f ys) (f z)) e (Contains-here (f y) (map f ys))
-slice_get-Contains f (y ∷ ys) (suc i) x h = Contains-append_right (f y ∷ []) (map f ys) (f x) (slice_get-Contains f ys i x h)
-
 -- each name stands first at its own place
 pub place_of_once :
     {A : Type 0} (f : A → Name) (n : Name) (xs : List A) (i : ℕ) (x : A) → ¬ (Twice (map f xs)) → slice_get xs i ≡ Some x → same_name n (f x) ≡ true
@@ -89,7 +66,7 @@ place_of_once {A} f n (y ∷ ys) (suc i) x once h same =
     let apart : same_name n (f y) ≡ false =
     false_from_ne_true (same_name n (f y))
     (λ t.
-    let e : f x ≡ f y = sym (same_name_is n (f x) same) ∙ same_name_is n (f y) t in
+    let e : f x ≡ f y = sym (same_from_same_name n (f x) same) ∙ same_from_same_name n (f y) t in
     once (inl (let P : Name → Type 0 = λ k. Contains (map f ys) k in subst P e (slice_get-Contains f ys i x h)))) in
     position-later (λ z. same_name n (f z)) y ys apart
     ∙ ap (option_map (λ i. suc i)) (place_of_once f n ys i x (λ t. once (inr t)) h same)

@@ -12,10 +12,11 @@ use Rattle.fb_types.specs.Flat.{zero_value}
 use Rattle.fb_types.specs.declared.value.Value.{Value}
 use Rattle.fb_types.specs.declared.value.Ty.{Ty}
 use Rattle.fb_types.specs.declared.value.Ty.TheVariants.{Bool as Boolean}
-use Rattle.fb_types.proofs.PathLaws.{same_name_is}
+use Rattle.fb_types.proofs.NameLaws.{same_from_same_name, same_name-flip}
 use Rattle.fb_st.specs.declared.frame.Slot.{Slot}
+use Rattle.fb_types.proofs.Positions.{position-first}
 use Rattle.fb_st.specs.Frames.{values_of, names_of, place_of, Declared, declared_in, types_in, is_declared}
-use Rattle.fb_st.proofs.Places.{position-first, position-later, named_at_place, same_name-flip}
+use Rattle.fb_st.proofs.Places.{position-later, named_at_place}
 
 abbrev held : Option Slot → Value
 held o = elim o [ None ↦ zero_value | Some s ↦ s.value ]
@@ -65,7 +66,7 @@ declared_somewhere (s ∷ slots) n h at =
 with_first : (v : Value) (s : Slot) (slots : List Slot) (n m : Name) → same_name n s.name ≡ true
     → values_of ((record s { value = v }) ∷ slots) m ≡ with_value n v (values_of (s ∷ slots)) m
 with_first v s slots n m e =
-    let same : n ≡ s.name = same_name_is n s.name e in
+    let same : n ≡ s.name = same_from_same_name n s.name e in
     let flipped : same_name s.name m ≡ same_name m n = ap (λ k. same_name k m) (sym same) ∙ same_name-flip n m in
     let P : Bool → Type 0 = λ b. held (cond b (Some (record s { value = v })) (named (λ t. t.name) m slots)) ≡ cond (same_name m n) v (held (cond b (Some s) (named (λ t. t.name) m slots))) in
     subst P (sym flipped)
@@ -80,7 +81,7 @@ with_later : (v : Value) (s : Slot) (slots others : List Slot) (n m : Name) → 
 with_later v s slots others n m e rest =
     elim (same_name s.name m) as (λ b. same_name s.name m ≡ b → held (cond b (Some s) (named (λ t. t.name) m others)) ≡ cond (same_name m n) v (held (cond b (Some s) (named (λ t. t.name) m slots)))) [
       | true ↦ λ f.
-          let other : same_name m n ≡ false = same_name-flip m n ∙ ap (same_name n) (sym (same_name_is s.name m f)) ∙ e in
+          let other : same_name m n ≡ false = same_name-flip m n ∙ ap (same_name n) (sym (same_from_same_name s.name m f)) ∙ e in
           rw other refl
       | false ↦ λ f. rest
     ] refl

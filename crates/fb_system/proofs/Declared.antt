@@ -1,5 +1,5 @@
 -- What a catalog and known names say of each block type: its variables stand one after another among all names, and its WITH lists name variables, each once.
-use Rattle.std.proofs.Common.{◌≡◌, ◌⊎◌, ℕ, zero, suc, ◌+◌, true, false, List, [], ◌∷◌, ◌++◌, length, map, Some, Contains, Bor, refl, sym, ◌∙◌, ap, subst, inl, inr, arith, length-append, append_assoc}
+use Rattle.std.proofs.Common.{◌≡◌, ◌⊎◌, ℕ, ◌+◌, true, false, List, [], ◌∷◌, ◌++◌, length, map, Some, Contains, Bor, refl, sym, ◌∙◌, ap, subst, inl, inr, length-append, append_assoc}
 use Rattle.std.specs.Prelude.{slice_get, position, option_map, flat_map}
 use Rattle.std.specs.List.{list_any}
 use Rattle.std.specs.BTreeMap.{BTreeMap}
@@ -22,27 +22,18 @@ use Rattle.fb_names.specs.GivenTwice.{TwiceIn, BlockTwice}
 use Rattle.fb_names.specs.Places.{IsIndex}
 use Rattle.fb_names.specs.declared.catalog.BlockPlaces.{BlockPlaces}
 use Rattle.fb_names.specs.declared.catalog.Catalog.{Catalog}
-use Rattle.fb_names.proofs.NameLemmas.{Twice-append_left, Contains-here, Contains-there, contains_from_any, any_from_contains}
+use Rattle.fb_types.proofs.NameLaws.{contains_from_any, any_from_contains}
+use Rattle.fb_types.proofs.Elements.{Contains-map, Contains-flat_map}
+use Rattle.fb_types.proofs.Positions.{position_of_once}
+use Rattle.fb_types.proofs.TwiceLaws.{Twice-append_left, Twice-append_right}
 use Rattle.fb_names.proofs.NameTwice.{block_twice}
-use Rattle.fb_names.proofs.Positions.{position_of_once}
-use Rattle.fb_names.proofs.TwiceIn.{Contains-map, Contains-flat_map}
+use Rattle.fb_types.proofs.ByPlace.{slice_get-append_left, slice_get-push, slice_get-after, element_of_place}
 use Rattle.fb_system.specs.Lookups.{StandFrom, AreEvents, IsPlaced}
 use Rattle.fb_system.specs.declared.with_places.WithPlaces.{WithPlaces}
 use Rattle.fb_system.specs.Stands.{AreWithPlaces}
 use Rattle.fb_system.specs.Tables.{AreBlocks, AreOfBlocksUpTo}
-use Rattle.fb_system.proofs.EventBlocks.{slice_get-append_left, slice_get-push}
 
 -- ---- Lists
-
-Twice-append_right : {A : Type 0} (xs ys : List A) → Twice ys → Twice (xs ++ ys)
-Twice-append_right [] ys h = h
-Twice-append_right (x ∷ xs) ys h = inr (Twice-append_right xs ys h)
-
-slice_get-after : {A : Type 0} (xs ys : List A) (k : ℕ) → slice_get (xs ++ ys) (length xs + k) ≡ slice_get ys k
-slice_get-after [] ys k = let e : 0 + k ≡ k = omega arith in ap (slice_get ys) e
-slice_get-after (x ∷ xs) ys k =
-    let e : length (x ∷ xs) + k ≡ suc (length xs + k) = omega arith in
-    ap (slice_get (x ∷ (xs ++ ys))) e ∙ slice_get-after xs ys k
 
 map-same : (ns : List Name) → map (λ (n : Name). n) ns ≡ ns
 map-same [] = refl
@@ -52,11 +43,6 @@ position_once : (ns : List Name) (i : ℕ) (n : Name) → ¬ (Twice ns) → slic
 position_once ns i n once h =
     let P : List Name → Type 0 = λ ms. ¬ (Twice ms) → position (same_name n) ms ≡ Some i in
     subst P (map-same ns) (λ once. position_of_once (λ (m : Name). m) ns i n once h) once
-
-slice_get-element : {A : Type 0} (xs : List A) (i : ℕ) (x : A) → slice_get xs i ≡ Some x → Contains xs x
-slice_get-element [] i x h = absurd (cc)
-slice_get-element {A} (y ∷ ys) zero x h = let e : y ≡ x = cc in subst (λ (z : A). Contains (y ∷ ys) z) e (Contains-here y ys)
-slice_get-element (y ∷ ys) (suc i) x h = Contains-there y ys x (slice_get-element ys i x h)
 
 -- ---- Variables among all names
 
@@ -115,7 +101,7 @@ events_are :
 events_are lib plan t vs events once known there differ among lists = record {
   once = differ;
   lists = λ i e h.
-      let c = slice_get-element events i e h in
+      let c = element_of_place events i e h in
       record {
         once = list_once lib plan t e once there (among e c);
         known = λ n m.
@@ -159,7 +145,7 @@ interface_is lib plan t x once known there is =
 pub blocks_are : (lib : Library) (plan : Plan) (c : Catalog) → IsCatalog lib plan c → ¬ (NameUnknown lib plan) → AreBlocks lib.blocks c.blocks.items
 blocks_are lib plan c is known = record {
   counted = is.counted;
-  each = λ k t x h g. interface_is lib plan t x is.once known (slice_get-element lib.blocks k t h) (is.blocks k t x h g);
+  each = λ k t x h g. interface_is lib plan t x is.once known (element_of_place lib.blocks k t h) (is.blocks k t x h g);
 }
 
 -- one more block type

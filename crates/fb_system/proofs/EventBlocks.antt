@@ -1,10 +1,10 @@
 -- The places of the variables WITH an event of an event block, one more variable at a time, and the entries of all event blocks.
-use Rattle.std.proofs.Common.{◌≡◌, ℕ, zero, suc, ◌<◌, ◌+◌, Bool, true, false, cond, ◌&&◌, List, [], ◌∷◌, ◌++◌, length, take, get_or, Option, Some, refl, sym, ◌∙◌, ap, subst, inl, inr, length-append, arith}
+use Rattle.std.proofs.Common.{◌≡◌, ℕ, ◌<◌, ◌+◌, Bool, true, false, cond, ◌&&◌, List, [], ◌∷◌, ◌++◌, length, take, get_or, Option, Some, refl, sym, ◌∙◌, ap, subst, length-append, append-nil}
 use Rattle.std.specs.Prelude.{slice_get, unwrap_or, option_map}
 use Rattle.std.specs.List.{filter, list_any}
 use Rattle.std.proofs.lemmas.List.{map-append}
 use Rattle.std.proofs.lemmas.List.Elements.{filter-append, All-push}
-use Rattle.std.proofs.lemmas.Option.{slice_get-get_or, slice_get-map, slice_get_read, slice_get_cases, slice_get_within, same_Some, get_or_from_slice_get}
+use Rattle.std.proofs.lemmas.Option.{slice_get-get_or, slice_get-map, slice_get_read, slice_get_within, same_Some, get_or_from_slice_get}
 use Rattle.fb_types.specs.Names.{Name, same_name}
 use Rattle.fb_types.specs.Blocks.{among, variable_names, variables_with, ports_of_event_block}
 use Rattle.fb_types.specs.EventPorts.{kind_place}
@@ -15,9 +15,10 @@ use Rattle.fb_types.specs.declared.library.EventPort.{EventPort}
 use Rattle.fb_types.specs.declared.library.Variable.{Variable}
 use Rattle.fb_types.specs.declared.library.Ports.{Ports}
 use Rattle.fb_types.proofs.AllKinds.{kinds, kind_stands}
-use Rattle.fb_names.proofs.Seen.{map_take_more}
+use Rattle.fb_types.proofs.LoopSteps.{map_take_more}
 use Rattle.fb_system.specs.declared.with_places.WithPlaces.{WithPlaces}
 use Rattle.fb_system.specs.Stands.{ArePlaces, ArePlacesUpTo, ArePlacesOfEach, AreWithPlaces, variable_at}
+use Rattle.fb_types.proofs.ByPlace.{slice_get-push, element_at}
 use Rattle.fb_system.specs.Tables.{AreOfEventBlocks}
 
 abbrev pub goes_with : List EventPort → Name → Name → Bool
@@ -33,10 +34,6 @@ with_more events vs e i x h is =
 variable_at_is : (vs : List Variable) (i : ℕ) (x : Variable) → i < length vs → x ≡ get_or vs i x → variable_at vs i ≡ x.name
 variable_at_is vs i x h is =
     ap (λ (o : Option Name). unwrap_or o []) (slice_get-map (λ (v : Variable). v.name) vs i ∙ ap (option_map (λ (v : Variable). v.name)) (slice_get_read vs (length vs) i x refl h is))
-
-append-nil : {A : Type 0} (xs : List A) → xs ++ [] ≡ xs
-append-nil [] = refl
-append-nil (x ∷ xs) = ap (λ ys. x ∷ ys) (append-nil xs)
 
 pub places_skip :
     (events : List EventPort) (vs : List Variable) (e : Name) (i : ℕ) (x : Variable) (ks : List ℕ) → i < length vs → x ≡ get_or vs i x
@@ -62,26 +59,6 @@ places_take events vs e i x ks ls h is with_it grown are =
       within = All-push (λ k. k < length vs) ks i are.within h;
     })
 
--- ---- One more element of a list
-
--- an element of a list with one more is an element of the list, or the last one
-pub slice_get-push : {A : Type 0} (P : ℕ → A → Type 0) (xs : List A) (y : A) → ((k : ℕ) (x : A) → slice_get xs k ≡ Some x → P k x) → P (length xs) y
-    → (k : ℕ) (x : A) → slice_get (xs ++ y ∷ []) k ≡ Some x → P k x
-slice_get-push {A} P [] y old new zero x h = let e : y ≡ x = cc in subst (λ (z : A). P 0 z) e new
-slice_get-push P [] y old new (suc k) x h = absurd (cc)
-slice_get-push {A} P (z ∷ zs) y old new zero x h = old zero x h
-slice_get-push {A} P (z ∷ zs) y old new (suc k) x h =
-    slice_get-push (λ k x. P (suc k) x) zs y (λ k x h. old (suc k) x h) new k x h
-
-pub slice_get-append_left : {A : Type 0} (xs ys : List A) (k : ℕ) (x : A) → slice_get xs k ≡ Some x → slice_get (xs ++ ys) k ≡ Some x
-slice_get-append_left [] ys k x h = absurd (cc)
-slice_get-append_left (z ∷ zs) ys zero x h = h
-slice_get-append_left (z ∷ zs) ys (suc k) x h = slice_get-append_left zs ys k x h
-
-pub slice_get-append_here : {A : Type 0} (xs : List A) (y : A) → slice_get (xs ++ y ∷ []) (length xs) ≡ Some y
-slice_get-append_here [] y = refl
-slice_get-append_here (x ∷ xs) y = slice_get-append_here xs y
-
 -- ---- Entries
 
 event_at_is : (es : List EventPort) (i : ℕ) (x : EventPort) → i < length es → x ≡ get_or es i x → x.name ≡ event_at es i
@@ -105,10 +82,6 @@ pub with_places_are :
     (its : Ports) (x : WithPlaces) → ArePlacesOfEach its.event_inputs its.inputs x.inputs → ArePlacesOfEach its.event_outputs its.outputs x.outputs
     → AreWithPlaces its x
 with_places_are its x ins outs = record { inputs_counted = ins.counted; inputs = ins.each; outputs_counted = outs.counted; outputs = outs.each }
-
-pub element_at : {X : Type 0} (xs : List X) (i : ℕ) → i < length xs → (x : X) × (slice_get xs i ≡ Some x)
-element_at xs i h =
-    elim (slice_get_cases xs i).1 [ inl w ↦ (w.0, w.2) | inr w ↦ absurd (omega arith) ]
 
 -- the entries of the first kinds
 pub record AreFirst (n : ℕ) (all : List WithPlaces) : Type 0 where

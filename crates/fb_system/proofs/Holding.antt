@@ -1,6 +1,6 @@
 -- The resource that holds an instance is that of the application's instance on the way to it.
-use Rattle.std.proofs.Common.{◌≡◌, ℕ, ◌<◌, List, [], ◌∷◌, ◌++◌, map, length, get_or, Option, Some, None, Contains, true, refl, sym, ◌∙◌, ap, subst, inl, inr, append_assoc}
-use Rattle.std.specs.Prelude.{flat_map, is_some, position, slice_get, unwrap_or}
+use Rattle.std.proofs.Common.{◌≡◌, ℕ, ◌<◌, List, [], ◌∷◌, ◌++◌, map, length, get_or, Option, Some, None, Contains, refl, sym, ◌∙◌, ap, subst, inl, inr, append_assoc}
+use Rattle.std.specs.Prelude.{flat_map, position, slice_get, unwrap_or}
 use Rattle.std.proofs.lemmas.List.Elements.{Contains-append_cases}
 use Rattle.std.proofs.lemmas.Option.{same_Some, slice_get-get_or}
 use Rattle.fb_types.specs.Flat.{holder, inside, paths_of, resource_of}
@@ -9,11 +9,13 @@ use Rattle.fb_types.specs.Names.{Name, Path, same_name}
 use Rattle.fb_types.specs.declared.deploy.Plan.{Plan}
 use Rattle.fb_types.specs.declared.library.Instance.{Instance}
 use Rattle.fb_types.specs.declared.library.Library.{Library}
-use Rattle.fb_names.proofs.NameLemmas.{any_from_contains, Contains-cons_cases, Contains-here, Contains-nil, Contains-there}
-use Rattle.fb_names.proofs.Positions.{is_some-position, position_is}
-use Rattle.fb_names.proofs.TwiceIn.{Contains-map}
-use Rattle.fb_fabric.proofs.Distinct.{at_Contains, below, below_through, IsThrough, paths_from}
+use Rattle.fb_types.proofs.ByPlace.{element_of_place}
+use Rattle.fb_types.proofs.Positions.{is_some-position, position_is}
+use Rattle.fb_types.proofs.Elements.{Contains-cons_cases, Contains-here, Contains-nil, Contains-there, Contains-map}
+use Rattle.fb_types.proofs.NameLaws.{any_from_contains}
+use Rattle.fb_fabric.proofs.Distinct.{below, below_through, IsThrough, paths_from}
 use Rattle.fb_fabric.specs.Layouts.{path_of, place_at, route_to}
+use Rattle.fb_types.proofs.Options.{some_from_is_some}
 use Rattle.fb_system.specs.Linking.{holder_at, IsLinked, Linked}
 use Rattle.fb_system.specs.Systems.{inputs_of, StandFor}
 use Rattle.fb_system.specs.declared.whole.Whole.{Whole}
@@ -47,7 +49,7 @@ through lib k h =
     let there : slice_get (paths_of lib) k ≡ Some (get_or (paths_of lib) k []) = slice_get-get_or (paths_of lib) k [] h in
     let is : path_of lib k ≡ get_or (paths_of lib) k [] = ap (λ (o : Option Path). unwrap_or o []) there in
     subst (λ (q : Path). IsThrough [] lib.application.network.instances q) (sym is)
-    (through_each 16 lib [] lib.application.network.instances (get_or (paths_of lib) k []) (at_Contains (paths_of lib) k (get_or (paths_of lib) k []) there))
+    (through_each 16 lib [] lib.application.network.instances (get_or (paths_of lib) k []) (element_of_place (paths_of lib) k (get_or (paths_of lib) k []) there))
 
 -- ---- The way begins at that instance
 
@@ -65,10 +67,6 @@ resource_outside plan [] n = refl
 resource_outside plan (m ∷ []) n = refl
 resource_outside plan (m ∷ k ∷ r) n = resource_outside plan (k ∷ r) n
 
-some_of : {A : Type 0} (o : Option A) → is_some o ≡ true → (x : A) × (o ≡ Some x)
-some_of None h = absurd (cc)
-some_of (Some x) h = (x, refl)
-
 -- the resource of an instance of the application, by its place
 holder_there :
     (lib : Library) (plan : Plan) (x : Linked) (i : Instance) → IsLinked lib plan x → Contains lib.application.network.instances i
@@ -76,7 +74,7 @@ holder_there :
 holder_there lib plan x i linked among =
     let own : Instance → Name = λ y. y.name in
     let is = lib.application.network.instances in
-    let at = some_of (position (same_name i.name) (map own is))
+    let at = some_from_is_some (position (same_name i.name) (map own is))
     (is_some-position (same_name i.name) (map own is) ∙ any_from_contains i.name (map own is) (Contains-map own is i among)) in
     let there = position_is own i.name is at.0 at.1 in
     ap (λ (o : Option ℕ). holder_at x (unwrap_or o 0)) at.1 ∙ linked.holders at.0 there.0 there.1 ∙ ap (holder plan) there.2

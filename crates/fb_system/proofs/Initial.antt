@@ -1,5 +1,5 @@
 -- What the variables of an instance of an accepted system begin with: the inputs with the parameters, the outputs as they are declared.
-use Rattle.std.proofs.Common.{◌≡◌, ℕ, zero, suc, ◌+◌, List, [], ◌∷◌, ◌++◌, length, map, Option, Some, None, Contains, refl, sym, ◌∙◌, ap, subst, inl, inr, arith}
+use Rattle.std.proofs.Common.{◌≡◌, ℕ, suc, ◌+◌, List, [], ◌∷◌, ◌++◌, length, map, Option, Some, None, Contains, refl, sym, ◌∙◌, ap, subst, inl, inr, append-nil}
 use Rattle.std.specs.Prelude.{slice_get, option_and_then}
 use Rattle.std.proofs.lemmas.List.{map-append}
 use Rattle.std.proofs.lemmas.List.Elements.{Contains-append_right}
@@ -14,9 +14,10 @@ use Rattle.fb_types.specs.declared.library.Library.{Library}
 use Rattle.fb_types.specs.declared.library.Parameter.{Parameter}
 use Rattle.fb_types.specs.declared.library.Variable.{Variable}
 use Rattle.fb_types.specs.declared.value.Value.{Value}
-use Rattle.fb_names.proofs.NameLemmas.{Contains-nil, Contains-cons_cases}
-use Rattle.fb_names.proofs.Positions.{named_of_once, slice_get-Contains}
+use Rattle.fb_types.proofs.Positions.{named_of_once, slice_get-Contains}
+use Rattle.fb_types.proofs.Elements.{Contains-nil, Contains-cons_cases}
 use Rattle.fb_system.specs.Begins.{begin_value, begins_with, parameter_names}
+use Rattle.fb_types.proofs.ByPlace.{slice_get-append_left, slice_get-after}
 use Rattle.fb_system.proofs.Named.{named-append_old, named_none}
 use Rattle.fb_system.proofs.Naming.{AreOnce, variables_once, parameter_unknown}
 
@@ -27,21 +28,6 @@ abbrev called : Parameter → Name
 called x = x.name
 
 -- ---- Lists
-
-slice_get-append_left : {A : Type 0} (xs ys : List A) (k : ℕ) (x : A) → slice_get xs k ≡ Some x → slice_get (xs ++ ys) k ≡ Some x
-slice_get-append_left [] ys k x h = absurd (cc)
-slice_get-append_left (z ∷ zs) ys zero x h = h
-slice_get-append_left (z ∷ zs) ys (suc k) x h = slice_get-append_left zs ys k x h
-
-slice_get-after : {A : Type 0} (xs ys : List A) (k : ℕ) → slice_get (xs ++ ys) (length xs + k) ≡ slice_get ys k
-slice_get-after [] ys k = let e : 0 + k ≡ k = omega arith in ap (slice_get ys) e
-slice_get-after (x ∷ xs) ys k =
-    let e : length (x ∷ xs) + k ≡ suc (length xs + k) = omega arith in
-    ap (slice_get (x ∷ (xs ++ ys))) e ∙ slice_get-after xs ys k
-
-append-nil : {A : Type 0} (xs : List A) → xs ++ [] ≡ xs
-append-nil [] = refl
-append-nil (x ∷ xs) = ap (λ ys. x ∷ ys) (append-nil xs)
 
 Twice-both : (n : Name) (xs ys : List Name) → Contains xs n → Contains ys n → Twice (xs ++ ys)
 Twice-both n [] ys c d = absurd (Contains-nil n c)

@@ -1,6 +1,6 @@
 -- What the numbers of resources and links stand for.
 use Rattle.std.proofs.Common.{◌≡◌, ℕ, zero, suc, ◌<◌, ◌+◌, Bool, true, false, cond, nat_eq, ◌&&◌, List, [], ◌∷◌, length, map, get_or, Option, Some, None, refl, sym, ◌∙◌, ap, inl, arith}
-use Rattle.std.specs.Prelude.{position, slice_get, unwrap_or, option_map, option_and_then}
+use Rattle.std.specs.Prelude.{position, slice_get, unwrap_or, option_map}
 use Rattle.std.proofs.lemmas.Bool.{true≢false, false_from_ne_true}
 use Rattle.std.proofs.lemmas.Bool.Decides.{nat_tests}
 use Rattle.std.proofs.lemmas.Option.{slice_get-map, slice_get-get_or, same_Some}
@@ -12,12 +12,13 @@ use Rattle.fb_types.specs.declared.library.Instance.{Instance}
 use Rattle.fb_types.specs.declared.deploy.Plan.{Plan}
 use Rattle.fb_types.specs.declared.deploy.Link.{Link}
 use Rattle.fb_types.specs.declared.deploy.Resource.{Resource}
-use Rattle.fb_names.proofs.NameLemmas.{same_name-Decides, same_from_same_name}
+use Rattle.fb_types.proofs.NameLaws.{same_name-Decides, same_from_same_name}
+use Rattle.fb_types.proofs.Positions.{position-cons, position_is, position_of_once}
 use Rattle.fb_names.proofs.NameTwice.{plan_twice}
-use Rattle.fb_names.proofs.Positions.{position-cons, position_is, position_of_once}
 use Rattle.fb_names.specs.Numbers.{IsResolved, each_or_none, link_ends, place_of}
 use Rattle.fb_names.specs.declared.numbers.LinkEnds.{LinkEnds}
 use Rattle.fb_names.specs.declared.numbers.Resolved.{Resolved}
+use Rattle.fb_types.proofs.Options.{and_then_parts, map_parts}
 use Rattle.fb_names.proofs.Each.{each_parts}
 use Rattle.fb_system.specs.Linking.{IsLinked, holders_of, joins}
 
@@ -50,14 +51,6 @@ each_position f p q (x ∷ xs) zs e same =
 
 -- ---- Links
 
-and_then_some : {A B : Type 0} (f : A → Option B) (o : Option A) (y : B) → option_and_then f o ≡ Some y → (x : A) × (o ≡ Some x) × (f x ≡ Some y)
-and_then_some f None y h = absurd (cc)
-and_then_some f (Some x) y h = (x, refl, h)
-
-map_some : {A B : Type 0} (f : A → B) (o : Option A) (y : B) → option_map f o ≡ Some y → (x : A) × (o ≡ Some x) × (f x ≡ y)
-map_some f None y h = absurd (cc)
-map_some f (Some x) y h = let e : f x ≡ y = cc in (x, refl, e)
-
 abbrev the_ends : ℕ → ℕ → LinkEnds
 the_ends x y = record { from = x; to = y }
 
@@ -66,8 +59,8 @@ link_parts :
     → (place_of (resource_names_of plan) l.from ≡ Some e.from) × (place_of (resource_names_of plan) l.to ≡ Some e.to)
 link_parts plan l e h =
     let names = resource_names_of plan in
-    let a = and_then_some (λ (x : ℕ). option_map (λ (y : ℕ). the_ends x y) (place_of names l.to)) (place_of names l.from) e h in
-    let b = map_some (λ (y : ℕ). the_ends a.0 y) (place_of names l.to) e a.2 in
+    let a = and_then_parts (λ (x : ℕ). option_map (λ (y : ℕ). the_ends x y) (place_of names l.to)) (place_of names l.from) e h in
+    let b = map_parts (λ (y : ℕ). the_ends a.0 y) (place_of names l.to) e a.2 in
     (a.1 ∙ ap (λ (z : LinkEnds). Some z.from) b.2, b.1 ∙ ap (λ (z : LinkEnds). Some z.to) b.2)
 
 -- ---- Resources

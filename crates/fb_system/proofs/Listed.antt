@@ -1,12 +1,12 @@
 -- The places of the variables that a WITH list names, and those of the variables WITH an event.
 use Rattle.std.proofs.Common.{◌≡◌, ℕ, zero, suc, ◌<◌, ◌+◌, Bool, true, false, ◌&&◌, ◌||◌, List, [], ◌∷◌, length, map, get_or, Option, Some, None, Contains, Bor, refl, sym, ◌∙◌, ap, subst, inl, inr, arith}
-use Rattle.std.specs.Prelude.{IsPermutation, slice_get, unwrap_or, option_map, position, is_some, IsSorted}
+use Rattle.std.specs.Prelude.{IsPermutation, slice_get, unwrap_or, option_map, position, IsSorted}
 use Rattle.std.specs.Bool.{Decides}
 use Rattle.std.specs.List.{filter, list_any}
 use Rattle.std.specs.List.Sorted.{IsNonDecreasing}
 use Rattle.std.specs.Ordering.{nat_cmp}
 use Rattle.std.specs.BTreeMap.{BTreeMap}
-use Rattle.std.proofs.lemmas.Bool.{true≢false, false_from_ne_true}
+use Rattle.std.proofs.lemmas.Bool.{false_from_ne_true}
 use Rattle.std.proofs.lemmas.List.{length-map}
 use Rattle.std.proofs.lemmas.List.Elements.{filter_agree, Contains-get_or}
 use Rattle.std.proofs.lemmas.List.Sorted.{Contains-permutation, IsPermutation-sym, IsNonDecreasingBy-from_sort}
@@ -17,9 +17,10 @@ use Rattle.fb_types.specs.Repeated.{Twice}
 use Rattle.fb_types.specs.declared.library.EventPort.{EventPort}
 use Rattle.fb_types.specs.declared.library.Variable.{Variable}
 use Rattle.fb_names.specs.Places.{place_in}
-use Rattle.fb_names.proofs.NameLemmas.{same_name-itself, same_from_same_name, Contains-here, Contains-there, any_from_contains, contains_from_any}
-use Rattle.fb_names.proofs.Positions.{is_some-position, position_is, position_of_once, slice_get-Contains}
-use Rattle.fb_names.proofs.TwiceIn.{Contains-map, map-Contains}
+use Rattle.fb_types.proofs.Positions.{is_some-position, position_is, position_of_once, slice_get-Contains}
+use Rattle.fb_types.proofs.Elements.{Contains-here, Contains-there, Contains-map, map-Contains}
+use Rattle.fb_types.proofs.NameLaws.{same_name-itself, same_from_same_name, any_from_contains, contains_from_any}
+use Rattle.fb_types.proofs.Options.{some_from_is_some}
 use Rattle.fb_system.specs.Stands.{ArePlaces, variable_at}
 use Rattle.fb_system.specs.Lookups.{StandFrom, IsList, AreEvents}
 use Rattle.fb_system.proofs.Rising.{AreOnce, once_nil, once_cons, once_permuted, sorted_filter}
@@ -38,10 +39,6 @@ record IsAt (vs : List Variable) (n : Name) : Type 0 where
   pub variable : Variable
   pub there : slice_get vs (own_place vs n) ≡ Some variable
   pub name : variable.name ≡ n
-
-some_from_is_some : {X : Type 0} (o : Option X) → is_some o ≡ true → (x : X) × (o ≡ Some x)
-some_from_is_some None h = absurd (true≢false (sym h))
-some_from_is_some (Some x) h = (x, refl)
 
 known_at : (vs : List Variable) (n : Name) → Contains (variable_names vs) n → IsAt vs n
 known_at vs n c =

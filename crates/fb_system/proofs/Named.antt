@@ -1,24 +1,20 @@
 -- The first element with a name, in a list that grows.
 use Rattle.std.proofs.Common.{◌≡◌, true, false, cond, List, [], ◌∷◌, ◌++◌, map, Some, None, Contains, refl, ◌∙◌, ap, subst}
-use Rattle.std.proofs.lemmas.Bool.{false_from_ne_true}
 use Rattle.fb_types.specs.Names.{Name, same_name}
 use Rattle.fb_types.specs.Blocks.{named}
-use Rattle.fb_names.proofs.NameLemmas.{same_name-itself, same_from_same_name, Contains-here, Contains-there}
-
--- names that differ
-pub apart_names : (n m : Name) → ¬ (n ≡ m) → same_name n m ≡ false
-apart_names n m h = false_from_ne_true (same_name n m) (λ t. h (same_from_same_name n m t))
+use Rattle.fb_types.proofs.Elements.{Contains-here, Contains-there}
+use Rattle.fb_types.proofs.NameLaws.{same_name-itself, same_name-apart}
 
 pub named_none : {A : Type 0} (f : A → Name) (n : Name) (xs : List A) → ¬ (Contains (map f xs) n) → named f n xs ≡ None
 named_none f n [] h = refl
 named_none {A} f n (x ∷ xs) h =
     let apart : same_name (f x) n ≡ false =
-    apart_names (f x) n (λ e. h (subst (λ (m : Name). Contains (f x ∷ map f xs) m) e (Contains-here (f x) (map f xs)))) in
+    same_name-apart (f x) n (λ e. h (subst (λ (m : Name). Contains (f x ∷ map f xs) m) e (Contains-here (f x) (map f xs)))) in
     ap (λ b. cond b (Some x) (named f n xs)) apart ∙ named_none f n xs (λ c. h (Contains-there (f x) (map f xs) n c))
 
 -- one more element, of another name
 pub named_other : {A : Type 0} (f : A → Name) (n : Name) (xs : List A) (x : A) → ¬ (f x ≡ n) → named f n (xs ++ x ∷ []) ≡ named f n xs
-named_other f n [] x h = ap (λ b. cond b (Some x) None) (apart_names (f x) n h)
+named_other f n [] x h = ap (λ b. cond b (Some x) None) (same_name-apart (f x) n h)
 named_other f n (y ∷ ys) x h = ap (λ o. cond (same_name (f y) n) (Some y) o) (named_other f n ys x h)
 
 -- one more element, of a name that no other has
@@ -26,7 +22,7 @@ pub named_new : {A : Type 0} (f : A → Name) (xs : List A) (x : A) → ¬ (Cont
 named_new f [] x h = ap (λ b. cond b (Some x) None) (same_name-itself (f x))
 named_new f (y ∷ ys) x h =
     let apart : same_name (f y) (f x) ≡ false =
-    apart_names (f y) (f x) (λ e. h (subst (λ (m : Name). Contains (f y ∷ map f ys) m) e (Contains-here (f y) (map f ys)))) in
+    same_name-apart (f y) (f x) (λ e. h (subst (λ (m : Name). Contains (f y ∷ map f ys) m) e (Contains-here (f y) (map f ys)))) in
     ap (λ b. cond b (Some y) (named f (f x) (ys ++ x ∷ []))) apart ∙ named_new f ys x (λ c. h (Contains-there (f y) (map f ys) (f x) c))
 
 -- further elements do not come first
@@ -36,13 +32,4 @@ named-append_old f n (z ∷ zs) ys x h =
     elim (same_name (f z) n) as (λ b. cond b (Some z) (named f n zs) ≡ Some x → cond b (Some z) (named f n (zs ++ ys)) ≡ Some x) [
       | true ↦ λ h. h
       | false ↦ λ h. named-append_old f n zs ys x h
-    ] h
-
--- what has a name is an element
-pub named-Contains : {A : Type 0} (f : A → Name) (n : Name) (xs : List A) (x : A) → named f n xs ≡ Some x → Contains xs x
-named-Contains f n [] x h = absurd (cc)
-named-Contains {A} f n (y ∷ ys) x h =
-    elim (same_name (f y) n) as (λ b. cond b (Some y) (named f n ys) ≡ Some x → Contains (y ∷ ys) x) [
-      | true ↦ λ h. let e : y ≡ x = cc in subst (λ (z : A). Contains (y ∷ ys) z) e (Contains-here y ys)
-      | false ↦ λ h. Contains-there y ys x (named-Contains f n ys x h)
     ] h

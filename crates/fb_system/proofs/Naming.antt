@@ -19,19 +19,15 @@ use Rattle.fb_types.specs.declared.library.Library.{Library}
 use Rattle.fb_types.specs.declared.library.Network.{Network}
 use Rattle.fb_types.specs.declared.library.Ports.{Ports}
 use Rattle.fb_names.specs.GivenTwice.{NetworkTwice}
-use Rattle.fb_names.proofs.NameLemmas.{Contains-here, Contains-there, any_from_contains, Twice-append_left}
+use Rattle.fb_types.proofs.TwiceLaws.{Twice-append_left, Twice-append_right}
+use Rattle.fb_types.proofs.NameLaws.{any_from_contains, named-Contains}
+use Rattle.fb_types.proofs.Elements.{Contains-here, Contains-there, Contains-map, Contains-flat_map}
 use Rattle.fb_names.proofs.NameTwice.{block_twice, network_twice}
-use Rattle.fb_names.proofs.TwiceIn.{Contains-map, Contains-flat_map}
 use Rattle.fb_names.specs.Numbers.{each_or_none, place_of, parameter_numbers}
 use Rattle.fb_names.proofs.Resolving.{of_network}
 use Rattle.fb_system.specs.Begins.{parameter_names}
-use Rattle.fb_system.proofs.Named.{named-Contains}
 
 -- ---- Lists
-
-Twice-append_right : {A : Type 0} (xs ys : List A) → Twice ys → Twice (xs ++ ys)
-Twice-append_right [] ys h = h
-Twice-append_right (x ∷ xs) ys h = inr (Twice-append_right xs ys h)
 
 -- whether names differ
 abbrev differ : List Name → Bool

@@ -12,9 +12,10 @@ use Rattle.fb_types.specs.declared.library.Parameter.{Parameter}
 use Rattle.fb_types.specs.declared.library.Ports.{Ports}
 use Rattle.fb_types.specs.declared.library.Variable.{Variable}
 use Rattle.fb_types.specs.declared.value.Value.{Value}
-use Rattle.fb_names.proofs.NameLemmas.{Twice-push, Contains-here, Contains-there}
-use Rattle.fb_names.proofs.Positions.{position_is, slice_get-Contains}
-use Rattle.fb_names.proofs.Seen.{twice_of_part}
+use Rattle.fb_types.proofs.LoopSteps.{twice_of_part}
+use Rattle.fb_types.proofs.Positions.{position_is, slice_get-Contains}
+use Rattle.fb_types.proofs.Elements.{Contains-here, Contains-there}
+use Rattle.fb_types.proofs.TwiceLaws.{Twice-push}
 use Rattle.fb_names.specs.Numbers.{each_or_none, place_of}
 use Rattle.fb_names.proofs.Each.{each-length, each_at}
 use Rattle.fb_system.specs.Begins.{begin_value, parameter_names}

@@ -22,7 +22,7 @@ use Rattle.fb_names.specs.Numbers.{kind_of_number}
 use Rattle.fb_names.specs.declared.numbers.TypeNumber.{TypeNumber}
 use Rattle.fb_fabric.specs.Layouts.{AreComponents, AreNumbers, IsParent, path_of, route_to}
 use Rattle.fb_fabric.specs.Fabrics as fabric
-use Rattle.fb_fabric.specs.declared.fabric.Place.{Place}
+use Rattle.fb_types.specs.declared.run.Place.{Place}
 use Rattle.fb_system.specs.Tables.{AreInterfaces}
 use Rattle.fb_system.specs.declared.interfaces.Interfaces.{Interfaces}
 use Rattle.fb_types.specs.EventPorts.{ArePortsOfKinds}

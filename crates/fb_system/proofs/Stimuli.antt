@@ -1,9 +1,9 @@
 -- The stimuli by number, as of the inputs as which a system is seen.
-use Rattle.std.proofs.Common.{◌≡◌, ℕ, zero, suc, ◌<◌, false, All, List, [], ◌∷◌, map, length, Option, Some, None, refl, sym, ◌∙◌, ap, subst, arith}
+use Rattle.std.proofs.Common.{◌≡◌, ℕ, ◌<◌, false, All, List, [], ◌∷◌, map, length, Option, Some, None, refl, sym, ◌∙◌, ap, subst, arith}
 use Rattle.std.specs.Prelude.{option_map, slice_get, unwrap_or}
 use Rattle.std.specs.Borrow.{Bor}
 use Rattle.std.proofs.lemmas.List.{length-map}
-use Rattle.std.proofs.lemmas.Option.{same_Some, get_or_from_slice_get, slice_get-map, slice_get_within}
+use Rattle.std.proofs.lemmas.Option.{same_Some, slice_get-map, slice_get_within}
 use Rattle.fb_types.specs.Names.{Name, Path}
 use Rattle.fb_types.specs.Blocks.{Kind, event_names, ports, ports_of}
 use Rattle.fb_types.specs.Flat.{kind_at, paths_of}
@@ -22,6 +22,7 @@ use Rattle.fb_system.specs.declared.rows.StimulusRow.{StimulusRow}
 use Rattle.fb_system.specs.Stimuli.{IsStimulusAt, set_of}
 use Rattle.fb_system.specs.Systems.{inputs_of, StandFor}
 use Rattle.fb_system.specs.declared.whole.Whole.{Whole}
+use Rattle.fb_types.proofs.ByPlace.{all_at, element_at}
 
 -- ---- The rows
 
@@ -33,10 +34,6 @@ pub row_within : (v w : Whole) (i : Inputs) (k : ℕ) → StandFor w → v ≡ w
 row_within v w i k is e s h = let counted = (rows_seen v w i is e s).counted in omega (arith, h, counted)
 
 -- ---- The instance of a row
-
-all_at : {X : Type 0} (P : X → Type 0) (xs : List X) (k : ℕ) (x : X) → All P xs → slice_get xs k ≡ Some x → P x
-all_at {X} P xs k x all h =
-    subst (λ (y : X). P y) (get_or_from_slice_get xs k x x h) (all k x (slice_get_within xs k x h))
 
 -- the path of an instance of the application, by its place
 path_there :
@@ -59,15 +56,10 @@ number_there lib is numbers place x are instance =
 
 -- ---- The stimulus of a row
 
-element_of : {X : Type 0} (xs : List X) (k : ℕ) → k < length xs → (x : X) × (slice_get xs k ≡ Some x)
-element_of [] k h = absurd (omega (arith, h))
-element_of (x ∷ xs) zero h = (x, refl)
-element_of (x ∷ xs) (suc k) h = element_of xs k (omega (arith, h))
-
 pub row_is : (lib : Library) (ss : List Stimulus) (rows : List StimulusRow) (k : ℕ) (row : StimulusRow) → AreRows lib ss rows → slice_get rows k ≡ Some row → (s : Stimulus) × (slice_get ss k ≡ Some s) × IsRow lib s row
 row_is lib ss rows k row are there =
     let within : k < length rows = slice_get_within rows k row there in
-    let s = element_of ss k (omega (arith, within, are.counted)) in
+    let s = element_at ss k (omega (arith, within, are.counted)) in
     (s.0, s.1, are.each k s.0 row s.1 there)
 
 pub stimulus_stands :

@@ -8,8 +8,10 @@ use Rattle.std.specs.BTreeMap as tree
 use Rattle.std.proofs.lemmas.Bool.Decides.{nat_tests}
 use Rattle.std.proofs.lemmas.List.{take_more, take_all, length-take}
 use Rattle.fb_types.specs.Keys.{or_else}
-use Rattle.fb_names.proofs.Positions.{position-append_old, position-push_new, is_some-position}
+use Rattle.fb_types.proofs.Positions.{position-append_old, position-push_new, is_some-position}
 use Rattle.fb_names.specs.declared.numbers.LinkEnds.{LinkEnds}
+use Rattle.fb_types.proofs.Options.{none_from_is_some}
+use Rattle.fb_types.proofs.Lookups.{or_else_none}
 use Rattle.fb_system.specs.Linking.{AreWays, first_between, joins, way_cmp}
 
 -- ---- Comparisons
@@ -46,14 +48,6 @@ first_more p xs y =
       | Some j ↦ λ e. position-append_old p xs (y ∷ []) j e
     ] refl
 
-or_else-None : {A : Type 0} (o : Option A) → or_else o None ≡ o
-or_else-None None = refl
-or_else-None (Some x) = refl
-
-none_from : {A : Type 0} (o : Option A) → is_some o ≡ false → o ≡ None
-none_from None h = refl
-none_from (Some x) h = absurd (cc)
-
 or_else-there : {A : Type 0} (o p : Option A) → is_some o ≡ true → or_else o p ≡ o
 or_else-there None p h = absurd (cc)
 or_else-there (Some x) p h = refl
@@ -89,11 +83,11 @@ ways_new ends i d e m m' h g ways new updates = record {
             let joined : joins from to e ≡ true = sym (is_eq-way_cmp e from to) ∙ same in
             let key : way_of e ≡ (from, to) = λ j. (joined_from e from to joined j, joined_to e from to joined j) in
             let none : before ≡ None =
-            sym (ways.each from to) ∙ ap (tree.get way_cmp m) (sym key) ∙ none_from (tree.get way_cmp m (way_of e)) new in
+            sym (ways.each from to) ∙ ap (tree.get way_cmp m) (sym key) ∙ none_from_is_some (tree.get way_cmp m (way_of e)) new in
             sym (ap (λ o. or_else o (cond (joins from to e) (Some i) None)) none ∙ ap (λ b. cond b (Some i) None) joined)
         | false ↦ λ other.
             let apart : joins from to e ≡ false = sym (is_eq-way_cmp e from to) ∙ other in
-            ways.each from to ∙ sym (ap (λ b. or_else before (cond b (Some i) None)) apart ∙ or_else-None before)
+            ways.each from to ∙ sym (ap (λ b. or_else before (cond b (Some i) None)) apart ∙ or_else_none before)
       ] refl)
       ∙ sym (between_more ends i d e from to h g);
 }
@@ -110,7 +104,7 @@ ways_again ends i d e m h g ways there = record {
         | true ↦ λ joined.
             let key : way_of e ≡ (from, to) = λ j. (joined_from e from to joined j, joined_to e from to joined j) in
             sym (or_else-there before (Some i) (ap is_some (sym (ways.each from to) ∙ ap (tree.get way_cmp m) (sym key)) ∙ there))
-        | false ↦ λ apart. sym (or_else-None before)
+        | false ↦ λ apart. sym (or_else_none before)
       ] refl)
       ∙ sym (between_more ends i d e from to h g);
 }

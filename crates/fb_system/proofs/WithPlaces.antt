@@ -18,12 +18,9 @@ use Rattle.fb_system.specs.declared.with_places.WithPlaces.{WithPlaces}
 use Rattle.fb_system.specs.Systems.{inputs_of}
 use Rattle.fb_system.specs.declared.whole.Whole.{Whole}
 use Rattle.fb_system.proofs.Seen.{library_seen}
+use Rattle.fb_types.proofs.Options.{map_parts}
 
 -- ---- Types of the declaration
-
-map_parts : {A B : Type 0} (f : A → B) (o : Option A) (y : B) → option_map f o ≡ Some y → (x : A) × (o ≡ Some x) × (f x ≡ y)
-map_parts f None y h = absurd (cc)
-map_parts f (Some x) y h = (x, refl, same_Some (f x) y h)
 
 pub declared_places :
     (lib : Library) (t : TypeNumber) (place : ℕ) (x : WithPlaces) (k : Kind) → t ≡ number.Declared place

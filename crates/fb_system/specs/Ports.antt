@@ -9,7 +9,7 @@ use Rattle.fb_types.specs.declared.library.EventPort.{EventPort}
 use Rattle.fb_types.specs.declared.library.Variable.{Variable}
 use Rattle.fb_types.specs.declared.run.Carried.{Carried}
 use Rattle.fb_types.specs.declared.run.Target.{Target}
-use Rattle.fb_fabric.specs.declared.fabric.Place.{Place}
+use Rattle.fb_types.specs.declared.run.Place.{Place}
 
 -- ---- Ports
 

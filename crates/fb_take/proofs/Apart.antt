@@ -7,7 +7,7 @@ use Rattle.fb_types.specs.Headline.{Inputs, system_of}
 use Rattle.fb_types.specs.Numbers.{path_at}
 use Rattle.fb_types.specs.declared.key.Key.{Key}
 use Rattle.fb_agenda.specs.Agendas.{Contents}
-use Rattle.fb_agenda.specs.declared.agenda.Event.TheVariants as kinds
+use Rattle.fb_types.specs.declared.run.Event.TheVariants as kinds
 use Rattle.fb_take.specs.Openings.{HasRestarts, HasStimuli, HasTimersBelow, IsStimulusKey, OneEach}
 use Rattle.fb_take.specs.Posts.{IsPut}
 use Rattle.fb_take.specs.Waiting.{IsInOrder, MayWait}

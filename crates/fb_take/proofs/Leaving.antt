@@ -7,7 +7,7 @@ use Rattle.fb_types.specs.States.{Event as AnEvent}
 use Rattle.fb_types.specs.declared.key.Key.{Key}
 use Rattle.fb_types.proofs.KeyLaws.{earlier_precedes}
 use Rattle.fb_agenda.specs.Agendas.{Contents, waiting}
-use Rattle.fb_agenda.specs.declared.agenda.Event.{Event}
+use Rattle.fb_types.specs.declared.run.Event.{Event}
 use Rattle.fb_net.specs.Events.{event_of}
 use Rattle.fb_take.specs.Takings.{AreReady}
 use Rattle.fb_take.specs.Waiting.{IsInOrder, meaning}

@@ -1,9 +1,8 @@
 -- Lists by the places of their elements.
-use Rattle.std.proofs.Common.{◌≡◌, ◌≢◌, ℕ, zero, suc, ◌<◌, List, [], ◌∷◌, ◌++◌, ◌-◌, length, replicate, sym, ap, subst, ◌∙◌, Some, All, ⊎_elim, get_or, get_or-set_same, get_or-set_other, arith}
+use Rattle.std.proofs.Common.{◌≡◌, ◌≢◌, ℕ, ◌<◌, List, ◌-◌, length, replicate, sym, ap, subst, ◌∙◌, Some, ⊎_elim, get_or, get_or-set_same, get_or-set_other, arith}
 use Rattle.std.specs.Prelude.{slice_get, slice_range, slice_set}
 use Rattle.std.proofs.lemmas.Bool.{cases_eq}
 use Rattle.std.proofs.lemmas.List.{get_or-replicate, length-replicate, length-set, take_all}
-use Rattle.std.proofs.lemmas.List.Elements.{All-head, All-tail}
 use Rattle.std.proofs.lemmas.Option.{slice_get_within, slice_get-get_or, get_or_from_slice_get}
 
 pub set_here : {A : Type 0} (xs : List A) (i : ℕ) (x y : A) → i < length xs → slice_get (slice_set xs i x) i ≡ Some y → x ≡ y
@@ -32,19 +31,6 @@ set_each {A} P xs i x within here apart j y read = ⊎_elim same other (cases_eq
 
     other : j ≢ i → P j y
     other n = apart j y n (set_apart xs i j x y n read)
-
--- what holds of each element by its place, and of one more behind them
-pub got_snoc : {A : Type 0} (P : ℕ → A → Type 0) (xs : List A) (y : A) → ((r : ℕ) (t : A) → slice_get xs r ≡ Some t → P r t) → P (length xs) y
-    → (r : ℕ) (t : A) → slice_get (xs ++ y ∷ []) r ≡ Some t → P r t
-got_snoc P [] y each here zero t h = subst (P 0) (let same : y ≡ t = cc in same) here
-got_snoc P [] y each here (suc r) t h = absurd cc
-got_snoc P (x ∷ xs) y each here zero t h = each zero t h
-got_snoc P (x ∷ xs) y each here (suc r) t h = got_snoc (λ k. P (suc k)) xs y (λ k. each (suc k)) here r t h
-
-pub all_at : {A : Type 0} (P : A → Type 0) (xs : List A) (n : ℕ) (x : A) → All P xs → slice_get xs n ≡ Some x → P x
-all_at P [] n x h is = absurd cc
-all_at P (y ∷ xs) zero x h is = subst P (let same : y ≡ x = cc in same) (All-head P y xs h)
-all_at P (y ∷ xs) (suc n) x h is = all_at P xs n x (All-tail P y xs h) is
 
 pub of_replicate : {A : Type 0} (n r : ℕ) (x y : A) → slice_get (replicate n x) r ≡ Some y → x ≡ y
 of_replicate n r x y is =

@@ -22,8 +22,8 @@ use Rattle.fb_types.specs.declared.key.Key.{Key}
 use Rattle.fb_types.proofs.KeyLaws.{same_key_is}
 use Rattle.fb_types.proofs.TakeLaws.{found-put}
 use Rattle.fb_agenda.specs.Agendas.{Contents, waiting}
-use Rattle.fb_agenda.specs.declared.agenda.Event as waits
-use Rattle.fb_agenda.specs.declared.agenda.Event.TheVariants as kinds
+use Rattle.fb_types.specs.declared.run.Event as waits
+use Rattle.fb_types.specs.declared.run.Event.TheVariants as kinds
 use Rattle.fb_net.specs.Events.{event_of, stimulated}
 use Rattle.fb_system.specs.Stimuli.{IsStimulusAt}
 use Rattle.fb_system.specs.declared.stimulus.StimulusAt.{StimulusAt}
@@ -33,8 +33,9 @@ use Rattle.fb_laws.proofs.Accepted.{accepted_typed}
 use Rattle.fb_take.specs.Openings.{HasRestarts, HasStimuli, HasTimersBelow, IsOpened, IsStimulusKey, is_of, only}
 use Rattle.fb_take.specs.Posts.{IsPut}
 use Rattle.fb_take.specs.Waiting.{IsInOrder, MayWait, meaning}
-use Rattle.fb_take.proofs.Lists.{all_at}
+use Rattle.fb_types.proofs.ByPlace.{all_at}
 use Rattle.fb_take.proofs.PostLaws.{meaning_put, order_put, port_path, timer_class, timer_instance}
+use Rattle.fb_types.proofs.Lookups.{found-append, or_else_none}
 use Rattle.fb_take.proofs.ReadyIs.{sound_system}
 
 -- ---- How many stimuli there are
@@ -48,23 +49,6 @@ few_rows i accepted =
     ]
 
 -- ---- Lists of pairs
-
-found_append : {X : Type 0} (j : Key) (xs ys : List (Key × X)) → found j (xs ++ ys) ≡ or_else (found j ys) (found j xs)
-found_append {X = X} j [] ys = go (found j ys)
-  where
-    go : (o : Option X) → o ≡ or_else o None
-    go None = refl
-    go (Some x) = refl
-found_append {X = X} j (x ∷ xs) ys =
-    ap (λ o. or_else o (cond (same_key x.0 j) (Some x.1) None)) (found_append j xs ys) ∙ go (found j ys)
-  where
-    go : (o : Option X) → or_else (or_else o (found j xs)) (cond (same_key x.0 j) (Some x.1) None) ≡ or_else o (or_else (found j xs) (cond (same_key x.0 j) (Some x.1) None))
-    go None = refl
-    go (Some y) = refl
-
-or_none : {X : Type 0} (o : Option X) → or_else o None ≡ o
-or_none None = refl
-or_none (Some e) = refl
 
 take_one : {X : Type 0} (xs : List X) (n : ℕ) (d : X) → n < length xs → take (n + 1) xs ≡ take n xs ++ get_or xs n d ∷ []
 take_one xs n d within = let e : n + 1 ≡ suc n = omega arith in ap (λ m. take m xs) e ∙ take-suc xs n d within
@@ -321,7 +305,7 @@ stimulus_waits i row r a x is within its named accepted = record {
 restarts_found : (i : Inputs) (n : ℕ) → n < length (system_of i).paths → (j : Key)
     → found j (flat_map (restart_of (system_of i)) (take (n + 1) (system_of i).paths))
     ≡ or_else (found j (restart_of (system_of i) (path_at (system_of i) n))) (found j (flat_map (restart_of (system_of i)) (take n (system_of i).paths)))
-restarts_found i n within j = ap (found j) more ∙ found_append j (restarts n) its
+restarts_found i n within j = ap (found j) more ∙ found-append j (restarts n) its
   where
     sys : System
     sys = system_of i
@@ -407,7 +391,7 @@ opened i of a has = record {
   agenda = λ j.
       has.agenda j
       ∙ ap (λ ps. only of j (or_else (found j (flat_map (restart_of sys) ps)) (found j (stimuli_from sys 0 (stimuli_of i))))) (take-length sys.paths)
-      ∙ ap (only of j) (sym (or_none _ ∙ found_append j (stimuli_from sys 0 (stimuli_of i)) (flat_map (restart_of sys) sys.paths)));
+      ∙ ap (only of j) (sym (or_else_none _ ∙ found-append j (stimuli_from sys 0 (stimuli_of i)) (flat_map (restart_of sys) sys.paths)));
   order = has.order;
   due = has.due;
 }

@@ -20,8 +20,8 @@ use Rattle.fb_types.specs.declared.run.Target.{Target}
 use Rattle.fb_types.proofs.KeyLaws.{same_key_is}
 use Rattle.fb_types.proofs.TakeLaws.{found-put}
 use Rattle.fb_agenda.specs.Agendas.{Contents, waiting, IsTimed}
-use Rattle.fb_agenda.specs.declared.agenda.Event.{Event}
-use Rattle.fb_agenda.specs.declared.agenda.Event.TheVariants.{Arrival, Local}
+use Rattle.fb_types.specs.declared.run.Event.{Event}
+use Rattle.fb_types.specs.declared.run.Event.TheVariants.{Arrival, Local}
 use Rattle.fb_net.specs.declared.outbox.Sending.{Sending}
 use Rattle.fb_net.specs.Outs.{IsLocal, out_of}
 use Rattle.fb_net.specs.declared.outbox.Out.{Out}

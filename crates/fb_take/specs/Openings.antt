@@ -6,7 +6,7 @@ use Rattle.fb_types.specs.Parts.{count_of}
 use Rattle.fb_types.specs.Simulation.{Stimulus, opening_agenda, restart_of, stimuli_from}
 use Rattle.fb_types.specs.declared.key.Key.{Key}
 use Rattle.fb_agenda.specs.Agendas.{Contents, waiting}
-use Rattle.fb_agenda.specs.declared.agenda.Event as waits
+use Rattle.fb_types.specs.declared.run.Event as waits
 use Rattle.fb_take.specs.Waiting.{IsInOrder, meaning}
 
 -- a resource is the one that is asked for, or all are

@@ -11,8 +11,8 @@ use Rattle.fb_types.specs.declared.key.Key.{Key}
 use Rattle.fb_types.specs.declared.run.Message.{Message}
 use Rattle.fb_types.specs.declared.value.Value.{Value}
 use Rattle.fb_agenda.specs.Agendas.{Contents, waiting}
-use Rattle.fb_agenda.specs.declared.agenda.Event.{Event}
-use Rattle.fb_agenda.specs.declared.agenda.Event.TheVariants.{Arrival}
+use Rattle.fb_types.specs.declared.run.Event.{Event}
+use Rattle.fb_types.specs.declared.run.Event.TheVariants.{Arrival}
 use Rattle.fb_net.specs.Outs.{IsLocal, IsSending}
 use Rattle.fb_net.specs.declared.outbox.Out.{Out}
 use Rattle.fb_net.specs.declared.outbox.Out.TheVariants.{Local, Send}

@@ -6,16 +6,16 @@ ghost use Rattle.fb_types.specs.Keys.{found, or_else};
 ghost use Rattle.fb_types.specs.Numbers.{path_at};
 ghost use Rattle.fb_types.specs.Simulation.{restart_of};
 ghost use Rattle.fb_types.specs.declared.key.Key as keys;
-ghost use Rattle.fb_agenda.specs.declared.agenda.Event.TheVariants.{Stimulus};
+ghost use Rattle.fb_types.specs.declared.run.Event.TheVariants.{Stimulus};
 ghost use Rattle.fb_take.specs.Openings.{AreOpenedApart, HasRestarts, HasStimuli, HasTimersBelow, IsOpened, IsStimulusKey, OneEach, is_of};
 ghost use Rattle.fb_take.specs.Waiting.{IsInOrder, MayWait, meaning};
 
-use fb_agenda::agenda::{Agenda, Event};
+use fb_agenda::agenda::Agenda;
 use fb_names::numbers::TypeNumber;
 use fb_system::system::System;
 use fb_types::event_kind::EventKind;
 use fb_types::key::Key;
-use fb_types::run::TimerAsk;
+use fb_types::run::{Event, TimerAsk};
 use std::alloc::{AllocError, Global};
 
 /// The class of the keys of stimuli.

@@ -4,17 +4,17 @@ ghost use Rattle.std.specs.Prelude.{◌≡◌, ◌+◌, ◌<◌, ◌≤◌, ◌^
 ghost use Rattle.fb_types.specs.Headline.{system_of};
 ghost use Rattle.fb_types.specs.Keys.{local_key};
 ghost use Rattle.fb_types.specs.Takes as takes;
-ghost use Rattle.fb_agenda.specs.declared.agenda.Event.TheVariants.{Local};
+ghost use Rattle.fb_types.specs.declared.run.Event.TheVariants.{Local};
 ghost use Rattle.fb_net.specs.Outs.{out_of};
 ghost use Rattle.fb_take.specs.Posts.{ArePosted, CountsAre, IsMessage, IsPostable, IsPut, message_of};
 ghost use Rattle.fb_take.specs.Waiting.{IsInOrder};
 
-use fb_agenda::agenda::{Agenda, Event};
+use fb_agenda::agenda::Agenda;
 use fb_link::arrivals::arrival;
 use fb_net::outbox::{Out, Sending};
 use fb_system::system::System;
 use fb_types::key::Key;
-use fb_types::run::{Message, Target};
+use fb_types::run::{Event, Message, Target};
 use std::alloc::AllocError;
 
 /// The class of the keys of local events.

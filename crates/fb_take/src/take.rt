@@ -21,13 +21,12 @@ ghost use Rattle.fb_take.specs.Waiting.{IsInOrder};
 use crate::meter::Meter;
 use crate::post::post_all;
 use crate::queues::Queues;
-use fb_agenda::agenda::Event;
 use fb_net::outbox::Outbox;
 use fb_net::tree::Tree;
 use fb_st::meter::Meter as Steps;
 use fb_system::system::System;
 use fb_types::key::Key;
-use fb_types::run::{Halt, TimerAsk};
+use fb_types::run::{Event, Halt, TimerAsk};
 use fb_types::value::Reason;
 use std::alloc::AllocError;
 

@@ -1,7 +1,7 @@
 -- The names of the variables of an accepted declaration's type differ: those of the data inputs, those of the data outputs, and the ones from the others.
 use Rattle.std.proofs.Common.{◌≡◌, List, [], ◌∷◌, ◌++◌, append_assoc, map, ◌||◌, Bool, true, false, Contains, refl, ap, sym, ◌∙◌, subst, inl, inr}
 use Rattle.std.proofs.lemmas.Bool.{true≢false, false_from_ne_true}
-use Rattle.std.proofs.lemmas.List.Elements.{Contains-append_left, Contains-append_right}
+use Rattle.std.proofs.lemmas.List.Elements.{Contains-append_left}
 use Rattle.std.specs.Prelude.{Option, Some, None, option_map, option_and_then, flat_map}
 use Rattle.std.specs.List.{list_any}
 use Rattle.fb_types.specs.Names.{Name, Path, same_name}
@@ -14,21 +14,9 @@ use Rattle.fb_types.specs.declared.event_kind.EventKind.TheVariants as kind
 use Rattle.fb_types.specs.declared.library.BlockType.{BlockType}
 use Rattle.fb_types.specs.declared.library.Instance.{Instance}
 use Rattle.fb_types.specs.declared.library.Library.{Library}
-use Rattle.fb_names.proofs.NameLemmas.{Contains-nil, Contains-cons_cases, Contains-there, any_from_contains, contains_from_any, Twice-append_left}
-use Rattle.fb_names.proofs.TwiceIn.{Contains-map}
-use Rattle.fb_fabric.proofs.Inside.{Contains-named}
-
-twice_both : {A : Type 0} (xs ys : List A) (x : A) → Contains xs x → Contains ys x → Twice (xs ++ ys)
-twice_both [] ys x c d = absurd (Contains-nil x c)
-twice_both {A} (z ∷ xs) ys x c d =
-    elim (Contains-cons_cases z xs x c) [
-      | inl e ↦ inl (subst (λ (w : A). Contains (xs ++ ys) w) (sym e) (Contains-append_right xs ys x d))
-      | inr rest ↦ inr (twice_both xs ys x rest d)
-    ]
-
-Twice-append_right : {A : Type 0} (xs ys : List A) → Twice ys → Twice (xs ++ ys)
-Twice-append_right [] ys t = t
-Twice-append_right (x ∷ xs) ys t = inr (Twice-append_right xs ys t)
+use Rattle.fb_types.proofs.TwiceLaws.{Twice-append_left, Twice-both, Twice-append_right}
+use Rattle.fb_types.proofs.NameLaws.{any_from_contains, contains_from_any, named-Contains}
+use Rattle.fb_types.proofs.Elements.{Contains-there, Contains-map}
 
 -- Each name of a data input or of a data output stands once.
 pub record Differ (k : Kind) : Type 0 where
@@ -43,7 +31,7 @@ differ k once =
     record {
       inputs = λ t. once (Twice-append_left ins outs t);
       outputs = λ t. once (Twice-append_right ins outs t);
-      apart = λ n out. false_from_ne_true (among ins n) (λ e. once (twice_both ins outs n (contains_from_any n ins e) out));
+      apart = λ n out. false_from_ne_true (among ins n) (λ e. once (Twice-both ins outs n (contains_from_any n ins e) out));
     }
 
 -- ---- The event blocks
@@ -122,7 +110,7 @@ module _ (lib : Library) (plan : Plan) (once : ¬ (NameTwice lib plan)) where
 
   by_block : (n : Name) (k : Kind) (o : Option BlockType) → named type_name n lib.blocks ≡ o → option_map kind_of o ≡ Some k → Differ k
   by_block n k None is h = cc
-  by_block n k (Some b) is h = subst Differ (same (kind_of b) k h) (block_apart b (Contains-named type_name n lib.blocks b is))
+  by_block n k (Some b) is h = subst Differ (same (kind_of b) k h) (block_apart b (named-Contains type_name n lib.blocks b is))
     where
       same : (a b : Kind) → Some a ≡ Some b → a ≡ b
       same a b e = cc

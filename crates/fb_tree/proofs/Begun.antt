@@ -1,7 +1,7 @@
 -- One block before the first event.
 use Rattle.std.proofs.Common.{◌≡◌, ℕ, ◌<◌, ◌+◌, suc, List, [], ◌∷◌, ◌++◌, map, length, Contains, true, false, Option, Some, None, refl, sym, ◌∙◌, ap, subst, inl, inr, rules}
 use Rattle.std.specs.Prelude.{if◌then◌else◌, option_map, slice_get, unwrap_or}
-use Rattle.std.proofs.lemmas.Option.{slice_get-map}
+use Rattle.std.proofs.lemmas.Option.{slice_get-map, same_Some}
 use Rattle.fb_types.specs.Names.{Name, Path}
 use Rattle.fb_types.specs.Values.{Values}
 use Rattle.fb_types.specs.Blocks.{Kind, Basic, Event, Composite, among, ports, ports_of, variable_names, variables_of}
@@ -37,10 +37,10 @@ use Rattle.fb_tree.specs.declared.block.CompositeBlock.{CompositeBlock}
 use Rattle.fb_tree.specs.declared.block.EventBlock.{EventBlock}
 use Rattle.fb_tree.specs.declared.shell.Shell.{Shell}
 use Rattle.fb_tree.specs.Opening.{AreDeclared, begun_all}
-use Rattle.fb_names.proofs.NameLemmas.{any_from_contains}
-use Rattle.fb_names.proofs.Positions.{slice_get-Contains}
-use Rattle.fb_fabric.proofs.Inside.{map_parts}
-use Rattle.fb_tree.proofs.Growing.{slice_get-left}
+use Rattle.fb_types.proofs.ByPlace.{slice_get-append_left}
+use Rattle.fb_types.proofs.Options.{map_parts}
+use Rattle.fb_types.proofs.Positions.{slice_get-Contains}
+use Rattle.fb_types.proofs.NameLaws.{any_from_contains}
 use Rattle.fb_tree.proofs.Frames.{begun_at, other_begins}
 use Rattle.fb_tree.proofs.Known.{basic_at, kind_there, known_of, once_of, parameter_input, stood}
 
@@ -63,9 +63,6 @@ stands_made sys p b x k m made is h =
 
 -- ---- Values
 
-some_is : {A : Type 0} (a b : A) → Some a ≡ Some b → a ≡ b
-some_is a b e = cc
-
 map_long : (f : Values) (names : List Name) → length (map f names) ≡ length names
 map_long f [] = refl
 map_long f (n ∷ names) = ap suc (map_long f names)
@@ -74,7 +71,7 @@ values_begin : (sys : System) (p : Path) (names : List Name) (values : List Valu
 values_begin sys p names values is = record {
   each = ap (λ (vs : List Value). length vs) is ∙ map_long (begins sys p) names;
   at_place = λ place n v h g.
-      some_is (begins sys p n) v
+      same_Some (begins sys p n) v
       (sym (ap (λ (vs : List Value). slice_get vs place) is ∙ slice_get-map (begins sys p) names place ∙ ap (option_map (begins sys p)) h) ∙ g);
   others = λ n h. refl;
 }
@@ -140,7 +137,7 @@ variables_begin i k t old accepted within is first n =
     let ins = variable_names t.ports.inputs in
     let s = stood i k accepted within in
     let known = kind_there i.library i.plan (known_of i accepted) p s.instance s.is_instance in
-    let same : known.0 ≡ Basic t = some_is known.0 (Basic t) (sym known.2 ∙ is) in
+    let same : known.0 ≡ Basic t = same_Some known.0 (Basic t) (sym known.2 ∙ is) in
     sym (begun_at (begins sys p) ins old n
     ∙ (elim (among ins n) as (λ b. among ins n ≡ b → (if b then begins sys p n else old n) ≡ begins sys p n) [
       | true ↦ λ e. refl
@@ -186,7 +183,7 @@ pub inputs_declared : (t : BasicType) (s : BasicState) → IsOpened t s → AreD
 inputs_declared t s opened place n h =
     let vs = variables_of t in
     let x = named_at t.ports.inputs place n h in
-    let there = slice_get-left (t.ports.inputs ++ t.ports.outputs) t.internals place x.0 (slice_get-left t.ports.inputs t.ports.outputs place x.0 x.1) in
+    let there = slice_get-append_left (t.ports.inputs ++ t.ports.outputs) t.internals place x.0 (slice_get-append_left t.ports.inputs t.ports.outputs place x.0 x.1) in
     let among_all : Contains (variable_names vs) n =
     subst (λ (m : Name). Contains (variable_names vs) m) x.2 (slice_get-Contains (λ (v : Variable). v.name) vs place x.0 there) in
     ap (λ (slots : List Slot). is_declared (declared_in slots) n) opened.variables

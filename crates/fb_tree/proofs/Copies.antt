@@ -1,5 +1,5 @@
 -- Held copies before the first event.
-use Rattle.std.proofs.Common.{◌≡◌, ◌≢◌, ℕ, ◌<◌, ◌≤◌, ◌+◌, Bool, true, false, cond, nat_eq, zero, suc, List, [], ◌∷◌, ◌++◌, map, length, Option, Some, None, refl, sym, ◌∙◌, ap, subst, inl, inr, arith}
+use Rattle.std.proofs.Common.{◌≡◌, ◌≢◌, ℕ, ◌<◌, ◌≤◌, ◌+◌, Bool, true, false, cond, nat_eq, List, [], ◌∷◌, ◌++◌, map, length, Option, Some, None, refl, sym, ◌∙◌, ap, subst, inl, inr, arith}
 use Rattle.std.specs.Prelude.{if◌then◌else◌, option_map, position, slice_get, unwrap_or}
 use Rattle.std.specs.BTreeMap.{get}
 use Rattle.std.specs.Ordering.{bool_cmp, is_eq, nat_cmp, ordering_then}
@@ -7,7 +7,7 @@ use Rattle.std.specs.declared.cmp.Ordering.{Ordering}
 use Rattle.std.specs.declared.cmp.Ordering.TheVariants as order
 use Rattle.std.proofs.lemmas.Bool.{cases_lt}
 use Rattle.std.proofs.lemmas.Bool.Decides.{nat_tests}
-use Rattle.std.proofs.lemmas.Option.{slice_get-get_or, slice_get-map}
+use Rattle.std.proofs.lemmas.Option.{slice_get-get_or, slice_get-map, same_Some}
 use Rattle.fb_types.specs.Names.{Name, Path, Port, same_name}
 use Rattle.fb_types.specs.Blocks.{Kind, ports, ports_of, variable_names}
 use Rattle.fb_types.specs.Headline.{AreAccepted, Inputs, system_of}
@@ -17,11 +17,12 @@ use Rattle.fb_types.specs.Systems.{System}
 use Rattle.fb_types.specs.declared.library.Ports.{Ports}
 use Rattle.fb_types.specs.declared.library.Variable.{Variable}
 use Rattle.fb_types.specs.declared.value.Value.{Value}
-use Rattle.fb_names.proofs.Positions.{position_of_once}
-use Rattle.fb_fabric.specs.declared.fabric.Place.{Place}
+use Rattle.fb_types.proofs.Positions.{position_of_once}
+use Rattle.fb_types.specs.declared.run.Place.{Place}
 use Rattle.fb_system.specs.Ports.{IsVariable, variable_of, variables_at}
 use Rattle.fb_tree.specs.Worlds.{key_cmp, key_of}
 use Rattle.fb_tree.specs.Opening.{Covers, CoversPlaces, Held, KeepsCovers}
+use Rattle.fb_types.proofs.ByPlace.{slice_get-append_left, slice_get-after, element_at}
 use Rattle.fb_tree.proofs.Known.{data_names, kind_once, kind_there, known_of, once_of, stood}
 
 -- ---- Keys
@@ -101,23 +102,9 @@ place_in its v o = if o then length its.inputs + v else v
 abbrev side_of : Ports → Bool → List Variable
 side_of its o = if o then its.outputs else its.inputs
 
-left_at : {A : Type 0} (xs ys : List A) (k : ℕ) (x : A) → slice_get xs k ≡ Some x → slice_get (xs ++ ys) k ≡ Some x
-left_at [] ys k x h = absurd (cc)
-left_at (y ∷ xs) ys zero x h = h
-left_at (y ∷ xs) ys (suc k) x h = left_at xs ys k x h
-
-right_at : {A : Type 0} (xs ys : List A) (k : ℕ) → slice_get (xs ++ ys) (length xs + k) ≡ slice_get ys k
-right_at [] ys k = ap (slice_get ys) (let e : 0 + k ≡ k = omega arith in e)
-right_at (x ∷ xs) ys k = ap (slice_get (x ∷ (xs ++ ys))) (let e : length (x ∷ xs) + k ≡ suc (length xs + k) = omega arith in e) ∙ right_at xs ys k
-
-there_is : {A : Type 0} (xs : List A) (k : ℕ) → k < length xs → (x : A) × (slice_get xs k ≡ Some x)
-there_is [] k h = absurd (omega (arith, h))
-there_is (x ∷ xs) zero h = (x, refl)
-there_is (x ∷ xs) (suc k) h = there_is xs k (omega (arith, h))
-
 at_place : (its : Ports) (v : ℕ) (o : Bool) (x : Variable) → slice_get (side_of its o) v ≡ Some x → slice_get (both_of its) (place_in its v o) ≡ Some x
-at_place its v true x h = right_at its.inputs its.outputs v ∙ h
-at_place its v false x h = left_at its.inputs its.outputs v x h
+at_place its v true x h = slice_get-after its.inputs its.outputs v ∙ h
+at_place its v false x h = slice_get-append_left its.inputs its.outputs v x h
 
 names_both : (vs ws : List Variable) → map name_of (vs ++ ws) ≡ variable_names vs ++ variable_names ws
 names_both [] ws = refl
@@ -137,20 +124,17 @@ named_at : (its : Ports) (v : ℕ) (o : Bool) (x : Variable) → slice_get (side
 named_at its v true x h = ap (λ (o : Option Name). unwrap_or o []) (slice_get-map name_of its.outputs v ∙ ap (option_map name_of) h)
 named_at its v false x h = ap (λ (o : Option Name). unwrap_or o []) (slice_get-map name_of its.inputs v ∙ ap (option_map name_of) h)
 
-some_is : {A : Type 0} (a b : A) → Some a ≡ Some b → a ≡ b
-some_is a b e = cc
-
 one_place : (its : Ports) (v w : ℕ) (a b : Bool) → ¬ (Twice (variable_names its.inputs ++ variable_names its.outputs)) → v < length (side_of its a) → w < length (side_of its b)
     → name_in its v a ≡ name_in its w b → (a ≡ b) × (v ≡ w)
 one_place its v w a b once h g e =
-    let x = there_is (side_of its a) v h in
-    let y = there_is (side_of its b) w g in
+    let x = element_at (side_of its a) v h in
+    let y = element_at (side_of its b) w g in
     let apart : ¬ (Twice (map name_of (both_of its))) = λ t. once (subst (λ (ns : List Name). Twice ns) (names_both its.inputs its.outputs) t) in
     let same : x.0.name ≡ y.0.name = sym (named_at its v a x.0 x.1) ∙ e ∙ named_at its w b y.0 y.1 in
     let one = position_of_once name_of (both_of its) (place_in its v a) x.0 apart (at_place its v a x.0 x.1) in
     let two = position_of_once name_of (both_of its) (place_in its w b) y.0 apart (at_place its w b y.0 y.1) in
     place_split its v w a b h g
-    (some_is (place_in its v a) (place_in its w b)
+    (same_Some (place_in its v a) (place_in its w b)
     (sym one ∙ ap (λ (n : Name). position (same_name n) (map name_of (both_of its))) same ∙ two))
 
 abbrev ports_by : Option Kind → Ports
@@ -216,7 +200,7 @@ module _ (i : Inputs) (accepted : AreAccepted i) (numbered : Numbered i) where
 
     pub held_covers : (to : Place) → option_map (variable_of (system_of i)) (Some s) ≡ (system_of i).source (variable_of (system_of i) to) → Covers i r new to
     held_covers to comes x hx from outside =
-        let same : s ≡ x = variable_once s x is hx (some_is (variable_of (system_of i) s) (variable_of (system_of i) x) (comes ∙ from)) in
+        let same : s ≡ x = variable_once s x is hx (same_Some (variable_of (system_of i) s) (variable_of (system_of i) x) (comes ∙ from)) in
         updates (key_of x)
         ∙ ap (λ b. cond b (Some v) (get key_cmp old (key_of x))) (ap (λ (z : Place). is_eq (key_cmp (key_of z) (key_of x))) same ∙ key_itself x)
         ∙ ap (λ (w : Value). Some w) (value ∙ ap (λ (z : Place). (system_of i).initial (variable_of (system_of i) z)) same)

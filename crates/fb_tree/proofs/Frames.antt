@@ -15,7 +15,8 @@ use Rattle.fb_types.specs.declared.library.Variable.{Variable}
 use Rattle.fb_types.specs.declared.value.Value.{Value}
 use Rattle.fb_st.specs.Frames.{Declared, is_declared, values_of}
 use Rattle.fb_ecc.specs.Opened.{slot_of}
-use Rattle.fb_names.proofs.NameLemmas.{Contains-here, Contains-there, same_from_same_name}
+use Rattle.fb_types.proofs.NameLaws.{same_from_same_name}
+use Rattle.fb_types.proofs.Elements.{Contains-here, Contains-there}
 use Rattle.fb_tree.specs.Opening.{AreDeclared, begun_all}
 
 -- ---- Values in turn

@@ -1,7 +1,7 @@
 -- The blocks of a resource stand for its instances, each at its route.
-use Rattle.std.proofs.Common.{◌≡◌, ℕ, ◌<◌, ◌≤◌, ◌+◌, ◌-◌, zero, suc, Bool, true, List, [], ◌∷◌, ◌++◌, map, length, take, get_or, All, nat_eq, Option, Some, None, refl, sym, ◌∙◌, ap, subst, inl, inr, arith}
+use Rattle.std.proofs.Common.{◌≡◌, ℕ, ◌<◌, ◌≤◌, ◌+◌, ◌-◌, zero, suc, Bool, true, List, [], ◌∷◌, ◌++◌, map, length, take, get_or, nat_eq, Option, Some, None, refl, sym, ◌∙◌, ap, subst, inl, inr, arith}
 use Rattle.std.specs.Prelude.{◌⊎◌, option_map, option_and_then, position, slice_get, unwrap_or}
-use Rattle.std.proofs.lemmas.Option.{slice_get-get_or, slice_get_within, slice_get-map}
+use Rattle.std.proofs.lemmas.Option.{slice_get-get_or, slice_get_within, slice_get-map, same_Some, none-some}
 use Rattle.std.proofs.lemmas.List.{length-map}
 use Rattle.fb_types.specs.Names.{Name, Path, same_name}
 use Rattle.fb_types.specs.Blocks.{Kind, Basic, Event, Composite}
@@ -14,20 +14,15 @@ use Rattle.fb_types.specs.declared.library.Instance.{Instance}
 use Rattle.fb_types.specs.declared.library.Library.{Library}
 use Rattle.fb_types.specs.declared.library.Network.{Network}
 use Rattle.fb_fabric.specs.Layouts.{AreComponents, AreNumbers, path_of}
-use Rattle.fb_fabric.proofs.Inside.{and_then_parts}
+use Rattle.fb_types.proofs.Options.{and_then_parts}
 use Rattle.fb_tree.specs.Blocks.{components_of, own_of}
 use Rattle.fb_tree.specs.Worlds.{StandsFor}
 use Rattle.fb_tree.specs.declared.block.Block.{Block}
 use Rattle.fb_tree.specs.Opening.{AreDeep, AreGrown, Grown, IsDeep}
+use Rattle.fb_types.proofs.ByPlace.{slice_get-append_left, slice_get-append_here, all_at}
 use Rattle.fb_tree.proofs.Known.{stood}
 
 -- ---- Elements of lists
-
-some_is : {A : Type 0} (a b : A) → Some a ≡ Some b → a ≡ b
-some_is a b e = cc
-
-none_some : {A : Type 0} (x : A) → None ≡ Some x → ⊥
-none_some x e = cc
 
 -- the elements of the first k, and the one behind them
 data Nearer {A : Type 0} (xs : List A) (k place : ℕ) (x : A) : Type 0 where
@@ -45,21 +40,6 @@ nearer (y ∷ xs) (suc k) (suc place) x h =
       | Last e g ↦ Last (ap suc e) g
     ]
 
-pub slice_get-left : {A : Type 0} (xs ys : List A) (k : ℕ) (x : A) → slice_get xs k ≡ Some x → slice_get (xs ++ ys) k ≡ Some x
-slice_get-left [] ys k x h = absurd (cc)
-slice_get-left (y ∷ xs) ys zero x h = h
-slice_get-left (y ∷ xs) ys (suc k) x h = slice_get-left xs ys k x h
-
-pub slice_get-last : {A : Type 0} (xs : List A) (x : A) → slice_get (xs ++ x ∷ []) (length xs) ≡ Some x
-slice_get-last [] x = refl
-slice_get-last (y ∷ xs) x = slice_get-last xs x
-
-all_at : {X : Type 0} (P : X → Type 0) (xs : List X) (k : ℕ) (x : X) → All P xs → slice_get xs k ≡ Some x → P x
-all_at {X} P xs k x all h =
-    let within = slice_get_within xs k x h in
-    let e : get_or xs k x ≡ x = some_is (get_or xs k x) x (sym (slice_get-get_or xs k x within) ∙ h) in
-    subst P e (Rattle.std.proofs.lemmas.List.Elements.All-get_or P xs k x within all)
-
 -- ---- Numbers of instances
 
 -- the number at a place stands for the instance there
@@ -74,8 +54,8 @@ number_is i p instances numbers place k are h =
   where
     of : (o : Option Instance) → slice_get instances place ≡ o → option_map (λ (x : Instance). x.name ∷ p) o ≡ Some (path_of i.library k)
         → (x : Instance) × (slice_get instances place ≡ Some x) × (path_at (system_of i) k ≡ x.name ∷ p) × (k < length (system_of i).paths)
-    of None e at = absurd (none_some (path_of i.library k) at)
-    of (Some x) e at = (x, e, sym (some_is (x.name ∷ p) (path_of i.library k) at), all_at (λ k. k < length (system_of i).paths) numbers place k are.within h)
+    of None e at = absurd (none-some (path_of i.library k) at)
+    of (Some x) e at = (x, e, sym (same_Some (x.name ∷ p) (path_of i.library k) at), all_at (λ k. k < length (system_of i).paths) numbers place k are.within h)
 
 -- .. and each instance has a number
 pub instance_is :
@@ -89,8 +69,8 @@ instance_is i p instances numbers place x are h =
   where
     of : (o : Option ℕ) → slice_get numbers place ≡ o → option_map (path_of i.library) o ≡ Some (x.name ∷ p)
         → (k : ℕ) × (slice_get numbers place ≡ Some k) × (path_at (system_of i) k ≡ x.name ∷ p)
-    of None e at = absurd (none_some (x.name ∷ p) at)
-    of (Some k) e at = (k, e, some_is (path_of i.library k) (x.name ∷ p) at)
+    of None e at = absurd (none-some (x.name ∷ p) at)
+    of (Some k) e at = (k, e, same_Some (path_of i.library k) (x.name ∷ p) at)
 
 -- the numbers of what is inside an instance
 abbrev Inner : Library → Path → List ℕ → Option Network → Type 0
@@ -110,7 +90,7 @@ pub deeper :
 deeper i depth k inner accepted d are place j h = of (network_at i.library (path_at (system_of i) k)) are
   where
     of : (o : Option Network) → Inner i.library (path_at (system_of i) k) inner o → IsDeep i (depth - 1) j
-    of None e = absurd (none_some j (ap (λ (ks : List ℕ). slice_get ks place) (sym e) ∙ h))
+    of None e = absurd (none-some j (ap (λ (ks : List ℕ). slice_get ks place) (sym e) ∙ h))
     of (Some net) e =
         let x = number_is i (path_at (system_of i) k) net.instances inner place j e h in
         let long : length (path_at (system_of i) j) ≡ suc (length (path_at (system_of i) k)) = ap (λ (p : Path). length p) x.2 in
@@ -130,8 +110,8 @@ composite_there i (n ∷ p) net h =
     inr (c.0, ap (option_and_then (kind_of_instance i.library)) x.1 ∙ k.1 ∙ ap (λ (k : Kind). Some k) c.1)
   where
     of : (k : Kind) (net : Network) → network_of k ≡ Some net → (c : CompositeType) × (k ≡ Composite c)
-    of (Basic t) net h = absurd (none_some net h)
-    of (Event k) net h = absurd (none_some net h)
+    of (Basic t) net h = absurd (none-some net h)
+    of (Event k) net h = absurd (none-some net h)
     of (Composite c) net h = (c, refl)
 
 pub grown_one :
@@ -156,7 +136,7 @@ grown_one i d k inner components b accepted h are grown stands holds = (
 )
   where
     no_path : (q : Path) (x : Instance) → length q ≡ 0 → instance_at i.library q ≡ Some x → ⊥
-    no_path [] x e g = none_some x g
+    no_path [] x e g = none-some x g
     no_path (n ∷ q) x e g = absurd (omega (arith, e))
 
 pub grown_more :
@@ -172,18 +152,18 @@ grown_more i depth numbers place k blocks b grown at one =
       each = Rattle.std.proofs.Common.length-append blocks (b ∷ []) ∙ (let e : length blocks + 1 ≡ suc place = omega (arith, last) in e) ∙ sym longer;
       grown = λ other j h.
           elim (nearer numbers place other j h) [
-            | Before g ↦ (let c = grown.grown other j g in (c.0, slice_get-left blocks (b ∷ []) other c.0 c.1, c.2))
+            | Before g ↦ (let c = grown.grown other j g in (c.0, slice_get-append_left blocks (b ∷ []) other c.0 c.1, c.2))
             | Last e g ↦ (
               b,
-              ap (slice_get (blocks ++ b ∷ [])) (e ∙ sym last) ∙ slice_get-last blocks b,
-              subst (λ (n : ℕ). Grown i depth (path_at (system_of i) n) b) (some_is k j (sym at ∙ g)) one,
+              ap (slice_get (blocks ++ b ∷ [])) (e ∙ sym last) ∙ slice_get-append_here blocks b,
+              subst (λ (n : ℕ). Grown i depth (path_at (system_of i) n) b) (same_Some k j (sym at ∙ g)) one,
             )
           ];
     })
 
 pub grown_none : (i : Inputs) (depth : ℕ) (numbers : List ℕ) → AreGrown i depth (take 0 numbers) []
-grown_none i depth [] = record { each = refl; grown = λ place k h. absurd (none_some k h) }
-grown_none i depth (n ∷ ns) = record { each = refl; grown = λ place k h. absurd (none_some k h) }
+grown_none i depth [] = record { each = refl; grown = λ place k h. absurd (none-some k h) }
+grown_none i depth (n ∷ ns) = record { each = refl; grown = λ place k h. absurd (none-some k h) }
 
 pub grown_step :
     (i : Inputs) (depth index : ℕ) (numbers inner : List ℕ) (blocks components more : List Block) (b : Block) → AreAccepted i → AreDeep i depth numbers

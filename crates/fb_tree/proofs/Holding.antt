@@ -17,15 +17,16 @@ use Rattle.fb_types.specs.Reactions.{World}
 use Rattle.fb_types.specs.declared.library.Ports.{Ports}
 use Rattle.fb_types.specs.declared.value.Value.{Value}
 use Rattle.fb_types.proofs.PathLaws.{same_path_is, same_path_itself}
-use Rattle.fb_names.proofs.NameLemmas.{Contains-nil, any_from_contains, same_from_same_name, same_name-itself}
-use Rattle.fb_fabric.specs.declared.fabric.Place.{Place}
+use Rattle.fb_types.proofs.NameLaws.{any_from_contains, same_from_same_name, same_name-itself}
+use Rattle.fb_types.proofs.Elements.{Contains-nil}
+use Rattle.fb_types.specs.declared.run.Place.{Place}
 use Rattle.fb_system.specs.Ports.{IsVariable, variable_of}
 use Rattle.fb_tree.specs.Changes.{Holds}
 use Rattle.fb_tree.specs.Worlds.{input_names, key_cmp, key_of, output_names}
 use Rattle.fb_tree.specs.declared.resource.Forest.{Forest}
+use Rattle.fb_types.proofs.ByPlace.{element_of_place}
 use Rattle.fb_tree.proofs.Apart.{kind_apart}
 use Rattle.fb_tree.proofs.Reading.{at_is}
-use Rattle.fb_tree.proofs.Sampling.{contains_at}
 use Rattle.fb_tree.proofs.Writing.{input_there, inputs_once, one_place, output_there, outputs_once}
 
 both : (a b : Bool) → (a && b) ≡ true → (a ≡ true) × (b ≡ true)
@@ -106,12 +107,12 @@ module _ (i : Inputs) (accepted : AreAccepted i) (numbered : (k : ℕ) → k < l
         (input_there (system_of i) x is_x e) (its_input f)) (e ∙ sym f)
     same_by_side true false e f =
         absurd (never_both i accepted (path_at (system_of i) x.instance) (variable_of (system_of i) x).name
-        (contains_at (output_names (system_of i) (path_at (system_of i) x.instance)) x.variable (variable_of (system_of i) x).name (output_there (system_of i) x is_x e))
-        (contains_at (input_names (system_of i) (path_at (system_of i) x.instance)) y.variable (variable_of (system_of i) x).name (its_input f)))
+        (element_of_place (output_names (system_of i) (path_at (system_of i) x.instance)) x.variable (variable_of (system_of i) x).name (output_there (system_of i) x is_x e))
+        (element_of_place (input_names (system_of i) (path_at (system_of i) x.instance)) y.variable (variable_of (system_of i) x).name (its_input f)))
     same_by_side false true e f =
         absurd (never_both i accepted (path_at (system_of i) x.instance) (variable_of (system_of i) x).name
-        (contains_at (output_names (system_of i) (path_at (system_of i) x.instance)) y.variable (variable_of (system_of i) x).name (its_output f))
-        (contains_at (input_names (system_of i) (path_at (system_of i) x.instance)) x.variable (variable_of (system_of i) x).name (input_there (system_of i) x is_x e)))
+        (element_of_place (output_names (system_of i) (path_at (system_of i) x.instance)) y.variable (variable_of (system_of i) x).name (its_output f))
+        (element_of_place (input_names (system_of i) (path_at (system_of i) x.instance)) x.variable (variable_of (system_of i) x).name (input_there (system_of i) x is_x e)))
 
   -- a port tells the variable
   same_by_port : (x y : Place) → IsVariable (system_of i) x → IsVariable (system_of i) y → same_port (variable_of (system_of i) y) (variable_of (system_of i) x) ≡ true → x ≡ y

@@ -3,7 +3,7 @@ use Rattle.std.proofs.Common.{◌≡◌, ℕ, ◌<◌, ◌≤◌, ◌+◌, zero,
 use Rattle.std.proofs.lemmas.Bool.{true≢false, false_from_ne_true}
 use Rattle.std.proofs.lemmas.List.Elements.{Contains-append_left, Contains-append_right, Contains-append_cases}
 use Rattle.std.proofs.lemmas.Option.{slice_get-get_or, slice_get_within, slice_get-map}
-use Rattle.std.specs.Prelude.{flat_map, is_some, not, ◌&&◌, option_map, option_and_then, position, slice_get, unwrap_or}
+use Rattle.std.specs.Prelude.{flat_map, not, ◌&&◌, option_map, option_and_then, position, slice_get, unwrap_or}
 use Rattle.std.specs.List.{list_all}
 use Rattle.fb_types.specs.Names.{Name, Path, same_name}
 use Rattle.fb_types.specs.Blocks.{Kind, Basic, Event, Composite, among, event_blocks, event_names, named, ports_of, ports_of_event_block, variable_names}
@@ -23,12 +23,14 @@ use Rattle.fb_types.specs.declared.library.Instance.{Instance}
 use Rattle.fb_types.specs.declared.library.Library.{Library}
 use Rattle.fb_types.specs.declared.library.Network.{Network}
 use Rattle.fb_types.specs.declared.library.Parameter.{Parameter}
-use Rattle.fb_names.proofs.NameLemmas.{Contains-cons_cases, Contains-here, Contains-nil, Contains-there, Twice-append_left, any_from_contains, contains_from_any}
-use Rattle.fb_names.proofs.Positions.{is_some-position, named-position, named_of_once, position_is}
-use Rattle.fb_names.proofs.TwiceIn.{Contains-flat_map, Contains-map, flat_map-Contains, map-Contains}
-use Rattle.fb_names.proofs.Parts.{once_right}
+use Rattle.fb_types.proofs.Positions.{is_some-position, named-position, named_of_once, position_is}
+use Rattle.fb_types.proofs.Options.{and_then_parts, map_parts, some_from_is_some}
+use Rattle.fb_types.proofs.NameLaws.{any_from_contains, contains_from_any, named-Contains}
+use Rattle.fb_types.proofs.ByPlace.{place_of_element}
+use Rattle.fb_types.proofs.TwiceLaws.{Twice-append_left, once_right}
+use Rattle.fb_types.proofs.Elements.{Contains-cons_cases, Contains-here, Contains-nil, Contains-there, Contains-flat_map, Contains-map, flat_map-Contains}
 use Rattle.fb_fabric.proofs.Distinct.{AreOnce, below, paths_from}
-use Rattle.fb_fabric.proofs.Inside.{Contains-named, and_then_parts, map_parts, network_known}
+use Rattle.fb_fabric.proofs.Inside.{network_known}
 use Rattle.fb_fabric.proofs.Sites.{all_once}
 
 -- ---- Acceptance
@@ -38,15 +40,6 @@ once_of i h t = h 20 (inl (refl, t))
 
 pub known_of : (i : Inputs) → AreAccepted i → ¬ (NameUnknown i.library i.plan)
 known_of i h t = h 21 (inr (inl (refl, t)))
-
--- ---- Elements
-
-pub place_of_element : {A : Type 0} (xs : List A) (x : A) → Contains xs x → (k : ℕ) × (slice_get xs k ≡ Some x)
-place_of_element xs x h = (h.0, slice_get-get_or xs h.0 x h.1 ∙ ap (λ y. Some y) h.2)
-
-pub some_of : {A : Type 0} (o : Option A) → is_some o ≡ true → (x : A) × (o ≡ Some x)
-some_of None h = absurd (cc)
-some_of (Some x) h = (x, refl)
 
 -- ---- What is inside an instance stands in a network of the declaration
 
@@ -207,7 +200,7 @@ module _ (lib : Library) (plan : Plan) (known : ¬ (NameUnknown lib plan)) where
 
       some_named : {A : Type 0} (f : A → Name) (n : Name) (xs : List A) → Contains (map f xs) n → (x : A) × (named f n xs ≡ Some x)
       some_named f n xs c =
-          let at = some_of (position (same_name n) (map f xs)) (is_some-position (same_name n) (map f xs) ∙ any_from_contains n (map f xs) c) in
+          let at = some_from_is_some (position (same_name n) (map f xs)) (is_some-position (same_name n) (map f xs) ∙ any_from_contains n (map f xs) c) in
           let there = position_is f n xs at.0 at.1 in
           (there.0, named-position f n xs ∙ ap (option_and_then (slice_get xs)) at.1 ∙ there.1)
 
@@ -216,7 +209,7 @@ module _ (lib : Library) (plan : Plan) (known : ¬ (NameUnknown lib plan)) where
   kind_there q i h =
       let s = in_network lib q i h in
       let net = net_known lib s.outside s.network s.is_network in
-      let k = named_type i.block_type (type_among s.network i net (Contains-named name_of s.name s.network.instances i s.found)) in
+      let k = named_type i.block_type (type_among s.network i net (named-Contains name_of s.name s.network.instances i s.found)) in
       (k.0, k.1, ap (option_and_then (kind_of_instance lib)) h ∙ k.1)
 
   -- a parameter is that of a data input
@@ -225,7 +218,7 @@ module _ (lib : Library) (plan : Plan) (known : ¬ (NameUnknown lib plan)) where
       → Contains (map (λ (x : Parameter). x.name) i.parameters) n → among (variable_names (ports_of k).inputs) n ≡ true
   parameter_input q i k n h of c =
       let s = in_network lib q i h in
-      parameter_among s.network i k n (net_known lib s.outside s.network s.is_network) (Contains-named name_of s.name s.network.instances i s.found) of c
+      parameter_among s.network i k n (net_known lib s.outside s.network s.is_network) (named-Contains name_of s.name s.network.instances i s.found) of c
 
 -- ---- A basic type by its name
 
@@ -241,7 +234,7 @@ basic_known lib n t =
       | None ↦ λ h.
           let b = map_parts kind_of (named type_name n lib.blocks) (Basic t) h in
           Contains-flat_map basics_in lib.blocks (block.Basic t) t
-          (subst (λ (b : BlockType). Contains lib.blocks b) (basic_block b.0 t b.2) (Contains-named type_name n lib.blocks b.0 b.1))
+          (subst (λ (b : BlockType). Contains lib.blocks b) (basic_block b.0 t b.2) (named-Contains type_name n lib.blocks b.0 b.1))
           (Contains-here t [])
     ]
 
@@ -324,7 +317,7 @@ module _ (lib : Library) (plan : Plan) (once : ¬ (NameTwice lib plan)) where
 
   by_block : (n : Name) (k : Kind) (o : Option BlockType) → named type_name n lib.blocks ≡ o → option_map kind_of o ≡ Some k → ¬ (Twice (data_names k))
   by_block n k None is h = absurd (cc)
-  by_block n k (Some b) is h = subst (λ (k : Kind). ¬ (Twice (data_names k))) (same (kind_of b) k h) (block_once b (Contains-named type_name n lib.blocks b is))
+  by_block n k (Some b) is h = subst (λ (k : Kind). ¬ (Twice (data_names k))) (same (kind_of b) k h) (block_once b (named-Contains type_name n lib.blocks b is))
     where
       same : (a b : Kind) → Some a ≡ Some b → a ≡ b
       same a b e = cc

@@ -1,5 +1,5 @@
 -- What is read at a place of a block is what the model's block holds for the name there.
-use Rattle.std.proofs.Common.{◌≡◌, ℕ, ◌<◌, zero, suc, List, [], ◌∷◌, length, true, false, refl, ap, sym, ◌∙◌, subst, arith}
+use Rattle.std.proofs.Common.{◌≡◌, ℕ, ◌<◌, suc, List, [], ◌∷◌, length, true, false, refl, ap, sym, ◌∙◌, subst}
 use Rattle.std.specs.Prelude.{Option, Some, None, unwrap_or, slice_get, if◌then◌else◌}
 use Rattle.fb_types.specs.Names.{Path}
 use Rattle.fb_types.specs.Values.{Values}
@@ -13,8 +13,8 @@ use Rattle.fb_types.specs.Systems.{System}
 use Rattle.fb_types.specs.declared.library.CompositeType.{CompositeType}
 use Rattle.fb_types.specs.declared.library.Variable.{Variable}
 use Rattle.fb_types.specs.declared.value.Value.{Value}
-use Rattle.fb_fabric.specs.declared.fabric.Place.{Place}
-use Rattle.fb_fabric.proofs.Inside.{map_parts}
+use Rattle.fb_types.specs.declared.run.Place.{Place}
+use Rattle.fb_types.proofs.Options.{map_parts}
 use Rattle.fb_fabric.specs.Layouts.{route_to}
 use Rattle.fb_system.specs.Ports.{IsVariable, data_input, data_output, variable_of, variables_at}
 use Rattle.fb_tree.specs.Blocks.{inputs_in, inputs_of, own_of, shell_in, shell_of}
@@ -25,14 +25,10 @@ use Rattle.fb_tree.specs.declared.block.Block.TheOpen.{Block-F}
 use Rattle.fb_tree.specs.declared.block.Block.TheViews.{out-Block}
 use Rattle.fb_tree.specs.declared.block.CompositeBlock.{CompositeBlock}
 use Rattle.fb_tree.specs.declared.resource.Forest.{Forest}
+use Rattle.fb_types.proofs.ByPlace.{element_at}
 use Rattle.fb_tree.proofs.Shells.{shell_of-own, inputs_of-own}
 
 -- ---- Values
-
-pub there_is : {A : Type 0} (xs : List A) (k : ℕ) → k < length xs → (x : A) × (slice_get xs k ≡ Some x)
-there_is [] k h = absurd (omega (arith, h))
-there_is (x ∷ xs) zero h = (x, refl)
-there_is (x ∷ xs) (suc k) h = there_is xs k (omega (arith, h))
 
 pub as_many : (vs : List Variable) → length (variable_names vs) ≡ length vs
 as_many [] = refl
@@ -41,8 +37,8 @@ as_many (v ∷ vs) = ap suc (as_many vs)
 value_stands : (sys : System) (p : Path) (vs : List Variable) (values : List Value) (all : Values) → ValuesStand sys p (variable_names vs) values all →
     (k : ℕ) → k < length vs → value_in values k ≡ all (unwrap_or (slice_get (variable_names vs) k) [])
 value_stands sys p vs values all s k h =
-    let n = there_is (variable_names vs) k (subst (λ l. k < l) (sym (as_many vs)) h) in
-    let v = there_is values k (subst (λ l. k < l) (sym (s.each ∙ as_many vs)) h) in
+    let n = element_at (variable_names vs) k (subst (λ l. k < l) (sym (as_many vs)) h) in
+    let v = element_at values k (subst (λ l. k < l) (sym (s.each ∙ as_many vs)) h) in
     ap (λ o. unwrap_or o zero_value) v.1 ∙ sym (s.at_place k n.0 v.0 n.1 v.1) ∙ ap (λ o. all (unwrap_or o [])) (sym n.1)
 
 reads_at : (sys : System) (p : Path) (vs these : List Variable) → vs ≡ these → (values : List Value) (all : Values) →
@@ -69,7 +65,7 @@ at_is sys x = ap (λ q. q.at) (variable_is sys x)
 -- its name stands at its place
 pub name_there : (sys : System) (x : Place) → IsVariable sys x → slice_get (variable_names (variables_at sys x)) x.variable ≡ Some (variable_of sys x).name
 name_there sys x variable =
-    let n = there_is (variable_names (variables_at sys x)) x.variable (subst (λ l. x.variable < l) (sym (as_many (variables_at sys x))) variable.variable) in
+    let n = element_at (variable_names (variables_at sys x)) x.variable (subst (λ l. x.variable < l) (sym (as_many (variables_at sys x))) variable.variable) in
     n.1 ∙ ap Some (sym (name_is sys x ∙ ap (λ o. unwrap_or o []) n.1))
 
 pub among_inputs : (sys : System) (x : Place) → x.is_output ≡ false → variables_at sys x ≡ (ports_at sys (path_at sys x.instance)).inputs

@@ -1,32 +1,25 @@
 -- What a source shows is what the model says of its port.
-use Rattle.std.proofs.Common.{◌≡◌, ℕ, zero, suc, List, [], ◌∷◌, true, false, Contains, refl, ap, sym, ◌∙◌, subst, inl}
-use Rattle.std.specs.Prelude.{Option, Some, None, slice_get, if◌then◌else◌}
+use Rattle.std.proofs.Common.{◌≡◌, [], true, false, Contains, refl, ap, sym, ◌∙◌, subst, inl}
+use Rattle.std.specs.Prelude.{Option, Some, None, if◌then◌else◌}
 use Rattle.fb_types.specs.Blocks.{Kind, ports, ports_of, variable_names}
 use Rattle.fb_types.specs.Headline.{AreAccepted, Inputs, system_of}
 use Rattle.fb_types.specs.Numbers.{path_at}
 use Rattle.fb_types.specs.Reactions.{World, is_input_of, seen, shown}
 use Rattle.fb_types.specs.declared.library.Ports.{Ports}
 use Rattle.fb_types.specs.declared.value.Value.{Value}
-use Rattle.fb_fabric.specs.declared.fabric.Place.{Place}
-use Rattle.fb_names.proofs.NameLemmas.{Contains-here, Contains-there, any_from_contains}
+use Rattle.fb_types.specs.declared.run.Place.{Place}
+use Rattle.fb_types.proofs.NameLaws.{any_from_contains}
 use Rattle.fb_system.specs.Ports.{IsSource, IsVariable, variable_of, variables_at}
 use Rattle.fb_tree.specs.Changes.{ShowsInside}
 use Rattle.fb_tree.specs.Worlds.{IsComposite, Samples, Shows}
 use Rattle.fb_tree.specs.declared.resource.Forest.{Forest}
 use Rattle.fb_tree.proofs.Apart.{kind_apart}
+use Rattle.fb_types.proofs.ByPlace.{element_of_place}
 use Rattle.fb_tree.proofs.Reading.{at_is, name_there}
-
-pub contains_at : {A : Type 0} (xs : List A) (k : ℕ) (x : A) → slice_get xs k ≡ Some x → Contains xs x
-contains_at [] k x e = cc
-contains_at {A} (y ∷ ys) zero x e = subst (λ (z : A). Contains (y ∷ ys) z) (same y x e) (Contains-here y ys)
-  where
-    same : (a b : A) → Some a ≡ Some b → a ≡ b
-    same a b h = cc
-contains_at (y ∷ ys) (suc k) x e = Contains-there y ys x (contains_at ys k x e)
 
 module _ (i : Inputs) (x : Place) (variable : IsVariable (system_of i) x) where
   named : Contains (variable_names (variables_at (system_of i) x)) (variable_of (system_of i) x).name
-  named = contains_at (variable_names (variables_at (system_of i) x)) x.variable (variable_of (system_of i) x).name (name_there (system_of i) x variable)
+  named = element_of_place (variable_names (variables_at (system_of i) x)) x.variable (variable_of (system_of i) x).name (name_there (system_of i) x variable)
 
   of_kind : (k : Kind) → (system_of i).kind (path_at (system_of i) x.instance) ≡ Some k →
       variables_at (system_of i) x ≡ (if x.is_output then (ports_of k).outputs else (ports_of k).inputs)

@@ -14,22 +14,20 @@ use Rattle.fb_types.specs.Takes.{world_of}
 use Rattle.fb_types.specs.declared.library.Instance.{Instance}
 use Rattle.fb_types.specs.declared.library.Library.{Library}
 use Rattle.fb_types.specs.declared.library.Network.{Network}
-use Rattle.fb_names.proofs.Positions.{named-position, position_is}
+use Rattle.fb_types.proofs.Positions.{named-position, position_is}
+use Rattle.fb_types.proofs.Options.{and_then_parts}
 use Rattle.fb_fabric.specs.Layouts.{path_of, place_at, route_to}
-use Rattle.fb_fabric.proofs.Inside.{and_then_parts}
 use Rattle.fb_tree.specs.Blocks.{components_of, own_of}
 use Rattle.fb_tree.specs.Trees.{block_at, own_at}
 use Rattle.fb_tree.specs.Worlds.{IsForest, StandsAt, StandsFor, before, route_in_tree, seat, seat_in, seated}
 use Rattle.fb_tree.specs.declared.block.Block.{Block}
 use Rattle.fb_tree.specs.declared.resource.Forest.{Forest}
 use Rattle.fb_tree.specs.Opening.{AreDeep, AreGrown, CoversAll, Grown, IsTopIn, lies_in}
+use Rattle.std.proofs.lemmas.Option.{none-some}
 use Rattle.fb_tree.proofs.Known.{in_network, stood}
 use Rattle.fb_tree.proofs.Growing.{instance_is, number_is}
 
 -- ---- Blocks at routes
-
-none_some : {A : Type 0} (x : A) → None ≡ Some x → ⊥
-none_some x e = cc
 
 further : (blocks : List Block) (n : ℕ) (route : List ℕ) (b : Block) (place : ℕ) → block_at blocks (n ∷ route) ≡ Some b
     → block_at blocks (n ∷ (route ++ place ∷ [])) ≡ slice_get (components_of b) place
@@ -40,7 +38,7 @@ further blocks n (m ∷ route) b place h =
 
 below_seated : (blocks : List Block) (f : ℕ → ℕ) (route : List ℕ) (b : Block) (place : ℕ) → block_at blocks (seated f route) ≡ Some b
     → block_at blocks (seated f (route ++ place ∷ [])) ≡ slice_get (components_of b) place
-below_seated blocks f [] b place h = absurd (none_some b h)
+below_seated blocks f [] b place h = absurd (none-some b h)
 below_seated blocks f (n ∷ route) b place h = further blocks (f n) route b place h
 
 -- ---- Names and places
@@ -75,7 +73,7 @@ counted_mapped F g (x ∷ xs) (suc n) =
     ]
 
 at_seat : (f : ℕ → Bool) (xs : List ℕ) (n x : ℕ) → slice_get xs n ≡ Some x → f x ≡ true → slice_get (filter f xs) (length (filter f (take n xs))) ≡ Some x
-at_seat f [] n x h t = absurd (none_some x h)
+at_seat f [] n x h t = absurd (none-some x h)
 at_seat f (y ∷ xs) zero x h t =
     let e : y ≡ x = cc in
     ap (λ b. slice_get (cond b (y ∷ filter f xs) (filter f xs)) 0) (ap f e ∙ t) ∙ h

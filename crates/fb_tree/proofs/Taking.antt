@@ -12,7 +12,7 @@ use Rattle.fb_types.specs.States as model
 use Rattle.fb_types.specs.Systems.{System}
 use Rattle.fb_types.specs.declared.library.CompositeType.{CompositeType}
 use Rattle.fb_types.proofs.PathLaws.{same_path_is, same_path_itself}
-use Rattle.fb_fabric.proofs.Inside.{map_parts}
+use Rattle.fb_types.proofs.Options.{map_parts}
 use Rattle.fb_fabric.specs.Layouts.{route_to}
 use Rattle.fb_tree.specs.Blocks.{components_in, components_of, composite_with, own_of, with_components}
 use Rattle.fb_tree.specs.Changes.{IsForestBut, IsOut, with_instance}

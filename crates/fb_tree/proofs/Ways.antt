@@ -15,26 +15,17 @@ use Rattle.fb_types.specs.declared.library.CompositeType.{CompositeType}
 use Rattle.fb_types.specs.declared.library.Instance.{Instance}
 use Rattle.fb_types.specs.declared.library.Library.{Library}
 use Rattle.fb_types.specs.declared.library.Network.{Network}
-use Rattle.fb_names.proofs.NameLemmas.{Contains-cons_cases, Contains-here, Contains-nil}
-use Rattle.fb_names.proofs.Positions.{named-position, position_is}
-use Rattle.fb_names.proofs.TwiceIn.{flat_map-Contains}
+use Rattle.fb_types.proofs.Positions.{named-position, position_is}
+use Rattle.fb_types.proofs.Elements.{Contains-cons_cases, Contains-here, Contains-nil, flat_map-Contains}
+use Rattle.fb_types.proofs.Options.{and_then_parts}
 use Rattle.fb_fabric.specs.Layouts.{place_at, route_to}
 use Rattle.fb_fabric.proofs.Distinct.{AreOnce, below, paths_from}
-use Rattle.fb_fabric.proofs.Inside.{and_then_parts, network_known}
+use Rattle.fb_types.proofs.ByPlace.{element_at, element_of_place, place_of_element}
+use Rattle.fb_fabric.proofs.Inside.{network_known}
 use Rattle.fb_fabric.proofs.Sites.{IsSite, all_once, inside_is, instance_is}
 use Rattle.fb_tree.specs.Worlds.{before, route_in_tree, seat, seated}
-use Rattle.fb_tree.proofs.Reading.{there_is}
-use Rattle.fb_tree.proofs.Sampling.{contains_at}
 
 -- ---- Every path leads to an instance
-
-place_of : {A : Type 0} (xs : List A) (x : A) → Contains xs x → (k : ℕ) × (slice_get xs k ≡ Some x)
-place_of [] x c = absurd (Contains-nil x c)
-place_of (y ∷ ys) x c =
-    elim (Contains-cons_cases y ys x c) [
-      | inl e ↦ (0, ap Some e)
-      | inr rest ↦ let at = place_of ys x rest in (suc at.0, at.1)
-    ]
 
 there_inside :
     (d : ℕ) (lib : Library) (p : Path) (o : Option CompositeType) (net : Network) (q : Path) → AreOnce lib → Contains (networks lib) (o, net) → network_at lib p ≡ Some net →
@@ -42,7 +33,7 @@ there_inside :
 there_inside zero lib p o net q once among is c = absurd (Contains-nil q c)
 there_inside (suc d) lib p o net q once among is c =
     let i = flat_map-Contains (paths_from d lib p) net.instances q c in
-    let at = place_of net.instances i.0 i.1 in
+    let at = place_of_element net.instances i.0 i.1 in
     let site : IsSite lib p net = record { network = is; once = once.each (o, net) among } in
     elim (Contains-cons_cases (i.0.name ∷ p) (below d lib (i.0.name ∷ p) (inside lib i.0)) q i.2) [
       | inl e ↦ (i.0, ap (instance_at lib) (sym e) ∙ instance_is lib p net at.0 i.0 site at.1)
@@ -56,9 +47,9 @@ there_inside (suc d) lib p o net q once among is c =
 pub instance_there : (i : Inputs) → AreAccepted i → (k : ℕ) → k < length (system_of i).paths → (x : Instance) × (instance_at i.library (path_at (system_of i) k) ≡ Some x)
 instance_there i accepted k number =
     let lib = i.library in
-    let q = there_is (paths_of lib) k number in
+    let q = element_at (paths_of lib) k number in
     let x = there_inside 17 lib [] None lib.application.network q.0 (all_once lib i.plan (λ t. accepted 20 (inl (refl, t)))) (Contains-here (None, lib.application.network) _) refl
-    (contains_at (paths_of lib) k q.0 q.1) in
+    (element_of_place (paths_of lib) k q.0 q.1) in
     (x.0, ap (λ o. instance_at lib (unwrap_or o [])) q.1 ∙ x.1)
 
 -- ---- The place of an instance in its network

@@ -1,6 +1,6 @@
 -- A value that is put at the place of a name is put at the name, where each name stands once.
 use Rattle.std.proofs.Common.{◌≡◌, ◌≢◌, ℕ, ◌<◌, zero, suc, List, [], ◌∷◌, length, Bool, true, false, Contains, refl, ap, sym, ◌∙◌, subst, inl, inr, ⊎_elim}
-use Rattle.std.proofs.lemmas.Bool.{cases_eq, true≢false, false_from_ne_true}
+use Rattle.std.proofs.lemmas.Bool.{cases_eq, true≢false}
 use Rattle.std.specs.Prelude.{Option, Some, None, slice_get, slice_set, if◌then◌else◌}
 use Rattle.std.specs.Option.{option_map}
 use Rattle.fb_types.specs.Names.{Name, Path, same_name, same_path, with_value}
@@ -17,10 +17,10 @@ use Rattle.fb_types.specs.declared.event_kind.EventKind.{EventKind}
 use Rattle.fb_types.specs.declared.library.BasicType.{BasicType}
 use Rattle.fb_types.specs.declared.library.Ports.{Ports}
 use Rattle.fb_types.specs.declared.value.Value.{Value}
-use Rattle.fb_fabric.specs.declared.fabric.Place.{Place}
+use Rattle.fb_types.specs.declared.run.Place.{Place}
 use Rattle.fb_fabric.specs.Layouts.{route_to}
 use Rattle.fb_system.specs.Ports.{IsVariable, variable_of}
-use Rattle.fb_names.proofs.NameLemmas.{any_from_contains, same_from_same_name, same_name-itself}
+use Rattle.fb_types.proofs.NameLaws.{any_from_contains, same_name-itself, same_name-apart}
 use Rattle.fb_event.specs.State.{State}
 use Rattle.fb_tree.specs.Blocks.{inputs_in, inputs_of, node_with_inputs, node_with_shell, shell_of, with_input, with_published, with_shell, with_slot, node_with_state, with_state}
 use Rattle.fb_tree.specs.Changes.{Changes}
@@ -35,8 +35,8 @@ use Rattle.fb_tree.specs.declared.resource.Forest.{Forest}
 use Rattle.fb_tree.specs.declared.shell.Shell.{Shell}
 use Rattle.fb_tree.proofs.Components.{out_roll}
 use Rattle.fb_tree.proofs.Apart.{kind_apart}
+use Rattle.fb_types.proofs.ByPlace.{element_of_place}
 use Rattle.fb_tree.proofs.Reading.{among_inputs, among_outputs, name_there, seated_so, shell_stands}
-use Rattle.fb_tree.proofs.Sampling.{contains_at}
 use Rattle.fb_tree.proofs.Ways.{RoutesDiffer, routes_differ}
 
 length_set : (vs : List Value) (k : ℕ) (v : Value) → length (slice_set vs k v) ≡ length vs
@@ -60,18 +60,15 @@ get_set_there (x ∷ vs) (suc k) (suc j) v ne = get_set_there vs k j v (λ e. ne
 pub one_place : (names : List Name) → ¬ (Twice names) → (j k : ℕ) (n : Name) → slice_get names j ≡ Some n → slice_get names k ≡ Some n → j ≡ k
 one_place [] once j k n e f = cc
 one_place (m ∷ ms) once zero zero n e f = refl
-one_place (m ∷ ms) once zero (suc k) n e f = absurd (once (inl (subst (λ z. Contains ms z) (same n m e) (contains_at ms k n f))))
+one_place (m ∷ ms) once zero (suc k) n e f = absurd (once (inl (subst (λ z. Contains ms z) (same n m e) (element_of_place ms k n f))))
   where
     same : (a b : Name) → Some b ≡ Some a → a ≡ b
     same a b h = cc
-one_place (m ∷ ms) once (suc j) zero n e f = absurd (once (inl (subst (λ z. Contains ms z) (same n m f) (contains_at ms j n e))))
+one_place (m ∷ ms) once (suc j) zero n e f = absurd (once (inl (subst (λ z. Contains ms z) (same n m f) (element_of_place ms j n e))))
   where
     same : (a b : Name) → Some b ≡ Some a → a ≡ b
     same a b h = cc
 one_place (m ∷ ms) once (suc j) (suc k) n e f = ap suc (one_place ms (λ t. once (inr t)) j k n e f)
-
-other_name : (m n : Name) → ¬ (m ≡ n) → same_name m n ≡ false
-other_name m n ne = false_from_ne_true (same_name m n) (λ e. ne (same_from_same_name m n e))
 
 module _ (sys : System) (p : Path) (names : List Name) (values : List Value) (all : Values) (stand : ValuesStand sys p names values all)
     (once : ¬ (Twice names)) (k : ℕ) (name : Name) (named : slice_get names k ≡ Some name) (v : Value) where
@@ -84,7 +81,7 @@ module _ (sys : System) (p : Path) (names : List Name) (values : List Value) (al
 
   there : (j : ℕ) → j ≢ k → (n : Name) (u : Value) → slice_get names j ≡ Some n → slice_get (slice_set values k v) j ≡ Some u → with_value name v all n ≡ u
   there j ne n u e f =
-      ap (λ b. if b then v else all n) (other_name n name (λ s. ne (one_place names once j k name (e ∙ ap Some s) named)))
+      ap (λ b. if b then v else all n) (same_name-apart n name (λ s. ne (one_place names once j k name (e ∙ ap Some s) named)))
       ∙ stand.at_place j n u e (sym (get_set_there values k j v ne) ∙ f)
 
   -- the values stand for what they did, but for the name of the place
@@ -94,7 +91,7 @@ module _ (sys : System) (p : Path) (names : List Name) (values : List Value) (al
         each = length_set values k v ∙ stand.each;
         at_place = λ j n u e f. ⊎_elim (λ s. here n u (sym (ap (slice_get names) s) ∙ e) (sym (ap (slice_get (slice_set values k v)) s) ∙ f)) (λ ne. there j ne n u e f) (cases_eq j k);
         others = λ n e. ap (λ b. if b then v else all n)
-            (other_name n name (λ s. true≢false (sym (any_from_contains n names (subst (λ m. Contains names m) (sym s) (contains_at names k name named))) ∙ e)))
+            (same_name-apart n name (λ s. true≢false (sym (any_from_contains n names (subst (λ m. Contains names m) (sym s) (element_of_place names k name named))) ∙ e)))
             ∙ stand.others n e;
       }
 

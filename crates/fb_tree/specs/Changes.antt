@@ -7,7 +7,7 @@ use Rattle.fb_types.specs.Numbers.{path_at}
 use Rattle.fb_types.specs.Reactions.{World, with_block, with_held, from_inside}
 use Rattle.fb_types.specs.States as model
 use Rattle.fb_types.specs.declared.value.Value.{Value}
-use Rattle.fb_fabric.specs.declared.fabric.Place.{Place}
+use Rattle.fb_types.specs.declared.run.Place.{Place}
 use Rattle.fb_system.specs.Ports.{variable_of, IsVariable}
 use Rattle.fb_tree.specs.Blocks.{own_of, components_of}
 use Rattle.fb_tree.specs.Trees.{block_at}

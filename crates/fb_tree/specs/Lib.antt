@@ -2,5 +2,4 @@ pub mod Blocks
 pub mod Changes
 pub mod Trees
 pub mod Worlds
-pub mod formers
 pub mod Opening

@@ -25,7 +25,7 @@ use Rattle.fb_ecc.specs.Places.{IsBlockOf, state_at}
 use Rattle.fb_ecc.specs.Sound.{IsSound}
 use Rattle.fb_ecc.specs.declared.state.BasicState.{BasicState}
 use Rattle.fb_fabric.specs.Layouts.{route_to}
-use Rattle.fb_fabric.specs.declared.fabric.Place.{Place}
+use Rattle.fb_types.specs.declared.run.Place.{Place}
 use Rattle.fb_system.specs.Ports.{IsCompositeAt, IsSource, IsVariable, variable_of}
 use Rattle.fb_tree.specs.Blocks.{own_of}
 use Rattle.fb_tree.specs.Trees.{own_at}

@@ -2,10 +2,10 @@
 
 ghost use Rattle.std.specs.Prelude.{◌≡◌, [], IfSome, IfNone, List};
 
-use crate::places::Places;
 use crate::shell::Shell;
 use fb_ecc::state::BasicState;
 use fb_event::state::EventState;
+use fb_types::items::Items;
 use fb_types::value::Value;
 
 /// A basic block: its chart with its variables, and its shell.
@@ -19,7 +19,7 @@ pub struct BasicBlock {
 #[derive(Drop)]
 pub struct EventBlock {
     pub state: EventState,
-    pub inputs: Places<Value>,
+    pub inputs: Items<Value>,
     pub shell: Shell,
 }
 
@@ -28,9 +28,9 @@ pub struct EventBlock {
 #[cycle(block)]
 #[derive(Drop)]
 pub struct CompositeBlock {
-    pub inputs: Places<Value>,
+    pub inputs: Items<Value>,
     pub shell: Shell,
-    pub components: Places<Block>,
+    pub components: Items<Block>,
 }
 
 /// A function block with what stands inside it.
@@ -50,7 +50,7 @@ impl Block {
     ghost use Rattle.fb_event.specs.contracts.state.EventState.{the_row as state_row};
     ghost use Rattle.fb_tree.specs.contracts.shell.Shell.{the_row as shell_row};
     ghost use Rattle.fb_tree.specs.contracts.block.Block.{the_row};
-    ghost use Rattle.fb_tree.specs.contracts.places.Places.{the_row as places_row};
+    ghost use Rattle.fb_types.specs.contracts.items.Items.{the_row as items_row};
     ghost use Rattle.fb_tree.specs.Blocks.{components_of, with_components, shell_of, with_shell, inputs_of, with_inputs, with_state};
 
     /// The slots of the data inputs, and the published outputs.
@@ -89,8 +89,8 @@ impl Block {
     }
 
     /// The data inputs of an event block or a composite block, to be changed.
-    pub fn inputs_mut(&mut self) -> Option<&mut Places<Value>>
-        ensures* writes_back { sem 𝓛 (LendsIf the_row (places_row value_row) self.entry result (with_inputs self.old) self.old) }
+    pub fn inputs_mut(&mut self) -> Option<&mut Items<Value>>
+        ensures* writes_back { sem 𝓛 (LendsIf the_row (items_row value_row) self.entry result (with_inputs self.old) self.old) }
         ensures value { IfSome result (λ l. l.now ≡ inputs_of self.old) }
         ensures none { IfNone result ((vs : List Value) → with_inputs self.old vs ≡ self.old) }
     {
@@ -123,8 +123,8 @@ impl Block {
     }
 
     /// The blocks inside a composite block, to be changed.
-    pub fn components_mut(&mut self) -> Option<&mut Places<Block>>
-        ensures* writes_back { sem 𝓛 (LendsIf the_row (places_row the_row) self.entry result (with_components self.old) self.old) }
+    pub fn components_mut(&mut self) -> Option<&mut Items<Block>>
+        ensures* writes_back { sem 𝓛 (LendsIf the_row (items_row the_row) self.entry result (with_components self.old) self.old) }
         ensures value { IfSome result (λ l. l.now ≡ components_of self.old) }
         ensures none { IfNone result (components_of self.old ≡ []) }
     {

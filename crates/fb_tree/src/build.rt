@@ -8,10 +8,10 @@ ghost use Rattle.fb_tree.specs.Worlds.{IsForest};
 
 use crate::opening_copies::held_of;
 use crate::opening_trees::blocks_of;
-use crate::places::Places;
 use crate::resource::Forest;
 use crate::seats::{seats_of, top_in};
 use fb_system::system::System;
+use fb_types::items::Items;
 use std::alloc::{AllocError, Global};
 
 /// How deep an instance stands at most: the components of the highest composite's lowest one.
@@ -34,7 +34,7 @@ pub fn build(alloc: Global, system: &System, resource: u32) -> Result<Forest, Al
     Ok(Forest {
         resource,
         seats: seats_of(alloc, system)?,
-        blocks: Places::from_vec(blocks),
+        blocks: Items::from_vec(blocks),
         held: held_of(alloc, system, resource)?,
     })
 }

@@ -5,7 +5,7 @@
 //! does where it stands. `build::build` gives blocks and held copies that stand for the opening state.
 //!
 //! To be read in this order: `block` and `shell`, what a block holds; `resource`, what is asked and changed; `tree` and
-//! `values`, the block at a route; `places`; `laws`. Then `build`, how they are made before the first event; `seats`,
+//! `values`, the block at a route; `laws`. Then `build`, how they are made before the first event; `seats`,
 //! `opening_trees` and `opening_leaves`, the blocks; `opening_copies`.
 #![tactic(auto)]
 
@@ -15,7 +15,6 @@ pub mod laws;
 mod opening_copies;
 mod opening_leaves;
 mod opening_trees;
-pub mod places;
 pub mod resource;
 mod seats;
 pub mod shell;

@@ -6,8 +6,8 @@ ghost use Rattle.fb_system.specs.Ports.{IsVariable, variable_of};
 ghost use Rattle.fb_tree.specs.Opening.{Covers, CoversAll, CoversPlaces, KeepsCovers};
 
 use crate::resource::Held;
-use fb_fabric::fabric::Place;
 use fb_system::system::System;
+use fb_types::run::Place;
 use fb_types::value::Value;
 use std::alloc::{AllocError, Global};
 use std::collections::BTreeMap;

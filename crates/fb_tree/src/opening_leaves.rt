@@ -13,25 +13,24 @@ ghost use Rattle.fb_tree.specs.Worlds.{BasicStands, StandsFor};
 ghost use Rattle.fb_tree.specs.Opening.{AreDeclared, begun_all};
 
 use crate::block::{BasicBlock, Block, CompositeBlock, EventBlock};
-use crate::places::Places;
 use crate::shell::Shell;
 use fb_ecc::state::BasicState;
 use fb_event::state::EventState;
 use fb_names::numbers::TypeNumber;
 use fb_st::frame::Frame;
 use fb_system::system::System;
+use fb_types::items::Items;
 use fb_types::library::{BasicType, BlockType, Variable};
 use fb_types::reference::Reference;
 use fb_types::value::Value;
 use std::alloc::{AllocError, Global};
 
 /// What the data inputs of an instance begin with.
-fn inputs_of(alloc: Global, system: &System, instance: u32) -> Result<Places<Value>, AllocError>
+fn inputs_of(alloc: Global, system: &System, instance: u32) -> Result<Items<Value>, AllocError>
     requires { instance < length (system_of system.now).paths }
     ensures { IfOk result (λ vs. vs ≡ initial_inputs (system_of system.now) (path_at (system_of system.now) instance)) }
 {
-    let values = system.initial_inputs(alloc, instance)?;
-    Ok(Places::from_vec(values.into_vec()))
+    system.initial_inputs(alloc, instance)
 }
 
 /// What connections and stimuli have set of an instance before the first event.
@@ -41,8 +40,7 @@ fn shell_of(alloc: Global, system: &System, instance: u32) -> Result<Shell, Allo
     ensures published { IfOk result (λ s. s.published ≡ initial_outputs (system_of system.now) (path_at (system_of system.now) instance)) }
 {
     let slots = inputs_of(alloc, system, instance)?;
-    let values = system.initial_outputs(alloc, instance)?;
-    let published = Places::from_vec(values.into_vec());
+    let published = system.initial_outputs(alloc, instance)?;
     Ok(Shell { slots, published })
 }
 
@@ -116,7 +114,7 @@ pub(crate) fn block_with(
             }
             Some(BlockType::Composite(_)) => {
                 let inputs = inputs_of(alloc, system, instance)?;
-                let components = Places::from_vec(components);
+                let components = Items::from_vec(components);
                 Ok(Block::Composite(CompositeBlock {
                     inputs,
                     shell,

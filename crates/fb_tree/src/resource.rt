@@ -16,14 +16,14 @@ ghost use Rattle.fb_tree.specs.Changes.{Changes, Holds, IsForestBut, IsOut, Show
 ghost use Rattle.fb_tree.specs.Worlds.{IsLeaf, StandsFor, TakesSamples, Found, InForest, IsComposite, IsForest, Reads, Samples, Sees, Shows, key_cmp, key_of, seat_in, seated, value_in};
 
 use crate::block::{Block, EventBlock};
-use crate::places::Places;
 use crate::shell::Shell;
 use crate::tree::find;
 use crate::values::{publish, remember, replace, set_input, set_slot};
 use fb_event::state::EventState;
-use fb_fabric::fabric::Place;
 use fb_system::system::System;
 use fb_types::event_kind::EventKind;
+use fb_types::items::Items;
+use fb_types::run::Place;
 use fb_types::value::Value;
 use std::alloc::Global;
 use std::collections::BTreeMap;
@@ -38,9 +38,9 @@ pub struct Forest {
     /// The number of the resource.
     pub resource: usize,
     /// For each instance of the application, its place among the blocks of its resource.
-    pub seats: Places<u32>,
+    pub seats: Items<u32>,
     /// The instances of the application that lie in the resource, in the order of the text.
-    pub blocks: Places<Block>,
+    pub blocks: Items<Block>,
     pub held: Held,
 }
 
@@ -273,10 +273,10 @@ fn stub(alloc: Global) -> Block
 {
     Block::Event(EventBlock {
         state: EventState::new(EventKind::Restart),
-        inputs: Places::new(alloc),
+        inputs: Items::new(alloc),
         shell: Shell {
-            slots: Places::new(alloc),
-            published: Places::new(alloc),
+            slots: Items::new(alloc),
+            published: Items::new(alloc),
         },
     })
 }

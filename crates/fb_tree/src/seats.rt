@@ -5,7 +5,6 @@ ghost use Rattle.fb_types.specs.Headline.{system_of};
 ghost use Rattle.fb_tree.specs.Worlds.{seat, seat_in};
 ghost use Rattle.fb_tree.specs.Opening.{IsTopIn};
 
-use crate::places::Places;
 use fb_system::system::System;
 use fb_types::items::Items;
 use std::alloc::{AllocError, Global};
@@ -23,7 +22,7 @@ fn zeros(alloc: Global, count: usize) -> Result<Vec<u32>, AllocError>
 }
 
 /// For each instance of the application, how many before it lie in the same resource.
-pub(crate) fn seats_of(alloc: Global, system: &System) -> Result<Places<u32>, AllocError>
+pub(crate) fn seats_of(alloc: Global, system: &System) -> Result<Items<u32>, AllocError>
     requires { 0 < length (system_of system.now).resource_names }
     ensures { IfOk result (λ s. (place : ℕ) → seat_in s place ≡ seat system.now.library system.now.plan place) }
 {
@@ -36,7 +35,7 @@ pub(crate) fn seats_of(alloc: Global, system: &System) -> Result<Places<u32>, Al
         seats.push(seat)?;
         counts[resource] = seat + 1;
     }
-    Ok(Places::from_vec(seats))
+    Ok(Items::from_vec(seats))
 }
 
 /// The instances of the application that lie in a resource, in the order of the text.

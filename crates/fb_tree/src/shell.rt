@@ -1,12 +1,12 @@
 //! What connections and stimuli set of an instance.
 
-use crate::places::Places;
+use fb_types::items::Items;
 use fb_types::value::Value;
 
 /// What connections and stimuli set of an instance: the slots of its data inputs, and its data outputs as
 /// connections see them, each in the order of the declaration.
 #[derive(Drop)]
 pub struct Shell {
-    pub slots: Places<Value>,
-    pub published: Places<Value>,
+    pub slots: Items<Value>,
+    pub published: Items<Value>,
 }

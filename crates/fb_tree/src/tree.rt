@@ -7,7 +7,7 @@ ghost use Rattle.std.specs.Fn.{FnOnceReturnsAtMut};
 ghost use Rattle.fb_tree.specs.Trees.{block_at, Changed, Unchanged};
 
 use crate::block::Block;
-use crate::places::Places;
+use fb_types::items::Items;
 
 /// The block at a route.
 pub fn find<'a>(blocks: &'a [Block], first: u32, rest: &[u32]) -> Option<&'a Block>
@@ -24,7 +24,7 @@ pub fn find<'a>(blocks: &'a [Block], first: u32, rest: &[u32]) -> Option<&'a Blo
 /// All other blocks stay as they are, but for those inside a block of which the change takes or changes the
 /// components.
 pub fn change<R, F: FnOnce(&mut Block) -> R>(
-    blocks: &mut Places<Block>,
+    blocks: &mut Items<Block>,
     first: u32,
     rest: &[u32],
     apply: F,

@@ -5,14 +5,14 @@ ghost use Rattle.fb_tree.specs.Blocks.{with_input, with_published, with_slot, wi
 ghost use Rattle.fb_tree.specs.Trees.{block_at, put_at, ChangedAlone};
 
 use crate::block::Block;
-use crate::places::Places;
 use crate::tree::change;
 use fb_event::state::EventState;
+use fb_types::items::Items;
 use fb_types::value::Value;
 use std::mem;
 
 /// A connection or a stimulus brings a value to a data input of the block at a route.
-pub fn set_slot(blocks: &mut Places<Block>, first: u32, rest: &[u32], input: usize, value: Value)
+pub fn set_slot(blocks: &mut Items<Block>, first: u32, rest: &[u32], input: usize, value: Value)
     ensures { ChangedAlone (with_slot input value) blocks.old (first ∷ rest.now) blocks.new }
 {
     change(blocks, first, rest, |block| {
@@ -21,7 +21,7 @@ pub fn set_slot(blocks: &mut Places<Block>, first: u32, rest: &[u32], input: usi
 }
 
 /// A data output of the block at a route shows another value to connections.
-pub fn publish(blocks: &mut Places<Block>, first: u32, rest: &[u32], output: usize, value: Value)
+pub fn publish(blocks: &mut Items<Block>, first: u32, rest: &[u32], output: usize, value: Value)
     ensures { ChangedAlone (with_published output value) blocks.old (first ∷ rest.now) blocks.new }
 {
     change(blocks, first, rest, |block| {
@@ -30,7 +30,7 @@ pub fn publish(blocks: &mut Places<Block>, first: u32, rest: &[u32], output: usi
 }
 
 /// The event block or the composite block at a route samples a data input. For another block nothing changes.
-pub fn set_input(blocks: &mut Places<Block>, first: u32, rest: &[u32], input: usize, value: Value)
+pub fn set_input(blocks: &mut Items<Block>, first: u32, rest: &[u32], input: usize, value: Value)
     ensures { ChangedAlone (with_input input value) blocks.old (first ∷ rest.now) blocks.new }
 {
     change(blocks, first, rest, |block| {
@@ -41,7 +41,7 @@ pub fn set_input(blocks: &mut Places<Block>, first: u32, rest: &[u32], input: us
 }
 
 /// The event block at a route remembers something else. For another block nothing changes.
-pub fn remember(blocks: &mut Places<Block>, first: u32, rest: &[u32], state: EventState)
+pub fn remember(blocks: &mut Items<Block>, first: u32, rest: &[u32], state: EventState)
     ensures { ChangedAlone (λ b. with_state b state) blocks.old (first ∷ rest.now) blocks.new }
 {
     change(blocks, first, rest, |block| {
@@ -52,7 +52,7 @@ pub fn remember(blocks: &mut Places<Block>, first: u32, rest: &[u32], state: Eve
 }
 
 /// Puts a block in the place of the one at a route, and gives that one. Where no block stands there nothing happens.
-pub fn replace(blocks: &mut Places<Block>, first: u32, rest: &[u32], block: Block) -> Option<Block>
+pub fn replace(blocks: &mut Items<Block>, first: u32, rest: &[u32], block: Block) -> Option<Block>
     ensures found { result ≡ block_at blocks.old (first ∷ rest.now) }
     ensures put { IfSome result (λ was. blocks.new ≡ put_at blocks.old (first ∷ rest.now) block) }
     ensures none { IfNone result (blocks.new ≡ blocks.old) }

@@ -3,8 +3,6 @@ use Rattle.std.proofs.Common.{◌≡◌, inl, inr, refl, sym, ap, subst, ◌∙�
 use Rattle.std.specs.Prelude.{Contains, is_some}
 use Rattle.std.specs.List.{list_all, list_any}
 use Rattle.std.proofs.lemmas.Bool.{and_parts, eqb-true, leb-true}
-use Rattle.std.proofs.lemmas.List.Elements.{All-contains, Contains-append_left, Contains-append_right, Contains-push}
-use Rattle.std.proofs.lemmas.List.Sums.{AllPass-from_list_all}
 use Rattle.fb_types.specs.Names.{Name, same_name, same_path, Port, same_port}
 use Rattle.fb_types.specs.Values.{fits}
 use Rattle.fb_types.specs.Blocks.{Kind, among, ports_of, outputs_with, is_event_input}
@@ -26,32 +24,18 @@ use Rattle.fb_types.specs.declared.deploy.Plan.{Plan}
 use Rattle.fb_types.specs.declared.deploy.Stimulus.{Stimulus}
 use Rattle.fb_types.specs.declared.value.Ty.{Ty}
 use Rattle.fb_types.specs.declared.value.Ty.TheVariants.{Bool as Boolean}
-use Rattle.fb_types.proofs.PathLaws.{same_name_is, same_name_itself, same_path_is, same_path_itself}
+use Rattle.fb_types.proofs.NameLaws.{same_from_same_name, same_name-itself}
+use Rattle.fb_types.proofs.ListTests.{passes_at, passes_somewhere}
+use Rattle.fb_types.proofs.PathLaws.{same_path_is, same_path_itself}
 
 -- ---- Lists
 
 no : {A : Type 0} (b : Bool) → b ≡ true → b ≡ false → A
 no b holds fails = absurd (true≢false (sym holds ∙ fails))
 
-passes : {A : Type 0} (p : A → Bool) (xs : List A) (x : A) → list_all p xs ≡ true → Contains xs x → p x ≡ true
-passes p xs x h c = All-contains (λ y. p y ≡ true) xs x (AllPass-from_list_all p xs h) c
-
-here : {A : Type 0} (x : A) (xs : List A) → Contains (x ∷ xs) x
-here x xs = Contains-append_left (x ∷ []) xs x (Contains-push [] x)
-
--- one that passes a test
-some-passes : {A : Type 0} (p : A → Bool) (xs : List A) → list_any p xs ≡ true → (x : A) × Contains xs x × (p x ≡ true)
-some-passes p [] h = absurd (true≢false (sym h))
-some-passes p (x ∷ xs) h = by (p x) refl h (some-passes p xs)
-  where
-    by : (b : Bool) → p x ≡ b → (b || list_any p xs) ≡ true → (list_any p xs ≡ true → (y : _) × Contains xs y × (p y ≡ true))
-        → (y : _) × Contains (x ∷ xs) y × (p y ≡ true)
-    by true e h rest = (x, here x xs, e)
-    by false e h rest = let r = rest h in (r.0, Contains-append_right (x ∷ []) xs r.0 r.1, r.2)
-
 among-contains : (ns : List Name) (n : Name) → among ns n ≡ true → Contains ns n
 among-contains ns n h =
-    let r = some-passes (same_name n) ns h in subst (λ (m : Name). Contains ns m) (sym (same_name_is n r.0 r.2)) r.1
+    let r = passes_somewhere (same_name n) ns h in subst (λ (m : Name). Contains ns m) (sym (same_from_same_name n r.0 r.2)) r.1
 
 -- no two are the same
 abbrev pub apart : {A : Type 0} → (A → A → Bool) → List A → Bool
@@ -63,12 +47,12 @@ once same itself [] h t = absurd t
 once same itself (x ∷ xs) h t =
     let parts = and_parts (list_all (λ y. not (same x y)) xs) (apart same xs) h in
     elim t [
-      | inl again ↦ no (not (same x x)) (passes (λ y. not (same x y)) xs x parts.0 again) (ap not (itself x))
+      | inl again ↦ no (not (same x x)) (passes_at (λ y. not (same x y)) xs x parts.0 again) (ap not (itself x))
       | inr later ↦ once same itself xs parts.1 later
     ]
 
 port_itself : (q : Port) → same_port q q ≡ true
-port_itself q = rw (same_path_itself q.at, same_name_itself q.name) refl
+port_itself q = rw (same_path_itself q.at, same_name-itself q.name) refl
 
 abbrev pub same_ports : Port × Port → Port × Port → Bool
 same_ports c d = same_port c.0 d.0 && same_port c.1 d.1
@@ -80,7 +64,7 @@ abbrev pub same_names : Name × Name → Name × Name → Bool
 same_names c d = same_name c.0 d.0 && same_name c.1 d.1
 
 names_itself : (c : Name × Name) → same_names c c ≡ true
-names_itself c = rw (same_name_itself c.0, same_name_itself c.1) refl
+names_itself c = rw (same_name-itself c.0, same_name-itself c.1) refl
 
 -- ---- The tests, by the numbers of the refusals
 
@@ -92,9 +76,9 @@ pub record NamesOnce (lib : Library) (plan : Plan) : Type 0 where
 
 names-once : (lib : Library) (plan : Plan) → NamesOnce lib plan → ¬ (NameTwice lib plan)
 names-once lib plan h (inl r) =
-    once same_name same_name_itself r.0 (passes (apart same_name) (name_spaces lib plan) r.0 h.spaces r.1) r.2
+    once same_name same_name-itself r.0 (passes_at (apart same_name) (name_spaces lib plan) r.0 h.spaces r.1) r.2
 names-once lib plan h (inr (inl r)) =
-    once same_ports ports_itself (event_pairs r.0.1) (passes (λ (n : Placed). apart same_ports (event_pairs n.1)) (networks lib) r.0 h.events r.1) r.2
+    once same_ports ports_itself (event_pairs r.0.1) (passes_at (λ (n : Placed). apart same_ports (event_pairs n.1)) (networks lib) r.0 h.events r.1) r.2
 names-once lib plan h (inr (inr t)) = once same_names names_itself (link_pairs plan) h.links t
 
 -- E21
@@ -105,11 +89,11 @@ pub record NamesKnown (lib : Library) (plan : Plan) : Type 0 where
 
 names-known : (lib : Library) (plan : Plan) → NamesKnown lib plan → ¬ (NameUnknown lib plan)
 names-known lib plan h (inl r) =
-    r.2 (among-contains r.0.1 r.0.0 (passes (λ (w : Wanted). among w.1 w.0) (wanted lib plan) r.0 h.names r.1))
+    r.2 (among-contains r.0.1 r.0.0 (passes_at (λ (w : Wanted). among w.1 w.0) (wanted lib plan) r.0 h.names r.1))
 names-known lib plan h (inr (inl r)) =
     no (is_known r.0 r.1)
-    (passes (is_known r.0) (mentioned r.0) r.1 (passes (λ (t : BasicType). list_all (is_known t) (mentioned t)) (basics lib) r.0 h.mentions r.2) r.3) r.4
-names-known lib plan h (inr (inr r)) = no (ends_known lib r.0) (passes (ends_known lib) (networks lib) r.0 h.ends r.1) r.2
+    (passes_at (is_known r.0) (mentioned r.0) r.1 (passes_at (λ (t : BasicType). list_all (is_known t) (mentioned t)) (basics lib) r.0 h.mentions r.2) r.3) r.4
+names-known lib plan h (inr (inr r)) = no (ends_known lib r.0) (passes_at (ends_known lib) (networks lib) r.0 h.ends r.1) r.2
 
 -- E22
 pub record KindsRight (lib : Library) : Type 0 where
@@ -122,29 +106,29 @@ kinds-right : (lib : Library) → KindsRight lib → ¬ (KindWrong lib)
 kinds-right lib h (inl (t, c, inl r)) =
     no (is_condition (place_in t) r.0)
     (
-    passes (is_condition (place_in t)) (guards_of t) r.0
-    (passes (λ (t : BasicType). list_all (is_condition (place_in t)) (guards_of t)) (basics lib) t h.guards c) r.1
+    passes_at (is_condition (place_in t)) (guards_of t) r.0
+    (passes_at (λ (t : BasicType). list_all (is_condition (place_in t)) (guards_of t)) (basics lib) t h.guards c) r.1
     )
     r.2
 kinds-right lib h (inl (t, c, inr r)) =
     no (body_right (place_in t) r.0)
     (
-    passes (body_right (place_in t)) (map (λ a. body_of a.body) t.algorithms) r.0
-    (passes (λ (t : BasicType). list_all (body_right (place_in t)) (map (λ a. body_of a.body) t.algorithms)) (basics lib) t h.bodies c) r.1
+    passes_at (body_right (place_in t)) (map (λ a. body_of a.body) t.algorithms) r.0
+    (passes_at (λ (t : BasicType). list_all (body_right (place_in t)) (map (λ a. body_of a.body) t.algorithms)) (basics lib) t h.bodies c) r.1
     )
     r.2
 kinds-right lib h (inr (inl r)) =
     no (declared_right r.1)
     (
-    passes declared_right (variables_in (kind_of r.0)) r.1
-    (passes (λ (t : BlockType). list_all declared_right (variables_in (kind_of t))) lib.blocks r.0 h.declared r.2) r.3
+    passes_at declared_right (variables_in (kind_of r.0)) r.1
+    (passes_at (λ (t : BlockType). list_all declared_right (variables_in (kind_of t))) lib.blocks r.0 h.declared r.2) r.3
     )
     r.4
 kinds-right lib h (inr (inr r)) =
     no (parameters_right lib r.1)
     (
-    passes (parameters_right lib) r.0.1.instances r.1
-    (passes (λ (n : Placed). list_all (parameters_right lib) n.1.instances) (networks lib) r.0 h.parameters r.2) r.3
+    passes_at (parameters_right lib) r.0.1.instances r.1
+    (passes_at (λ (n : Placed). list_all (parameters_right lib) n.1.instances) (networks lib) r.0 h.parameters r.2) r.3
     )
     r.4
 
@@ -166,8 +150,8 @@ InRange lib = list_all (λ n. list_all (joins_booleans lib n) n.1.data_connectio
 in-range : (lib : Library) → InRange lib → ¬ (OutOfRange lib)
 in-range lib h r =
     let joined =
-    passes (joins_booleans lib r.0) r.0.1.data_connections r.1
-    (passes (λ (n : Placed). list_all (joins_booleans lib n) n.1.data_connections) (networks lib) r.0 h r.4) r.5 in
+    passes_at (joins_booleans lib r.0) r.0.1.data_connections r.1
+    (passes_at (λ (n : Placed). list_all (joins_booleans lib n) n.1.data_connections) (networks lib) r.0 h r.4) r.5 in
     let parts = and_parts (is_boolean (type_at_end lib r.0 r.1.from)) (is_boolean (type_at_end lib r.0 r.1.to)) joined in
     let s : r.2 ≡ Boolean = boolean_is r.2 (subst (λ (o : Option Ty). is_boolean o ≡ true) r.6 parts.0) in
     let t : r.3 ≡ Boolean = boolean_is r.3 (subst (λ (o : Option Ty). is_boolean o ≡ true) r.7 parts.1) in
@@ -180,7 +164,7 @@ OneSource lib = list_all (λ n. apart same_port (map (λ c. c.1) (pairs_in [] n.
 one-source : (lib : Library) → OneSource lib → ¬ (TwoSources lib)
 one-source lib h r =
     once same_port port_itself (map (λ c. c.1) (pairs_in [] r.0.1.data_connections))
-    (passes (λ (n : Placed). apart same_port (map (λ c. c.1) (pairs_in [] n.1.data_connections))) (networks lib) r.0 h r.1) r.2
+    (passes_at (λ (n : Placed). apart same_port (map (λ c. c.1) (pairs_in [] n.1.data_connections))) (networks lib) r.0 h r.1) r.2
 
 -- E25, where no type is a composite
 abbrev pub is_basic : BlockType → Bool
@@ -191,7 +175,7 @@ abbrev pub NoComposite : Library → Type 0
 NoComposite lib = list_all is_basic lib.blocks ≡ true
 
 not-high : (lib : Library) → NoComposite lib → ¬ (TooHigh lib)
-not-high lib h r = absurd (true≢false (sym (passes is_basic lib.blocks (block.Composite r.0) h r.2)))
+not-high lib h r = absurd (true≢false (sym (passes_at is_basic lib.blocks (block.Composite r.0) h r.2)))
 
 -- E26
 pub record AreMapped (lib : Library) (plan : Plan) : Type 0 where
@@ -200,8 +184,8 @@ pub record AreMapped (lib : Library) (plan : Plan) : Type 0 where
 
 are-mapped : (lib : Library) (plan : Plan) → AreMapped lib plan → ¬ (NotMapped lib plan)
 are-mapped lib plan h (inl r) =
-    r.2 (among-contains (mapped lib plan) r.0.name (passes (λ (i : Instance). among (mapped lib plan) i.name) lib.application.network.instances r.0 h.each r.1))
-are-mapped lib plan h (inr t) = once same_name same_name_itself (mapped lib plan) h.once t
+    r.2 (among-contains (mapped lib plan) r.0.name (passes_at (λ (i : Instance). among (mapped lib plan) i.name) lib.application.network.instances r.0 h.each r.1))
+are-mapped lib plan h (inr t) = once same_name same_name-itself (mapped lib plan) h.once t
 
 -- E27
 abbrev pub is_near : Plan → Port × Port → Bool
@@ -215,7 +199,7 @@ AreLinked lib plan = list_all (is_linked plan) (event_pairs_of lib ++ data_pairs
 
 are-linked : (lib : Library) (plan : Plan) → AreLinked lib plan → ¬ (NoLink lib plan)
 are-linked lib plan h r =
-    by (is_near plan r.0) refl (passes (is_linked plan) (event_pairs_of lib ++ data_pairs_of lib) r.0 h r.1)
+    by (is_near plan r.0) refl (passes_at (is_linked plan) (event_pairs_of lib ++ data_pairs_of lib) r.0 h r.1)
   where
     by : (b : Bool) → is_near plan r.0 ≡ b
         → (b || is_some (link_between plan (resource_of plan r.0.0.at) (resource_of plan r.0.1.at))) ≡ true → ⊥
@@ -257,12 +241,12 @@ served lib plan c e (Some k) is there h =
 
 are-served : (lib : Library) (plan : Plan) → AreServed lib plan → ¬ (NoEvent lib plan)
 are-served lib plan h r =
-    by (is_near plan r.0) refl (passes (is_near_or_served lib plan) (data_pairs_of lib) r.0 h r.1)
+    by (is_near plan r.0) refl (passes_at (is_near_or_served lib plan) (data_pairs_of lib) r.0 h r.1)
   where
     by : (b : Bool) → is_near plan r.0 ≡ b → (b || list_any (serves lib plan r.0) (event_pairs_of lib)) ≡ true → ⊥
     by true e g = r.2 (eqb-true (resource_of plan r.0.0.at) (resource_of plan r.0.1.at) e)
     by false e g =
-        let x = some-passes (serves lib plan r.0) (event_pairs_of lib) g in
+        let x = passes_somewhere (serves lib plan r.0) (event_pairs_of lib) g in
         r.3 (served lib plan r.0 x.0 (kind_at lib r.0.0.at) refl x.1 x.2)
 
 -- E29, where stimuli set nothing
@@ -316,7 +300,7 @@ good lib s (Some k) is [] e g h =
 
 are-fit : (lib : Library) (stimuli : List Stimulus) → AreFit lib stimuli → ¬ (BadStimulus lib stimuli)
 are-fit lib stimuli h r =
-    let parts = and_parts (sets_nothing r.0) (names_event (kind_of_stimulus lib r.0) r.0.event) (passes (is_fit lib) stimuli r.0 h r.1) in
+    let parts = and_parts (sets_nothing r.0) (names_event (kind_of_stimulus lib r.0) r.0.event) (passes_at (is_fit lib) stimuli r.0 h r.1) in
     r.2 (good lib r.0 (kind_of_stimulus lib r.0) refl r.0.settings refl parts.0 parts.1)
 
 within-limits : (lib : Library) (stimuli : List Stimulus) → nat_le (length (paths_of lib)) 4096 ≡ true → nat_le (length stimuli) 100000 ≡ true

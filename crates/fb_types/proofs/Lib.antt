@@ -1,3 +1,11 @@
+pub mod Elements
+pub mod TwiceLaws
+pub mod NameLaws
+pub mod Positions
+pub mod ByPlace
+pub mod ListTests
+pub mod Options
+pub mod LoopSteps
 pub mod KeyLaws
 pub mod EachLaws
 pub mod Lookups

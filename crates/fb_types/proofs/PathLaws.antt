@@ -1,8 +1,8 @@
 -- Names and paths that the tests do not tell apart are one.
-use Rattle.std.proofs.Common.{◌≡◌, Bool, true, List, [], ◌∷◌, refl, nat_eq}
+use Rattle.std.proofs.Common.{◌≡◌, Bool, true, List, [], ◌∷◌, refl}
 use Rattle.std.specs.Cmp.{first_so, second_so}
-use Rattle.std.proofs.lemmas.Bool.{eqb-true, eq-eqb}
-use Rattle.fb_types.specs.Names.{Name, Path, Port, alike, same_name, same_path, same_port}
+use Rattle.fb_types.specs.Names.{Path, Port, alike, same_name, same_path, same_port}
+use Rattle.fb_types.proofs.NameLaws.{same_from_same_name, same_name-itself}
 
 module _ {A : Type 0} (same : A → A → Bool) where
   pub alike_is : ((x y : A) → same x y ≡ true → x ≡ y) → (xs ys : List A) → alike same xs ys ≡ true → xs ≡ ys
@@ -18,20 +18,14 @@ module _ {A : Type 0} (same : A → A → Bool) where
   alike_itself reflexive [] = refl
   alike_itself reflexive (x ∷ xs) = rw (reflexive x) (alike_itself reflexive xs)
 
-pub same_name_is : (m n : Name) → same_name m n ≡ true → m ≡ n
-same_name_is = alike_is nat_eq (λ x y h. eqb-true x y h)
-
-pub same_name_itself : (n : Name) → same_name n n ≡ true
-same_name_itself = alike_itself nat_eq (λ x. eq-eqb x x refl)
-
 pub same_path_is : (p q : Path) → same_path p q ≡ true → p ≡ q
-same_path_is = alike_is same_name same_name_is
+same_path_is = alike_is same_name same_from_same_name
 
 pub same_path_itself : (p : Path) → same_path p p ≡ true
-same_path_itself = alike_itself same_name same_name_itself
+same_path_itself = alike_itself same_name same_name-itself
 
 pub same_port_is : (p q : Port) → same_port p q ≡ true → p ≡ q
 same_port_is p q h =
     let at : p.at ≡ q.at = same_path_is p.at q.at (first_so (same_path p.at q.at) (same_name p.name q.name) h) in
-    let name : p.name ≡ q.name = same_name_is p.name q.name (second_so (same_path p.at q.at) (same_name p.name q.name) h) in
+    let name : p.name ≡ q.name = same_from_same_name p.name q.name (second_so (same_path p.at q.at) (same_name p.name q.name) h) in
     λ i. record { at = at i; name = name i }

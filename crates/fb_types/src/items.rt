@@ -1,7 +1,8 @@
 //! A `Vec` that contracts see as the list of its elements.
 
-ghost use Rattle.std.specs.Prelude.{◌≡◌, [], ◌∷◌, ◌++◌, ◌<◌, length, slice_get, ◌↔◌, IsTrue, IfOk, OnOk, OnErr, OnSome};
-ghost use Rattle.std.specs.Option.{option_copied};
+ghost use Rattle.std.specs.Prelude.{◌≡◌, [], ◌∷◌, ◌++◌, ◌<◌, length, slice_get, slice_set, ◌↔◌, IsTrue, IfOk, OnOk, OnErr, OnSome};
+ghost use Rattle.std.specs.Option.{option_copied, option_map};
+ghost use Rattle.std.specs.Borrow.{LendsIf, sem};
 
 use std::alloc::{AllocError, Global};
 use std::marker::Model;
@@ -24,6 +25,8 @@ impl<T> Model for Items<T> {
 }
 
 impl<T> Items<T> {
+    ghost use Rattle.fb_types.specs.contracts.items.Items.{the_row};
+
     /// The empty list, which takes no memory.
     pub fn new(alloc: Global) -> Items<T>
         ensures { result ≡ [] }
@@ -77,6 +80,14 @@ impl<T> Items<T> {
     {
         self.all.get(index)
     }
+
+    /// The element at a place, to be changed, or none behind the end.
+    pub fn get_mut(&mut self, index: usize) -> Option<&mut T>
+        ensures* writes_back { sem 𝓛 (LendsIf (the_row T.row) T.row self.entry result (slice_set self.old index) self.old) }
+        ensures value { option_map (λ v. v.now) result ≡ slice_get self.old index }
+    {
+        self.all.get_mut(index)
+    }
 }
 
 impl<T: Drop> Items<T> {
@@ -97,5 +108,21 @@ impl<T: Copy> Items<T> {
     {
         let all = Vec::from_slice(alloc, items)?;
         Ok(Items { all })
+    }
+
+    /// The element at a place, or none behind the end.
+    pub fn value(&self, index: usize) -> Option<T>
+        ensures { result ≡ slice_get self.now index }
+    {
+        self.get(index).copied()
+    }
+
+    /// Puts an element at a place, in place of the one there. Behind the end nothing changes.
+    pub fn set(&mut self, index: usize, item: T)
+        ensures { self.new ≡ slice_set self.old index item }
+    {
+        if index < self.all.len() {
+            self.all[index] = item;
+        }
     }
 }

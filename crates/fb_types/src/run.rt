@@ -1,5 +1,5 @@
-//! What a simulation gives: lines, messages, emissions, and how it ends. Instances, events and variables
-//! are numbers here, which stand for names only when a trace is written.
+//! What waits in a simulation and what it gives: events, lines, messages, emissions, and how it ends. Instances,
+//! events and variables are numbers here, which stand for names only when a trace is written.
 
 use crate::items::Items;
 use crate::key::Key;
@@ -29,6 +29,14 @@ pub struct Target {
     pub is_output: bool,
 }
 
+/// A variable of an instance, by its place among the data inputs or the data outputs of the instance's type.
+#[derive(Clone, Copy, Debug, PartialEq, Eq)]
+pub struct Place {
+    pub instance: u32,
+    pub variable: u32,
+    pub is_output: bool,
+}
+
 /// A value that was emitted, with the output variable that it is of.
 #[derive(Clone, Copy, Debug, PartialEq, Eq)]
 pub struct Carried {
@@ -48,6 +56,19 @@ pub struct Message {
     pub arrives: u64,
     pub target: Target,
     pub values: Items<Carried>,
+}
+
+/// An event that waits.
+#[derive(Drop)]
+pub enum Event {
+    /// A stimulus, by its row.
+    Stimulus(u32),
+    /// The timer of an instance.
+    Timer(u32),
+    /// A message, at its arrival.
+    Arrival(Message),
+    /// A local event, at its target.
+    Local(Target),
 }
 
 /// An output event that was emitted, by its place among the event outputs, with the values of its WITH

@@ -1,20 +1,18 @@
 -- Declarations and deployments in which each name stands for something.
-use Rattle.std.proofs.Common.{◌≡◌, ◌&&◌, ℕ, ◌+◌, ◌<◌, ◌≤◌, true, List, [], ◌∷◌, ◌++◌, length, take, get_or, Some, None, Option, Contains, MatchOption, refl, sym, ◌∙◌, ap, subst, inl, inr}
+use Rattle.std.proofs.Common.{◌≡◌, ◌&&◌, true, List, [], ◌∷◌, Some, None, Option, Contains, MatchOption, refl, sym, subst, inl, inr}
 use Rattle.std.specs.Prelude.{flat_map, All}
 use Rattle.std.specs.List.{list_all}
-use Rattle.std.proofs.lemmas.List.Elements.{All-contains, All-push}
-use Rattle.std.proofs.lemmas.List.{take_more, take_all}
+use Rattle.std.proofs.lemmas.List.Elements.{All-contains}
 use Rattle.fb_types.specs.Repeated.{Placed, networks_in}
 use Rattle.fb_types.specs.Unknown.{NameUnknown}
 use Rattle.fb_types.specs.declared.library.BlockType.{BlockType}
 use Rattle.fb_types.specs.declared.library.BlockType.TheVariants as block
 use Rattle.fb_types.specs.declared.library.Library.{Library}
 use Rattle.fb_types.specs.declared.deploy.Plan.{Plan}
-use Rattle.fb_names.proofs.NameLemmas.{Contains-nil, Contains-cons_cases, Contains-here, Contains-there}
+use Rattle.fb_types.proofs.Elements.{Contains-nil, Contains-cons_cases, Contains-here, Contains-there, flat_map-Contains}
 use Rattle.fb_kinds.specs.Checks.{is_known_block}
 use Rattle.fb_kinds.proofs.Checks.{known_answer}
 use Rattle.fb_names.specs.Unknown.{NetworkUnknown, DeploymentUnknown}
-use Rattle.fb_names.proofs.Elements.{Contains-flat_map_from}
 use Rattle.fb_names.proofs.Resolving.{all_known}
 use Rattle.fb_why.specs.declared.place.Place.{Place}
 use Rattle.fb_why.specs.declared.place.Place.TheVariants.{InstanceType, Parameter, End, With, Transition, Action, Guard, Body, Mapped, LinkEnd}
@@ -32,16 +30,6 @@ in_declaration lib plan (Guard b x m) h = h
 in_declaration lib plan (Body b a m) h = h
 in_declaration lib plan (Mapped r i) h = absurd h
 in_declaration lib plan (LinkEnd k side) h = absurd h
-
--- ---- Loops over block types
-
-pub all_next :
-    {A : Type 0} (P : A → Type 0) (xs : List A) (i : ℕ) (x : A) → i < length xs → x ≡ get_or xs i x → All P (take i xs) → P x → All P (take (i + 1) xs)
-all_next {A} P xs i x h e so_far here =
-    subst (λ (ys : List A). All P ys) (sym (take_more xs i x h ∙ ap (λ (z : A). take i xs ++ z ∷ []) (sym e))) (All-push P (take i xs) x so_far here)
-
-pub all_of_taken : {A : Type 0} (P : A → Type 0) (xs : List A) (i : ℕ) → length xs ≤ i → All P (take i xs) → All P xs
-all_of_taken {A} P xs i h all = subst (λ (ys : List A). All P ys) (take_all i xs h) all
 
 -- ---- All of a declaration and a deployment
 
@@ -68,7 +56,7 @@ name_known lib plan application blocks deployment =
     (λ n c. elim (Contains-cons_cases of_application (flat_map networks_in lib.blocks) n c) [
       | inl e ↦ subst (λ (n : Placed). ¬ (NetworkUnknown lib n)) e application
       | inr rest ↦
-          let r = Contains-flat_map_from networks_in lib.blocks n rest in
+          let r = flat_map-Contains networks_in lib.blocks n rest in
           inside_known lib r.0 n (All-contains (IsBlockKnown lib) lib.blocks r.0 blocks r.1) r.2
     ])
     deployment

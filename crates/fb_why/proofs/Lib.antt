@@ -3,5 +3,4 @@ mod BlockPlaces
 mod TypePorts
 mod DeploymentPlaces
 mod AllPlaces
-mod Options
 mod Reading

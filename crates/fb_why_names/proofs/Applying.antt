@@ -19,10 +19,10 @@ use Rattle.fb_types.specs.declared.library.Network.{Network}
 use Rattle.fb_types.specs.declared.library.Ports.{Ports}
 use Rattle.fb_types.specs.declared.library.Variable.{Variable}
 use Rattle.fb_names.specs.GivenTwice.{BlockTwice, NetworkTwice, PortTwice, TypeTwice, names_of_ports}
-use Rattle.fb_names.proofs.Elements.{element_of_place}
-use Rattle.fb_names.proofs.NameLemmas.{Contains-nil, Contains-cons_cases, Contains-here, Contains-there, contains_from_any}
+use Rattle.fb_types.proofs.NameLaws.{contains_from_any}
+use Rattle.fb_types.proofs.Elements.{Contains-here, Contains-there, Contains-flat_map, Contains-map}
+use Rattle.fb_types.proofs.ByPlace.{element_of_place}
 use Rattle.fb_names.proofs.NameTwice.{block_twice, network_twice, plan_twice, types_twice}
-use Rattle.fb_names.proofs.TwiceIn.{Contains-flat_map, Contains-map}
 use Rattle.fb_why_names.specs.Heights.{IsHeld}
 use Rattle.fb_why_names.specs.Applies.{HeightApplies, JoinedApplies, TwiceApplies, UnlinkedApplies, UnmappedApplies, UnservedApplies}
 use Rattle.fb_why_names.specs.Pairs.{IsPair}
@@ -36,6 +36,7 @@ use Rattle.fb_why_names.specs.declared.twice.InBlock.TheVariants as part
 use Rattle.fb_why_names.specs.declared.twice.InNetwork.{InNetwork}
 use Rattle.fb_why_names.specs.declared.twice.InNetwork.TheVariants as network
 use Rattle.fb_why_names.specs.declared.unlinked.Unlinked.TheVariants as unlinked
+use Rattle.fb_types.proofs.TwiceLaws.{Twice-append_right, Twice-both}
 use Rattle.fb_why_names.specs.declared.unmapped.Unmapped.TheVariants.{Unlisted, Again}
 use Rattle.fb_why_names.proofs.Once.{event_type_names, is_some-named}
 use Rattle.fb_why_names.proofs.Parted.{targets_are}
@@ -51,18 +52,6 @@ at_both (y ∷ ys) (suc i) (suc j) x less h g = inr (at_both ys i j x (omega ari
 
 pair_twice : {A : Type 0} (xs : List A) (r : ℕ × ℕ) → IsPair xs r → Twice xs
 pair_twice xs r p = at_both xs r.0 r.1 p.what p.in_order p.first p.again
-
-Twice-right : {A : Type 0} (xs ys : List A) → Twice ys → Twice (xs ++ ys)
-Twice-right [] ys t = t
-Twice-right (x ∷ xs) ys t = inr (Twice-right xs ys t)
-
-Twice-across : {A : Type 0} (xs ys : List A) (z : A) → Contains xs z → Contains ys z → Twice (xs ++ ys)
-Twice-across [] ys z c d = absurd (Contains-nil z c)
-Twice-across {A} (x ∷ xs) ys z c d =
-    elim (Contains-cons_cases x xs z c) [
-      | inl e ↦ inl (subst (λ (y : A). Contains (xs ++ ys) y) (sym e) (Contains-append_right xs ys z d))
-      | inr rest ↦ inr (Twice-across xs ys z rest d)
-    ]
 
 -- ---- E20
 
@@ -108,13 +97,13 @@ event_block_pair : (ts : List BlockType) (k : ℕ) → IsEventBlock ts k → Typ
 event_block_pair ts k h =
     let n = type_name h.0 in
     let is : is_some (event_block_named n) ≡ true = true_from_not (is_some (event_block_named n)) h.2 in
-    Twice-across event_type_names (map type_name ts) n
+    Twice-both event_type_names (map type_name ts) n
     (contains_from_any n event_type_names (sym (is_some-named (λ e. e.0) (λ e. e.1) n event_blocks) ∙ is))
     (Contains-map type_name ts h.0 (element_of_place ts k h.0 h.1))
 
 pub twice_applies : TwiceApplies
 twice_applies lib plan (given.EventBlock k) h = types_twice lib plan (event_block_pair lib.blocks k h)
-twice_applies lib plan (given.Type r) h = types_twice lib plan (Twice-right event_type_names (map type_name lib.blocks) (pair_twice (map type_name lib.blocks) r h))
+twice_applies lib plan (given.Type r) h = types_twice lib plan (Twice-append_right event_type_names (map type_name lib.blocks) (pair_twice (map type_name lib.blocks) r h))
 twice_applies lib plan (given.Block k b) h = block_twice lib plan h.0 (element_of_place lib.blocks k h.0 h.1) (block_pair h.0 b h.2)
 twice_applies lib plan (given.Application n) h = network_twice lib plan (network_pair lib.application.network n h)
 twice_applies lib plan (given.Resource r) h = plan_twice lib plan (inl (pair_twice (resource_names_of plan) r h))

@@ -1,5 +1,5 @@
 -- Connections that have a link, and such that have none.
-use Rattle.std.proofs.Common.{◌≡◌, ◌≢◌, ◌||◌, ℕ, true, false, List, [], Option, Some, None, Contains, refl, sym, ◌∙◌, ap, subst, inl, inr, arith}
+use Rattle.std.proofs.Common.{◌≡◌, ◌≢◌, ◌||◌, ℕ, true, false, List, [], Some, None, Contains, refl, sym, ◌∙◌, ap, subst, inl, inr, arith}
 use Rattle.std.specs.Prelude.{nat_eq, slice_get, option_map, is_some}
 use Rattle.std.specs.List.{list_any, list_all}
 use Rattle.std.proofs.lemmas.Bool.{true≢false}
@@ -13,16 +13,13 @@ use Rattle.fb_types.specs.Mapped.{IsCut, NoLink, data_pairs_of, event_pairs_of}
 use Rattle.fb_types.specs.declared.library.Connection.{Connection}
 use Rattle.fb_types.specs.declared.library.Library.{Library}
 use Rattle.fb_types.specs.declared.deploy.Plan.{Plan}
-use Rattle.fb_names.proofs.Positions.{is_some-position}
-use Rattle.fb_names.proofs.TwiceIn.{map-Contains}
+use Rattle.fb_types.proofs.Elements.{map-Contains}
+use Rattle.fb_types.proofs.Options.{none_from_is_some}
+use Rattle.fb_types.proofs.Positions.{is_some-position}
 use Rattle.fb_why_names.specs.Unlinked.{IsUnlinked, are_linked, is_joining, is_linked}
 
 abbrev ports_of : Connection → Port × Port
 ports_of c = (port_in [] c.from, port_in [] c.to)
-
-none_from_is_some : {X : Type 0} (o : Option X) → is_some o ≡ false → o ≡ None
-none_from_is_some None h = refl
-none_from_is_some (Some x) h = absurd (true≢false h)
 
 -- two resources apart, with no link
 apart : (plan : Plan) (r s : ℕ) → are_linked plan r s ≡ false → (r ≢ s) × (link_between plan r s ≡ None)

@@ -14,11 +14,12 @@ use Rattle.fb_types.specs.declared.library.BlockType.{BlockType}
 use Rattle.fb_types.specs.declared.library.BlockType.TheVariants as block
 use Rattle.fb_types.specs.declared.library.CompositeType.{CompositeType}
 use Rattle.fb_types.specs.declared.library.Instance.{Instance}
-use Rattle.fb_names.proofs.Positions.{is_some-position, position-first, position-later}
+use Rattle.fb_types.proofs.Positions.{is_some-position, position-first, position-later}
 use Rattle.fb_why_names.specs.Heights.{IsHeld, IsTooHighAt, holds_marked, is_composite, is_marked, marked_in, marks_after, place_of_type}
 use Rattle.fb_why_names.specs.declared.heights.Descent.TheVariants.{Height}
+use Rattle.fb_types.proofs.ListTests.{passes_somewhere}
 use Rattle.fb_why_names.proofs.Carried.{declared_type, event_type}
-use Rattle.fb_why_names.proofs.Served.{any_Contains, Contains-any}
+use Rattle.fb_why_names.proofs.Served.{Contains-any}
 
 -- ---- Places
 
@@ -152,7 +153,7 @@ holds-Decides lib steps marks t are =
     let is = t.network.instances in
     let any = is_some-position (is_marked lib marks) is in (
       λ h.
-          let i = any_Contains (is_marked lib marks) is (sym any ∙ h) in
+          let i = passes_somewhere (is_marked lib marks) is (sym any ∙ h) in
           let w = leads_from_marked lib steps marks i.0 are i.2 in
           (w.2.0, (w.0, (i.0, i.1, w.1), w.2.1)),
       λ w.

@@ -1,10 +1,9 @@
 -- Parts of a declaration and a deployment that give nothing twice.
-use Rattle.std.proofs.Common.{◌≡◌, ◌⊎◌, ◌||◌, ℕ, ◌+◌, ◌<◌, ◌≤◌, Bool, true, false, not, List, [], ◌∷◌, ◌++◌, length, map, take, get_or, Some, Contains, refl, sym, ◌∙◌, ap, subst, inl, inr}
+use Rattle.std.proofs.Common.{◌≡◌, ◌⊎◌, ◌||◌, Bool, true, false, not, List, [], ◌∷◌, ◌++◌, map, Some, Contains, refl, sym, ◌∙◌, ap, subst, inl, inr}
 use Rattle.std.specs.Prelude.{All, is_some, option_map, cond}
 use Rattle.std.specs.List.{list_any, list_all}
 use Rattle.std.proofs.lemmas.Bool.{true≢false}
-use Rattle.std.proofs.lemmas.List.{take_more, take_all}
-use Rattle.std.proofs.lemmas.List.Elements.{All-contains, All-push, Contains-append_cases}
+use Rattle.std.proofs.lemmas.List.Elements.{All-contains, Contains-append_cases}
 use Rattle.std.proofs.lemmas.List.Sums.{AllPass-from_list_all}
 use Rattle.fb_types.specs.Names.{Name, same_name}
 use Rattle.fb_types.specs.Blocks.{event_blocks, event_block_named, named}
@@ -26,23 +25,13 @@ use Rattle.fb_types.specs.declared.deploy.Plan.{Plan}
 use Rattle.fb_types.specs.declared.deploy.Resource.{Resource}
 use Rattle.fb_names.specs.Ends.{link_ends}
 use Rattle.fb_names.specs.GivenTwice.{BlockTwice, NetworkTwice, PortTwice, TypeTwice, names_of_ports}
-use Rattle.fb_names.proofs.NameLemmas.{Contains-here, Contains-there, any_from_contains}
+use Rattle.fb_types.proofs.NameLaws.{any_from_contains, same_name-flip}
+use Rattle.fb_types.proofs.Elements.{Contains-here, Contains-there, map-Contains}
 use Rattle.fb_names.proofs.NameTwice.{name_once}
-use Rattle.fb_names.proofs.Positions.{same_name-flip}
-use Rattle.fb_names.proofs.TwiceIn.{map-TwiceIn, map-Contains}
+use Rattle.fb_names.proofs.TwiceIn.{map-TwiceIn}
 use Rattle.fb_why_names.specs.declared.twice.InBlock.{InBlock}
 use Rattle.fb_why_names.specs.declared.twice.InBlock.TheVariants.{Port, WithInput, WithOutput, State, Algorithm, Inside}
 use Rattle.fb_why_names.specs.Twice.{IsTwiceInBlock, IsTwiceInPorts, is_own_name, parameter_names}
-
--- ---- Loops
-
-pub all_next :
-    {A : Type 0} (P : A → Type 0) (xs : List A) (i : ℕ) (x : A) → i < length xs → x ≡ get_or xs i x → All P (take i xs) → P x → All P (take (i + 1) xs)
-all_next {A} P xs i x h e so_far here =
-    subst (λ (ys : List A). All P ys) (sym (take_more xs i x h ∙ ap (λ (z : A). take i xs ++ z ∷ []) (sym e))) (All-push P (take i xs) x so_far here)
-
-pub all_of_taken : {A : Type 0} (P : A → Type 0) (xs : List A) (i : ℕ) → length xs ≤ i → All P (take i xs) → All P xs
-all_of_taken {A} P xs i h all = subst (λ (ys : List A). All P ys) (take_all i xs h) all
 
 -- ---- Ports
 

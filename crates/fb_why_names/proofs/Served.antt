@@ -16,8 +16,9 @@ use Rattle.fb_types.specs.declared.library.Library.{Library}
 use Rattle.fb_types.specs.declared.library.PortName.{PortName}
 use Rattle.fb_types.specs.declared.deploy.Plan.{Plan}
 use Rattle.fb_types.proofs.PathLaws.{same_path_is, same_path_itself}
-use Rattle.fb_names.proofs.NameLemmas.{Contains-nil, Contains-cons_cases, Contains-here, Contains-there, contains_from_any, any_from_contains}
-use Rattle.fb_names.proofs.TwiceIn.{Contains-map, map-Contains}
+use Rattle.fb_types.proofs.NameLaws.{contains_from_any, any_from_contains}
+use Rattle.fb_types.proofs.ListTests.{passes_somewhere}
+use Rattle.fb_types.proofs.Elements.{Contains-nil, Contains-cons_cases, Contains-map, map-Contains}
 use Rattle.fb_why_names.specs.Unserved.{IsUnservedAt, begin_together, brings, carries, end_together, is_served}
 
 abbrev ends_of : Connection → Port × Port
@@ -28,14 +29,6 @@ ends_of c = (port_in [] c.from, port_in [] c.to)
 and_both : (a b : Bool) → (a && b) ≡ true → (a ≡ true) × (b ≡ true)
 and_both true b h = (refl, h)
 and_both false b h = absurd (true≢false (sym h))
-
-pub any_Contains : {A : Type 0} (f : A → Bool) (xs : List A) → list_any f xs ≡ true → (x : A) × Contains xs x × (f x ≡ true)
-any_Contains f [] h = absurd (true≢false (sym h))
-any_Contains {A} f (x ∷ xs) h =
-    elim (f x) as (λ b. f x ≡ b → (b || list_any f xs) ≡ true → (y : A) × Contains (x ∷ xs) y × (f y ≡ true)) [
-      | true ↦ λ e g. (x, Contains-here x xs, e)
-      | false ↦ λ e g. let r = any_Contains f xs g in (r.0, Contains-there x xs r.0 r.1, r.2)
-    ] refl h
 
 or_true : (b : Bool) → (b || true) ≡ true
 or_true true = refl
@@ -134,7 +127,7 @@ served lib plan d h cut =
     let s = resource_of plan (port_in [] d.to).at in
     elim (nat_eq r s) as (λ b. nat_eq r s ≡ b → (b || list_any (brings lib plan d) all) ≡ true → IsServed lib plan (ends_of d)) [
       | true ↦ λ e g. absurd (cut (let at : r ≡ s = grind (arith, nat_tests, e) in at))
-      | false ↦ λ e g. let w = any_Contains (brings lib plan d) all g in served_from_brings lib plan d w.0 w.1 w.2
+      | false ↦ λ e g. let w = passes_somewhere (brings lib plan d) all g in served_from_brings lib plan d w.0 w.1 w.2
     ] refl h
 
 all_served :

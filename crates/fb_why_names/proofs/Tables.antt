@@ -1,5 +1,5 @@
 -- A table of what was seen so far, with the place of each.
-use Rattle.std.proofs.Common.{◌≡◌, ℕ, zero, suc, ◌<◌, ◌+◌, true, false, cond, List, [], ◌∷◌, ◌++◌, length, map, take, drop, get_or, Option, Some, None, Contains, Ordering, refl, sym, ◌∙◌, ap, subst, inl, inr, arith}
+use Rattle.std.proofs.Common.{◌≡◌, ℕ, ◌<◌, ◌+◌, true, false, cond, List, [], ◌∷◌, ◌++◌, length, map, take, drop, get_or, Option, Some, None, Contains, Ordering, refl, sym, ◌∙◌, ap, subst, inl, inr, arith}
 use Rattle.std.specs.Prelude.{slice_get}
 use Rattle.std.specs.Ordering.{is_eq}
 use Rattle.std.specs.Map.{lookup}
@@ -9,27 +9,21 @@ use Rattle.std.proofs.lemmas.List.{map-append, length-map, length-take, take-app
 use Rattle.std.proofs.lemmas.List.Elements.{Contains-push_cases}
 use Rattle.std.proofs.lemmas.Option.{slice_get_within}
 use Rattle.fb_types.specs.Repeated.{Twice}
-use Rattle.fb_names.proofs.NameLemmas.{Contains-nil, once_push}
-use Rattle.fb_names.proofs.Seen.{IsExact, more_of_part}
+use Rattle.fb_types.proofs.LoopSteps.{more_of_part}
+use Rattle.fb_types.proofs.TwiceLaws.{once_push}
+use Rattle.fb_types.proofs.ByPlace.{slice_get-append_left, slice_get-append_here}
+use Rattle.fb_types.proofs.Elements.{Contains-nil}
+use Rattle.fb_names.proofs.Seen.{IsExact}
 use Rattle.fb_why_names.specs.Pairs.{IsPair}
 
 -- ---- Places in longer lists
-
-pub old_at : {A : Type 0} (xs zs : List A) (i : ℕ) (x : A) → slice_get xs i ≡ Some x → slice_get (xs ++ zs) i ≡ Some x
-old_at [] zs i x h = absurd (cc)
-old_at (y ∷ ys) zs zero x h = h
-old_at (y ∷ ys) zs (suc i) x h = old_at ys zs i x h
-
-push_at : {A : Type 0} (xs : List A) (x : A) → slice_get (xs ++ x ∷ []) (length xs) ≡ Some x
-push_at [] x = refl
-push_at (y ∷ ys) x = push_at ys x
 
 longer : {A : Type 0} (xs zs : List A) (r : ℕ × ℕ) → IsPair xs r → IsPair (xs ++ zs) r
 longer xs zs r p = record {
   in_order = p.in_order;
   what = p.what;
-  first = old_at xs zs r.0 p.what p.first;
-  again = old_at xs zs r.1 p.what p.again;
+  first = slice_get-append_left xs zs r.0 p.what p.first;
+  again = slice_get-append_left xs zs r.1 p.what p.again;
 }
 
 -- ---- The table
@@ -57,8 +51,8 @@ table_more {K} {Y} cmp view ys m t k n exact is counted new updates = record {
       elim (is_eq (cmp k q)) as (λ b. is_eq (cmp k q) ≡ b → cond b (Some n) (tree.get cmp m q) ≡ Some i → slice_get (ys ++ view k ∷ []) i ≡ Some (view q)) [
         | true ↦ λ e g.
             let at : length ys ≡ i = counted ∙ (let s : n ≡ i = cc in s) in
-            subst (λ (j : ℕ). slice_get (ys ++ view k ∷ []) j ≡ Some (view q)) at (push_at ys (view k) ∙ ap (λ (y : Y). Some y) ((exact k q).0 e))
-        | false ↦ λ e g. old_at ys (view k ∷ []) i (view q) (is.found q i g)
+            subst (λ (j : ℕ). slice_get (ys ++ view k ∷ []) j ≡ Some (view q)) at (slice_get-append_here ys (view k) ∙ ap (λ (y : Y). Some y) ((exact k q).0 e))
+        | false ↦ λ e g. slice_get-append_left ys (view k ∷ []) i (view q) (is.found q i g)
       ] refl (sym (updates q) ∙ h);
   absent = λ q h c.
       elim (is_eq (cmp k q)) as (λ b. is_eq (cmp k q) ≡ b → cond b (Some n) (tree.get cmp m q) ≡ None → ⊥) [
@@ -78,8 +72,8 @@ table_pair cmp view ys m k j n is counted old =
     record {
       in_order = subst (λ (n : ℕ). j < n) counted (slice_get_within ys j (view k) there);
       what = view k;
-      first = old_at ys (view k ∷ []) j (view k) there;
-      again = subst (λ (i : ℕ). slice_get (ys ++ view k ∷ []) i ≡ Some (view k)) counted (push_at ys (view k));
+      first = slice_get-append_left ys (view k ∷ []) j (view k) there;
+      again = subst (λ (i : ℕ). slice_get (ys ++ view k ∷ []) i ≡ Some (view k)) counted (slice_get-append_here ys (view k));
     }
 
 -- ---- Steps of a loop over a list

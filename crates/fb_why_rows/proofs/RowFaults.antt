@@ -23,22 +23,13 @@ use Rattle.fb_why_rows.specs.declared.verdict.Verdict.TheVariants as verdict
 use Rattle.fb_why_rows.proofs.RowTexts.{one-refused, one-taken, row-judged}
 use Rattle.fb_why_rows.proofs.RowJudgements.{crowded, first_word, late, no_draft, no_number, refused_anywhere, taken_below, whole_settings}
 use Rattle.fb_why_rows.proofs.WordLists.{shown}
+use Rattle.fb_types.proofs.Options.{none_from_is_some}
 
 -- ---- Answers
-
-pub where_some : {T : Type 0} (o : Option T) (N : Type 0) (S : T → Type 0) (x : T) → MatchOption o N S → o ≡ Some x → S x
-where_some {T} o N S x holds is = let at : MatchOption (Some x) N S = subst (λ (p : Option T). MatchOption p N S) is holds in at
-
-pub where_none : {T : Type 0} (o : Option T) (N : Type 0) (S : T → Type 0) → MatchOption o N S → o ≡ None → N
-where_none {T} o N S holds is = let at : MatchOption {T = T} None N S = subst (λ (p : Option T). MatchOption p N S) is holds in at
 
 pub answers : {T E : Type 0} (P Q : T → Type 0) (r : Result T E) → ((x : T) → P x → Q x) → IfOk r P → IfOk r Q
 answers P Q (Ok x) gives h = gives x h
 answers P Q (Err e) gives h = h
-
-none_of : {T : Type 0} (o : Option T) → is_some o ≡ false → o ≡ None
-none_of None h = refl
-none_of (Some x) h = absurd (true≢false h)
 
 -- ---- The reader's word on a text, and on its row
 
@@ -69,16 +60,16 @@ word_place : (test : Text → Bool) (ws : List (Bor Text)) (z : Text) (k : ℕ) 
 word_place test ws z k all h = (h.0.now, ap (λ (xs : List Text). slice_get xs k) (sym all) ∙ shown_at ws k h.0 h.1, h.2)
 
 pub wrong_word_place : (e z : Text) (ws : List (Bor Text)) (k : ℕ) → shown ws ≡ words z → FailsAt is_word ws k → IsShapeFault e z (fault.Word k)
-wrong_word_place e z ws k all h = let (w, at, fails) = word_place is_word ws z k all h in (w, at, none_of (word w) fails)
+wrong_word_place e z ws k all h = let (w, at, fails) = word_place is_word ws z k all h in (w, at, none_from_is_some (word w) fails)
 
 pub wrong_value_place : (t z : Text) (ws : List (Bor Text)) (k : ℕ) → shown ws ≡ words z → FailsAt is_valued ws k → IsNumberFault t z (fault.Value k)
 wrong_value_place t z ws k all h = word_place is_valued ws z k all h
 
 pub no_event : (e : Text) → is_event e ≡ false → event e ≡ None
-no_event e h = none_of (event e) h
+no_event e h = none_from_is_some (event e) h
 
 pub no_tick : (t : Text) → is_tick t ≡ false → natural t ≡ None
-no_tick t h = none_of (natural t) h
+no_tick t h = none_from_is_some (natural t) h
 
 -- ---- Rows of three fields
 
@@ -130,7 +121,7 @@ drawn_word e v d k w drawn at = by (event e) (each word (words v)) refl drawn
 
 unvalued : (w : Text) (o : Option Word) → word w ≡ o → has_value o ≡ false → is_some o ≡ true → (x : Word) × (word w ≡ Some x) × (x.value ≡ None)
 unvalued w None is h named = absurd (true≢false (sym named))
-unvalued w (Some x) is h named = (x, is, none_of x.value h)
+unvalued w (Some x) is h named = (x, is, none_from_is_some x.value h)
 
 pub number_told :
     (before : ℕ) (t e v : Text) (o : Option RowFault) → stimulus 0 (row_of t e v) ≡ Err bad_number

@@ -15,12 +15,6 @@ use Rattle.fb_why_stimuli.specs.Stimuli.{IsBadAt}
 use Rattle.fb_why_stimuli.specs.Trials.{IsVerdict, has_number}
 use Rattle.fb_why_stimuli.specs.declared.place.StimulusPlace.{StimulusPlace}
 
-pub where_some : {T : Type 0} (o : Option T) (N : Type 0) (S : T → Type 0) (x : T) → MatchOption o N S → o ≡ Some x → S x
-where_some {T} o N S x holds is = let at : MatchOption (Some x) N S = subst (λ (p : Option T). MatchOption p N S) is holds in at
-
-pub where_none : {T : Type 0} (o : Option T) (N : Type 0) (S : T → Type 0) → MatchOption o N S → o ≡ None → N
-where_none {T} o N S holds is = let at : MatchOption {T = T} None N S = subst (λ (p : Option T). MatchOption p N S) is holds in at
-
 pub answers : {T E : Type 0} (P Q : T → Type 0) (r : Result T E) → ((x : T) → P x → Q x) → IfOk r P → IfOk r Q
 answers P Q (Ok x) gives h = gives x h
 answers P Q (Err e) gives h = h

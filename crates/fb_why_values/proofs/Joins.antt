@@ -12,14 +12,15 @@ use Rattle.fb_types.specs.declared.library.Instance.{Instance}
 use Rattle.fb_types.specs.declared.library.Library.{Library}
 use Rattle.fb_types.specs.declared.library.PortName.{PortName}
 use Rattle.fb_types.specs.declared.value.Ty.{Ty}
-use Rattle.fb_names.proofs.Positions.{find-named}
+use Rattle.fb_types.proofs.NameLaws.{find-named}
 use Rattle.fb_joins.specs.Joins.{is_out}
 use Rattle.fb_joins.specs.Ranges.{is_within}
 use Rattle.fb_joins.proofs.Ranged.{within-Decides}
 use Rattle.fb_why_values.specs.declared.place.Misjoin.{Misjoin}
 use Rattle.fb_why_values.specs.Misjoins.{IsMisjoinedAt, MisjoinedIn, are_joined, is_joined}
+use Rattle.fb_types.proofs.ListTests.{passes_at}
 use Rattle.fb_why_values.specs.Sites.{each_inside, network_at}
-use Rattle.fb_why_values.proofs.Networks.{network_passes, passes}
+use Rattle.fb_why_values.proofs.Networks.{network_passes}
 
 -- ---- The type at an end
 
@@ -104,5 +105,5 @@ none_answer {A} o N P e h = subst (λ (o : Option A). MatchOption o N P) (sym e)
 pub none_out :
     (lib : Library) → are_joined lib (None, lib.application.network) ≡ true → list_all (each_inside (are_joined lib)) lib.blocks ≡ true → ¬ (OutOfRange lib)
 none_out lib here inside w =
-    let joined = passes (is_joined lib w.0) w.0.1.data_connections w.1 (network_passes (are_joined lib) lib w.0 here inside w.4) w.5 in
+    let joined = passes_at (is_joined lib w.0) w.0.1.data_connections w.1 (network_passes (are_joined lib) lib w.0 here inside w.4) w.5 in
     w.8 (within (type_at_end lib w.0 w.1.from) (type_at_end lib w.0 w.1.to) w.2 w.3 joined w.6 w.7)

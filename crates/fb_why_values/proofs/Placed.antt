@@ -6,12 +6,12 @@ use Rattle.std.proofs.lemmas.Bool.{true≢false, and_parts}
 use Rattle.fb_types.specs.Kinds.{KindWrong, parameters_right}
 use Rattle.fb_types.specs.declared.library.Library.{Library}
 use Rattle.fb_names.specs.Parts.{PartWrong}
-use Rattle.fb_names.proofs.Elements.{list_all-both}
+use Rattle.fb_types.proofs.ListTests.{list_all-both, passes_at}
 use Rattle.fb_kinds.specs.Checks.{is_right_block}
 use Rattle.fb_kinds.proofs.Checks.{wrong_answer}
 use Rattle.fb_why_values.specs.declared.place.Misfit.{Misfit}
 use Rattle.fb_why_values.specs.Misfits.{IsMisfitAt, are_set_right, are_set_right_inside, is_all_right}
-use Rattle.fb_why_values.proofs.Networks.{network_passes, passes}
+use Rattle.fb_why_values.proofs.Networks.{network_passes}
 
 pub none_wrong :
     (lib : Library) → list_all (is_all_right lib) lib.blocks ≡ true → are_set_right lib lib.application.network ≡ true → ¬ (KindWrong lib)
@@ -25,7 +25,7 @@ none_wrong lib blocks application wrong =
         | inl value ↦ no_part (inr value)
         | inr p ↦
             let set = network_passes (λ n. are_set_right lib n.1) lib p.0 application parts.1 p.2 in
-            true≢false (sym (passes (parameters_right lib) p.0.1.instances p.1 set p.3) ∙ p.4)
+            true≢false (sym (passes_at (parameters_right lib) p.0.1.instances p.1 set p.3) ∙ p.4)
       ]
     ]
 

@@ -1,5 +1,5 @@
 -- The final lines of a core are what the lines of the simulation begin with.
-use Rattle.std.proofs.Common.{◌≡◌, ℕ, zero, suc, ◌+◌, ◌<◌, ◌≤◌, ◌⊎◌, refl, sym, ap, ◌∙◌, subst, inl, inr, ⊎_elim, List, [], ◌∷◌, ◌++◌, Bool, true, false, Some, arith}
+use Rattle.std.proofs.Common.{◌≡◌, ℕ, zero, suc, ◌+◌, ◌<◌, ◌≤◌, ◌⊎◌, refl, sym, ap, ◌∙◌, subst, inl, inr, ⊎_elim, List, [], ◌∷◌, ◌++◌, Bool, true, false, Some, arith, append-nil}
 use Rattle.std.specs.Prelude.{if◌then◌else◌, ◌==◌, nat_lt}
 use Rattle.std.proofs.lemmas.Bool.{cases_lt, cond-true, cond-false, lt-ltb, le-ltb, eqb-true}
 use Rattle.std.specs.List.{filter}
@@ -21,10 +21,6 @@ each_filter {A} P p (x ∷ xs) h = go (p x) refl (each_filter P p xs h.1)
 each_left : {A : Type 0} (P : A → Type 0) (xs ys : List A) → Each P (xs ++ ys) → Each P xs
 each_left P [] ys h = tt
 each_left P (x ∷ xs) ys h = (h.0, each_left P xs ys h.1)
-
-append_nil : {A : Type 0} (xs : List A) → xs ++ [] ≡ xs
-append_nil [] = refl
-append_nil (x ∷ xs) = ap (λ z. x ∷ z) (append_nil xs)
 
 module _ (M : Machine) (t r : ℕ) where
   abbrev UpTo : M.Line → Type 0
@@ -95,7 +91,7 @@ module _ (M : Machine) (t r : ℕ) where
       let a : lines_before M (until q) (lines_at M q s.front) ≡ lines_at M q s.front = filter_all p (lines_at M q s.front) (each_map _ _ (lines_at M q s.front) (λ x h. lt-ltb (M.line_tick x) (until q) (low x h.0 (eqb-true (M.line_resource x) q h.1))) here) in
       let b : lines_before M (until q) (lines_at M q s.rest) ≡ [] = filter_nothing p (lines_at M q s.rest) (each_map _ _ (lines_at M q s.rest) (λ x h. le-ltb (M.line_tick x) (until q) (high x h.0 (eqb-true (M.line_resource x) q h.1))) there) in
       let c : lines_at M q xs ≡ lines_at M q s.front ++ lines_at M q s.rest = ap (λ z. lines_at M q z) s.split ∙ filter_joined (λ x. M.line_resource x == q) s.front s.rest in
-      sym (ap (λ z. lines_before M (until q) z) c ∙ filter_joined p (lines_at M q s.front) (lines_at M q s.rest) ∙ ap (λ z. z ++ lines_before M (until q) (lines_at M q s.rest)) a ∙ ap (λ z. lines_at M q s.front ++ z) b ∙ append_nil (lines_at M q s.front))
+      sym (ap (λ z. lines_before M (until q) z) c ∙ filter_joined p (lines_at M q s.front) (lines_at M q s.rest) ∙ ap (λ z. z ++ lines_before M (until q) (lines_at M q s.rest)) a ∙ ap (λ z. lines_at M q s.front ++ z) b ∙ append-nil (lines_at M q s.front))
     where
       low : (x : M.Line) → UpTo x → M.line_resource x ≡ q → M.line_tick x < until q
       low x u e =

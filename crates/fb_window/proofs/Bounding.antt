@@ -3,7 +3,7 @@ use Rattle.std.proofs.Common.{◌≡◌, ℕ, ◌+◌, ◌-◌, ◌<◌, ◌≤�
 use Rattle.std.specs.Prelude.{slice_get, slice_index}
 use Rattle.std.proofs.lemmas.Bool.{cases_lt, cases_eq}
 use Rattle.std.proofs.lemmas.List.{get_or-replicate, get_or-set_same, get_or-set_other, length-set}
-use Rattle.std.proofs.lemmas.Option.{same_Some, slice_get_cases, slice_get_within}
+use Rattle.std.proofs.lemmas.Option.{same_Some, slice_get_within}
 use Rattle.fb_types.specs.Keys.{found, message_key}
 use Rattle.fb_types.specs.Systems.{System}
 use Rattle.fb_types.specs.Machines.{Machine, waiting}
@@ -17,6 +17,7 @@ use Rattle.fb_laws.specs.Sound.{IsSound}
 use Rattle.fb_link.specs.Arrivals.{arrival_at, IsEarliest}
 use Rattle.fb_window.specs.Cuts.{IsCut, StopAllows, LinkAllows}
 use Rattle.fb_window.specs.Bounding.{IsInReach, IsNear, IsGreatest, AreGreatest}
+use Rattle.fb_types.proofs.ByPlace.{element_at}
 
 -- ---- The greatest tick that is allowed
 
@@ -92,9 +93,6 @@ floor_clock : {R : Type 0} (stop : Option R) (clock m sent : ℕ) → floor_of s
 floor_clock None clock m sent h = omega arith
 floor_clock (Some reason) clock m sent h = h
 
-pub seat : {X : Type 0} (xs : List X) (s : ℕ) → s < length xs → (x : X) × (slice_get xs s ≡ Some x)
-seat xs s b = ⊎_elim (λ h. (h.0, h.2)) (λ h. absurd (let g : length xs ≤ s = h.0 in omega arith)) (slice_get_cases xs s).1
-
 -- ---- What is computed
 
 -- Of each resource its clock, its stop if there is one, and whether nothing waits for it below a tick.
@@ -139,7 +137,7 @@ module _ {X : Type 0} (clock : X → ℕ) (stop : X → Option Reason) (Rests : 
   module _ (sys : System) (limit : ℕ) (c : Core (machine sys limit)) (xs : List X) (of : IsCoreOf sys limit c xs) where
     -- a number of a resource, with its resource, or past the last
     pub seat_or_past : (s : ℕ) → ((x : X) × (slice_get xs s ≡ Some x)) ⊎ (count_of sys ≤ s)
-    seat_or_past s = let e = of.counted in ⊎_elim (λ h. inl (seat xs s h)) (λ h. inr (omega arith)) (cases_lt s (length xs))
+    seat_or_past s = let e = of.counted in ⊎_elim (λ h. inl (element_at xs s h)) (λ h. inr (omega arith)) (cases_lt s (length xs))
 
     pub no_message : (s : ℕ) (k : Key) → found k (c s).outbox ≡ None
     no_message s k = ap (λ z. found k z) (of.posted s)
@@ -162,7 +160,7 @@ module _ {X : Type 0} (clock : X → ℕ) (stop : X → Option Reason) (Rests : 
     M = machine sys limit
 
     sender : (l : ℕ) → l < sys.links → (x : X) × (slice_get xs (sys.sender l) ≡ Some x)
-    sender l b = let e = of.counted in let s : sys.sender l < count_of sys = sound.senders l b in seat xs (sys.sender l) (omega arith)
+    sender l b = let e = of.counted in let s : sys.sender l < count_of sys = sound.senders l b in element_at xs (sys.sender l) (omega arith)
 
     is_floor : IsFloor M c y.m
     is_floor = least_floor sys limit c xs of horizon y.m y.events
@@ -289,7 +287,7 @@ module _ {X : Type 0} (clock : X → ℕ) (stop : X → Option Reason) (Rests : 
     pub greatest : ((r : ℕ) → r < count_of sys → (c r).state.stop ≡ None → IsLegal M c r (c r).clock) → AreGreatest sys limit horizon cap c all
     greatest legal r b live =
         let e = of.counted in
-        let s = seat xs r (omega arith) in
+        let s = element_at xs r (omega arith) in
         let x = y.each r s.0 s.1 in
         bound_greatest r x.tick x.links (clock s.0) (slice_index all r) (of.clocks r s.0 s.1) x.is (legal r b live)
 

@@ -26,7 +26,8 @@ use Rattle.fb_window.specs.Jobs.{MayLeave}
 use Rattle.fb_window.specs.Phases.{Turn, IsPhase}
 use Rattle.fb_window.specs.Settling.{AreLegal, AreTurns, HasRisen, after_phase}
 use Rattle.fb_window.proofs.AtHome.{clock_legal, clock_in_range}
-use Rattle.fb_window.proofs.Bounding.{IsCoreOf, AreComputed, greatest, least_floor, least_most, seat}
+use Rattle.fb_types.proofs.ByPlace.{element_at}
+use Rattle.fb_window.proofs.Bounding.{IsCoreOf, AreComputed, greatest, least_floor, least_most}
 use Rattle.fb_window.proofs.Passes.{clock_of, stop_of, Rests, IsLeastOf, least_cut}
 use Rattle.fb_window.proofs.Keeps.{Inv}
 use Rattle.fb_window.proofs.Phasing.{IsRound, is_round}
@@ -45,13 +46,13 @@ module _ (i : Inputs) (limit : ℕ) (c : Core (machine (system_of i) limit)) (xs
         none_since _ (λ v w.
         let home : j.resource ≡ x.tree.resource = s.of.home j v w in
         none_some _ _ (sym (s.state.waits j home) ∙ h j (home ∙ s.number) b) (ap (λ o. option_map (event_of i) o) w));
-    posted = λ r. ⊎_elim (λ b. let e = at.counted in let s = seat xs r (omega arith) in (at.each r s.0 s.1).posted) (λ b. (at.others r b).posted) (cases_lt r (count_of (system_of i)));
+    posted = λ r. ⊎_elim (λ b. let e = at.counted in let s = element_at xs r (omega arith) in (at.each r s.0 s.1).posted) (λ b. (at.others r b).posted) (cases_lt r (count_of (system_of i)));
     live = λ r b. (at.others r b).live;
     quiet = λ r b k e. (at.others r b).waits k e;
   }
 
   pub home : (r : ℕ) → (c r).out ≡ None
-  home r = ⊎_elim (λ b. let e = at.counted in let s = seat xs r (omega arith) in (at.each r s.0 s.1).home) (λ b. (at.others r b).home) (cases_lt r (count_of (system_of i)))
+  home r = ⊎_elim (λ b. let e = at.counted in let s = element_at xs r (omega arith) in (at.each r s.0 s.1).home) (λ b. (at.others r b).home) (cases_lt r (count_of (system_of i)))
 
   -- the least tick of all agendas is the greatest that no event precedes
   pub is_least : (horizon m : ℕ) → IsLeastOf xs (length xs) horizon m → IsLeastTick (machine (system_of i) limit) horizon c m

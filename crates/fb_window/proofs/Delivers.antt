@@ -1,5 +1,5 @@
 -- Messages on their way come onto the agendas of their receivers: what a resource then is, where the core exchanges all messages.
-use Rattle.std.proofs.Common.{◌≡◌, ℕ, zero, suc, ◌<◌, ◌≤◌, ◌==◌, Bool, true, false, cond, Option, Some, None, List, [], ◌∷◌, ◌++◌, map, refl, sym, ap, ◌∙◌, ⊎_elim, subst, arith, All}
+use Rattle.std.proofs.Common.{◌≡◌, ℕ, zero, suc, ◌<◌, ◌≤◌, ◌==◌, Bool, true, false, cond, Option, Some, None, List, [], ◌∷◌, ◌++◌, map, refl, sym, ap, ◌∙◌, ⊎_elim, arith, All}
 use Rattle.std.specs.Prelude.{flat_map, slice_get, option_map, if◌then◌else◌}
 use Rattle.std.specs.List.{filter}
 use Rattle.std.proofs.lemmas.Bool.{eq-eqb}
@@ -22,7 +22,6 @@ use Rattle.fb_resource.specs.declared.resource.Inner.{Inner}
 use Rattle.fb_window.specs.Standing.{IsQuiet, Sits}
 use Rattle.fb_window.proofs.AtHome.{arrives_at_clock, outbox_sends}
 use Rattle.fb_window.proofs.Keeps.{Inv}
-use Rattle.fb_window.proofs.Places.{is_at, index_at}
 
 -- ---- Lists
 
@@ -42,9 +41,6 @@ map_at f (y ∷ ys) (suc n) x e = map_at f ys n x e
 pub all_by_place : {X : Type 0} (P : X → Type 0) (xs : List X) → ((n : ℕ) (x : X) → slice_get xs n ≡ Some x → P x) → All P xs
 all_by_place P [] h = All-nil P
 all_by_place P (x ∷ xs) h = All-cons P x xs (h 0 x refl) (all_by_place P xs (λ n y e. h (suc n) y e))
-
-pub all_at : {X : Type 0} (P : X → Type 0) (xs : List X) (n : ℕ) (x : X) → All P xs → slice_get xs n ≡ Some x → P x
-all_at P xs n x h e = subst P (index_at xs n x x e) (h n x (is_at xs n x e))
 
 pub all_flat : {X A : Type 0} (P : X → Type 0) (g : A → List X) (boxes : List A) → ((s : ℕ) (a : A) → slice_get boxes s ≡ Some a → All P (g a)) → All P (flat_map g boxes)
 all_flat P g [] h = All-nil P

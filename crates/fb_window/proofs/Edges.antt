@@ -10,10 +10,7 @@ use Rattle.fb_types.specs.Schedules.{IsFinal}
 use Rattle.fb_types.proofs.EachLaws.{each_map, each_both, each_append}
 use Rattle.fb_resource.proofs.Lines.{filter_in, filter_out, filter_joined, filter_all, filter_nothing, merge_same}
 use Rattle.fb_window.specs.Finality.{Edge, until, lines_from, TicksRise, IsFinalIn, IsLeastTick, IsEdge, HaveLeft, NoneIsFinal}
-
-some_of : {A : Type 0} (o : Option A) → is_some o ≡ true → (x : A) × (o ≡ Some x)
-some_of None h = absurd cc
-some_of (Some x) h = (x, refl)
+use Rattle.fb_types.proofs.Options.{some_from_is_some}
 
 module _ (e : Edge) (r : ℕ) where
   pub until_before : r < e.resource → until e r ≡ e.tick + 1
@@ -110,7 +107,7 @@ module _ (M : Machine) (count : ℕ) (c : Core M) where
         stopped : t ≡ e.tick → e.within ≡ true → q ≡ e.resource → q ≡ r → (q ≡ r) × ((reason : M.Reason) × ((c q).state.stop ≡ Some reason)) × ((c q).clock ≡ t)
         stopped at w s n =
             let there : is_some (c q).state.stop ≡ true = ap (λ z. is_some (c z).state.stop) s ∙ sym is.stopped ∙ w in
-            let x = some_of (c q).state.stop there in
+            let x = some_from_is_some (c q).state.stop there in
             let f : floor M c m q ≡ (c q).clock = ap (λ z. floor_of z (c q).clock m) x.1 in
             let g : floor M c m q ≡ e.tick = ap (λ z. floor M c m z) s ∙ is.at in
             (n, x, omega arith)

@@ -1,21 +1,17 @@
 -- Resources leave one after another.
-use Rattle.std.proofs.Common.{◌≡◌, ℕ, ◌+◌, ◌≤◌, true, Option, Some, None, List, [], ◌∷◌, ◌++◌, length, map, refl, sym, ap, ◌∙◌, arith, append_assoc}
+use Rattle.std.proofs.Common.{◌≡◌, ℕ, ◌+◌, ◌≤◌, true, Option, Some, None, List, [], ◌∷◌, ◌++◌, length, map, refl, sym, ap, ◌∙◌, arith, append_assoc, append-nil}
 use Rattle.fb_types.specs.Headline.{Inputs}
 use Rattle.fb_types.specs.declared.value.Reason.{Reason}
 use Rattle.fb_resource.specs.declared.resource.Inner.{Inner}
 use Rattle.fb_window.specs.Jobs.{JobModel, job_of, jobs_of, resting_of}
 use Rattle.std.specs.Prelude.{slice_index_or, is_some}
 
-append_none : {A : Type 0} (xs : List A) → xs ++ [] ≡ xs
-append_none [] = refl
-append_none (x ∷ xs) = ap (λ z. x ∷ z) (append_none xs)
-
 -- the jobs of one resource more
 pub jobs_push : (i : Inputs) (limit : ℕ) (bounds : List ℕ) (first place : ℕ) (xs : List Inner) (x : Inner) → first + length xs ≡ place
     → jobs_of i limit bounds first (xs ++ x ∷ []) ≡ jobs_of i limit bounds first xs ++ job_of i limit (slice_index_or bounds place 0) x
 jobs_push i limit bounds first place [] x e =
     let f : first ≡ place = omega arith in
-    append_none (job_of i limit (slice_index_or bounds first 0) x) ∙ ap (λ n. job_of i limit (slice_index_or bounds n 0) x) f
+    append-nil (job_of i limit (slice_index_or bounds first 0) x) ∙ ap (λ n. job_of i limit (slice_index_or bounds n 0) x) f
 jobs_push i limit bounds first place (y ∷ ys) x e =
     let f : (first + 1) + length ys ≡ place = omega arith in
     ap (λ z. job_of i limit (slice_index_or bounds first 0) y ++ z) (jobs_push i limit bounds (first + 1) place ys x f)
@@ -68,7 +64,7 @@ resting_some x e = go x.stopped e
     go (Some q) f = refl
 
 pub append_empty : {A : Type 0} (xs ys : List A) → ys ≡ [] → xs ≡ xs ++ ys
-append_empty xs ys e = sym (ap (λ z. xs ++ z) e ∙ append_none xs)
+append_empty xs ys e = sym (ap (λ z. xs ++ z) e ∙ append-nil xs)
 
 pub map_push : {A B : Type 0} (f : A → B) (xs : List A) (x : A) → map f (xs ++ x ∷ []) ≡ map f xs ++ f x ∷ []
 map_push f [] x = refl

@@ -1,6 +1,6 @@
 -- The passes over the resources that the bounds take.
 use Rattle.std.proofs.Common.{◌≡◌, ℕ, ◌+◌, ◌<◌, ◌≤◌, min, max, true, false, Option, Some, None, List, length, map, set, refl, sym, ◌∙◌, subst, ⊎_elim, arith}
-use Rattle.std.specs.Prelude.{slice_get, slice_index, IsSome, is_some}
+use Rattle.std.specs.Prelude.{slice_get, slice_index, IsSome}
 use Rattle.std.proofs.lemmas.Bool.{cases_lt}
 use Rattle.std.proofs.lemmas.List.{get_or-set_same, get_or-set_other, length-map, length-set}
 use Rattle.std.proofs.lemmas.Option.{same_Some, slice_get_within}
@@ -10,7 +10,7 @@ use Rattle.fb_types.specs.Headline.{Inputs, system_of}
 use Rattle.fb_types.specs.Parts.{count_of}
 use Rattle.fb_laws.specs.Sound.{AreGood}
 use Rattle.fb_agenda.specs.Agendas.{IsNext, waiting}
-use Rattle.fb_agenda.specs.declared.agenda.Event.{Event}
+use Rattle.fb_types.specs.declared.run.Event.{Event}
 use Rattle.fb_window.specs.Cuts.{IsCut}
 use Rattle.fb_window.proofs.Bounding.{EventsAllow, events_cut}
 use Rattle.fb_resource.specs.declared.resource.Inner.{Inner}
@@ -128,13 +128,3 @@ few_resources i good =
     let e : length (map (λ r. r.name) i.plan.resources) ≡ length i.plan.resources = length-map i.plan.resources (λ r. r.name) in
     let b : length i.plan.resources ≤ 256 = good.limits.few_resources in
     omega arith
-
--- ---- Tests
-
-pub some_of : {V : Type 0} (o : Option V) → is_some o ≡ true → (v : V) × (o ≡ Some v)
-some_of None e = cc
-some_of (Some v) e = (v, refl)
-
-pub none_of : {V : Type 0} (o : Option V) → is_some o ≡ false → o ≡ None
-none_of None e = refl
-none_of (Some v) e = cc

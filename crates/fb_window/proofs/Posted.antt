@@ -26,7 +26,8 @@ use Rattle.fb_window.specs.Standing.{IsAt, IsQuiet, Sits}
 use Rattle.fb_window.specs.declared.home.Home.{Home}
 use Rattle.fb_window.proofs.AtHome.{outbox_sends}
 use Rattle.fb_window.proofs.Boxes.{found_in, found_some, found_with_sender}
-use Rattle.fb_window.proofs.Delivers.{IsBackAs, all_at, all_by_place, all_filter, all_flat, fits, found_keyed, map_at, map_flat, sits_received, sits_still, still_quiet}
+use Rattle.fb_types.proofs.ByPlace.{all_at}
+use Rattle.fb_window.proofs.Delivers.{IsBackAs, all_by_place, all_filter, all_flat, fits, found_keyed, map_at, map_flat, sits_received, sits_still, still_quiet}
 use Rattle.fb_window.proofs.Keeps.{Inv}
 use Rattle.fb_window.proofs.Phasing.{all_turned}
 use Rattle.fb_window.proofs.Places.{is_at, one_at}

@@ -45,12 +45,13 @@ use Rattle.fb_window.specs.Walking.{IsSingle, Leads, Single, single_steps}
 use Rattle.fb_window.specs.declared.cores.Core as held
 use Rattle.fb_window.proofs.AtHome.{outbox_sends}
 use Rattle.fb_window.proofs.Boxes.{found_some}
-use Rattle.fb_window.proofs.Delivers.{IsBackAs, all_at, all_by_place, all_filter, fits, found_keyed, map_append, map_at, sits_received, still_quiet}
+use Rattle.fb_types.proofs.ByPlace.{all_at}
+use Rattle.fb_window.proofs.Delivers.{IsBackAs, all_by_place, all_filter, fits, found_keyed, map_append, map_at, sits_received, still_quiet}
 use Rattle.fb_window.proofs.Edges.{IsLater, kept_more}
 use Rattle.fb_window.proofs.Gather.{left_same, list_at, map_length}
 use Rattle.fb_window.proofs.Handing.{floor_stays, is_later}
+use Rattle.fb_types.proofs.Options.{some_from_is_some}
 use Rattle.fb_window.proofs.Keeps.{Inv}
-use Rattle.fb_window.proofs.Passes.{some_of}
 use Rattle.fb_window.proofs.Phasing.{IsRound, all_turned, after_append, is_round, other_steps, own_steps}
 use Rattle.fb_window.proofs.Places.{has_at, is_at as is_at_place, one_at}
 use Rattle.fb_window.proofs.Reached.{inv_after, runs_after}
@@ -63,7 +64,7 @@ use Rattle.fb_window.proofs.Start as start
 pub clock_before : (i : Inputs) (limit m : ℕ) (x : Inner) → IsOf i limit x → IsNext x.queues.agenda m → x.clock ≤ m
 clock_before i limit m x of next =
     let j = next.waits in
-    let e = some_of (waiting x.queues.agenda j.0) j.2 in
+    let e = some_from_is_some (waiting x.queues.agenda j.0) j.2 in
     let late : x.clock ≤ j.0.tick = (of.ready.order.waits j.0 e.0 e.1).later in
     let at_it : j.0.tick ≡ m = j.1 in
     omega arith
@@ -167,7 +168,7 @@ module _ (i : Inputs) (good : AreGood i) (limit horizon : ℕ) (es : List (CoreS
   some : it.items ≡ [] → ⊥
   some none =
       let j = next.waits in
-      let e = some_of (waiting x.queues.agenda j.0) j.2 in
+      let e = some_from_is_some (waiting x.queues.agenda j.0) j.2 in
       let own : j.0.resource ≡ x.tree.resource = sits.of.home j.0 e.0 e.1 in
       let at_it : j.0.tick ≡ m = j.1 in
       let rests = subst (λ (is : List (Item M)). machines.Rests M r (m + 1) (end M (c r).state is)) none run.rests in

@@ -17,14 +17,12 @@ use Rattle.fb_window.specs.Frontiers.{AreCut}
 use Rattle.fb_window.specs.Finality.{Edge}
 use Rattle.fb_window.specs.Homes.{AreHome}
 use Rattle.fb_window.specs.declared.home.Home.{Home}
-use Rattle.fb_window.proofs.Places.{has_at, is_at, one_at, index_at}
+use Rattle.fb_window.proofs.Places.{has_at, is_at, one_at}
+use Rattle.fb_types.proofs.ByPlace.{all_at}
 
 pub all_by_place : {X : Type 0} (P : X → Type 0) (xs : List X) → ((n : ℕ) (x : X) → slice_get xs n ≡ Some x → P x) → All P xs
 all_by_place P [] h = All-nil P
 all_by_place P (x ∷ xs) h = All-cons P x xs (h 0 x refl) (all_by_place P xs (λ n y e. h (suc n) y e))
-
-pub all_at : {X : Type 0} (P : X → Type 0) (xs : List X) (n : ℕ) (x : X) → All P xs → slice_get xs n ≡ Some x → P x
-all_at P xs n x h e = subst P (index_at xs n x x e) (h n x (is_at xs n x e))
 
 all_front : {X : Type 0} (P : X → Type 0) (xs ys : List X) → All P (xs ++ ys) → All P xs
 all_front P [] ys h = All-nil P

@@ -1,5 +1,5 @@
 -- The turns of a phase, as they are found when all have come home.
-use Rattle.std.proofs.Common.{◌≡◌, ℕ, ◌<◌, ◌≤◌, ◌⊎◌, Option, Some, None, List, [], ◌∷◌, ◌++◌, map, refl, sym, ap, ◌∙◌, subst, inl, inr, ⊎_elim, arith, All}
+use Rattle.std.proofs.Common.{◌≡◌, ℕ, ◌<◌, ◌≤◌, ◌⊎◌, Option, Some, None, List, [], ◌++◌, map, refl, sym, ap, ◌∙◌, subst, inl, inr, ⊎_elim, arith, All, append-nil}
 use Rattle.std.specs.Global.{Vec}
 use Rattle.std.specs.Prelude.{slice_index_or}
 use Rattle.std.proofs.lemmas.Bool.{cases_lt}
@@ -21,10 +21,6 @@ use Rattle.fb_window.specs.Phases.{Turn, MayTurn, turned}
 use Rattle.fb_window.specs.Settling.{AreLegal, AreTurns}
 use Rattle.fb_window.specs.Standing.{IsAt, Sits}
 use Rattle.fb_window.specs.declared.home.Home.{Home}
-
-append_none : {A : Type 0} (xs : List A) → xs ++ [] ≡ xs
-append_none [] = refl
-append_none (x ∷ xs) = ap (λ z. x ∷ z) (append_none xs)
 
 module _ (i : Inputs) (limit horizon : ℕ) (c : Core (machine (system_of i) limit)) where
   abbrev M : Machine
@@ -110,8 +106,8 @@ module _ (i : Inputs) (limit horizon : ℕ) (c : Core (machine (system_of i) lim
               posted = sits.posted ∙ ap (λ z. map (arriving i) z) (sym h.2);
               messages = subst (λ (z : List Message). All (IsMessage i) z) (sym h.2) (All-nil (IsMessage i));
               more = [];
-              said = h.1 ∙ sym (append_none kept);
-              named = sym (append_none (c r).lines);
+              said = h.1 ∙ sym (append-nil kept);
+              named = sym (append-nil (c r).lines);
             };
           }
 

@@ -29,7 +29,8 @@ use Rattle.fb_window.proofs.Places.{has_at, is_at, one_at, push_counted}
 use Rattle.fb_window.proofs.Receives.{set_same}
 use Rattle.fb_window.proofs.Single.{leads}
 use Rattle.fb_window.proofs.Standings.{is_least}
-use Rattle.fb_window.proofs.Targets.{all_at, all_by_place}
+use Rattle.fb_types.proofs.ByPlace.{all_at}
+use Rattle.fb_window.proofs.Targets.{all_by_place}
 use Rattle.fb_window.proofs.Walking.{leads_more, leads_none}
 
 -- So many turns have led from the one core to the other.

@@ -1,8 +1,8 @@
 //! An agenda by itself. What is taken follows from the keys.
 
-use fb_agenda::agenda::{Agenda, Event};
+use fb_agenda::agenda::Agenda;
 use fb_types::key::Key;
-use fb_types::run::{Target, TimerAsk};
+use fb_types::run::{Event, Target, TimerAsk};
 use std::mem::forget;
 
 const TARGET: Target = Target {

@@ -2,11 +2,11 @@
 
 use fb_event::state::EventState;
 use fb_tree::block::{Block, CompositeBlock, EventBlock};
-use fb_tree::places::Places;
 use fb_tree::shell::Shell;
 use fb_tree::tree::{change, find};
 use fb_tree::values::{publish, replace, set_input, set_slot};
 use fb_types::event_kind::EventKind;
+use fb_types::items::Items;
 use fb_types::value::Value;
 use std::alloc::Global;
 use std::mem::forget;
@@ -26,28 +26,28 @@ const NOWHERE: [(u32, &[u32]); 4] = [(2, &[]), (0, &[0]), (1, &[1, 1]), (1, &[1,
 
 fn shell(rt: &impl Abort, alloc: Global) -> Shell {
     Shell {
-        slots: Places::from_vec(Vec::from_slice(alloc, &[NO]).expect(rt, "memory")),
-        published: Places::from_vec(Vec::from_slice(alloc, &[NO, NO]).expect(rt, "memory")),
+        slots: Items::from_vec(Vec::from_slice(alloc, &[NO]).expect(rt, "memory")),
+        published: Items::from_vec(Vec::from_slice(alloc, &[NO, NO]).expect(rt, "memory")),
     }
 }
 
 fn leaf(rt: &impl Abort, alloc: Global) -> Block {
     Block::Event(EventBlock {
         state: EventState::new(EventKind::Split),
-        inputs: Places::from_vec(Vec::from_slice(alloc, &[NO]).expect(rt, "memory")),
+        inputs: Items::from_vec(Vec::from_slice(alloc, &[NO]).expect(rt, "memory")),
         shell: shell(rt, alloc),
     })
 }
 
 fn composite(rt: &impl Abort, alloc: Global, components: Vec<Block>) -> Block {
     Block::Composite(CompositeBlock {
-        inputs: Places::from_vec(Vec::from_slice(alloc, &[NO]).expect(rt, "memory")),
+        inputs: Items::from_vec(Vec::from_slice(alloc, &[NO]).expect(rt, "memory")),
         shell: shell(rt, alloc),
-        components: Places::from_vec(components),
+        components: Items::from_vec(components),
     })
 }
 
-fn trees(rt: &impl Abort, alloc: Global) -> Places<Block> {
+fn trees(rt: &impl Abort, alloc: Global) -> Items<Block> {
     let mut innermost = Vec::new(alloc);
     innermost.push(leaf(rt, alloc)).expect(rt, "memory");
     let mut inner = Vec::new(alloc);
@@ -58,11 +58,11 @@ fn trees(rt: &impl Abort, alloc: Global) -> Places<Block> {
     let mut all = Vec::new(alloc);
     all.push(leaf(rt, alloc)).expect(rt, "memory");
     all.push(composite(rt, alloc, inner)).expect(rt, "memory");
-    Places::from_vec(all)
+    Items::from_vec(all)
 }
 
 /// The slot and the two published outputs of the block at a route.
-fn seen(blocks: &Places<Block>, route: (u32, &[u32])) -> Option<(Value, Value, Value)> {
+fn seen(blocks: &Items<Block>, route: (u32, &[u32])) -> Option<(Value, Value, Value)> {
     let shell = find(blocks.as_slice(), route.0, route.1)?.shell();
     Some((
         shell.slots.value(0)?,

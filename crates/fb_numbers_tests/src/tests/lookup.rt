@@ -5,9 +5,9 @@ use super::held::HELD;
 use super::nested::{COUNTED, NESTED, TWICE};
 use super::system_of;
 use super::with::{APART, MIXED, SELECTED};
-use fb_fabric::fabric::Place;
 use fb_system::system::System;
 use fb_types::run;
+use fb_types::run::Place;
 use std::mem::forget;
 use std::process::Abort;
 

@@ -5,7 +5,7 @@ use Rattle.std.proofs.lemmas.Result.{on_ok_weaker}
 use Rattle.fb_types.specs.Keys.{same_key}
 use Rattle.fb_types.specs.declared.key.Key.{Key}
 use Rattle.fb_agenda.specs.Arrivals.{arrival_at}
-use Rattle.fb_agenda.specs.declared.agenda.Event.TheVariants.{Arrival}
+use Rattle.fb_types.specs.declared.run.Event.TheVariants.{Arrival}
 use Rattle.fb_agenda.proofs.Apart.{Sets}
 use Rattle.fb_agenda.proofs.Placing.{surely}
 use Rattle.fb_agenda.proofs.arrivals.fill_place.Goals as goal

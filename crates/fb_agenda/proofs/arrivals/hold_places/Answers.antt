@@ -1,7 +1,7 @@
 use Rattle.std.proofs.Common.{take, refl, sym, subst, Some, arith}
 use Rattle.fb_types.specs.declared.key.Key.{Key}
 use Rattle.fb_agenda.specs.Arrivals.{HasKeys, KeepsOthers, arrival_at, arrivals_at}
-use Rattle.fb_agenda.specs.declared.agenda.Event.TheVariants.{Stimulus}
+use Rattle.fb_types.specs.declared.run.Event.TheVariants.{Stimulus}
 use Rattle.fb_agenda.proofs.Apart.{Sets}
 use Rattle.fb_agenda.proofs.Placing.{arrivals_more, has_more, keeps_all, keeps_more}
 use Rattle.fb_agenda.proofs.arrivals.hold_places.Goals as goal

@@ -1,11 +1,10 @@
-use Rattle.std.proofs.Common.{◌++◌, [], List, map, refl, sym, ◌∙◌, ap, append_assoc}
+use Rattle.std.proofs.Common.{◌++◌, [], List, map, refl, sym, ◌∙◌, ap, append_assoc, append-nil}
 use Rattle.std.proofs.lemmas.List.{map-append}
 use Rattle.fb_types.specs.Blocks.{variables_of}
 use Rattle.fb_types.specs.declared.library.Ports.{Ports}
 use Rattle.fb_types.specs.declared.library.Variable.{Variable}
 use Rattle.fb_st.specs.declared.frame.Slot.{Slot}
 use Rattle.fb_ecc.specs.Opened.{slot_of}
-use Rattle.fb_ecc.proofs.Charts.{append-nil}
 use Rattle.fb_ecc.proofs.Soundness.{twice_opened}
 use Rattle.fb_ecc.proofs.state.frame_of.Goals as goal
 

@@ -2,7 +2,7 @@ use Rattle.std.proofs.Common.{[], Contains, map, subst, List}
 use Rattle.std.proofs.lemmas.List.{take_all}
 use Rattle.fb_types.specs.declared.deploy.Link.{Link}
 use Rattle.fb_joins.specs.Links.{names_of_link}
-use Rattle.fb_names.proofs.NameLemmas.{Contains-nil}
+use Rattle.fb_types.proofs.Elements.{Contains-nil}
 use Rattle.fb_joins.proofs.Sets.{Has, pair_cmp, pair_view, pair_cmp-exact, has_none, elements_more}
 use Rattle.fb_joins.proofs.Unlinked.{ways_from}
 use Rattle.fb_joins.proofs.links.ways_of.Goals as goal

@@ -3,7 +3,7 @@ use Rattle.std.specs.Vec.Iter.{drain_items}
 use Rattle.fb_types.specs.Headline.{system_of}
 use Rattle.fb_types.specs.Keys.{found, or_else}
 use Rattle.fb_types.specs.declared.run.Message.{Message}
-use Rattle.fb_agenda.specs.declared.agenda.Event.TheVariants.{Arrival}
+use Rattle.fb_types.specs.declared.run.Event.TheVariants.{Arrival}
 use Rattle.fb_take.specs.Posts.{IsMessage, IsPut, arriving, key_of}
 use Rattle.fb_take.specs.Waiting.{meaning}
 use Rattle.fb_take.proofs.Lists.{slice_all}

@@ -1,6 +1,6 @@
 use Rattle.fb_types.specs.declared.library.EventPort.{EventPort}
 use Rattle.fb_types.specs.declared.library.Variable.{Variable}
-use Rattle.fb_names.proofs.Parts.{position-flip}
+use Rattle.fb_types.proofs.Positions.{position-flip}
 use Rattle.fb_names.proofs.ports.place_among.Goals as goal
 
 pub returns-in-EventInput : goal.returns-in-EventInput

@@ -1,5 +1,5 @@
 use Rattle.std.proofs.Common.{arith, sym, subst}
-use Rattle.fb_agenda.specs.declared.agenda.Event.{Event}
+use Rattle.fb_types.specs.declared.run.Event.{Event}
 use Rattle.fb_net.specs.Steps.{WasTaken}
 use Rattle.fb_net.proofs.Taking.{local-taken, timer-done, timer-remembered}
 use Rattle.fb_net.proofs.take.take_event.Goals as goal

@@ -2,7 +2,7 @@ use Rattle.std.proofs.Common.{◌≡◌, ℕ, ◌+◌, ◌++◌, ◌∷◌, [], 
 use Rattle.std.specs.List.{filter}
 use Rattle.std.proofs.lemmas.List.{take_all}
 use Rattle.fb_types.specs.Blocks.{among, variable_names}
-use Rattle.fb_names.proofs.Seen.{map_take_more}
+use Rattle.fb_types.proofs.LoopSteps.{map_take_more}
 use Rattle.fb_system.specs.Stands.{ArePlaces}
 use Rattle.fb_system.proofs.Listed.{own_place, found_place, list_places}
 use Rattle.fb_system.proofs.with_places.places_of_list.Goals as goal

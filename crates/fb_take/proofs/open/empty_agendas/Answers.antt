@@ -1,7 +1,7 @@
 use Rattle.std.proofs.Common.{◌+◌, ◌∷◌, [], length, length-append, Some, sym, ap, ◌∙◌}
 use Rattle.std.specs.Prelude.{slice_get}
 use Rattle.fb_take.specs.Openings.{HasStimuli}
-use Rattle.fb_take.proofs.Lists.{got_snoc}
+use Rattle.fb_types.proofs.ByPlace.{slice_get-push}
 use Rattle.fb_take.proofs.OpenIs.{stimuli_none}
 use Rattle.fb_take.proofs.open.empty_agendas.Goals as goal
 
@@ -14,7 +14,7 @@ loop-preserved c =
     record {
       counted = ap length items ∙ length-append agendas (agenda ∷ []) ∙ ap (λ n. n + 1) c.loop.invariant.counted;
       each = λ r a had.
-          got_snoc (λ q. HasStimuli i (Some q) 0) agendas agenda c.loop.invariant.each
+          slice_get-push (λ q. HasStimuli i (Some q) 0) agendas agenda c.loop.invariant.each
           (stimuli_none i (Some (length agendas)) agenda c.in_ok-new.ensures.empty (c.in_ok-new.ensures.due ∙ c.count.ensures)) r a
           (sym (ap (λ zs. slice_get zs r) items) ∙ had);
     }

@@ -6,7 +6,7 @@ use Rattle.fb_types.specs.Headline.{system_of}
 use Rattle.fb_types.specs.Keys.{local_key}
 use Rattle.fb_types.specs.Takes.{post_all}
 use Rattle.fb_types.specs.declared.run.Message.{Message}
-use Rattle.fb_agenda.specs.declared.agenda.Event.TheVariants.{Local}
+use Rattle.fb_types.specs.declared.run.Event.TheVariants.{Local}
 use Rattle.fb_net.specs.Outs.{out_of}
 use Rattle.fb_take.specs.Posts.{ArePosted, IsMessage, IsPostable, message_of}
 use Rattle.fb_take.proofs.Lists.{slice_all}

@@ -2,7 +2,7 @@ use Rattle.std.proofs.Common.{◌≡◌, ◌<◌}
 use Rattle.fb_types.specs.Headline.{system_of}
 use Rattle.fb_types.specs.Numbers.{path_at}
 use Rattle.fb_system.specs.Ports.{IsVariable}
-use Rattle.fb_fabric.specs.declared.fabric.Place.{Place}
+use Rattle.fb_types.specs.declared.run.Place.{Place}
 use Rattle.fb_tree.specs.Opening.{Covers}
 use Rattle.fb_tree.proofs.opening_copies.held_of.Given as goal
 

@@ -1,7 +1,7 @@
 use Rattle.std.proofs.Common.{sym, ◌∙◌}
 use Rattle.fb_types.specs.declared.library.BlockType.{BlockType}
 use Rattle.fb_why_names.proofs.Marks.{HoldsNone}
-use Rattle.fb_why_names.proofs.Once.{all_next, all_of_taken}
+use Rattle.fb_types.proofs.LoopSteps.{all_next, all_of_taken}
 use Rattle.fb_why_names.proofs.heights.first_holder.Goals as goal
 
 pub loop-place-preserved : goal.loop-place-preserved

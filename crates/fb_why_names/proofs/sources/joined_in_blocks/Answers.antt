@@ -1,7 +1,7 @@
 use Rattle.std.proofs.lemmas.Option.{MatchOption-at_none}
 use Rattle.fb_types.specs.declared.library.BlockType.{BlockType}
 use Rattle.fb_why_names.specs.Sources.{IsJoinedInside, IsParted}
-use Rattle.fb_why_names.proofs.Once.{all_next, all_of_taken}
+use Rattle.fb_types.proofs.LoopSteps.{all_next, all_of_taken}
 use Rattle.fb_why_names.proofs.sources.joined_in_blocks.Goals as goal
 
 pub loop-place-preserved : goal.loop-place-preserved

@@ -4,7 +4,8 @@ use Rattle.fb_types.specs.Names.{Name}
 use Rattle.fb_types.specs.Repeated.{Twice}
 use Rattle.fb_types.specs.declared.library.Parameter.{Parameter}
 use Rattle.fb_why_names.specs.Pairs.{IsPair}
-use Rattle.fb_why_names.proofs.Once.{IsInstanceOnce, all_next, all_of_taken}
+use Rattle.fb_types.proofs.LoopSteps.{all_next, all_of_taken}
+use Rattle.fb_why_names.proofs.Once.{IsInstanceOnce}
 use Rattle.fb_why_names.proofs.twice.parameter_pair.Goals as goal
 
 pub loop-place-preserved : goal.loop-place-preserved

@@ -2,7 +2,8 @@ use Rattle.std.proofs.lemmas.Option.{MatchOption-at_none}
 use Rattle.fb_types.specs.declared.library.BlockType.{BlockType}
 use Rattle.fb_names.specs.GivenTwice.{BlockTwice}
 use Rattle.fb_why_names.specs.Twice.{IsTwiceInBlock}
-use Rattle.fb_why_names.proofs.Once.{IsBlockOnce, all_next, all_of_taken}
+use Rattle.fb_types.proofs.LoopSteps.{all_next, all_of_taken}
+use Rattle.fb_why_names.proofs.Once.{IsBlockOnce}
 use Rattle.fb_why_names.proofs.twice.twice_in_blocks.Goals as goal
 
 pub loop-place-preserved : goal.loop-place-preserved

@@ -3,7 +3,8 @@ use Rattle.std.proofs.lemmas.Option.{MatchOption-at_none}
 use Rattle.fb_types.specs.Names.{Name}
 use Rattle.fb_types.specs.Repeated.{Twice}
 use Rattle.fb_why_names.specs.Pairs.{IsPair}
-use Rattle.fb_why_names.proofs.Once.{IsWithOnce, all_next, all_of_taken}
+use Rattle.fb_types.proofs.LoopSteps.{all_next, all_of_taken}
+use Rattle.fb_why_names.proofs.Once.{IsWithOnce}
 use Rattle.fb_why_names.proofs.twice.with_pair.Goals as goal
 
 pub loop-place-preserved : goal.loop-place-preserved

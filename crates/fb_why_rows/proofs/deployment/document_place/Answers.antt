@@ -7,13 +7,14 @@ use Rattle.fb_why_rows.specs.Tables.{IsDocumentFault, IsShapeFault}
 use Rattle.fb_why_rows.specs.declared.place.DeployPlace.{DeployPlace}
 use Rattle.fb_why_rows.specs.declared.place.TableFault.{TableFault}
 use Rattle.fb_why_rows.specs.declared.place.TablePlace.{TablePlace}
-use Rattle.fb_why_rows.proofs.RowFaults.{answers, where_none}
+use Rattle.fb_types.proofs.Options.{match_none}
+use Rattle.fb_why_rows.proofs.RowFaults.{answers}
 use Rattle.fb_why_rows.proofs.TableFaults.{numbers_answer}
 use Rattle.fb_why_rows.proofs.deployment.document_place.Goals as goal
 
 pub returns-in-None : goal.returns-in-None
 returns-in-None c =
     let keys = table_view c.args.keys.now in
-    let shaped = where_none c.in_ok-shape.shape (is_some (draft keys) ≡ true) (λ (r : TablePlace × TableFault). IsShapeFault keys r.0 r.1) c.in_ok-shape.ensures c.in-None.is in
+    let shaped = match_none c.in_ok-shape.shape (is_some (draft keys) ≡ true) (λ (r : TablePlace × TableFault). IsShapeFault keys r.0 r.1) c.in_ok-shape.ensures c.in-None.is in
     answers (λ (o : Option DeployPlace). IfSome o (IsNumbersFault keys)) (λ (o : Option DeployPlace). MatchOption o (is_some (draft keys) ≡ true) (IsDocumentFault keys)) c.numbers_place.result
     (λ o h. numbers_answer keys o shaped h) c.numbers_place.ensures

@@ -1,7 +1,8 @@
 use Rattle.std.proofs.Common.{◌≡◌, Bor, List, ℕ, false, true, ap, ◌∙◌, rules}
 use Rattle.std.specs.List.{list_all}
 use Rattle.fb_why_rows.specs.RowParts.{FailsAt, is_tick, is_valued}
-use Rattle.fb_why_rows.proofs.RowFaults.{all_words, no_tick, where_none, where_some, wrong_value_place}
+use Rattle.fb_types.proofs.Options.{match_none, match_some}
+use Rattle.fb_why_rows.proofs.RowFaults.{all_words, no_tick, wrong_value_place}
 use Rattle.fb_why_rows.proofs.WordLists.{all_single, shown}
 use Rattle.fb_why_rows.proofs.row.number_fault.Goals as goal
 
@@ -15,7 +16,7 @@ pub returns-in-Some : goal.returns-in-Some
 returns-in-Some c =
     let ws = c.as_slice.result.now in
     wrong_value_place c.args.tick.now c.args.values.now ws c.in-Some.place (ap shown c.as_slice.ensures.value ∙ c.in_ok-words.ensures)
-    (where_some c.in_ok-found.found (list_all (λ (w : Bor (List ℕ)). is_valued w.now) ws ≡ true) (FailsAt is_valued ws) c.in-Some.place c.in_ok-found.ensures c.in-Some.is)
+    (match_some c.in_ok-found.found (list_all (λ (w : Bor (List ℕ)). is_valued w.now) ws ≡ true) (FailsAt is_valued ws) c.in-Some.place c.in_ok-found.ensures c.in-Some.is)
 
 pub returns : goal.returns
 returns c =
@@ -23,5 +24,5 @@ returns c =
     let counted : is_tick c.args.tick.now ≡ true = search rules in (
       counted,
       all_words is_valued ws c.args.values.now (ap shown c.as_slice.ensures.value ∙ c.in_ok-words.ensures)
-          (where_none c.in_ok-found.found (list_all (λ (w : Bor (List ℕ)). is_valued w.now) ws ≡ true) (FailsAt is_valued ws) c.in_ok-found.ensures c.in-None.is),
+          (match_none c.in_ok-found.found (list_all (λ (w : Bor (List ℕ)). is_valued w.now) ws ≡ true) (FailsAt is_valued ws) c.in_ok-found.ensures c.in-None.is),
     )

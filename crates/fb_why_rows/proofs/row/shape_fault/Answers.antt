@@ -1,7 +1,8 @@
 use Rattle.std.proofs.Common.{◌≡◌, Bor, List, ℕ, false, true, ap, ◌∙◌, rules}
 use Rattle.std.specs.List.{list_all}
 use Rattle.fb_why_rows.specs.RowParts.{FailsAt, is_event, is_word}
-use Rattle.fb_why_rows.proofs.RowFaults.{all_words, no_event, where_none, where_some, wrong_word_place}
+use Rattle.fb_types.proofs.Options.{match_none, match_some}
+use Rattle.fb_why_rows.proofs.RowFaults.{all_words, no_event, wrong_word_place}
 use Rattle.fb_why_rows.proofs.RowJudgements.{whole_draft}
 use Rattle.fb_why_rows.proofs.WordLists.{all_single, shown}
 use Rattle.fb_why_rows.proofs.row.shape_fault.Goals as goal
@@ -16,7 +17,7 @@ pub returns-in-Some : goal.returns-in-Some
 returns-in-Some c =
     let ws = c.as_slice.result.now in
     wrong_word_place c.args.event.now c.args.values.now ws c.in-Some.place (ap shown c.as_slice.ensures.value ∙ c.in_ok-words.ensures)
-    (where_some c.in_ok-found.found (list_all (λ (w : Bor (List ℕ)). is_word w.now) ws ≡ true) (FailsAt is_word ws) c.in-Some.place c.in_ok-found.ensures c.in-Some.is)
+    (match_some c.in_ok-found.found (list_all (λ (w : Bor (List ℕ)). is_word w.now) ws ≡ true) (FailsAt is_word ws) c.in-Some.place c.in_ok-found.ensures c.in-Some.is)
 
 pub returns : goal.returns
 returns c =
@@ -24,4 +25,4 @@ returns c =
     let named : is_event c.args.event.now ≡ true = search rules in
     whole_draft c.args.event.now c.args.values.now named
     (all_words is_word ws c.args.values.now (ap shown c.as_slice.ensures.value ∙ c.in_ok-words.ensures)
-    (where_none c.in_ok-found.found (list_all (λ (w : Bor (List ℕ)). is_word w.now) ws ≡ true) (FailsAt is_word ws) c.in_ok-found.ensures c.in-None.is))
+    (match_none c.in_ok-found.found (list_all (λ (w : Bor (List ℕ)). is_word w.now) ws ≡ true) (FailsAt is_word ws) c.in_ok-found.ensures c.in-None.is))

@@ -6,7 +6,8 @@ use Rattle.fb_inputs.proofs.Records.{at_start, at_more, at_end, rows_from}
 use Rattle.fb_inputs.proofs.Rows.{headed, unheaded, empty}
 use Rattle.fb_why_rows.specs.Verdicts.{IsFine, IsRefusedFor}
 use Rattle.fb_why_rows.proofs.Readings.{all_taken, at_row, few_rows, first_stands, next_stands, refused_at, start_read}
-use Rattle.fb_why_rows.proofs.RowFaults.{too_long, where_none, where_some}
+use Rattle.fb_types.proofs.Options.{match_none, match_some}
+use Rattle.fb_why_rows.proofs.RowFaults.{too_long}
 use Rattle.fb_why_rows.proofs.stimuli.stimuli_place.Goals as goal
 
 pub returns-then-bytes-gt-MOST_BYTES : goal.returns-then-bytes-gt-MOST_BYTES
@@ -58,7 +59,7 @@ returns-in-Some-2 c =
     let step = rw (c.in-Some-next.is, c.in-Ok-next.is) at ((c.next-in-loop-next.ensures.steps here.left here.trim).0 here.ready) in
     let (y, there, rows) = at_more c.loop-next.next-iterator c.next-in-loop-next.new.self s.left (fields_of c.in-Ok-next.record) here step.0 step.1 step.2 (rw (c.in-Some-next.is, c.in-Ok-next.is) at (c.next-in-loop-next.ensures.steps here.left here.trim).3) in
     let row = fields_of c.in-Ok-next.record in
-    let told = where_some c.in_ok-fault.field-0 (IsFine c.loop-next.row row) (IsRefusedFor c.loop-next.row row) c.in-Some-2.fault c.in_ok-fault.ensures c.in-Some-2.is in (
+    let told = match_some c.in_ok-fault.field-0 (IsFine c.loop-next.row row) (IsRefusedFor c.loop-next.row row) c.in-Some-2.fault c.in_ok-fault.ensures c.in-Some-2.is in (
       refused_at c.args.bytes.now c.loop-next.row _ c.loop-next.next-iterator row (rows_from c.next-in-loop-next.new.self.rdr.state y) s rows told.0,
       (row, at_row c.args.bytes.now c.loop-next.row c.loop-next.next-iterator row (rows_from c.next-in-loop-next.new.self.rdr.state y) s rows, told.1),
     )
@@ -66,7 +67,7 @@ returns-in-Some-2 c =
 pub overflow_add-row : goal.overflow_add-row
 overflow_add-row c =
     let row = fields_of c.in-Ok-next.record in
-    let fine = where_none c.in_ok-fault.field-0 (IsFine c.loop-next.row row) (IsRefusedFor c.loop-next.row row) c.in_ok-fault.ensures c.in_default-2.is in
+    let fine = match_none c.in_ok-fault.field-0 (IsFine c.loop-next.row row) (IsRefusedFor c.loop-next.row row) c.in_ok-fault.ensures c.in_default-2.is in
     few_rows c.loop-next.row row fine.0 fine.1
 
 pub loop-next-preserved : goal.loop-next-preserved
@@ -76,7 +77,7 @@ loop-next-preserved c =
     let step = rw (c.in-Some-next.is, c.in-Ok-next.is) at ((c.next-in-loop-next.ensures.steps here.left here.trim).0 here.ready) in
     let (y, there, rows) = at_more c.loop-next.next-iterator c.next-in-loop-next.new.self s.left (fields_of c.in-Ok-next.record) here step.0 step.1 step.2 (rw (c.in-Some-next.is, c.in-Ok-next.is) at (c.next-in-loop-next.ensures.steps here.left here.trim).3) in
     let row = fields_of c.in-Ok-next.record in
-    let fine = where_none c.in_ok-fault.field-0 (IsFine c.loop-next.row row) (IsRefusedFor c.loop-next.row row) c.in_ok-fault.ensures c.in_default-2.is in
+    let fine = match_none c.in_ok-fault.field-0 (IsFine c.loop-next.row row) (IsRefusedFor c.loop-next.row row) c.in_ok-fault.ensures c.in_default-2.is in
     next_stands c.args.bytes.now c.loop-next.row c.loop-next.next-iterator c.next-in-loop-next.new.self row y fine.0 s there rows fine.1
 
 pub returns : goal.returns

@@ -3,7 +3,7 @@ use Rattle.fb_types.specs.Accepted.{BadStimulus}
 use Rattle.fb_why_stimuli.specs.Stimuli.{HasUnfit}
 use Rattle.fb_why_stimuli.specs.Trials.{DoAllFit, with_settings}
 use Rattle.fb_why_stimuli.proofs.Parts.{no_event, set_twice}
-use Rattle.fb_why_stimuli.proofs.Verdicts.{where_none, where_some}
+use Rattle.fb_types.proofs.Options.{match_none, match_some}
 use Rattle.fb_check.proofs.Verdict.{not_so}
 use Rattle.fb_why_stimuli.proofs.stimulus.fault_of.Goals as goal
 
@@ -18,11 +18,11 @@ pub returns-in-Some : goal.returns-in-Some
 returns-in-Some c =
     let lib = c.args.library.now in
     let s = c.args.stimulus.now in
-    where_some c.in_ok-unfit.unfit (¬ (¬ (DoAllFit lib s s.settings))) (HasUnfit lib s) c.in-Some.place c.in_ok-unfit.ensures c.in-Some.is
+    match_some c.in_ok-unfit.unfit (¬ (¬ (DoAllFit lib s s.settings))) (HasUnfit lib s) c.in-Some.place c.in_ok-unfit.ensures c.in-Some.is
 
 pub returns-in-None : goal.returns-in-None
 returns-in-None c =
     let lib = c.args.library.now in
     let s = c.args.stimulus.now in
     set_twice lib s c.requires.refused (not_so c.in_ok-unnamed.unnamed (BadStimulus lib (with_settings s [] ∷ [])) c.in_ok-unnamed.ensures c.if-unnamed.false)
-    (where_none c.in_ok-unfit.unfit (¬ (¬ (DoAllFit lib s s.settings))) (HasUnfit lib s) c.in_ok-unfit.ensures c.in-None.is)
+    (match_none c.in_ok-unfit.unfit (¬ (¬ (DoAllFit lib s s.settings))) (HasUnfit lib s) c.in_ok-unfit.ensures c.in-None.is)

@@ -6,7 +6,8 @@ use Rattle.fb_names.specs.Catalog.{IsCatalog}
 use Rattle.fb_why_stimuli.specs.Stimuli.{IsBadAt}
 use Rattle.fb_why_stimuli.specs.Trials.{has_number}
 use Rattle.fb_why_stimuli.specs.declared.place.StimulusPlace.{StimulusPlace}
-use Rattle.fb_why_stimuli.proofs.Verdicts.{all_known, answers, not_once, other_number, placed, this_number, where_none, where_some}
+use Rattle.fb_types.proofs.Options.{match_none, match_some}
+use Rattle.fb_why_stimuli.proofs.Verdicts.{all_known, answers, not_once, other_number, placed, this_number}
 use Rattle.fb_why_stimuli.proofs.stimulus.stimulus_place.Goals as goal
 
 pub returns-then-not-has_number : goal.returns-then-not-has_number
@@ -21,7 +22,7 @@ bad_place-requires c =
     let ss = c.args.stimuli.now in
     let is : has_number c.in_ok-fault.fault 29 ≡ true = search rules in (
       plan,
-      where_some c.in_ok-found.found (NameTwice lib plan) (IsCatalog lib plan) c.in-Some.catalog c.in_ok-found.ensures c.in-Some.is,
+      match_some c.in_ok-found.found (NameTwice lib plan) (IsCatalog lib plan) c.in-Some.catalog c.in_ok-found.ensures c.in-Some.is,
       all_known lib plan ss (this_number 29 lib plan ss c.in_ok-fault.fault c.in_ok-fault.ensures is),
     )
 
@@ -37,4 +38,4 @@ pub returns-in-None : goal.returns-in-None
 returns-in-None c =
     let lib = c.args.library.now in
     let plan = c.args.plan.now in
-    not_once lib plan c.args.stimuli.now (where_none c.in_ok-found.found (NameTwice lib plan) (IsCatalog lib plan) c.in_ok-found.ensures c.in-None.is)
+    not_once lib plan c.args.stimuli.now (match_none c.in_ok-found.found (NameTwice lib plan) (IsCatalog lib plan) c.in_ok-found.ensures c.in-None.is)

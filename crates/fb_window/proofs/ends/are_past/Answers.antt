@@ -3,7 +3,7 @@ use Rattle.std.specs.Prelude.{is_some, slice_get}
 use Rattle.std.proofs.lemmas.Option.{slice_get_read, slice_get_within}
 use Rattle.fb_types.proofs.Lookups.{none_some}
 use Rattle.fb_resource.specs.declared.resource.Inner.{Inner}
-use Rattle.fb_window.proofs.Passes.{none_of, some_of}
+use Rattle.fb_types.proofs.Options.{none_from_is_some, some_from_is_some}
 use Rattle.fb_window.proofs.Scans.{holds_more}
 use Rattle.fb_window.proofs.ends.are_past.Goals as goal
 use Rattle.fb_window.proofs.ends.are_past.Goals.{else-is_none-via-then-is_none+else-clock-tick, else-is_none-via-else-is_none}
@@ -14,7 +14,7 @@ returns-then-clock-tick-clause-no c = λ e.
     let n = c.loop-resource.resource-index in
     let x = c.resource-item.result in
     let at : slice_get xs n ≡ Some x = slice_get_read xs _ n x refl c.loop-resource-test.true c.resource-item.is in
-    let live : x.stopped ≡ None = none_of x.stopped (sym (ap is_some c.stopped.ensures) ∙ c.is_none.ensures ∙ ap not c.if-is_none.true) in
+    let live : x.stopped ≡ None = none_from_is_some x.stopped (sym (ap is_some c.stopped.ensures) ∙ c.is_none.ensures ∙ ap not c.if-is_none.true) in
     let low : x.clock ≤ c.args.tick = omega (arith, c.if-clock-tick.true, c.clock.ensures) in
     (n, x, at, live, low)
 
@@ -28,7 +28,7 @@ loop-resource-preserved c =
     (λ live. elim c.else-is_none.branch [
       | else-is_none-via-then-is_none+else-clock-tick w ↦ omega (arith, w.if-clock-tick.false, w.clock.ensures)
       | else-is_none-via-else-is_none w ↦
-          let some = some_of x.stopped (sym (ap is_some c.stopped.ensures) ∙ c.is_none.ensures ∙ ap not w.if-is_none.false) in
+          let some = some_from_is_some x.stopped (sym (ap is_some c.stopped.ensures) ∙ c.is_none.ensures ∙ ap not w.if-is_none.false) in
           absurd (none_some _ _ live some.1)
     ])
     (λ r y b e. c.loop-resource.invariant r y b e)

@@ -8,7 +8,7 @@ use Rattle.fb_laws.proofs.Accepting.{sound_of}
 use Rattle.fb_window.specs.Mails.{AreGiven}
 use Rattle.fb_window.specs.Noting.{IsHanded}
 use Rattle.fb_window.proofs.Noting.{given_only, on_ok, only_of}
-use Rattle.fb_window.proofs.Targets.{all_at}
+use Rattle.fb_types.proofs.ByPlace.{all_at}
 use Rattle.fb_window.proofs.walk.give_one.Goals as goal
 use Rattle.fb_window.proofs.walk.give_one.Goals.{After-index}
 

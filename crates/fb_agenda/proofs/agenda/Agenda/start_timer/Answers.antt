@@ -2,7 +2,7 @@ use Rattle.std.proofs.Common.{◌≡◌, Some, ap, subst, arith}
 use Rattle.std.specs.Prelude.{slice_set}
 use Rattle.fb_types.specs.Keys.{timer_key}
 use Rattle.fb_types.specs.declared.key.Key.{Key}
-use Rattle.fb_agenda.specs.declared.agenda.Event.TheVariants.{Timer}
+use Rattle.fb_types.specs.declared.run.Event.TheVariants.{Timer}
 use Rattle.fb_agenda.proofs.Apart.{Sets, later_apart, later_waits}
 use Rattle.fb_agenda.specs.Inside.{contents_of}
 use Rattle.fb_agenda.proofs.agenda.Agenda.start_timer.Goals as goal

@@ -4,7 +4,7 @@ use Rattle.fb_types.specs.Names.{same_name}
 use Rattle.fb_types.specs.Blocks.{among}
 use Rattle.fb_types.specs.Repeated.{algorithm_names}
 use Rattle.fb_names.specs.Places.{place_in}
-use Rattle.fb_names.proofs.Positions.{is_some-position}
+use Rattle.fb_types.proofs.Positions.{is_some-position}
 use Rattle.fb_kinds.proofs.scope.Scope.is_algorithm.Goals as goal
 
 pub returns : goal.returns

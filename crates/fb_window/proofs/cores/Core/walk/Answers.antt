@@ -13,7 +13,7 @@ use Rattle.fb_window.specs.Frontiers.{AreLive, IsFirstStop}
 use Rattle.fb_window.specs.Noting.{AreNoted}
 use Rattle.fb_window.specs.Walking.{HasTurned}
 use Rattle.fb_window.specs.declared.cores.Core.{Core}
-use Rattle.fb_window.proofs.Passes.{none_of, some_of}
+use Rattle.fb_types.proofs.Options.{none_from_is_some, some_from_is_some}
 use Rattle.fb_window.proofs.Places.{is_at, one_at}
 use Rattle.fb_window.proofs.Single.{clock_before}
 use Rattle.fb_window.proofs.Walked.{HasGone, HasStepped, all_counted, by_count, by_horizon, by_stop, each_of, gone_none, stepped}
@@ -21,10 +21,10 @@ use Rattle.fb_window.proofs.cores.Core.walk.Goals as goal
 use Rattle.fb_window.proofs.cores.Core.walk.Goals.{After-least-place}
 
 stop_found : (xs : List Inner) (o : Option StopMark) → IfSome o (IsFirstStop xs (length xs)) → is_some o ≡ true → (m : StopMark) × IsFirstStop xs (length xs) m
-stop_found xs o h e = let s = some_of o e in (s.0, subst (λ z. IfSome z (IsFirstStop xs (length xs))) s.1 h)
+stop_found xs o h e = let s = some_from_is_some o e in (s.0, subst (λ z. IfSome z (IsFirstStop xs (length xs))) s.1 h)
 
 none_found : (xs : List Inner) (o : Option StopMark) → IfNone o (AreLive xs) → is_some o ≡ false → AreLive xs
-none_found xs o h e = subst (λ z. IfNone z (AreLive xs)) (none_of o e) h
+none_found xs o h e = subst (λ z. IfNone z (AreLive xs)) (none_from_is_some o e) h
 
 -- ---- Before the loop
 
@@ -121,7 +121,7 @@ pub returns-then-is_some-2-clause-walks : goal.returns-then-is_some-2-clause-wal
 returns-then-is_some-2-clause-walks c =
     let d = (goal.at.returns-then-is_some-2-clause-walks c).After-least-place in
     let e = c.in_ok-stop.ensures in
-    let mark = some_of c.in_ok-stop.stop (sym c.is_some-in-loop.ensures ∙ c.if-is_some-2.true) in
+    let mark = some_from_is_some c.in_ok-stop.stop (sym c.is_some-in-loop.ensures ∙ c.if-is_some-2.true) in
     (step d c.if-tick-horizon.false c.turn.new.self c.in_ok-stop.stop e.turned e.system e.steps).ends mark.0 mark.1 c.args.most
 
 pub loop-preserved : goal.loop-preserved
@@ -131,7 +131,7 @@ loop-preserved c =
     let s = step d c.if-tick-horizon.false c.turn.new.self c.in_ok-stop.stop e.turned e.system e.steps in
     record {
       gone = s.gone;
-      live = s.live (none_of c.in_ok-stop.stop (sym c.is_some-in-loop.ensures ∙ c.if-is_some-2.false));
+      live = s.live (none_from_is_some c.in_ok-stop.stop (sym c.is_some-in-loop.ensures ∙ c.if-is_some-2.false));
       same = e.horizon ∙ c.loop.invariant.same;
       noted = e.noted;
     }

@@ -1,13 +1,14 @@
 -- The first place at which a test passes, and the element that stands there.
-use Rattle.std.proofs.Common.{◌≡◌, ℕ, zero, suc, ◌+◌, Bool, true, false, cond, not, ◌||◌, List, [], ◌∷◌, ◌++◌, length, map, Some, None, Contains, refl, sym, ◌∙◌, ap, subst, inl, inr, arith}
+use Rattle.std.proofs.Common.{◌≡◌, ℕ, zero, suc, ◌<◌, ◌+◌, Bool, true, false, cond, not, ◌||◌, List, [], ◌∷◌, ◌++◌, length, map, Some, None, Contains, refl, sym, ◌∙◌, ap, subst, inl, inr, arith}
 use Rattle.std.specs.Prelude.{position, slice_get, option_map, option_and_then, nat_lt, is_some}
-use Rattle.std.specs.List.{find, list_any, prefix_len}
+use Rattle.std.specs.List.{list_any, prefix_len}
 use Rattle.std.proofs.lemmas.Bool.Decides.{nat_tests}
 use Rattle.std.proofs.lemmas.Bool.{false_from_ne_true, true≢false}
-use Rattle.fb_types.specs.Names.{Name, same_name}
 use Rattle.fb_types.specs.Blocks.{named}
+use Rattle.fb_types.specs.Names.{Name, same_name}
 use Rattle.fb_types.specs.Repeated.{Twice}
-use Rattle.fb_names.proofs.NameLemmas.{same_name-Decides, same_from_same_name, Contains-here, Contains-there}
+use Rattle.fb_types.proofs.Elements.{Contains-here, Contains-there}
+use Rattle.fb_types.proofs.NameLaws.{same_name-Decides, same_from_same_name, same_name-flip}
 
 -- ---- `position` by recursion
 
@@ -80,18 +81,7 @@ position-push_new p (x ∷ xs) y h =
           ])
     ] refl h
 
--- ---- `named`
-
-pub find-named : {A : Type 0} (f : A → Name) (n : Name) (xs : List A) → find (λ x. same_name (f x) n) xs ≡ named f n xs
-find-named f n [] = refl
-find-named f n (x ∷ xs) = ap (λ o. cond (same_name (f x) n) (Some x) o) (find-named f n xs)
-
-pub same_name-flip : (n m : Name) → same_name n m ≡ same_name m n
-same_name-flip n m =
-    elim (same_name m n) as (λ b. same_name m n ≡ b → same_name n m ≡ b) [
-      | true ↦ λ e. (same_name-Decides n m).1 (sym (same_from_same_name m n e))
-      | false ↦ λ e. false_from_ne_true (same_name n m) (λ t. true≢false (sym ((same_name-Decides m n).1 (sym (same_from_same_name n m t))) ∙ e))
-    ] refl
+-- ---- An element by its name
 
 -- the element with a name stands at the place of the name
 pub named-position :
@@ -107,6 +97,13 @@ named-position f n (x ∷ xs) =
             | Some i ↦ let e : i + 1 ≡ suc i = omega arith in ap (λ n. slice_get (x ∷ xs) n) (sym e)
           ]))
     ] refl
+
+pub position-flip : {A : Type 0} (f : A → Name) (n : Name) (xs : List A) → position (λ x. same_name (f x) n) xs ≡ position (same_name n) (map f xs)
+position-flip f n [] = refl
+position-flip f n (x ∷ xs) =
+    position-cons (λ x. same_name (f x) n) x xs
+    ∙ (λ i. cond (same_name-flip (f x) n i) (Some 0) (option_map (λ i. i + 1) (position-flip f n xs i)))
+    ∙ sym (position-cons (same_name n) (f x) (map f xs))
 
 -- ---- Names that differ
 

@@ -1,0 +1,40 @@
+-- Steps of a loop over a list.
+use Rattle.std.proofs.Common.{◌≡◌, ℕ, ◌<◌, ◌≤◌, ◌+◌, List, [], ◌∷◌, ◌++◌, length, map, take, drop, get_or, sym, ◌∙◌, ap, subst}
+use Rattle.std.specs.Prelude.{All}
+use Rattle.std.proofs.lemmas.List.{take_more, take_all, map-append, take-append-drop}
+use Rattle.std.proofs.lemmas.List.Elements.{All-push}
+use Rattle.fb_types.specs.Repeated.{Twice}
+use Rattle.fb_types.proofs.TwiceLaws.{Twice-append_left}
+
+-- the part that a function makes of the elements so far, with one more
+pub map_take_more :
+    {A B : Type 0} (f : A → B) (xs : List A) (i : ℕ) (x : A) → i < length xs → x ≡ get_or xs i x
+    → map f (take (i + 1) xs) ≡ map f (take i xs) ++ f x ∷ []
+map_take_more {A} f xs i x h e =
+    ap (map f) (take_more xs i x h) ∙ map-append f (take i xs) (get_or xs i x ∷ []) ∙ ap (λ (y : A). map f (take i xs) ++ f y ∷ []) (sym e)
+
+-- the same, where what the function makes of the element is known by another name
+pub more_of_part :
+    {A B : Type 0} (P : List B → Type 0) (f : A → B) (xs : List A) (i : ℕ) (x : A) (y : B) → i < length xs → x ≡ get_or xs i x → y ≡ f x
+    → P (map f (take i xs) ++ y ∷ []) → P (map f (take (i + 1) xs))
+more_of_part {A} {B} P f xs i x y h e g p =
+    subst P (sym (map_take_more f xs i x h e)) (subst (λ (z : B). P (map f (take i xs) ++ z ∷ [])) g p)
+
+-- what stands twice up to an element stands twice in all
+pub twice_of_part :
+    {A B : Type 0} (f : A → B) (xs : List A) (i : ℕ) (x : A) (y : B) → i < length xs → x ≡ get_or xs i x → y ≡ f x
+    → Twice (map f (take i xs) ++ y ∷ []) → Twice (map f xs)
+twice_of_part {A} {B} f xs i x y h e g t =
+    let P : List B → Type 0 = λ ys. Twice ys in
+    let part : Twice (map f (take (i + 1) xs)) = more_of_part P f xs i x y h e g t in
+    subst P (sym (map-append f (take (i + 1) xs) (drop (i + 1) xs)) ∙ ap (map f) (take-append-drop (i + 1) xs))
+    (Twice-append_left (map f (take (i + 1) xs)) (map f (drop (i + 1) xs)) part)
+
+-- what holds of all so far, and of one more
+pub all_next :
+    {A : Type 0} (P : A → Type 0) (xs : List A) (i : ℕ) (x : A) → i < length xs → x ≡ get_or xs i x → All P (take i xs) → P x → All P (take (i + 1) xs)
+all_next {A} P xs i x h e so_far here =
+    subst (λ (ys : List A). All P ys) (sym (take_more xs i x h ∙ ap (λ (z : A). take i xs ++ z ∷ []) (sym e))) (All-push P (take i xs) x so_far here)
+
+pub all_of_taken : {A : Type 0} (P : A → Type 0) (xs : List A) (i : ℕ) → length xs ≤ i → All P (take i xs) → All P xs
+all_of_taken {A} P xs i h all = subst (λ (ys : List A). All P ys) (take_all i xs h) all
