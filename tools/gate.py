@@ -7,8 +7,8 @@ from wrong ones (tools/cases_test.py, tools/wrong_bodies_test.py); then, from no
 proved, every wrong body in crates/*/must-fail is shown to be refused, tests and programs are run, and the program is
 called at least once for each status (tools/calls.py), as docs/FIRST_APPLICATION.md has it (tools/first_application.py),
 for the waveforms of the examples, which are compared with their traces (tools/waves.py), and of what is no trace
-(tools/traces.py), on the stored cases of cases/ (tools/cases.py) and on rings of resources (tools/rings.py), with outputs that
-take little and readers that fail (tools/narrow.py), on texts that are cut or changed in one byte (tools/hostile.py), and with each
+(tools/traces.py), on the stored cases of cases/ (tools/cases.py), on rings of resources (tools/rings.py) and on systems that
+are drawn by lot (tools/drawn.py), with outputs that take little and readers that fail (tools/narrow.py), on texts that are cut or changed in one byte (tools/hostile.py), and with each
 of its requests for memory refused (tools/refuse.py). Then it tells the processor seconds and the memory of each crate. The last
 line is 'N passed, M failed', and the status 0 where none failed.
 
@@ -34,6 +34,7 @@ import calls
 import cases
 import cases_test
 import documents
+import drawn
 import explained
 import first_application
 import hostile
@@ -163,6 +164,7 @@ def call_after_each_run():
         yield traces.try_all(made)
         yield cases.run_all(made)
         yield rings.try_all(made)
+        yield drawn.try_all(made)
         yield narrow.try_all(made)
         yield hostile.try_all(made)
         yield refuse.try_all(made)

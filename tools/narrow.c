@@ -1,5 +1,6 @@
 // Stands before open, close, read, write, malloc and realloc. tools/narrow.py loads it into the built program, and says by the environment
 // - NARROW_OUTPUT, NARROW_STEP, NARROW_ROOM: the output of this number takes at most so many bytes at a call and so many in all, and then fails,
+// - NARROW_ONCE: it fails once, and then has room for all; where this is `0`, it fails by taking no byte,
 // - NARROW_PIECE, NARROW_GIVEN: a reader gives at most so many bytes at a call, with a pause before each, and so many in all, and then fails.
 // While a file is open whose name is `full`, each request for memory is refused. (What it calls it declares itself, so that the kit's
 // compiler needs no headers.)
@@ -16,7 +17,10 @@ extern int *__errno_location(void);
 #define EIO 5
 #define EPIPE 32
 
-static long output = -1, step, room, piece, given;
+// More than any text has.
+#define ALL 1000000000
+
+static long output = -1, step, room, once, piece, given;
 static int has_paused, full = -1;
 
 static long number_of(const char *name) {
@@ -28,6 +32,7 @@ __attribute__((constructor)) static void begin(void) {
     output = number_of("NARROW_OUTPUT");
     step = number_of("NARROW_STEP");
     room = number_of("NARROW_ROOM");
+    once = number_of("NARROW_ONCE");
     piece = number_of("NARROW_PIECE");
     given = number_of("NARROW_GIVEN");
 }
@@ -80,8 +85,10 @@ long write(int file, const void *bytes, size count) {
         next = dlsym(THE_NEXT, "write");
     if (file != output)
         return next(file, bytes, count);
-    if (room == 0)
-        return fails(EPIPE);
+    if (room == 0) {
+        room = once >= 0 ? ALL : 0;
+        return once ? fails(EPIPE) : 0;
+    }
     long took = next(file, bytes, (size)least(least(step, room), (long)count));
     room -= took > 0 ? took : 0;
     return took;

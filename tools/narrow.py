@@ -20,6 +20,13 @@ from program import Room, side_by_side
 HERE = os.path.dirname(os.path.realpath(__file__))
 PROGRAM = "fbsim"
 STEPS = (1, 3, 7, 1000)
+# How many bytes of a text are gathered before they are written, and more than any text has.
+PAGE = 8192
+LARGE = 1_000_000
+ROOMS_OF_A_PAGE = (0, 8, 9, 10, PAGE - 1, PAGE, PAGE + 1, PAGE + 8, PAGE + 9, PAGE + 10)
+# Lengths of a name with which a text is a page long, and one byte less or more: a trace, a line, a name with what stands before it, and
+# a name alone. The last is longer than a page by far.
+LETTERS = (8170, 8171, 8172, 8176, 8177, 8178, 8182, 8183, 8184, 8191, 8192, 8193, 10_000)
 WAYS = [["--serial"], *(["--workers", count] for count in ("1", "2", "7"))]
 NARROW_FILES = {name: FILES[name] for name in ("far_too_long", "twice")} | {
     "cycle": CYCLE,
@@ -27,6 +34,8 @@ NARROW_FILES = {name: FILES[name] for name in ("far_too_long", "twice")} | {
     "trace": TO_8,
     "stimuli": b"tick,event,values\n0,C.START,DT=5\n",
     "full": CYCLE,
+    "many": b"APPLICATION A FBS S : E_RESTART; XXXXXXXXXX : E_CYCLE(DT := T#1ms); END_FBS "
+    b"EVENT_CONNECTIONS S.COLD TO XXXXXXXXXX.START; END_CONNECTIONS END_APPLICATION",
 }
 RUN = ["run", "cycle", "--horizon", "8"]
 WRITTEN = [(["check", "cycle"], b"accepted\n"), (RUN, TO_8), ([*RUN, "--serial"], TO_8), ([*RUN, "--trace", "2"], KEYED_TO_8)]
@@ -59,8 +68,8 @@ class Call(NamedTuple):
     err: bytes | int
 
 
-def output(number, step, room):
-    return {"OUTPUT": number, "STEP": step, "ROOM": room}
+def output(number, step, room, **how):
+    return {"OUTPUT": number, "STEP": step, "ROOM": room, **how}
 
 
 def reader(piece, given):
@@ -83,6 +92,39 @@ def of_resources(it, ways):
         words = ["run", "d.iec", *it.words, *way]
         yield Call(words, output(1, 1, len(text)), it.status, text, b"")
         yield from with_room(words, text, STEPS[-1:], it.status)
+
+
+def at_room(words, text, room, step, **how):
+    """A call by these words, which write the text, with so much room: the text, or its beginning and how many bytes that is."""
+    is_whole = room >= len(text)
+    told = b"" if is_whole else b"write fault after %d bytes\n" % room
+    return Call(words, output(1, step, room, **how), 0 if is_whole else 3, text[:room], told)
+
+
+def of_one_failure():
+    """Calls whose output fails once, by an error or by taking no byte, and then has room again: nothing is written behind a failure."""
+    for room in range(len(TO_8) + 1):
+        for step in (1, 3, LARGE):
+            for once in (0, 1):
+                yield at_room(RUN, TO_8, room, step, ONCE=once)
+
+
+def of_long_names(letters):
+    """The calls of a text with a name so long, around the ends of the pages on which a text is gathered before it is written."""
+    text = b"0 MAIN < %s.COLD\nend 8\n" % (b"X" * letters)
+    for room in (*ROOMS_OF_A_PAGE, *range(letters + 8, letters + 23)):
+        for step in (1000, PAGE, LARGE):
+            yield at_room(["run", "named", "--horizon", "8"], text, room, step, ONCE=0)
+
+
+def of_many_lines():
+    """The calls of a text of more than three pages, of lines that are some 25 bytes long."""
+    lines = [b"0 MAIN < S.COLD\n", b"0 MAIN > XXXXXXXXXX.START DT=1\n", *(b"%d MAIN < XXXXXXXXXX.EO\n" % at for at in range(1, 1000)), b"end 1000\n"]
+    text = b"".join(lines)
+    ends = [room for pages in (1, 2, 3) for room in range(pages * PAGE - 40, pages * PAGE + 3)]
+    for room in (0, 1, *ends, *range(len(text) - 10, len(text) + 2), 30_000):
+        for step in (1000, PAGE, LARGE):
+            yield at_room(["run", "many", "--horizon", "1000", "--serial"], text, room, step, ONCE=0)
 
 
 def of_errors():
@@ -120,6 +162,8 @@ def all_calls(help_text):
     yield from with_room(["--help"], help_text, STEPS[2:3])
     yield from of_errors()
     yield from of_readers()
+    yield from of_one_failure()
+    yield from of_many_lines()
     for words in FOR_THE_FULL:
         yield Call(words, {"STEP": 1}, 4, b"", b"out of memory\n")
 
@@ -155,6 +199,9 @@ def try_all(program):
     for it, ways in ((refuse.stopped(), WAYS), (refuse.ring(), WAYS[::2])):
         texts = {name: text.encode() for name, text in it.texts.items()}
         counts.append(made_in(program, texts, lambda _, it=it, ways=ways: of_resources(it, ways)))
+    for letters in LETTERS:
+        named = b"APPLICATION P FBS %s : E_RESTART; END_FBS END_APPLICATION" % (b"X" * letters)
+        counts.append(made_in(program, {"named": named}, lambda _, letters=letters: of_long_names(letters)))
     passed, made = (sum(of) for of in zip(*counts))
     print(f"narrow: {passed} of {made}", flush=True)
     return passed == made

@@ -1,30 +1,82 @@
-//! Jobs that are numbers, to be squared. The squares that the tests expect were worked out by hand.
-ghost use Rattle.std.specs.Prelude.{◌≡◌, ◌*◌, ◌^◌, ◌<◌, IfOk, vec_len};
+//! Jobs that are numbers, to be squared by several workers.
+ghost use Rattle.std.specs.Prelude.{◌≡◌, ◌*◌, ◌≤◌};
 
 use fb_board::{Deal, MAX_JOBS, MAX_SEATS};
-use fb_phase::{Gate, OpenGate, Work, run_all};
-use std::alloc::{AllocError, Global};
+use fb_phase::{Gate, Work, run_all};
+use std::alloc::Global;
+use std::process::Abort;
 use std::sync::Wait;
 use std::sync::atomic::Ordering::SeqCst;
 use std::sync::atomic::{AtomicBool, AtomicU64};
-use std::test::Fail;
+use std::thread::Threads;
 
-const TEN_SQUARES: [u64; 10] = [0, 1, 4, 9, 16, 25, 36, 49, 64, 81];
+/// A digit of a number to base 16 for each of the first ten numbers of jobs.
+static DIGITS: [u64; 10] = [
+    0x1,
+    0x10,
+    0x100,
+    0x1000,
+    0x1_0000,
+    0x10_0000,
+    0x100_0000,
+    0x1000_0000,
+    0x1_0000_0000,
+    0x10_0000_0000,
+];
 
-fn square(job: u32) -> u64
-    ensures { result ≡ job * job }
-{
-    let job = u64::from(job);
-    job * job
+/// Each of the ten digits once.
+const EACH_ONCE: u64 = 0x11_1111_1111;
+
+/// How numbers are squared, and what is seen of it. It is the gate too.
+#[derive(Drop)]
+struct Squares {
+    /// Whether the job that begins first waits for nine others, but gives up in the end.
+    first_waits: bool,
+    begun: AtomicU64,
+    ended: AtomicU64,
+    /// How often each of the first ten numbers passed the gate, as digits.
+    passed: AtomicU64,
+    /// Whether a job was run that had not passed the gate once, or the first one gave up.
+    is_wrong: AtomicBool,
 }
 
-fn ten_jobs(alloc: Global) -> Result<Vec<u32>, AllocError>
-    ensures { IfOk result (λ v. vec_len v ≡ 10) }
-{
-    Ok(vec![in alloc; 0, 1, 2, 3, 4, 5, 6, 7, 8, 9]?)
+impl Squares {
+    const LOOKS: u32 = 100_000_000;
+
+    fn new(first_waits: bool) -> Squares {
+        Squares {
+            first_waits,
+            begun: AtomicU64::new(0),
+            ended: AtomicU64::new(0),
+            passed: AtomicU64::new(0),
+            is_wrong: AtomicBool::new(false),
+        }
+    }
+
+    fn nine_have_ended(&self) -> bool {
+        for _ in 0..Self::LOOKS {
+            if self.ended.load(SeqCst) == 9 {
+                return true;
+            }
+        }
+        false
+    }
+
+    fn has_passed_once(&self, number: usize) -> bool {
+        match DIGITS.get(number) {
+            Some(digit) => self.passed.load(SeqCst).checked_div(*digit).unwrap_or(0) % 16 == 1,
+            None => true,
+        }
+    }
 }
 
-struct Squares;
+impl Gate for Squares {
+    fn at<R: Wait>(&self, _rt: &R, number: usize) {
+        if let Some(digit) = DIGITS.get(number) {
+            self.passed.fetch_add(*digit, SeqCst);
+        }
+    }
+}
 
 impl Deal for Squares {
     ghost use Rattle.std.specs.Prelude.{◌≡◌, ◌*◌};
@@ -37,214 +89,81 @@ impl Deal for Squares {
 }
 
 impl Work for Squares {
+    // A job is its own number.
     fn run(&self, _alloc: Global, job: u32) -> u64 {
-        square(job)
-    }
-}
-
-#[test]
-fn ten_squares_come_in_order(rt: HostRuntime) -> Result<(), Fail> {
-    let alloc: Global = rt.alloc();
-    for workers in [1, 2, 64] {
-        let squares = run_all(&rt, alloc, &Squares, ten_jobs(alloc)?, workers, &OpenGate).expect(
-            &rt,
-            "there is memory",
-        );
-        assert_eq!(rt;
-            squares.as_slice(),
-            TEN_SQUARES.as_slice(),
-            "by {workers} workers"
-        );
-    }
-    Ok(())
-}
-
-#[test]
-fn no_jobs_give_the_empty_list(rt: HostRuntime) -> Result<(), Fail> {
-    let alloc: Global = rt.alloc();
-    for workers in [1, 2, 64] {
-        let squares = run_all(&rt, alloc, &Squares, Vec::new(alloc), workers, &OpenGate).expect(
-            &rt,
-            "there is memory",
-        );
-        assert!(rt; squares.is_empty(), "by {workers} workers");
-    }
-    Ok(())
-}
-
-#[test]
-fn as_many_jobs_and_workers_as_there_may_be(rt: HostRuntime) -> Result<(), Fail> {
-    let alloc: Global = rt.alloc();
-    let mut jobs = Vec::with_capacity(alloc, MAX_JOBS)?;
-    for job in 0..1024 {
-        jobs.push(job)?;
-    }
-    assert_eq!(rt; jobs.len(), 1024);
-    let squares = run_all(&rt, alloc, &Squares, jobs, MAX_SEATS, &OpenGate).expect(
-        &rt,
-        "there is memory",
-    );
-    assert_eq!(rt; squares.len(), 1024);
-    for (number, square) in [
-        (0, 0),
-        (1, 1),
-        (31, 961),
-        (32, 1_024),
-        (1_000, 1_000_000),
-        (1_023, 1_046_529),
-    ] {
-        assert_eq!(rt; squares.get(number), Some(&square), "at {number}");
-    }
-    // The sum of the squares below n is (n - 1) n (2 n - 1) / 6.
-    assert_eq!(rt;
-        squares
-            .iter()
-            .fold(0u64, |sum, square| sum.wrapping_add(*square)),
-        357_389_824
-    );
-    Ok(())
-}
-
-// The job that begins first waits for the nine others, but gives up in the end.
-#[derive(Drop)]
-struct FirstWaits {
-    begun: AtomicU64,
-    ended: AtomicU64,
-    gave_up: AtomicBool,
-}
-
-impl FirstWaits {
-    const LOOKS: u32 = 100_000_000;
-
-    fn nine_have_ended(&self) -> bool {
-        for _ in 0..Self::LOOKS {
-            if self.ended.load(SeqCst) == 9 {
-                return true;
-            }
+        if !self.has_passed_once(job as usize) {
+            self.is_wrong.store(true, SeqCst);
         }
-        false
-    }
-}
-
-impl Deal for FirstWaits {
-    ghost use Rattle.std.specs.Prelude.{◌≡◌, ◌*◌};
-
-    type Job = u32;
-
-    type Done = u64;
-
-    ghost does = { λ job done. done ≡ job * job };
-}
-
-impl Work for FirstWaits {
-    fn run(&self, _alloc: Global, job: u32) -> u64 {
-        if self.begun.fetch_add(1, SeqCst) == 0 && !self.nine_have_ended() {
-            self.gave_up.store(true, SeqCst);
+        if self.begun.fetch_add(1, SeqCst) == 0 && self.first_waits && !self.nine_have_ended() {
+            self.is_wrong.store(true, SeqCst);
         }
         self.ended.fetch_add(1, SeqCst);
-        square(job)
+        let job = u64::from(job);
+        job * job
     }
 }
 
-// One worker is held up by its first job, so the other has to do the nine others: both work at the same time, and
-// neither has a fixed part of the jobs.
-#[test]
-fn two_workers_draw_as_they_become_free(rt: HostRuntime) -> Result<(), Fail> {
-    let alloc: Global = rt.alloc();
-    let work = FirstWaits {
-        begun: AtomicU64::new(0),
-        ended: AtomicU64::new(0),
-        gave_up: AtomicBool::new(false),
-    };
-    let squares = run_all(&rt, alloc, &work, ten_jobs(alloc)?, 2, &OpenGate).expect(
-        &rt,
-        "there is memory",
-    );
-    assert_eq!(rt; squares.as_slice(), TEN_SQUARES.as_slice());
-    assert!(rt; !work.gave_up.load(SeqCst), "one worker did it all");
-    Ok(())
-}
-
-// It counts how often each of ten numbers passed.
-#[derive(Drop)]
-struct Counts {
-    passed: [AtomicU64; 10],
-}
-
-impl Counts {
-    fn of(&self, number: usize) -> u64 {
-        self.passed
-            .get(number)
-            .map_or(0, |count| count.load(SeqCst))
+/// The squares of the numbers below a count, by so many workers.
+fn squares_of<R: Abort + Threads + Wait + Sync>(
+    rt: &R,
+    alloc: Global,
+    work: &Squares,
+    count: u32,
+    workers: usize,
+) -> Vec<u64> {
+    let mut jobs = Vec::new(alloc);
+    for job in 0..count {
+        jobs.push(job).expect(rt, "memory");
+    }
+    assert!(rt; jobs.len() <= MAX_JOBS && 1 <= workers && workers <= MAX_SEATS);
+    match run_all(rt, alloc, work, jobs, workers, work) {
+        Ok(squares) => squares,
+        Err(_) => panic!(rt; "memory"),
     }
 }
 
-impl Gate for Counts {
-    fn at<R: Wait>(&self, _rt: &R, number: usize) {
-        if let Some(count) = self.passed.get(number) {
-            count.fetch_add(1, SeqCst);
-        }
+/// The squares come in order, and each of the first ten numbers has passed the gate once, before its work. A square is the one before it
+/// and the next odd number.
+fn expect_squares<R: Abort + Threads + Wait + Sync>(
+    rt: &R,
+    alloc: Global,
+    (count, workers, first_waits): (u32, usize, bool),
+) {
+    let work = Squares::new(first_waits);
+    let squares = squares_of(rt, alloc, &work, count, workers);
+    assert!(rt; squares.len() == count as usize);
+    let (mut wanted, mut odd): (u64, u64) = (0, 1);
+    for square in squares.iter() {
+        assert!(rt; *square == wanted);
+        wanted = wanted.wrapping_add(odd);
+        odd = odd.wrapping_add(2);
     }
+    assert!(rt; !work.is_wrong.load(SeqCst));
+    assert!(rt; count == 0 || work.passed.load(SeqCst) == EACH_ONCE);
 }
 
-// It looks whether each job, which is its own number, passed the gate before.
-#[derive(Drop)]
-struct AfterGate<'a> {
-    gate: &'a Counts,
-    too_soon: AtomicBool,
-}
-
-impl Deal for AfterGate<'_> {
-    ghost use Rattle.std.specs.Prelude.{◌≡◌, ◌*◌};
-
-    type Job = u32;
-
-    type Done = u64;
-
-    ghost does = { λ job done. done ≡ job * job };
-}
-
-impl Work for AfterGate<'_> {
-    fn run(&self, _alloc: Global, job: u32) -> u64 {
-        if self.gate.of(job as usize) != 1 {
-            self.too_soon.store(true, SeqCst);
-        }
-        square(job)
-    }
-}
+/// Ten jobs, none, and as many jobs and workers as there may be.
+static CASES: [(u32, usize, bool); 8] = [
+    (10, 1, false),
+    (10, 2, false),
+    (10, 3, false),
+    (10, 64, false),
+    (0, 1, false),
+    (0, 2, false),
+    (0, 64, false),
+    (1_024, 64, false),
+];
 
 #[test]
-fn each_number_passes_the_gate_before_its_work(rt: HostRuntime) -> Result<(), Fail> {
-    let alloc: Global = rt.alloc();
-    let gate = Counts {
-        passed: [
-            AtomicU64::new(0),
-            AtomicU64::new(0),
-            AtomicU64::new(0),
-            AtomicU64::new(0),
-            AtomicU64::new(0),
-            AtomicU64::new(0),
-            AtomicU64::new(0),
-            AtomicU64::new(0),
-            AtomicU64::new(0),
-            AtomicU64::new(0),
-        ],
-    };
-    let work = AfterGate {
-        gate: &gate,
-        too_soon: AtomicBool::new(false),
-    };
-    let squares = run_all(&rt, alloc, &work, ten_jobs(alloc)?, 3, &gate).expect(
-        &rt,
-        "there is memory",
-    );
-    assert_eq!(rt; squares.as_slice(), TEN_SQUARES.as_slice());
-    assert!(rt;
-        !work.too_soon.load(SeqCst),
-        "a job was run before its number passed the gate"
-    );
-    for number in 0..10 {
-        assert_eq!(rt; gate.of(number), 1, "at {number}");
+fn squares_come_in_order(rt: HostRuntime) {
+    for case in &CASES {
+        expect_squares(&rt, rt.alloc(), *case);
     }
-    Ok(())
+}
+
+/// One worker is held up by its first job, so the other has to do the nine others: both work at the same time, and neither has a
+/// fixed part of the jobs.
+#[test]
+fn two_workers_draw_as_they_become_free(rt: HostRuntime) {
+    expect_squares(&rt, rt.alloc(), (10, 2, true));
 }

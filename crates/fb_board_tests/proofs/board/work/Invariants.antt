@@ -1,9 +1,0 @@
-use Rattle.std.proofs.Common.{◌-◌, length}
-use Rattle.fb_board.specs.Models.{IsIdleSeatOf}
-use Rattle.fb_board_tests.proofs.board.work.Given as goal
-
-abbrev pub invariant-loop-slip : goal.invariant-loop-slip
-invariant-loop-slip l = IsIdleSeatOf l.board l.seat
-
-abbrev pub decreases-loop-slip : goal.decreases-loop-slip
-decreases-loop-slip l = length l.board.jobs - length l.seat.knows.drawn
