@@ -13,13 +13,10 @@ use Rattle.fb_types.specs.Keys.{Precedes, key_cmp, or_else, same_key}
 use Rattle.fb_types.specs.declared.key.Key.{Key}
 use Rattle.fb_types.proofs.KeyLaws.{earlier_precedes, key_cmp_total, same_key_is, same_key_from, same_key_itself}
 use Rattle.fb_agenda.specs.Agendas.{Contents, waiting, AreRising, AreApart, IsFirst, IsFirstTick, IsLeast, IsNext}
+use Rattle.fb_agenda.specs.Calendars.{Sets}
 use Rattle.fb_types.specs.declared.run.Event.{Event}
 use Rattle.fb_agenda.proofs.Orders.{less_from, not_none, absent, all_later, found_after, rise_after, not_after, precedes, without_first}
 use Rattle.fb_types.proofs.Lookups.{or_else_none, or_else_nones}
-
--- new has w at the key, and at each other key what old has
-abbrev pub Sets : (k : Key) (w : Option Event) (old new : List (Key × Event)) → Type 0
-Sets k w old new = (j : Key) → lookup (same_key j) new ≡ cond (same_key k j) w (lookup (same_key j) old)
 
 module _ (c : Contents) (apart : AreApart c) (k : Key) (w : Option Event) where
   -- ---- Changes of the local events
@@ -126,7 +123,7 @@ least_is_local c k local none = record {
   none_before = λ j before. or_else_nones (lookup (same_key j) c.local) (lookup (same_key j) c.later) (local.none_before j before) (none j before);
 }
 
-before_both : (j k l : Key) → Precedes j k → is_lt (key_cmp l k) ≡ false → Precedes j l
+pub before_both : (j k l : Key) → Precedes j k → is_lt (key_cmp l k) ≡ false → Precedes j l
 before_both j k l before not_less = go (key_cmp l k) refl
   where
     go : (r : Ordering) → key_cmp l k ≡ r → Precedes j l
@@ -224,23 +221,28 @@ module _ (c : Contents) (apart : AreApart c) (k : Key) (least : IsLeast c k) (re
 module _ (c : Contents) (apart : AreApart c) (k : Key) (least : IsLeast c k) (other : k.class ≢ 3) where
   -- the first of the others is the least
   pub first_later_is : (f : Key × Event) → lookup (same_key f.0) c.later ≡ Some f.1
-      → ((q : Key) → IsSome (lookup (same_key q) c.later) → is_gt (key_cmp f.0 q) ≡ false) → f.0 ≡ k
+      → ((j : Key) → Precedes j f.0 → lookup (same_key j) c.later ≡ None) → f.0 ≡ k
   first_later_is f value lower =
-      same_least c k f.0 least (either_some (lookup (same_key f.0) c.local) (lookup (same_key f.0) c.later) (ap is_some value)) (lower k (least_later c k apart least other))
+      same_least c k f.0 least (either_some (lookup (same_key f.0) c.local) (lookup (same_key f.0) c.later) (ap is_some value)) (go (key_cmp f.0 k) refl)
+    where
+      go : (r : Ordering) → key_cmp f.0 k ≡ r → is_gt r ≡ false
+      go Less h = refl
+      go Equal h = refl
+      go Greater h = absurd (not_none (lookup (same_key k) c.later) (least_later c k apart least other) (lower k (precedes f.0 k h)))
 
   pub popped_below : (horizon : ℕ) → k.tick < horizon → (o : Option (Key × Event)) → IfSome o (λ p. lookup (same_key p.0) c.later ≡ Some p.1)
-      → IfSome o (λ p. (q : Key) → IsSome (lookup (same_key q) c.later) → is_gt (key_cmp p.0 q) ≡ false) → IfSome o (λ r. r.0.tick < horizon)
+      → IfSome o (λ p. (j : Key) → Precedes j p.0 → lookup (same_key j) c.later ≡ None) → IfSome o (λ r. r.0.tick < horizon)
   popped_below horizon below None value lower = tt
   popped_below horizon below (Some f) value lower = subst (λ (z : Key). z.tick < horizon) (sym (first_later_is f value lower)) below
 
   pub popped_least : (o : Option (Key × Event)) → IfSome o (λ p. lookup (same_key p.0) c.later ≡ Some p.1)
-      → IfSome o (λ p. (q : Key) → IsSome (lookup (same_key q) c.later) → is_gt (key_cmp p.0 q) ≡ false)
+      → IfSome o (λ p. (j : Key) → Precedes j p.0 → lookup (same_key j) c.later ≡ None)
       → IfSome o (λ r. (j : Key) → Precedes j r.0 → waiting c j ≡ None)
   popped_least None value lower = tt
   popped_least (Some f) value lower = λ j before. least.none_before j (subst (λ (z : Key). Precedes j z) (first_later_is f value lower) before)
 
   pub popped_left : (new : List (Key × Event)) (o : Option (Key × Event)) {U : Key × Event → Type 0} → ((p : Key × Event) → U p → Sets p.0 None c.later new)
-      → IfSome o (λ p. lookup (same_key p.0) c.later ≡ Some p.1) → IfSome o (λ p. (q : Key) → IsSome (lookup (same_key q) c.later) → is_gt (key_cmp p.0 q) ≡ false)
+      → IfSome o (λ p. lookup (same_key p.0) c.later ≡ Some p.1) → IfSome o (λ p. (j : Key) → Precedes j p.0 → lookup (same_key j) c.later ≡ None)
       → IfSome o U → IfSome o (λ r. (j : Key) → waiting (record { local = c.local; later = new; due = c.due }) j ≡ cond (same_key r.0 j) None (waiting c j))
   popped_left new None sets value lower updates = tt
   popped_left new (Some f) sets value lower updates =
@@ -265,3 +267,14 @@ pub put_local_waits : {A E : Type 0} (c : Contents) → AreApart c → (k : Key)
     → OnOk r ((j : Key) → waiting (record { local = new; later = c.later; due = c.due }) j ≡ cond (same_key k j) (Some e) (waiting c j))
 put_local_waits c apart k e local (Ok x) new ok = local_waits c apart k (Some e) local new (λ j. ap (λ l. lookup (same_key j) l) ok ∙ found_after j k e c.local)
 put_local_waits c apart k e local (Err x) new ok = tt
+
+pub put_later_apart : {A E : Type 0} (c : Contents) → AreApart c → (k : Key) (e : Event) → k.class ≢ 3 → (r : Result A E) (new : List (Key × Event))
+    → OnOk r (Sets k (Some e) c.later new) → OnErr r (new ≡ c.later) → AreApart (record { local = c.local; later = new; due = c.due })
+put_later_apart c apart k e other (Ok x) new ok err = later_apart c apart k (Some e) new ok c.due (λ h. absurd (other h))
+put_later_apart c apart k e other (Err x) new ok err = subst (λ l. AreApart (record { local = c.local; later = l; due = c.due })) (sym err) apart
+
+pub put_later_waits : {A E : Type 0} (c : Contents) → AreApart c → (k : Key) (e : Event) → k.class ≢ 3 → (r : Result A E) (new : List (Key × Event))
+    → OnOk r (Sets k (Some e) c.later new)
+    → OnOk r ((j : Key) → waiting (record { local = c.local; later = new; due = c.due }) j ≡ cond (same_key k j) (Some e) (waiting c j))
+put_later_waits c apart k e other (Ok x) new ok = later_waits c apart k (Some e) new ok c.due other
+put_later_waits c apart k e other (Err x) new ok = tt

@@ -2,3 +2,4 @@ pub mod Orders
 pub mod Apart
 pub mod Timers
 pub mod Placing
+pub mod Calendars

@@ -14,7 +14,8 @@ use Rattle.fb_types.proofs.TakeLaws.{found-put}
 use Rattle.fb_agenda.specs.Agendas.{Contents, AreApart, waiting}
 use Rattle.fb_agenda.specs.Arrivals.{AreNew, HasKeys, KeepsOthers, LacksKeys, arrival_at, arrivals_at}
 use Rattle.fb_types.specs.declared.run.Event.{Event}
-use Rattle.fb_agenda.proofs.Apart.{Sets, either_some, first_some}
+use Rattle.fb_agenda.specs.Calendars.{Sets}
+use Rattle.fb_agenda.proofs.Apart.{either_some, first_some}
 use Rattle.fb_agenda.proofs.Orders.{not_none}
 
 -- ---- One key more

@@ -1,3 +1,4 @@
 pub mod Agendas
 pub mod Arrivals
+pub mod Calendars
 pub mod Inside

@@ -1,17 +1,18 @@
 //! The events that wait, under their keys.
 
-ghost use Rattle.std.specs.Prelude.{◌≡◌, ◌<◌, if◌then◌else◌, [], length, Some, None, IfSome, IfNone, IfOk, IfErr, OnOk, OnErr, slice_set};
+ghost use Rattle.std.specs.Prelude.{◌≡◌, ◌<◌, if◌then◌else◌, length, Some, None, IfSome, IfNone, IfOk, IfErr, OnOk, OnErr, slice_set};
 ghost use Rattle.fb_types.specs.Keys.{Precedes, changed_to, found, or_else, same_key, timer_key};
 ghost use Rattle.fb_types.specs.Takes.{is_timer_of};
-ghost use Rattle.fb_agenda.specs.Agendas.{waiting, IsFirst, IsFirstTick, IsLeast, IsNext, IsTimed, LiesIn, timer_set};
+ghost use Rattle.fb_agenda.specs.Agendas.{waiting, IsLeast, IsNext, IsTimed, LiesIn, timer_set};
 ghost use Rattle.fb_agenda.specs.Arrivals.{AreNew, arrivals_at};
 ghost use Rattle.fb_types.specs.declared.run.Event.TheVariants.{Timer};
 
+use crate::calendar::Calendar;
 use crate::{arrivals, rising};
 use fb_types::key::Key;
 use fb_types::run::{Event, Message, TimerAsk};
 use std::alloc::{AllocError, Global};
-use std::collections::{BTreeMap, VecDeque};
+use std::collections::VecDeque;
 use std::marker::Model;
 
 /// The class of the keys of timers.
@@ -27,7 +28,7 @@ pub struct Agenda {
     /// one found, in constant time.
     local: VecDeque<(Key, Event)>,
     /// All other events.
-    later: BTreeMap<Key, Event>,
+    later: Calendar,
     /// For each instance the tick at which its timer goes off, or went off last.
     due: Vec<u64>,
 }
@@ -57,24 +58,6 @@ fn key_of_timer(tick: u64, resource: u32, instance: u32) -> Key
     }
 }
 
-/// The first key of a map.
-fn first_of(events: &BTreeMap<Key, Event>) -> Option<Key>
-    ensures some { IfSome result (IsFirst events.now.entries) }
-    ensures none { IfNone result (events.now.entries ≡ []) }
-{
-    let (key, _) = events.first_key_value()?;
-    Some(*key)
-}
-
-/// The tick of the first key of a map.
-fn first_tick(events: &BTreeMap<Key, Event>) -> Option<u64>
-    ensures some { IfSome result (IsFirstTick events.now.entries) }
-    ensures none { IfNone result (events.now.entries ≡ []) }
-{
-    let (first, _) = events.first_key_value()?;
-    Some(first.tick)
-}
-
 impl Agenda {
     /// An agenda on which nothing waits, for so many instances.
     ///
@@ -88,7 +71,7 @@ impl Agenda {
         let due = vec![in alloc; 0u64; instances]?;
         Ok(Agenda {
             local: VecDeque::new(alloc),
-            later: BTreeMap::new(alloc),
+            later: Calendar::new(alloc),
             due,
         })
     }
@@ -106,8 +89,7 @@ impl Agenda {
         if key.class == LOCAL {
             rising::insert(&mut self.local, key, event)
         } else {
-            self.later.insert(key, event)?;
-            Ok(())
+            self.later.insert(key, event)
         }
     }
 
@@ -163,9 +145,9 @@ impl Agenda {
     {
         // The least key has the lesser of the two ticks, so no keys are compared.
         let Some(local) = rising::first_tick(&self.local) else {
-            return first_tick(&self.later);
+            return self.later.first_tick();
         };
-        let Some(later) = first_tick(&self.later) else {
+        let Some(later) = self.later.first_tick() else {
             return Some(local);
         };
         Some(local.min(later))
@@ -176,9 +158,9 @@ impl Agenda {
         ensures none { IfNone result ((j : Key) → waiting self.now j ≡ None) }
     {
         let Some(local) = rising::first(&self.local) else {
-            return first_of(&self.later);
+            return self.later.first();
         };
-        let Some(later) = first_of(&self.later) else {
+        let Some(later) = self.later.first() else {
             return Some(local);
         };
         if later < local {

@@ -10,10 +10,10 @@ ghost use Rattle.fb_types.specs.declared.key.Key as keys;
 ghost use Rattle.fb_agenda.specs.Arrivals.{HasKeys, KeepsOthers, LacksKeys, arrival_at, arrivals_at};
 ghost use Rattle.fb_types.specs.declared.run.Event.TheVariants.{Arrival};
 
+use crate::calendar::Calendar;
 use fb_types::key::Key;
 use fb_types::run::{Event, Message};
 use std::alloc::AllocError;
-use std::collections::BTreeMap;
 
 /// The class of the keys of arrivals.
 const ARRIVAL: u8 = 2;
@@ -37,12 +37,12 @@ fn key_of_arrival(receiver: u32, message: &Message) -> Key
 ///
 /// When memory runs out. Then some of the keys may have got one.
 pub(crate) fn hold_places(
-    events: &mut BTreeMap<Key, Event>,
+    events: &mut Calendar,
     receiver: u32,
     messages: &[Message],
 ) -> Result<(), AllocError>
-    ensures kept { KeepsOthers (arrivals_at receiver messages.now) events.old.entries events.new.entries }
-    ensures held { OnOk result (HasKeys (arrivals_at receiver messages.now) events.new.entries) }
+    ensures kept { KeepsOthers (arrivals_at receiver messages.now) events.old events.new }
+    ensures held { OnOk result (HasKeys (arrivals_at receiver messages.now) events.new) }
 {
     for message in messages {
         events.insert(key_of_arrival(receiver, message), Event::Stimulus(0))?;
@@ -51,9 +51,9 @@ pub(crate) fn hold_places(
 }
 
 /// Takes out what stands under the keys of the messages.
-pub(crate) fn free_places(events: &mut BTreeMap<Key, Event>, receiver: u32, messages: &[Message])
-    ensures kept { KeepsOthers (arrivals_at receiver messages.now) events.old.entries events.new.entries }
-    ensures freed { LacksKeys (arrivals_at receiver messages.now) events.new.entries }
+pub(crate) fn free_places(events: &mut Calendar, receiver: u32, messages: &[Message])
+    ensures kept { KeepsOthers (arrivals_at receiver messages.now) events.old events.new }
+    ensures freed { LacksKeys (arrivals_at receiver messages.now) events.new }
 {
     for message in messages {
         events.remove(&key_of_arrival(receiver, message));
@@ -61,18 +61,18 @@ pub(crate) fn free_places(events: &mut BTreeMap<Key, Event>, receiver: u32, mess
 }
 
 /// Puts a message at its place, which was held for it.
-fn fill_place(events: &mut BTreeMap<Key, Event>, receiver: u32, message: Message)
-    requires held { IsSome (lookup (same_key (arrival_at receiver message).0) events.old.entries) }
-    ensures filled { (j : keys.Key) → lookup (same_key j) events.new.entries ≡ (if same_key (arrival_at receiver message).0 j then Some (Arrival message) else lookup (same_key j) events.old.entries) }
+fn fill_place(events: &mut Calendar, receiver: u32, message: Message)
+    requires held { IsSome (lookup (same_key (arrival_at receiver message).0) events.old) }
+    ensures filled { (j : keys.Key) → lookup (same_key j) events.new ≡ (if same_key (arrival_at receiver message).0 j then Some (Arrival message) else lookup (same_key j) events.old) }
 {
     let key = key_of_arrival(receiver, &message);
     let _held = events.insert(key, Event::Arrival(message));
 }
 
 /// Puts the messages at their places, which were held for them.
-pub(crate) fn fill_places(events: &mut BTreeMap<Key, Event>, receiver: u32, messages: Vec<Message>)
-    requires held { HasKeys (arrivals_at receiver messages.items) events.old.entries }
-    ensures filled { (j : keys.Key) → lookup (same_key j) events.new.entries ≡ or_else (found j (arrivals_at receiver messages.items)) (lookup (same_key j) events.old.entries) }
+pub(crate) fn fill_places(events: &mut Calendar, receiver: u32, messages: Vec<Message>)
+    requires held { HasKeys (arrivals_at receiver messages.items) events.old }
+    ensures filled { (j : keys.Key) → lookup (same_key j) events.new ≡ or_else (found j (arrivals_at receiver messages.items)) (lookup (same_key j) events.old) }
 {
     for message in messages {
         fill_place(events, receiver, message);

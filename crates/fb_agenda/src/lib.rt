@@ -3,9 +3,11 @@
 //! What is promised above: the event under the least key is taken; an instance has one timer at most; messages are put
 //! there all, or, where memory is wanting, none.
 //!
-//! To be read in this order: `agenda`; `rising`, the local events; `arrivals`, messages.
+//! To be read in this order: `agenda`; `rising`, rows of events; `calendar`, the events that are not local; `arrivals`,
+//! messages.
 #![tactic(auto)]
 
 pub mod agenda;
 mod arrivals;
+mod calendar;
 mod rising;

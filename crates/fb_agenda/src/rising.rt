@@ -1,12 +1,13 @@
 //! Lists of events whose keys rise.
 
-ghost use Rattle.std.specs.Prelude.{◌≡◌, [], IfSome, IfNone, OnOk, OnErr};
+ghost use Rattle.std.specs.Prelude.{◌≡◌, ◌<◌, [], None, IfSome, IfNone, OnOk, OnErr, length};
 ghost use Rattle.std.specs.Bool.{OnTrue};
 ghost use Rattle.std.specs.List.{AllByRecursion};
-ghost use Rattle.std.specs.Map.{keys_of};
+ghost use Rattle.std.specs.Map.{keys_of, lookup};
 ghost use Rattle.std.specs.BTreeMap.{insert_entry};
-ghost use Rattle.fb_types.specs.Keys.{Precedes, key_cmp};
+ghost use Rattle.fb_types.specs.Keys.{Precedes, key_cmp, same_key};
 ghost use Rattle.fb_agenda.specs.Agendas.{AreRising, IsFirst, IsFirstTick};
+ghost use Rattle.fb_agenda.specs.Calendars.{IsPlaceOf};
 
 use fb_types::key::Key;
 use fb_types::run::Event;
@@ -21,6 +22,7 @@ pub(crate) fn insert(
 ) -> Result<(), AllocError>
     requires { AreRising events.old.items }
     ensures ok { OnOk result (events.new.items ≡ insert_entry key_cmp events.old.items key event) }
+    ensures absent { OnErr result (lookup (same_key key) events.old.items ≡ None) }
     ensures err { OnErr result (events.new.items ≡ events.old.items) }
 {
     if is_past(events, key) {
@@ -51,6 +53,30 @@ pub(crate) fn first_tick(events: &VecDeque<(Key, Event)>) -> Option<u64>
     Some(first.tick)
 }
 
+/// The place of a key, if it is there.
+pub(crate) fn place_of(events: &VecDeque<(Key, Event)>, key: &Key) -> Option<usize>
+    requires { AreRising events.now.items }
+    ensures there { IfSome result (IsPlaceOf events.now.items key.now) }
+    ensures absent { IfNone result (lookup (same_key key.now) events.now.items ≡ None) }
+{
+    // A timer that has gone off is looked for before all others.
+    if is_before(events, key) {
+        return None;
+    }
+    events.binary_search_by_key(key, |(other, _)| *other).ok()
+}
+
+/// Whether the key comes before all that are there.
+fn is_before(events: &VecDeque<(Key, Event)>, key: &Key) -> bool
+    requires { AreRising events.now.items }
+    ensures { OnTrue result (lookup (same_key key.now) events.now.items ≡ None) }
+{
+    match events.front() {
+        Some((first, _)) => *key < *first,
+        None => true,
+    }
+}
+
 /// Whether the key comes after all that are there.
 fn is_past(events: &VecDeque<(Key, Event)>, key: Key) -> bool
     requires { AreRising events.now.items }
@@ -70,6 +96,7 @@ fn insert_within(
 ) -> Result<(), AllocError>
     requires { AreRising events.old.items }
     ensures ok { OnOk result (events.new.items ≡ insert_entry key_cmp events.old.items key event) }
+    ensures absent { OnErr result (lookup (same_key key) events.old.items ≡ None) }
     ensures err { OnErr result (events.new.items ≡ events.old.items) }
 {
     match events.binary_search_by_key(&key, |(other, _)| *other) {

@@ -1,5 +1,5 @@
 -- Stimuli by number, one after the other.
-use Rattle.std.proofs.Common.{◌≡◌, ℕ, ◌<◌, ◌+◌, Bool, true, false, not, ◌&&◌, List, [], ◌∷◌, ◌++◌, length, get_or, Option, Some, None, refl, sym, ◌∙◌, ap, subst, length-append}
+use Rattle.std.proofs.Common.{◌≡◌, ℕ, ◌<◌, ◌≤◌, ◌+◌, Bool, true, false, not, ◌&&◌, List, [], ◌∷◌, ◌++◌, length, get_or, Option, Some, None, refl, sym, ◌∙◌, ap, subst, length-append, arith}
 use Rattle.std.specs.Prelude.{if◌then◌else◌, is_some, option_and_then, option_map, position, slice_get, unwrap_or}
 use Rattle.std.specs.List.{list_all}
 use Rattle.std.proofs.lemmas.Bool.{true≢false}
@@ -28,7 +28,7 @@ use Rattle.fb_names.specs.Places.{place_in}
 use Rattle.fb_system.specs.declared.rows.SlotValue.{SlotValue}
 use Rattle.fb_system.specs.declared.rows.StimulusRow.{StimulusRow}
 use Rattle.fb_system.specs.Rows.{IsSet, AreSets, IsRow, AreRows, AreRowsUpTo}
-use Rattle.fb_check.specs.Directory.{CanTake, IsDirectory, IsInputs, IsTaken, has_pair, held_slot, holds, input_in, input_of, is_settable, slot_of}
+use Rattle.fb_check.specs.Directory.{CanTake, IsDirectory, IsInputs, IsTaken, has_pair, held_slot, holds, input_in, input_of, is_settable, ports_at, slot_of}
 use Rattle.fb_check.specs.declared.directory_making.Input.{Input}
 use Rattle.fb_check.specs.declared.directory_making.Inputs.{Inputs}
 use Rattle.fb_check.specs.declared.directory.Directory.{Directory}
@@ -130,7 +130,7 @@ taken_is lib d s x row k e directory placed event distinct slots tick instance e
     let instances = lib.application.network.instances in
     let found = found_at lib s k (Some x) placed in
     let all : list_all (is_settable d x s) s.settings ≡ true = sym (slots_some d x s) ∙ ap is_some slots in
-    let its = the_ports (Rattle.fb_check.specs.Directory.ports_at lib s.instance) x found in
+    let its = the_ports (ports_at lib s.instance) x found in
     let p : Ports = its.0 in
     let kind = kind_of_ports (kind_of_stimulus lib s) p its.1 in
     let at = position_is (λ (i : Instance). i.name) s.instance instances k placed.0 in
@@ -182,5 +182,7 @@ rows_more lib ss n s all more row h e so_far is grown =
       each = λ k t x g l. slice_get-push P all row (λ k x l t g. so_far.each k t x g l) (subst (λ (m : ℕ). P m row) (sym so_far.counted) here) k x l t g;
     })
 
-pub rows_all : (lib : Library) (ss : List Stimulus) (n : ℕ) (rows : List StimulusRow) → length ss ≡ n → AreRowsUpTo n lib ss rows → AreRows lib ss rows
-rows_all lib ss n rows all is = subst (λ (m : ℕ). AreRowsUpTo m lib ss rows) (sym all) is
+pub rows_all :
+    (lib : Library) (ss : List Stimulus) (n : ℕ) (rows : List StimulusRow) → n ≤ length ss → length ss ≤ n → AreRowsUpTo n lib ss rows → AreRows lib ss rows
+rows_all lib ss n rows within all is =
+    let e : n ≡ length ss = omega (arith, within, all) in subst (λ (m : ℕ). AreRowsUpTo m lib ss rows) e is

@@ -155,11 +155,11 @@ slot_of d x s v =
     if has_pair x.withs s.event v.variable && not (has_pair d.targets s.instance v.variable) then held_slot (input_in x.variables v.variable) v.value else None
 
 -- A stimulus that can be taken, by number.
-pub record IsTaken (lib : Library) (s : Stimulus) (row : StimulusRow) : Type 0 where
+pub record IsTaken (lib : Library) (s : Stimulus) (x : StimulusRow) : Type 0 where
   pub takes : CanTake lib s
-  pub row : IsRow lib s row
+  pub row : IsRow lib s x
 
 -- Stimuli of which none is bad, by number.
-pub record AreTaken (lib : Library) (ss : List Stimulus) (rows : List StimulusRow) : Type 0 where
+pub record AreTaken (lib : Library) (ss : List Stimulus) (xs : List StimulusRow) : Type 0 where
   pub good : ¬ (BadStimulus lib ss)
-  pub rows : AreRows lib ss rows
+  pub rows : AreRows lib ss xs

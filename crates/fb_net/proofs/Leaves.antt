@@ -22,10 +22,10 @@ use Rattle.fb_tree.specs.declared.block.Block.TheVariants as block
 use Rattle.fb_tree.specs.declared.block.Block.TheViews.{out-Block, roll-Block, the_lemmas}
 use Rattle.fb_tree.specs.declared.block.CompositeBlock.{CompositeBlock}
 
-out_roll : (x : Block-F Block CompositeBlock) → out-Block (roll-Block x) ≡ x
+pub out_roll : (x : Block-F Block CompositeBlock) → out-Block (roll-Block x) ≡ x
 out_roll x = search (rules, the_lemmas)
 
-out_basic : (x : BasicBlock) → out-Block (block.Basic x) ≡ Block-F.Basic x
+pub out_basic : (x : BasicBlock) → out-Block (block.Basic x) ≡ Block-F.Basic x
 out_basic x = search (rules, the_lemmas)
 
 out_event : (x : EventBlock) → out-Block (block.Event x) ≡ Block-F.Event x

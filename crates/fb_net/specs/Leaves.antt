@@ -17,9 +17,16 @@ use Rattle.fb_types.specs.declared.run.Target.{Target}
 use Rattle.fb_types.specs.declared.run.TimerAsk.{TimerAsk}
 use Rattle.fb_types.specs.declared.value.Reason.{Reason}
 use Rattle.fb_types.specs.declared.value.Value.{Value}
+use Rattle.fb_st.specs.Frames.{values_of}
+use Rattle.fb_ecc.specs.Places.{Ended, IsBlockOf, sampled, place as chart_at}
+use Rattle.fb_ecc.specs.declared.state.BasicState.{BasicState}
 use Rattle.fb_event.specs.Reactions.{FitTheirTypes}
 use Rattle.fb_tree.specs.Changes.{block_in, with_instance}
+use Rattle.fb_tree.specs.Trees.{block_at}
 use Rattle.fb_tree.specs.Worlds.{InForest, IsForest, input_names}
+use Rattle.fb_tree.specs.declared.block.BasicBlock.{BasicBlock}
+use Rattle.fb_tree.specs.declared.block.Block.{Block}
+use Rattle.fb_tree.specs.declared.block.Block.TheVariants as block
 use Rattle.fb_tree.specs.declared.resource.Forest.{Forest}
 
 -- The blocks stand for a world, in which the instance lies in the resource.
@@ -58,6 +65,22 @@ abbrev pub ChartEnded : Inputs → Forest → Target → BasicType → List Valu
 ChartEnded i old at t values before (Ok _) new after emits = EachWorld i old at (ChartCame i old at t values before None new after emits)
 ChartEnded i old at t values before (Err (halt.Stop r)) new after emits = EachWorld i old at (ChartCame i old at t values before (Some r) new after emits)
 ChartEnded i old at t values before (Err halt.Memory) new after emits = Unit {0}
+
+-- A basic block of a type stands at a route, in a state from which its chart can go on.
+pub record IsReadyAt (t : BasicType) (blocks : List Block) (route : List ℕ) : Type 0 where
+  pub basic : BasicBlock
+  pub stood : block_at blocks route ≡ Some (block.Basic basic)
+  pub ready : IsBlockOf t basic.state
+
+-- A block has reacted by the chart of its type, and is otherwise what it was.
+pub record HasCharted (t : BasicType) (event : ℕ) (values : List Value) (before : ℕ) (emitted : List run.Emission) (after : ℕ) (emits : List run.Emission) (was : Block) (r : Result (Unit {0}) Halt) (is : Block) : Type 0 where
+  pub basic : BasicBlock
+  pub state : BasicState
+  pub was_basic : was ≡ block.Basic basic
+  pub is_basic : is ≡ block.Basic (record basic { state = state })
+  pub reacted : Ended r (ChartReacts t (event_at t.ports.event_inputs event)) (record (chart_at t basic.state.state basic.state.frame before emitted) { vars = sampled t event values (values_of basic.state.frame) })
+      (chart_at t state.state state.frame after emits)
+  pub ready : IsBlockOf t state
 
 -- ---- Event blocks
 

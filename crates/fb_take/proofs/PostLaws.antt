@@ -4,7 +4,7 @@ use Rattle.std.specs.Prelude.{if◌then◌else◌, option_map, slice_get, slice_
 use Rattle.std.specs.Cmp.{first_so, second_so}
 use Rattle.std.proofs.lemmas.Bool.{cases_eq, eqb-true, eq-eqb, ne_eqb}
 use Rattle.std.proofs.lemmas.List.{length-set}
-use Rattle.std.proofs.lemmas.List.Elements.{All-head, All-tail}
+use Rattle.std.proofs.lemmas.List.Elements.{All-nil, All-cons, All-head, All-tail}
 use Rattle.std.proofs.lemmas.Option.{slice_get_within, slice_get-get_or, get_or_from_slice_get}
 use Rattle.fb_types.specs.Headline.{Inputs, system_of}
 use Rattle.fb_types.specs.Keys.{or_else, found, same_key, local_key, message_key}
@@ -206,6 +206,10 @@ pub next_of : {A : Type 0} (P : A → Type 0) (xs ys : List A) (y : A) → All P
 next_of P [] ys y h = All-head P y ys h
 next_of P (x ∷ xs) ys y h = next_of P xs ys y (All-tail P x (xs ++ y ∷ ys) h)
 
+pub all_before : {A : Type 0} (P : A → Type 0) (xs ys : List A) → All P (xs ++ ys) → All P xs
+all_before P [] ys h = All-nil P
+all_before P (x ∷ xs) ys h = All-cons P x xs (All-head P x (xs ++ ys) h) (all_before P xs ys (All-tail P x (xs ++ ys) h))
+
 -- ---- What is posted may wait
 
 pub local_waits : (i : Inputs) (k : Key) (n : ℕ) (t : Target) → IsLocal (system_of i) k.resource t → k.resource < length (system_of i).resource_names
@@ -224,28 +228,24 @@ message_is i k n s is = record {
   typed = is.typed;
 }
 
-pub more_local : (i : Inputs) (k : Key) (base mid new : Contents) (before mail : List Message) (x : Posts) (os : List Out) (o : Out) (locals locals' : ℕ) (sent : List ℕ) (t : Target)
-    → o ≡ outs.Local t → locals' ≡ locals + 1 → ArePosted i (post_all (system_of i) k (map (out_of (system_of i)) os) x) base mid before mail locals sent
+pub one_local : (i : Inputs) (k : Key) (base mid new : Contents) (before mail : List Message) (x : Posts) (o : Out) (locals locals' : ℕ) (sent : List ℕ) (t : Target)
+    → o ≡ outs.Local t → locals' ≡ locals + 1 → ArePosted i x base mid before mail locals sent
     → IsPut mid new (local_key k.tick k.resource locals) (Local t)
-    → ArePosted i (post_all (system_of i) k (map (out_of (system_of i)) (os ++ o ∷ [])) x) base new before mail locals' sent
-more_local i k base mid new before mail x os o locals locals' sent t is more posted put =
+    → ArePosted i (post (system_of i) k (out_of (system_of i) o) x) base new before mail locals' sent
+one_local i k base mid new before mail x o locals locals' sent t is more posted put =
     let sys = system_of i in
-    let y : Posts = post_all sys k (map (out_of sys) os) x in
-    let one = posted_local i k base mid new before mail y locals sent t posted put in
-    let same : post sys k (out_of sys (outs.Local t)) y ≡ post sys k (out_of sys o) y = ap (λ z. post sys k (out_of sys z) y) (sym is) in
-    posted_more i k base new before mail x os o locals' sent
-    (subst (λ n. ArePosted i (post sys k (out_of sys o) y) base new before mail n sent) (sym more) (subst (λ z. ArePosted i z base new before mail (locals + 1) sent) same one))
+    let one = posted_local i k base mid new before mail x locals sent t posted put in
+    let same : post sys k (out_of sys (outs.Local t)) x ≡ post sys k (out_of sys o) x = ap (λ z. post sys k (out_of sys z) x) (sym is) in
+    subst (λ n. ArePosted i (post sys k (out_of sys o) x) base new before mail n sent) (sym more) (subst (λ z. ArePosted i z base new before mail (locals + 1) sent) same one)
 
-pub more_message : (i : Inputs) (k : Key) (base mid : Contents) (before mail new : List Message) (x : Posts) (os : List Out) (o : Out) (locals : ℕ) (sent sent' : List ℕ) (s : Sending)
-    → o ≡ outs.Send s → sent' ≡ slice_set sent s.link (slice_index sent s.link + 1) → ArePosted i (post_all (system_of i) k (map (out_of (system_of i)) os) x) base mid before mail locals sent
+pub one_message : (i : Inputs) (k : Key) (base mid : Contents) (before mail new : List Message) (x : Posts) (o : Out) (locals : ℕ) (sent sent' : List ℕ) (s : Sending)
+    → o ≡ outs.Send s → sent' ≡ slice_set sent s.link (slice_index sent s.link + 1) → ArePosted i x base mid before mail locals sent
     → IsSendable (system_of i) k.resource s → s.link < length sent
     → new ≡ mail ++ message_of (system_of i) k s (slice_index sent s.link) ∷ []
-    → ArePosted i (post_all (system_of i) k (map (out_of (system_of i)) (os ++ o ∷ [])) x) base mid before new locals sent'
-more_message i k base mid before mail new x os o locals sent sent' s is more posted sendable within pushed =
+    → ArePosted i (post (system_of i) k (out_of (system_of i) o) x) base mid before new locals sent'
+one_message i k base mid before mail new x o locals sent sent' s is more posted sendable within pushed =
     let sys = system_of i in
-    let y : Posts = post_all sys k (map (out_of sys) os) x in
-    let one = posted_message i k base mid before mail new y locals (slice_index sent s.link) sent s posted sendable within refl pushed in
-    let same : post sys k (out_of sys (outs.Send s)) y ≡ post sys k (out_of sys o) y = ap (λ z. post sys k (out_of sys z) y) (sym is) in
-    posted_more i k base mid before new x os o locals sent'
-    (subst (λ ns. ArePosted i (post sys k (out_of sys o) y) base mid before new locals ns) (sym more)
-    (subst (λ z. ArePosted i z base mid before new locals (slice_set sent s.link (slice_index sent s.link + 1))) same one))
+    let one = posted_message i k base mid before mail new x locals (slice_index sent s.link) sent s posted sendable within refl pushed in
+    let same : post sys k (out_of sys (outs.Send s)) x ≡ post sys k (out_of sys o) x = ap (λ z. post sys k (out_of sys z) x) (sym is) in
+    subst (λ ns. ArePosted i (post sys k (out_of sys o) x) base mid before new locals ns) (sym more)
+    (subst (λ z. ArePosted i z base mid before new locals (slice_set sent s.link (slice_index sent s.link + 1))) same one)

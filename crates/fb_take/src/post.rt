@@ -1,9 +1,11 @@
 //! What the taking of an event puts out: local events onto the agenda, messages behind the mail.
 
-ghost use Rattle.std.specs.Prelude.{◌≡◌, ◌+◌, ◌<◌, ◌≤◌, ◌^◌, ◌++◌, ◌∷◌, ℕ, [], map, length, All, OnOk, slice_index, slice_set};
+ghost use Rattle.std.specs.Prelude.{◌≡◌, ◌+◌, ◌<◌, ◌≤◌, ◌^◌, ◌++◌, ◌∷◌, ℕ, List, [], map, length, All, OnOk, slice_index, slice_set};
 ghost use Rattle.fb_types.specs.Headline.{system_of};
 ghost use Rattle.fb_types.specs.Keys.{local_key};
 ghost use Rattle.fb_types.specs.Takes as takes;
+ghost use Rattle.fb_types.specs.declared.run.Message as messages;
+ghost use Rattle.fb_agenda.specs.Agendas.{Contents};
 ghost use Rattle.fb_types.specs.declared.run.Event.TheVariants.{Local};
 ghost use Rattle.fb_net.specs.Outs.{out_of};
 ghost use Rattle.fb_take.specs.Posts.{ArePosted, CountsAre, IsMessage, IsPostable, IsPut, message_of};
@@ -76,6 +78,83 @@ fn post_message(
     Ok(())
 }
 
+/// Posts one event that was put out, behind all that were posted before.
+///
+/// # Errors
+/// When memory runs out, or a link has carried 2^128 messages.
+fn post_out(
+    agenda: &mut Agenda,
+    mail: &mut Vec<Message>,
+    sent: &mut Vec<u128>,
+    locals: &mut u128,
+    system: &System,
+    key: &Key,
+    out: Out,
+) -> Result<(), AllocError>
+    requires out { IsPostable (system_of system.now) key.now.resource out }
+    requires room { locals.old + 1 < 2 ^ 128 }
+    requires counted { length sent.old.items ≡ (system_of system.now).links }
+    requires early { key.now.tick ≤ 10 ^ 12 }
+    requires named { key.now.resource < length (system_of system.now).resource_names }
+    requires order { IsInOrder system.now key.now.tick agenda.old }
+    requires mail { All (IsMessage system.now) mail.old.items }
+    ensures posted { OnOk result ((before : takes.Posts) (base : Contents) (first : List messages.Message) →
+        ArePosted system.now before base agenda.old first mail.old.items locals.old sent.old.items →
+        ArePosted system.now (takes.post (system_of system.now) key.now (out_of (system_of system.now) out) before) base agenda.new first mail.new.items locals.new sent.new.items) }
+    ensures few { OnOk result (locals.new ≤ locals.old + 1) }
+    ensures order { OnOk result (IsInOrder system.now key.now.tick agenda.new) }
+    ensures mail { OnOk result (All (IsMessage system.now) mail.new.items) }
+    ensures later { OnOk result (All (λ m. key.now.tick < m.arrives) mail.old.items → All (λ m. key.now.tick < m.arrives) mail.new.items) }
+    ensures due { OnOk result (agenda.new.due ≡ agenda.old.due) }
+    ensures counted { OnOk result (length sent.new.items ≡ length sent.old.items) }
+{
+    match out {
+        Out::Local(target) => post_local(agenda, locals, key, target)?,
+        Out::Send(sending) => post_message(mail, sent, system, key, sending)?,
+    }
+    Ok(())
+}
+
+/// Posts events that were put out, in their order. The room that they took is kept.
+///
+/// # Errors
+/// When memory runs out, or a link has carried 2^128 messages.
+fn post_each(
+    agenda: &mut Agenda,
+    mail: &mut Vec<Message>,
+    sent: &mut Vec<u128>,
+    outs: &mut Vec<Out>,
+    locals: &mut u128,
+    system: &System,
+    key: &Key,
+) -> Result<(), AllocError>
+    requires outs { All (IsPostable (system_of system.now) key.now.resource) outs.old.items }
+    requires room { locals.old + length outs.old.items < 2 ^ 128 }
+    requires counted { length sent.old.items ≡ (system_of system.now).links }
+    requires early { key.now.tick ≤ 10 ^ 12 }
+    requires named { key.now.resource < length (system_of system.now).resource_names }
+    requires order { IsInOrder system.now key.now.tick agenda.old }
+    requires mail { All (IsMessage system.now) mail.old.items }
+    ensures posted { OnOk result ((counts : ℕ → ℕ) → CountsAre sent.old.items counts →
+        ArePosted system.now (takes.post_all (system_of system.now) key.now (map (out_of (system_of system.now)) outs.old.items) (record { locals = locals.old; sent = counts; raised = []; messages = [] }))
+        agenda.old agenda.new mail.old.items mail.new.items locals.new sent.new.items) }
+    ensures few { OnOk result (locals.new ≤ locals.old + length outs.old.items) }
+    ensures order { OnOk result (IsInOrder system.now key.now.tick agenda.new) }
+    ensures mail { OnOk result (All (IsMessage system.now) mail.new.items) }
+    ensures later { OnOk result (All (λ m. key.now.tick < m.arrives) mail.old.items → All (λ m. key.now.tick < m.arrives) mail.new.items) }
+    ensures due { OnOk result (agenda.new.due ≡ agenda.old.due) }
+    ensures counted { OnOk result (length sent.new.items ≡ length sent.old.items) }
+    ensures none { OnOk result (outs.new.items ≡ []) }
+{
+    if outs.is_empty() {
+        return Ok(());
+    }
+    for out in outs.drain(..) {
+        post_out(agenda, mail, sent, locals, system, key, out)?;
+    }
+    Ok(())
+}
+
 /// Posts what the taking of a key's event put out, in its order. The room that it took is kept.
 ///
 /// # Errors
@@ -107,11 +186,10 @@ pub(crate) fn post_all(
     ensures counted { OnOk result (length sent.new.items ≡ length sent.old.items) }
     ensures none { OnOk result (outs.new.items ≡ []) }
 {
-    for out in outs.drain(..) {
-        match out {
-            Out::Local(target) => post_local(agenda, locals, key, target)?,
-            Out::Send(sending) => post_message(mail, sent, system, key, sending)?,
-        }
-    }
-    Ok(())
+    let Some(last) = outs.pop() else {
+        return Ok(());
+    };
+    // Mostly one event was put out, and nothing is to be walked over before it.
+    post_each(agenda, mail, sent, outs, locals, system, key)?;
+    post_out(agenda, mail, sent, locals, system, key, last)
 }

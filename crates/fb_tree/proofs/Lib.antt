@@ -7,7 +7,6 @@ pub mod Reading
 pub mod Routes
 pub mod Sampling
 pub mod Shells
-pub mod Taking
 pub mod Ways
 pub mod Writing
 pub mod Known

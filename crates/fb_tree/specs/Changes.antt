@@ -1,5 +1,5 @@
--- How the blocks of one resource change, seen through the paths (IEC 61499-1, 5.2 and 5.3; that a leaf is taken out while it reacts is this project's profile).
-use Rattle.std.specs.Prelude.{◌≡◌, ◌≢◌, ◌<◌, ℕ, [], length, Option, Some}
+-- How the blocks of one resource change, seen through the paths (IEC 61499-1, 5.2 and 5.3).
+use Rattle.std.specs.Prelude.{◌≡◌, ℕ}
 use Rattle.fb_types.specs.Names.{Name, with_value}
 use Rattle.fb_types.specs.EventBlocks.{Memory}
 use Rattle.fb_types.specs.Headline.{Inputs, system_of}
@@ -8,13 +8,9 @@ use Rattle.fb_types.specs.Reactions.{World, with_block, with_held, from_inside}
 use Rattle.fb_types.specs.States as model
 use Rattle.fb_types.specs.declared.value.Value.{Value}
 use Rattle.fb_types.specs.declared.run.Place.{Place}
-use Rattle.fb_system.specs.Ports.{variable_of, IsVariable}
-use Rattle.fb_tree.specs.Blocks.{own_of, components_of}
-use Rattle.fb_tree.specs.Trees.{block_at}
-use Rattle.fb_tree.specs.Worlds.{InForest, IsForest, StandsAt, StandsFor, IsRead, key_cmp, key_of, route_in_tree, seat, seat_in}
-use Rattle.fb_tree.specs.declared.block.Block.{Block}
+use Rattle.fb_system.specs.Ports.{variable_of}
+use Rattle.fb_tree.specs.Worlds.{InForest, IsForest}
 use Rattle.fb_tree.specs.declared.resource.Forest.{Forest}
-use Rattle.std.specs.BTreeMap.{get}
 
 -- the model's block of an instance
 abbrev pub block_in : Inputs → World → (instance : ℕ) → model.Block
@@ -55,26 +51,3 @@ abbrev pub ShowsInside : Inputs → Forest → Place → Value → Type 0
 ShowsInside i t x v =
     (w : World) → IsForest i t w → InForest i t x.instance →
     v ≡ from_inside (system_of i) t.resource w (variable_of (system_of i) x).at (variable_of (system_of i) x).name
-
--- ---- A leaf that reacts
-
--- All instances but one have their blocks, and at that one's place stands a block without components.
-pub record IsForestBut (i : Inputs) (t : Forest) (k : ℕ) (w : World) : Type 0 where
-  pub number : k < length (system_of i).paths
-  pub lies : InForest i t k
-  pub seats : (place : ℕ) → seat_in t.seats place ≡ seat i.library i.plan place
-  pub stub : Block
-  pub stub_stands : block_at t.blocks (route_in_tree i k) ≡ Some stub
-  pub bare : components_of stub ≡ []
-  pub blocks : (j : ℕ) → j < length (system_of i).paths → InForest i t j → path_at (system_of i) j ≢ path_at (system_of i) k →
-      StandsAt i t.blocks j (block_in i w j)
-  pub held : (x : Place) → IsVariable (system_of i) x → IsRead (system_of i) t.resource x → (system_of i).resource (path_at (system_of i) x.instance) ≢ t.resource →
-      get key_cmp t.held (key_of x) ≡ Some (w.held (variable_of (system_of i) x))
-
--- The block of a leaf, which stands for the model's block, was taken out.
-pub record IsOut (i : Inputs) (k : ℕ) (w : World) (found : Option Block) (new : Forest) : Type 0 where
-  pub block : Block
-  pub is : found ≡ Some block
-  pub leaf : components_of block ≡ []
-  pub stands : StandsFor (system_of i) (path_at (system_of i) k) (own_of block) (block_in i w k)
-  pub rest : IsForestBut i new k w

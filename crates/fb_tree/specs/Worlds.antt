@@ -16,7 +16,6 @@ use Rattle.fb_types.specs.Systems.{System}
 use Rattle.fb_types.specs.declared.deploy.Plan.{Plan}
 use Rattle.fb_types.specs.declared.event_kind.EventKind.{EventKind}
 use Rattle.fb_types.specs.declared.library.BasicType.{BasicType}
-use Rattle.fb_types.specs.declared.library.CompositeType.{CompositeType}
 use Rattle.fb_types.specs.declared.library.Instance.{Instance}
 use Rattle.fb_types.specs.declared.library.Library.{Library}
 use Rattle.fb_types.specs.declared.value.Value.{Value}
@@ -187,10 +186,6 @@ Samples i t x v =
     v ≡ sampled_from (system_of i) t.resource w (variable_of (system_of i) x)
 
 -- ---- Kinds
-
--- the instance is no composite
-pub record IsLeaf (sys : System) (k : ℕ) : Type 0 where
-  pub no_composite : (c : CompositeType) → sys.kind (path_at sys k) ≢ Some (Composite c)
 
 -- The block of the variable's instance keeps what it samples itself: it is an event block or a composite.
 pub record TakesSamples (sys : System) (x : Place) : Type 0 where

@@ -1,8 +1,8 @@
 //! The blocks of one resource as trees, with its held copies.
 //!
 //! What is promised above: a `resource::Forest` stands for the world of the model; what it shows and samples is what
-//! the model has; each change touches one thing; a leaf is taken out while it reacts, and put back, or remembers what it
-//! does where it stands. `build::build` gives blocks and held copies that stand for the opening state.
+//! the model has; each change touches one thing, where it stands. `build::build` gives blocks and held copies that stand
+//! for the opening state.
 //!
 //! To be read in this order: `block` and `shell`, what a block holds; `resource`, what is asked and changed; `tree` and
 //! `values`, the block at a route; `laws`. Then `build`, how they are made before the first event; `seats`,

@@ -1,6 +1,6 @@
 //! The blocks and the held copies of one resource.
 
-ghost use Rattle.std.specs.Prelude.{◌≡◌, ◌<◌, ◌∷◌, [], Some, length, true, false, unwrap_or};
+ghost use Rattle.std.specs.Prelude.{◌≡◌, ◌<◌, ◌∷◌, Some, length, true, false, unwrap_or};
 ghost use Rattle.std.specs.BTreeMap.{get};
 ghost use Rattle.std.specs.Option.{option_copied};
 ghost use Rattle.fb_types.specs.Blocks.{Event};
@@ -8,20 +8,16 @@ ghost use Rattle.fb_types.specs.Flat.{zero_value};
 ghost use Rattle.fb_types.specs.Headline.{system_of};
 ghost use Rattle.fb_types.specs.Numbers.{path_at};
 ghost use Rattle.fb_types.specs.Reactions.{World};
-ghost use Rattle.fb_types.specs.States as model;
 ghost use Rattle.fb_fabric.specs.Layouts.{route_to};
 ghost use Rattle.fb_system.specs.Ports.{IsVariable, variable_of};
-ghost use Rattle.fb_tree.specs.Blocks.{components_of, own_of};
-ghost use Rattle.fb_tree.specs.Changes.{Changes, Holds, IsForestBut, IsOut, ShowsInside, input_sampled, output_shown, remembered, slot_set, with_instance};
-ghost use Rattle.fb_tree.specs.Worlds.{IsLeaf, StandsFor, TakesSamples, Found, InForest, IsComposite, IsForest, Reads, Samples, Sees, Shows, key_cmp, key_of, seat_in, seated, value_in};
+ghost use Rattle.fb_tree.specs.Changes.{Changes, Holds, ShowsInside, input_sampled, output_shown, remembered, slot_set};
+ghost use Rattle.fb_tree.specs.Worlds.{TakesSamples, Found, InForest, IsComposite, IsForest, Reads, Samples, Sees, Shows, key_cmp, key_of, seat_in, seated, value_in};
 
-use crate::block::{Block, EventBlock};
-use crate::shell::Shell;
+use crate::block::Block;
 use crate::tree::find;
-use crate::values::{publish, remember, replace, set_input, set_slot};
+use crate::values::{publish, remember, set_input, set_slot};
 use fb_event::state::EventState;
 use fb_system::system::System;
-use fb_types::event_kind::EventKind;
 use fb_types::items::Items;
 use fb_types::run::Place;
 use fb_types::value::Value;
@@ -56,7 +52,7 @@ impl Forest {
     }
 
     /// The route of an instance that lies in the resource: its first place among the blocks, and the rest.
-    fn route<'a>(&self, system: &'a System, instance: u32) -> (u32, &'a [u32])
+    pub fn route<'a>(&self, system: &'a System, instance: u32) -> (u32, &'a [u32])
         requires { instance < length (system_of system.now).paths }
         ensures { result.0 ∷ result.1.now ≡ seated (seat_in self.now.seats) (route_to system.now.library (path_at (system_of system.now) instance)) }
     {
@@ -234,30 +230,6 @@ impl Forest {
             *held = value;
         }
     }
-
-    /// Takes the block of a leaf that lies in the resource out, while it reacts. `put_back` puts it there again.
-    pub fn take_out(&mut self, alloc: Global, system: &System, instance: u32) -> Option<Block>
-        requires instance { instance < length (system_of system.now).paths }
-        requires leaf { IsLeaf (system_of system.now) instance }
-        ensures resource { self.new.resource ≡ self.old.resource }
-        ensures out { (w : World) → IsForest system.now self.old w → InForest system.now self.old instance → IsOut system.now instance w result self.new }
-    {
-        system.facts();
-        let (first, rest) = self.route(system, instance);
-        replace(&mut self.blocks, first, rest, stub(alloc))
-    }
-
-    /// Puts the block of a leaf back.
-    pub fn put_back(&mut self, system: &System, instance: u32, block: Block)
-        requires { instance < length (system_of system.now).paths }
-        ensures resource { self.new.resource ≡ self.old.resource }
-        ensures back { (w : World) (b : model.Block) → IsForestBut system.now self.old instance w → components_of block ≡ [] →
-            StandsFor (system_of system.now) (path_at (system_of system.now) instance) (own_of block) b → IsForest system.now self.new (with_instance system.now instance b w) }
-    {
-        system.facts();
-        let (first, rest) = self.route(system, instance);
-        replace(&mut self.blocks, first, rest, block);
-    }
 }
 
 /// The value at a place.
@@ -265,18 +237,4 @@ fn value_of(values: &[Value], place: u32) -> Value
     ensures { result ≡ value_in values.now place }
 {
     values.get(place as usize).copied().unwrap_or(NOTHING)
-}
-
-/// What stands in the place of a block that was taken out: an event block without variables, which takes no memory.
-fn stub(alloc: Global) -> Block
-    ensures { components_of result ≡ [] }
-{
-    Block::Event(EventBlock {
-        state: EventState::new(EventKind::Restart),
-        inputs: Items::new(alloc),
-        shell: Shell {
-            slots: Items::new(alloc),
-            published: Items::new(alloc),
-        },
-    })
 }

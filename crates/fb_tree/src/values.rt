@@ -1,15 +1,14 @@
 //! What is changed of one block among the trees.
 
-ghost use Rattle.std.specs.Prelude.{◌≡◌, ◌∷◌, IfNone, IfSome};
+ghost use Rattle.std.specs.Prelude.{◌∷◌};
 ghost use Rattle.fb_tree.specs.Blocks.{with_input, with_published, with_slot, with_state};
-ghost use Rattle.fb_tree.specs.Trees.{block_at, put_at, ChangedAlone};
+ghost use Rattle.fb_tree.specs.Trees.{ChangedAlone};
 
 use crate::block::Block;
 use crate::tree::change;
 use fb_event::state::EventState;
 use fb_types::items::Items;
 use fb_types::value::Value;
-use std::mem;
 
 /// A connection or a stimulus brings a value to a data input of the block at a route.
 pub fn set_slot(blocks: &mut Items<Block>, first: u32, rest: &[u32], input: usize, value: Value)
@@ -49,13 +48,4 @@ pub fn remember(blocks: &mut Items<Block>, first: u32, rest: &[u32], state: Even
             *place = state;
         }
     });
-}
-
-/// Puts a block in the place of the one at a route, and gives that one. Where no block stands there nothing happens.
-pub fn replace(blocks: &mut Items<Block>, first: u32, rest: &[u32], block: Block) -> Option<Block>
-    ensures found { result ≡ block_at blocks.old (first ∷ rest.now) }
-    ensures put { IfSome result (λ was. blocks.new ≡ put_at blocks.old (first ∷ rest.now) block) }
-    ensures none { IfNone result (blocks.new ≡ blocks.old) }
-{
-    change(blocks, first, rest, |place| mem::replace(place, block))
 }

@@ -4,12 +4,12 @@ use fb_event::state::EventState;
 use fb_tree::block::{Block, CompositeBlock, EventBlock};
 use fb_tree::shell::Shell;
 use fb_tree::tree::{change, find};
-use fb_tree::values::{publish, replace, set_input, set_slot};
+use fb_tree::values::{publish, set_input, set_slot};
 use fb_types::event_kind::EventKind;
 use fb_types::items::Items;
 use fb_types::value::Value;
 use std::alloc::Global;
-use std::mem::forget;
+use std::mem::{forget, replace};
 use std::process::Abort;
 
 const NO: Value = Value::Bool(false);
@@ -104,9 +104,10 @@ fn event_blocks_and_composite_blocks_keep_what_they_sample(rt: HostRuntime) {
 #[test]
 fn a_block_is_taken_out_and_put_back(rt: HostRuntime) {
     let mut blocks = trees(&rt, rt.alloc());
-    let inner = replace(&mut blocks, 1, &[1], leaf(&rt, rt.alloc())).expect(&rt, "a block");
+    let other = leaf(&rt, rt.alloc());
+    let inner = change(&mut blocks, 1, &[1], |place| replace(place, other)).expect(&rt, "a block");
     assert!(rt; seen(&blocks, DEEPEST) == None);
-    forget(replace(&mut blocks, 1, &[1], inner));
+    forget(change(&mut blocks, 1, &[1], |place| replace(place, inner)));
     assert!(rt; seen(&blocks, DEEPEST) == Some((NO, NO, NO)));
     forget(blocks);
 }

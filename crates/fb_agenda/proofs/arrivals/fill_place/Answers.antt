@@ -1,12 +1,11 @@
 use Rattle.std.proofs.Common.{Some, subst, sym}
 use Rattle.std.specs.Map.{lookup}
 use Rattle.std.specs.Prelude.{IsSome}
-use Rattle.std.proofs.lemmas.Result.{on_ok_weaker}
 use Rattle.fb_types.specs.Keys.{same_key}
 use Rattle.fb_types.specs.declared.key.Key.{Key}
 use Rattle.fb_agenda.specs.Arrivals.{arrival_at}
 use Rattle.fb_types.specs.declared.run.Event.TheVariants.{Arrival}
-use Rattle.fb_agenda.proofs.Apart.{Sets}
+use Rattle.fb_agenda.specs.Calendars.{Sets}
 use Rattle.fb_agenda.proofs.Placing.{surely}
 use Rattle.fb_agenda.proofs.arrivals.fill_place.Goals as goal
 
@@ -14,11 +13,11 @@ pub returns : goal.returns
 returns c =
     let k = (arrival_at c.args.receiver c.args.message).0 in
     let m = c.args.message in
-    let old = c.args.events.now.entries in
-    let new = c.insert-held.new.self.entries in
+    let old = c.args.events.now in
+    let new = c.insert-held.new.self in
     let sets : Sets c.key_of_arrival-key.result (Some (Arrival m)) old new =
     surely c.insert-held.result (lookup (same_key c.key_of_arrival-key.result) old)
     (subst (λ (z : Key). IsSome (lookup (same_key z) old)) (sym c.key_of_arrival-key.ensures) c.requires.held)
     c.insert-held.ensures.absent
-    (on_ok_weaker c.insert-held.result (λ u. u.0) c.insert-held.ensures.updates) in
+    c.insert-held.ensures.put in
     record { filled = subst (λ (z : Key). Sets z (Some (Arrival m)) old new) c.key_of_arrival-key.ensures sets }

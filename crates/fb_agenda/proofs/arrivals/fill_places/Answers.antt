@@ -17,7 +17,7 @@ fill_place-requires c =
     let inv = c.loop-message.invariant in
     let step = c.in-Some.ensures.steps in
     let k = (arrival_at r m).0 in
-    let old = c.args.events.now.entries in
+    let old = c.args.events.now in
     let rest = ap (λ z. ys ++ z) (sym step.0) ∙ inv.rest in
     let all = sym (map-append (arrival_at r) ys (m ∷ into_iter_items c.next.new.self)) ∙ ap (arrivals_at r) rest in
     let there : IsSome (found k (arrivals_at r c.args.messages.items)) =
@@ -31,11 +31,11 @@ loop-message-preserved c =
     let ys = c.loop-message.yielded in
     let inv = c.loop-message.invariant in
     let step = c.in-Some.ensures.steps in
-    let old = c.args.events.now.entries in
-    let new = c.fill_place.new.events.entries in
+    let old = c.args.events.now in
+    let new = c.fill_place.new.events in
     let rest = ap (λ z. ys ++ z) (sym step.0) ∙ inv.rest in
     record {
-      filled = λ j. filled_more (arrivals_at r ys) (arrival_at r m).0 (arrival_at r m).1 old c.loop-message.events.entries new inv.filled c.fill_place.ensures.filled j
+      filled = λ j. filled_more (arrivals_at r ys) (arrival_at r m).0 (arrival_at r m).1 old c.loop-message.events new inv.filled c.fill_place.ensures.filled j
           ∙ ap (λ es. or_else (found j es) (lookup (same_key j) old)) (sym (map-append (arrival_at r) ys (m ∷ [])));
       rest = append_assoc ys (m ∷ []) (into_iter_items c.next.new.self) ∙ rest;
       len = let same = ap length step.0 in omega (arith, inv.len, step.1, same);
@@ -46,4 +46,4 @@ returns c =
     let inv = c.loop-message.invariant in
     let none : into_iter_items c.loop-message.message-iterator ≡ [] = nil_from_length _ (let done = c.in-None.ensures.steps.0 in omega (arith, inv.len, done)) in
     let all = sym (append-nil c.loop-message.yielded) ∙ ap (λ z. c.loop-message.yielded ++ z) (sym none) ∙ inv.rest in
-    record { filled = λ j. inv.filled j ∙ ap (λ ms. or_else (found j (arrivals_at c.args.receiver ms)) (lookup (same_key j) c.args.events.now.entries)) all }
+    record { filled = λ j. inv.filled j ∙ ap (λ ms. or_else (found j (arrivals_at c.args.receiver ms)) (lookup (same_key j) c.args.events.now)) all }

@@ -8,7 +8,7 @@ use Rattle.fb_agenda.proofs.arrivals.fill_places.Given as goal
 
 abbrev pub invariant-loop-message : goal.invariant-loop-message
 invariant-loop-message l = record {
-  filled : (j : Key) → lookup (same_key j) l.events.entries ≡ or_else (found j (arrivals_at l.receiver l.yielded)) (lookup (same_key j) l.initial.events.entries);
+  filled : (j : Key) → lookup (same_key j) l.events ≡ or_else (found j (arrivals_at l.receiver l.yielded)) (lookup (same_key j) l.initial.events);
   rest : l.yielded ++ into_iter_items l.message-iterator ≡ l.fn.messages.items;
   len : into_iter_len l.message-iterator ≡ length (into_iter_items l.message-iterator);
 }

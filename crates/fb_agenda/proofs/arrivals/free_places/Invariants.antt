@@ -4,6 +4,6 @@ use Rattle.fb_agenda.proofs.arrivals.free_places.Given as goal
 
 abbrev pub invariant-loop-message : goal.invariant-loop-message
 invariant-loop-message l = record {
-  kept : KeepsOthers (arrivals_at l.receiver (take l.message-index l.messages)) l.initial.events.entries l.events.entries;
-  freed : LacksKeys (arrivals_at l.receiver (take l.message-index l.messages)) l.events.entries;
+  kept : KeepsOthers (arrivals_at l.receiver (take l.message-index l.messages)) l.initial.events l.events;
+  freed : LacksKeys (arrivals_at l.receiver (take l.message-index l.messages)) l.events;
 }

@@ -1,5 +1,6 @@
 use Rattle.std.proofs.Common.{◌∙◌, arith, rules}
 use Rattle.std.proofs.lemmas.List.Sorted.{answers_always}
+use Rattle.fb_agenda.proofs.Calendars.{absent_between, err_known}
 use Rattle.fb_agenda.proofs.Orders.{put_over, put_between, searchable}
 use Rattle.fb_agenda.proofs.rising.insert_within.Goals as goal
 
@@ -16,3 +17,11 @@ returns-in_ok-insert-in-Err-clause-ok c =
     let parted = c.in-Err.ensures.position (λ e. e.0) (answers_always _ _ _ (λ f a r g called. search rules)) (searchable c.args.key es c.requires) in
     c.in_ok-insert-in-Err.ensures.items
     ∙ put_between c.args.key c.args.event es c.in-Err.index (omega (arith, c.in-Err.ensures.bound)) (λ j d less. parted.0 j d (omega arith) less) (λ j d le less. parted.1 j d le less)
+
+-- memory is wanting only where the key is not there
+pub returns-in_err-insert-in-Err-clause-absent : goal.returns-in_err-insert-in-Err-clause-absent
+returns-in_err-insert-in-Err-clause-absent c =
+    let es = c.args.events.now.items in
+    let parted = c.in-Err.ensures.position (λ e. e.0) (answers_always _ _ _ (λ f a r g called. search rules)) (searchable c.args.key es c.requires) in
+    err_known c.from_residual.result
+    (absent_between c.args.key es c.in-Err.index (λ j d less. parted.0 j d (omega arith) less) (λ j d le less. parted.1 j d le less))

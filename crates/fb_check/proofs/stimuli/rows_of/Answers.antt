@@ -1,3 +1,4 @@
+use Rattle.std.proofs.Common.{arith}
 use Rattle.std.proofs.lemmas.Option.{MatchOption-at_some, MatchOption-at_none}
 use Rattle.fb_check.specs.Directory.{CanTake, IsTaken}
 use Rattle.fb_check.proofs.Good.{bad_at, none_bad}
@@ -6,7 +7,7 @@ use Rattle.fb_check.proofs.Rows.{rows_none, rows_more, rows_all}
 use Rattle.fb_check.proofs.stimuli.rows_of.Goals as goal
 
 pub loop-stimulus-init : goal.loop-stimulus-init
-loop-stimulus-init c = record { none = refused_none c.args.library.now; rows = rows_none c.args.library.now c.args.stimuli.now }
+loop-stimulus-init c = record { within = omega arith; none = refused_none c.args.library.now; rows = rows_none c.args.library.now c.args.stimuli.now }
 
 pub returns-in-None : goal.returns-in-None
 returns-in-None c =
@@ -22,6 +23,7 @@ loop-stimulus-preserved c =
     let s = c.stimulus-item.result in
     let taken = MatchOption-at_some (¬ (CanTake lib s)) (IsTaken lib s) _ c.in-Some.is c.in_ok-row_of.ensures in
     record {
+      within = (let test = c.loop-stimulus-test.true in omega (arith, test));
       none = refused_more lib c.args.stimuli.now _ s c.loop-stimulus-test.true c.stimulus-item.is c.loop-stimulus.invariant.none taken.takes;
       rows = rows_more lib c.args.stimuli.now _ s _ _ c.in-Some.row c.loop-stimulus-test.true c.stimulus-item.is c.loop-stimulus.invariant.rows taken.row
           c.in_ok-push-in-Some.ensures.ok;
@@ -33,5 +35,5 @@ returns c =
     let ss = c.args.stimuli.now in
     record {
       good = none_bad lib c.requires.0 ss c.requires.1.once c.requires.2 (refused_all lib ss _ c.loop-stimulus-test.false c.loop-stimulus.invariant.none);
-      rows = rows_all lib ss _ _ c.loop-stimulus-test.false c.loop-stimulus.invariant.rows;
+      rows = rows_all lib ss _ _ c.loop-stimulus.invariant.within c.loop-stimulus-test.false c.loop-stimulus.invariant.rows;
     }

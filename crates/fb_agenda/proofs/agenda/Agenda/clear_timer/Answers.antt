@@ -3,7 +3,8 @@ use Rattle.std.proofs.lemmas.List.{get_or_default}
 use Rattle.fb_types.specs.Keys.{timer_key}
 use Rattle.fb_types.specs.declared.key.Key.{Key}
 use Rattle.fb_agenda.specs.Agendas.{Contents, IsTimed}
-use Rattle.fb_agenda.proofs.Apart.{Sets, later_apart, later_waits}
+use Rattle.fb_agenda.specs.Calendars.{Sets}
+use Rattle.fb_agenda.proofs.Apart.{later_apart, later_waits}
 use Rattle.fb_agenda.proofs.Timers.{cleared}
 use Rattle.fb_agenda.specs.Inside.{contents_of}
 use Rattle.fb_agenda.proofs.agenda.Agenda.clear_timer.Goals as goal
@@ -11,7 +12,7 @@ use Rattle.fb_agenda.proofs.agenda.Agenda.clear_timer.Goals as goal
 pub invariant_of-self : goal.invariant_of-self
 invariant_of-self c =
     let v = contents_of c.self.inside in
-    later_apart v c.self.invariant c.key_of_timer.result None c.remove.new.self.entries c.remove.ensures.updates.0 v.due (λ h. refl)
+    later_apart v c.self.invariant c.key_of_timer.result None c.remove.new.self c.remove.ensures v.due (λ h. refl)
 
 pub returns-clause-cleared : goal.returns-clause-cleared
 returns-clause-cleared c =
@@ -20,7 +21,7 @@ returns-clause-cleared c =
     let count : c.args.instance < length v.due = subst (λ (x : Contents). c.args.instance < length x.due) (sym c.self.view_is) c.requires.instance in
     let due = c.index-due.result.now in
     let key = timer_key due c.args.resource c.args.instance in
-    let sets : Sets key None v.later c.remove.new.self.entries = subst (λ (k : Key). Sets k None v.later c.remove.new.self.entries) c.key_of_timer.ensures c.remove.ensures.updates.0 in
+    let sets : Sets key None v.later c.remove.new.self = subst (λ (k : Key). Sets k None v.later c.remove.new.self) c.key_of_timer.ensures c.remove.ensures in
     rw (← c.self.view_is)
-    (λ j. later_waits v c.self.invariant key None c.remove.new.self.entries sets v.due (λ h. omega arith) j
+    (λ j. later_waits v c.self.invariant key None c.remove.new.self sets v.due (λ h. omega arith) j
     ∙ cleared v c.args.resource c.args.instance due (c.index-due.ensures ∙ get_or_default v.due c.args.instance due 0 count) timed j)

@@ -1,5 +1,4 @@
-use Rattle.std.proofs.Common.{Some}
-use Rattle.fb_agenda.proofs.Apart.{put_local_apart, put_local_waits, later_apart, later_waits}
+use Rattle.fb_agenda.proofs.Apart.{put_local_apart, put_local_waits, put_later_apart, put_later_waits}
 use Rattle.fb_agenda.specs.Inside.{contents_of}
 use Rattle.fb_agenda.proofs.agenda.Agenda.put.Goals as goal
 
@@ -11,8 +10,8 @@ invariant_of-self c =
 pub invariant_of-self-else-key-eq-LOCAL : goal.invariant_of-self-else-key-eq-LOCAL
 invariant_of-self-else-key-eq-LOCAL c =
     let v = contents_of c.self.inside in
-    later_apart v c.self.invariant c.args.key (Some c.args.event) c.insert-else-key-eq-LOCAL.new.self.entries c.in_ok-insert.ensures.updates.0 v.due
-    (λ h. absurd (c.if-key-eq-LOCAL.false h))
+    let put = c.insert-else-key-eq-LOCAL in
+    put_later_apart v c.self.invariant c.args.key c.args.event c.if-key-eq-LOCAL.false put.result put.new.self put.ensures.put put.ensures.err
 
 pub returns-then-key-eq-LOCAL-clause-put : goal.returns-then-key-eq-LOCAL-clause-put
 returns-then-key-eq-LOCAL-clause-put c =
@@ -20,8 +19,8 @@ returns-then-key-eq-LOCAL-clause-put c =
     rw (← c.self.view_is)
     (put_local_waits v c.self.invariant c.args.key c.args.event c.if-key-eq-LOCAL.true c.insert.result c.insert.new.events.items c.insert.ensures.ok)
 
-pub returns-in_ok-insert-clause-put : goal.returns-in_ok-insert-clause-put
-returns-in_ok-insert-clause-put c =
+pub returns-else-key-eq-LOCAL-clause-put : goal.returns-else-key-eq-LOCAL-clause-put
+returns-else-key-eq-LOCAL-clause-put c =
     let v = contents_of c.self.inside in
-    rw (← c.self.view_is)
-    (later_waits v c.self.invariant c.args.key (Some c.args.event) c.insert-else-key-eq-LOCAL.new.self.entries c.in_ok-insert.ensures.updates.0 v.due c.if-key-eq-LOCAL.false)
+    let put = c.insert-else-key-eq-LOCAL in
+    rw (← c.self.view_is) (put_later_waits v c.self.invariant c.args.key c.args.event c.if-key-eq-LOCAL.false put.result put.new.self put.ensures.put)

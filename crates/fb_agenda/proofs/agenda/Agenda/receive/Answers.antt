@@ -8,8 +8,8 @@ invariant_of-self c =
     let v = contents_of c.self.inside in
     let r = c.args.receiver in
     let ms = c.args.messages.items in
-    let held = c.hold_places.new.events.entries in
-    let new = c.free_places.new.events.entries in
+    let held = c.hold_places.new.events in
+    let new = c.free_places.new.events in
     let kept : KeepsOthers (arrivals_at r ms) v.later held = rw c.deref.ensures.value at c.hold_places.ensures.kept in
     let left : KeepsOthers (arrivals_at r ms) held new = rw c.deref-then-is_err.ensures.value at c.free_places.ensures.kept in
     kept_apart r ms v c.self.invariant new (freed_keeps r ms v c.self.invariant held new kept left)
@@ -19,8 +19,8 @@ returns-then-is_err-clause-err c =
     let v = contents_of c.self.inside in
     let r = c.args.receiver in
     let ms = c.args.messages.items in
-    let held = c.hold_places.new.events.entries in
-    let new = c.free_places.new.events.entries in
+    let held = c.hold_places.new.events in
+    let new = c.free_places.new.events in
     let kept : KeepsOthers (arrivals_at r ms) v.later held = rw c.deref.ensures.value at c.hold_places.ensures.kept in
     let left : KeepsOthers (arrivals_at r ms) held new = rw c.deref-then-is_err.ensures.value at c.free_places.ensures.kept in
     let freed : LacksKeys (arrivals_at r ms) new = rw c.deref-then-is_err.ensures.value at c.free_places.ensures.freed in
@@ -31,8 +31,8 @@ invariant_of-self-2 c =
     let v = contents_of c.self.inside in
     let r = c.args.receiver in
     let ms = c.args.messages.items in
-    let held = c.hold_places.new.events.entries in
-    let new = c.fill_places.new.events.entries in
+    let held = c.hold_places.new.events in
+    let new = c.fill_places.new.events in
     let kept : KeepsOthers (arrivals_at r ms) v.later held = rw c.deref.ensures.value at c.hold_places.ensures.kept in
     kept_apart r ms v c.self.invariant new (filled_keeps r ms v c.self.invariant held new kept c.fill_places.ensures.filled)
 
@@ -41,7 +41,7 @@ returns-clause-put c =
     let v = contents_of c.self.inside in
     let r = c.args.receiver in
     let ms = c.args.messages.items in
-    let held = c.hold_places.new.events.entries in
-    let new = c.fill_places.new.events.entries in
+    let held = c.hold_places.new.events in
+    let new = c.fill_places.new.events in
     let kept : KeepsOthers (arrivals_at r ms) v.later held = rw c.deref.ensures.value at c.hold_places.ensures.kept in
     rw (← c.self.view_is) (filled_waits r ms v c.self.invariant held new kept c.fill_places.ensures.filled)

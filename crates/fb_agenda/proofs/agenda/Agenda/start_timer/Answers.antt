@@ -3,7 +3,8 @@ use Rattle.std.specs.Prelude.{slice_set}
 use Rattle.fb_types.specs.Keys.{timer_key}
 use Rattle.fb_types.specs.declared.key.Key.{Key}
 use Rattle.fb_types.specs.declared.run.Event.TheVariants.{Timer}
-use Rattle.fb_agenda.proofs.Apart.{Sets, later_apart, later_waits}
+use Rattle.fb_agenda.specs.Calendars.{Sets}
+use Rattle.fb_agenda.proofs.Apart.{later_apart, later_waits}
 use Rattle.fb_agenda.specs.Inside.{contents_of}
 use Rattle.fb_agenda.proofs.agenda.Agenda.start_timer.Goals as goal
 
@@ -11,14 +12,14 @@ pub invariant_of-self-2 : goal.invariant_of-self-2
 invariant_of-self-2 c =
     let v = contents_of c.self.inside in
     let class : c.key_of_timer-key.result.class ≡ 1 = ap (λ (k : Key). k.class) c.key_of_timer-key.ensures in
-    later_apart v c.self.invariant c.key_of_timer-key.result (Some (Timer c.args.instance)) c.insert.new.self.entries c.in_ok-insert.ensures.updates.0
+    later_apart v c.self.invariant c.key_of_timer-key.result (Some (Timer c.args.instance)) c.insert.new.self c.in_ok-insert.ensures.put
     (slice_set v.due c.args.instance c.args.tick) (λ h. absurd (omega arith))
 
 pub returns-clause-put : goal.returns-clause-put
 returns-clause-put c =
     let v = contents_of c.self.inside in
     let key = timer_key c.args.tick c.args.resource c.args.instance in
-    let sets : Sets key (Some (Timer c.args.instance)) v.later c.insert.new.self.entries =
-    subst (λ (k : Key). Sets k (Some (Timer c.args.instance)) v.later c.insert.new.self.entries) c.key_of_timer-key.ensures c.in_ok-insert.ensures.updates.0 in
+    let sets : Sets key (Some (Timer c.args.instance)) v.later c.insert.new.self =
+    subst (λ (k : Key). Sets k (Some (Timer c.args.instance)) v.later c.insert.new.self) c.key_of_timer-key.ensures c.in_ok-insert.ensures.put in
     rw (← c.self.view_is)
-    (later_waits v c.self.invariant key (Some (Timer c.args.instance)) c.insert.new.self.entries sets (slice_set v.due c.args.instance c.args.tick) (λ h. omega arith))
+    (later_waits v c.self.invariant key (Some (Timer c.args.instance)) c.insert.new.self sets (slice_set v.due c.args.instance c.args.tick) (λ h. omega arith))

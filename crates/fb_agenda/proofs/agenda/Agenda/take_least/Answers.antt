@@ -33,24 +33,24 @@ returns-then-key-eq-LOCAL-clause-left c =
 pub invariant_of-self-else-key-eq-LOCAL : goal.invariant_of-self-else-key-eq-LOCAL
 invariant_of-self-else-key-eq-LOCAL c =
     let v = contents_of c.self.inside in
-    popped_apart v c.self.invariant c.pop_first.new.self.entries c.pop_first.result (λ r u. u.0) c.pop_first.ensures.updates c.pop_first.ensures.unchanged
+    popped_apart v c.self.invariant c.pop_first.new.self c.pop_first.result (λ r u. u) c.pop_first.ensures.left c.pop_first.ensures.kept
 
 pub returns-else-key-eq-LOCAL-clause-below : goal.returns-else-key-eq-LOCAL-clause-below
 returns-else-key-eq-LOCAL-clause-below c =
     let v = contents_of c.self.inside in
     let least : IsLeast v c.in_ok-key.key = subst (λ (x : Contents). IsLeast x c.in_ok-key.key) (sym c.self.view_is) c.in_ok-key.ensures.some in
-    popped_below v c.self.invariant c.in_ok-key.key least c.if-key-eq-LOCAL.false c.args.horizon (omega arith) c.pop_first.result c.pop_first.ensures.value c.pop_first.ensures.least
+    popped_below v c.self.invariant c.in_ok-key.key least c.if-key-eq-LOCAL.false c.args.horizon (omega arith) c.pop_first.result c.pop_first.ensures.value c.pop_first.ensures.none_before
 
 pub returns-else-key-eq-LOCAL-clause-least : goal.returns-else-key-eq-LOCAL-clause-least
 returns-else-key-eq-LOCAL-clause-least c =
     let v = contents_of c.self.inside in
     let least : IsLeast v c.in_ok-key.key = subst (λ (x : Contents). IsLeast x c.in_ok-key.key) (sym c.self.view_is) c.in_ok-key.ensures.some in
     rw (← c.self.view_is)
-    (popped_least v c.self.invariant c.in_ok-key.key least c.if-key-eq-LOCAL.false c.pop_first.result c.pop_first.ensures.value c.pop_first.ensures.least)
+    (popped_least v c.self.invariant c.in_ok-key.key least c.if-key-eq-LOCAL.false c.pop_first.result c.pop_first.ensures.value c.pop_first.ensures.none_before)
 
 pub returns-else-key-eq-LOCAL-clause-left : goal.returns-else-key-eq-LOCAL-clause-left
 returns-else-key-eq-LOCAL-clause-left c =
     let v = contents_of c.self.inside in
     let least : IsLeast v c.in_ok-key.key = subst (λ (x : Contents). IsLeast x c.in_ok-key.key) (sym c.self.view_is) c.in_ok-key.ensures.some in
     rw (← c.self.view_is)
-    (popped_left v c.self.invariant c.in_ok-key.key least c.if-key-eq-LOCAL.false c.pop_first.new.self.entries c.pop_first.result (λ r u. u.0) c.pop_first.ensures.value c.pop_first.ensures.least c.pop_first.ensures.updates)
+    (popped_left v c.self.invariant c.in_ok-key.key least c.if-key-eq-LOCAL.false c.pop_first.new.self c.pop_first.result (λ r u. u) c.pop_first.ensures.value c.pop_first.ensures.none_before c.pop_first.ensures.left)

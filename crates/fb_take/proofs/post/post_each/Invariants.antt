@@ -5,7 +5,7 @@ use Rattle.fb_types.specs.Takes.{post_all}
 use Rattle.fb_net.specs.Outs.{out_of}
 use Rattle.fb_take.specs.Posts.{ArePosted, CountsAre, IsMessage}
 use Rattle.fb_take.specs.Waiting.{IsInOrder}
-use Rattle.fb_take.proofs.post.post_all.Given as goal
+use Rattle.fb_take.proofs.post.post_each.Given as goal
 
 abbrev pub invariant-loop-out : goal.invariant-loop-out
 invariant-loop-out l = record {

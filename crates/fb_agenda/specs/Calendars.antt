@@ -1,0 +1,26 @@
+-- What a calendar contains, and how it changes (this project's profile).
+use Rattle.std.specs.Prelude.{◌≡◌, ◌<◌, ℕ, List, [], Option, None, IsSome, if◌then◌else◌, length, slice_index_or}
+use Rattle.std.specs.Map.{lookup}
+use Rattle.fb_types.specs.Keys.{Precedes, same_key}
+use Rattle.fb_types.specs.declared.key.Key.{Key}
+use Rattle.fb_agenda.specs.Agendas.{AreRising, IsFirst}
+use Rattle.fb_types.specs.declared.run.Event.{Event}
+
+-- new has w at the key, and at each other key what old has
+abbrev pub Sets : (k : Key) (w : Option Event) (old new : List (Key × Event)) → Type 0
+Sets k w old new = (j : Key) → lookup (same_key j) new ≡ (if same_key k j then w else lookup (same_key j) old)
+
+-- The keys of the row rise, and no key of the row is in the tree.
+pub record AreSplit (few many : List (Key × Event)) : Type 0 where
+  pub rising : AreRising few
+  pub apart : (j : Key) → IsSome (lookup (same_key j) few) → lookup (same_key j) many ≡ None
+
+-- No event of the second comes before the first of the first, and where the first has none, neither has the second.
+pub record Leads (these those : List (Key × Event)) : Type 0 where
+  pub none_before : (k : Key) → IsFirst these k → (j : Key) → Precedes j k → lookup (same_key j) those ≡ None
+  pub none : these ≡ [] → those ≡ []
+
+-- The key stands at this place.
+pub record IsPlaceOf (es : List (Key × Event)) (k : Key) (i : ℕ) : Type 0 where
+  pub within : i < length es
+  pub there : (d : Key × Event) → (slice_index_or es i d).0 ≡ k

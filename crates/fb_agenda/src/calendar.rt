@@ -1,0 +1,149 @@
+//! The events that are not local: stimuli, timers and messages.
+//!
+//! They come in any order of their keys, mostly in a rising one, and mostly there are few of them. In a tree of many an
+//! event is put and found in logarithmic time, at some hundreds of instructions. So a few are kept in a row in the order
+//! of their keys, and only what comes when the row is long goes into a tree.
+
+ghost use Rattle.std.specs.Prelude.{◌≡◌, List, [], IfSome, IfNone, IfOk, OnOk, OnErr, Some, None};
+ghost use Rattle.std.specs.Bool.{OnFalse, OnTrue};
+ghost use Rattle.std.specs.Map.{lookup};
+ghost use Rattle.fb_types.specs.Keys.{Precedes, same_key};
+ghost use Rattle.fb_types.specs.declared.key.Key as keys;
+ghost use Rattle.fb_agenda.specs.Agendas.{AreRising, IsFirst, IsFirstTick};
+ghost use Rattle.fb_agenda.specs.Calendars.{Leads, Sets};
+
+use crate::rising;
+use fb_types::key::Key;
+use fb_types::run::Event;
+use std::alloc::{AllocError, Global};
+use std::collections::{BTreeMap, VecDeque};
+use std::marker::Model;
+
+/// How many events a row holds before others go into a tree: to make room within it costs no more than a tree would.
+const FEW: usize = 256;
+
+/// Events under their keys, one at most under each. Contracts see them as a list.
+#[derive(Drop)]
+pub(crate) struct Calendar {
+    /// The events that came when they were few, in the order of their keys.
+    few: VecDeque<(Key, Event)>,
+    /// The events that came when they were many.
+    many: BTreeMap<Key, Event>,
+}
+
+impl Model for Calendar {
+    ghost use Rattle.std.specs.Prelude.{List, ◌++◌};
+    ghost use Rattle.fb_types.specs.declared.key.Key.{Key};
+    ghost use Rattle.fb_agenda.specs.Calendars.{AreSplit};
+    ghost use Rattle.fb_types.specs.declared.run.Event.{Event};
+
+    ghost Value = { List (Key × Event) };
+
+    ghost view = { λ c. c.few.items ++ c.many.entries };
+
+    ghost invariant = { λ c. AreSplit c.few.items c.many.entries };
+}
+
+/// The first key of a map.
+fn first_of(events: &BTreeMap<Key, Event>) -> Option<Key>
+    ensures some { IfSome result (IsFirst events.now.entries) }
+    ensures none { IfNone result (events.now.entries ≡ []) }
+{
+    let (key, _) = events.first_key_value()?;
+    Some(*key)
+}
+
+/// Whether no event of the map comes before all of the row.
+fn is_few_first(few: &VecDeque<(Key, Event)>, many: &BTreeMap<Key, Event>) -> bool
+    requires { AreRising few.now.items }
+    ensures few { OnTrue result (Leads few.now.items many.now.entries) }
+    ensures many { OnFalse result (Leads many.now.entries few.now.items) }
+{
+    let Some(later) = first_of(many) else {
+        return true;
+    };
+    match rising::first(few) {
+        Some(first) => first < later,
+        None => false,
+    }
+}
+
+impl Calendar {
+    /// No events.
+    pub(crate) fn new(alloc: Global) -> Calendar
+        ensures { result ≡ [] }
+    {
+        Calendar {
+            few: VecDeque::new(alloc),
+            many: BTreeMap::new(alloc),
+        }
+    }
+
+    /// Puts an event under its key, in the place of one that waits there.
+    ///
+    /// # Errors
+    ///
+    /// When memory runs out. The events are then as they were, and the key is not among theirs.
+    pub(crate) fn insert(&mut self, key: Key, event: Event) -> Result<(), AllocError>
+        ensures put { OnOk result (Sets key (Some event) self.old self.new) }
+        ensures absent { OnErr result (lookup (same_key key) self.old ≡ None) }
+        ensures err { OnErr result (self.new ≡ self.old) }
+    {
+        if self.many.is_empty() && self.few.len() < FEW {
+            return rising::insert(&mut self.few, key, event);
+        }
+        if let Some(index) = rising::place_of(&self.few, &key) {
+            self.few[index] = (key, event);
+            return Ok(());
+        }
+        self.many.insert(key, event)?;
+        Ok(())
+    }
+
+    /// Takes out the event under a key, if one waits there.
+    pub(crate) fn remove(&mut self, key: &Key) -> Option<Event>
+        ensures { Sets key.now None self.old self.new }
+    {
+        let Some(index) = rising::place_of(&self.few, key) else {
+            return self.many.remove(key);
+        };
+        let (_, event) = self.few.remove(index)?;
+        Some(event)
+    }
+
+    /// The event under the first key. It leaves.
+    pub(crate) fn pop_first(&mut self) -> Option<(Key, Event)>
+        ensures value { IfSome result (λ r. lookup (same_key r.0) self.old ≡ Some r.1) }
+        ensures none_before { IfSome result (λ r. (j : keys.Key) → Precedes j r.0 → lookup (same_key j) self.old ≡ None) }
+        ensures left { IfSome result (λ r. Sets r.0 None self.old self.new) }
+        ensures none { IfNone result (self.old ≡ []) }
+        ensures kept { IfNone result (self.new ≡ self.old) }
+    {
+        if is_few_first(&self.few, &self.many) {
+            self.few.pop_front()
+        } else {
+            self.many.pop_first()
+        }
+    }
+
+    /// The first key.
+    pub(crate) fn first(&self) -> Option<Key>
+        ensures some { IfSome result (IsFirst self.now) }
+        ensures none { IfNone result (self.now ≡ []) }
+    {
+        if is_few_first(&self.few, &self.many) {
+            rising::first(&self.few)
+        } else {
+            first_of(&self.many)
+        }
+    }
+
+    /// The tick of the first key.
+    pub(crate) fn first_tick(&self) -> Option<u64>
+        ensures some { IfSome result (IsFirstTick self.now) }
+        ensures none { IfNone result (self.now ≡ []) }
+    {
+        let first = self.first()?;
+        Some(first.tick)
+    }
+}
