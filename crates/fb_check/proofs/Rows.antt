@@ -39,7 +39,8 @@ use Rattle.fb_check.proofs.Good.{IsFoundAt, all-is, can_take, first_place, found
 held_some : (o : Option Input) (v : Value) → is_some (held_slot o v) ≡ elim o as (λ _. Bool) [ None ↦ false | Some i ↦ fits i.ty v ]
 held_some None v = refl
 held_some (Some i) v =
-    elim (fits i.ty v) as (λ b. is_some (if b then Some (record { place = i.place; value = v }) else None) ≡ b) [ true ↦ refl | false ↦ refl ]
+    let it : SlotValue = record { place = i.place; value = v } in
+    elim (fits i.ty v) as (λ b. is_some (if b then Some it else None) ≡ b) [ true ↦ refl | false ↦ refl ]
 
 -- there is a slot exactly for a setting that can be made
 slot_some : (d : Directory) (x : Inputs) (s : Stimulus) (v : Setting) → is_some (slot_of d x s v) ≡ is_settable d x s v
@@ -80,11 +81,10 @@ held_set p x v y is h =
       | None ↦ λ e g. absurd (cc)
       | Some k ↦ λ e g.
           let at = position_is name v.variable p.inputs k e in
-          (elim (fits at.0.ty v.value) as (λ b. (if b then Some (record { place = k; value = v.value }) else None) ≡ Some y → IsSet p.inputs v y) [
+          let it : SlotValue = record { place = k; value = v.value } in
+          (elim (fits at.0.ty v.value) as (λ b. (if b then Some it else None) ≡ Some y → IsSet p.inputs v y) [
             | false ↦ λ f. absurd (cc)
-            | true ↦ λ f.
-                let it : SlotValue = record { place = k; value = v.value } in
-                subst (λ (z : SlotValue). IsSet p.inputs v z) (same_Some it y f) (set_is p v k k e refl)
+            | true ↦ λ f. subst (λ (z : SlotValue). IsSet p.inputs v z) (same_Some it y f) (set_is p v k k e refl)
           ]) (sym (ap (λ (o : Option Variable). held_slot (option_map (input_of k) o) v.value) at.1) ∙ g)
     ] refl (sym (ap (λ (o : Option Input). held_slot o v.value) (is.variables.first v.variable)) ∙ h)
 

@@ -12,12 +12,27 @@ use crate::eval::eval;
 use crate::frame::Frame;
 use crate::meter::Flow;
 use crate::operator::whole_of;
+use crate::small::small_number;
 use fb_types::reference::Reference;
 use fb_types::text::{Expr, Label};
 use fb_types::value::{Reason, Value};
 
 /// An assignment, once its step is begun.
+#[inline(always)]
 pub fn run_assignment(variable: &Reference, expr: &Expr, frame: &mut Frame) -> Result<Flow, Reason>
+    requires known { is_declared (declared_in frame.old) variable.now ≡ true }
+    ensures run { (left : ℕ) → Runs (types_in (declared_in frame.old)) (Assign variable.now (expr_of expr.now)) (record { vars = values_of frame.old; left = suc left }) (end_of result) (record { vars = values_of frame.new; left = left }) }
+    ensures declared { declared_in frame.new ≡ declared_in frame.old }
+{
+    match small_number(expr, frame) {
+        Some(number) if frame.takes(variable, Value::Whole(i128::from(number))) => Ok(Flow::Went),
+        _ => assign_any(variable, expr, frame),
+    }
+}
+
+/// The same, whatever the expression comes to and wherever the variable stands.
+#[inline(never)]
+fn assign_any(variable: &Reference, expr: &Expr, frame: &mut Frame) -> Result<Flow, Reason>
     requires known { is_declared (declared_in frame.old) variable.now ≡ true }
     ensures run { (left : ℕ) → Runs (types_in (declared_in frame.old)) (Assign variable.now (expr_of expr.now)) (record { vars = values_of frame.old; left = suc left }) (end_of result) (record { vars = values_of frame.new; left = left }) }
     ensures declared { declared_in frame.new ≡ declared_in frame.old }

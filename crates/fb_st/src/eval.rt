@@ -12,6 +12,7 @@ use crate::fault::{compared, noted, noted_truth, noted_value};
 use crate::frame::Frame;
 use crate::function::{call_with_one, call_with_three, call_with_two};
 use crate::operator::{are_same, is_arithmetic, negated, number_of_two, truth_value, whole_of};
+use crate::small::{small_number, small_truth};
 use fb_types::function::Function;
 use fb_types::name::Name;
 use fb_types::text::{BinaryOperator, Expr, UnaryOperator};
@@ -24,11 +25,9 @@ use fb_types::value::{Reason, Value};
 pub fn eval(expr: &Expr, frame: &Frame) -> Result<Value, Reason>
     ensures { result ≡ value_of (expr_of expr.now) (values_of frame.now) }
 {
-    match expr {
-        Expr::Binary(operator, _, _) if is_arithmetic(*operator) => {
-            Ok(Value::Whole(number(expr, frame)?))
-        }
-        _ => value(expr, frame),
+    match small_number(expr, frame) {
+        Some(number) => Ok(Value::Whole(i128::from(number))),
+        None => value(expr, frame),
     }
 }
 
@@ -198,8 +197,12 @@ fn call(name: &Name, arguments: &[Expr], frame: &Frame) -> Result<Value, Reason>
 }
 
 /// Whether a condition or a guard is true. A whole number, as no accepted text has there, counts as FALSE.
+#[inline(always)]
 pub fn holds(condition: &Expr, frame: &Frame) -> Result<bool, Reason>
     ensures { result ≡ truth_of (expr_of condition.now) (values_of frame.now) }
 {
-    truth(condition, frame)
+    match small_truth(condition, frame) {
+        Some(is_true) => Ok(is_true),
+        None => truth(condition, frame),
+    }
 }

@@ -1,6 +1,6 @@
 //! Variables with their types and values.
 
-ghost use Rattle.std.specs.Prelude.{◌≡◌, [], ◌∷◌, ◌++◌, true, false, not, if◌then◌else◌, IfSome, IfOk, IfErr, OnOk, OnErr};
+ghost use Rattle.std.specs.Prelude.{◌≡◌, [], ◌∷◌, ◌++◌, true, false, not, if◌then◌else◌, Some, IfSome, IfOk, IfErr, OnOk, OnErr};
 ghost use Rattle.std.specs.List.{list_any};
 ghost use Rattle.fb_types.specs.Names.{same_name, with_value};
 ghost use Rattle.fb_types.specs.Repeated.{Twice};
@@ -121,6 +121,28 @@ impl Frame {
         }
     }
 
+    /// The number of 64 bits that a variable holds which stands where it is expected. `None` says nothing of it.
+    #[inline(always)]
+    pub fn small(&self, variable: &Reference) -> Option<i64>
+        ensures { IfSome result (λ z. values_of self.now variable.now ≡ Value.Whole z) }
+    {
+        match self.value_as_expected(variable)? {
+            Value::Whole(number) => i64::try_from(number).ok(),
+            Value::Bool(_) => None,
+        }
+    }
+
+    /// The truth value that a variable holds which stands where it is expected. `None` says nothing of it.
+    #[inline(always)]
+    pub fn small_truth(&self, variable: &Reference) -> Option<bool>
+        ensures { IfSome result (λ b. values_of self.now variable.now ≡ Value.Bool b) }
+    {
+        match self.value_as_expected(variable)? {
+            Value::Whole(_) => None,
+            Value::Bool(truth) => Some(truth),
+        }
+    }
+
     /// The value of a variable that has to be looked for.
     #[inline(never)]
     fn value_by_search(&self, variable: &Reference) -> Value
@@ -170,6 +192,35 @@ impl Frame {
         };
         let found = &mut self.slots[place];
         found.value = value;
+    }
+
+    /// Gives a variable a value where it stands as expected and its type holds the value, and says whether it did. Else
+    /// the frame stays as it is.
+    #[inline(always)]
+    pub fn takes(&mut self, variable: &Reference, value: Value) -> bool
+        ensures taken { result ≡ true → (fits (types_in (declared_in self.old) variable.now) value ≡ true) × (values_of self.new ≡ with_value variable.now value (values_of self.old)) }
+        ensures same { result ≡ false → self.new ≡ self.old }
+        ensures declared { declared_in self.new ≡ declared_in self.old }
+    {
+        let place = variable.place();
+        if !self.may_take(variable, place, value) {
+            return false;
+        }
+        let slot = &mut self.slots[place];
+        slot.value = value;
+        true
+    }
+
+    /// Whether a variable stands at a place and its type holds a value.
+    #[inline(always)]
+    fn may_take(&self, variable: &Reference, place: usize, value: Value) -> bool
+        ensures { result ≡ true → (place_of variable.now self.now ≡ Some place) × (fits (types_in (declared_in self.now) variable.now) value ≡ true) }
+    {
+        let name = variable.name().as_bytes();
+        match self.slots.get(place) {
+            Some(slot) if is_same(name, slot.name.as_bytes()) => slot.ty.holds(value),
+            _ => false,
+        }
     }
 
     /// Gives a variable a value, unless the value is outside the variable's type: then it keeps its own.

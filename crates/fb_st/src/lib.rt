@@ -17,3 +17,4 @@ mod function;
 pub mod known;
 pub mod meter;
 mod operator;
+mod small;

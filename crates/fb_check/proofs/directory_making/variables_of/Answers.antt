@@ -4,7 +4,7 @@ use Rattle.fb_types.specs.declared.library.Variable.{Variable}
 use Rattle.fb_check.specs.Directory.{input_of}
 use Rattle.fb_check.proofs.Steps.{first_none, first_kept, first_more}
 use Rattle.fb_check.proofs.directory_making.variables_of.Goals as goal
-use Rattle.fb_check.proofs.directory_making.variables_of.Goals.{then-not-contains_key+in_ok-insert, else-not-contains_key}
+use Rattle.fb_check.proofs.directory_making.variables_of.Goals.{then-not-contains_key+in_ok-place+in_ok-insert, else-not-contains_key}
 
 abbrev name_of : Variable → Name
 name_of e = e.name
@@ -15,7 +15,7 @@ loop-place-init c = first_none name_of input_of _ c.new-inputs.ensures.empty
 pub loop-place-preserved : goal.loop-place-preserved
 loop-place-preserved c =
     elim c.if-not-contains_key.branch [
-      | then-not-contains_key+in_ok-insert w ↦
+      | then-not-contains_key+in_ok-place+in_ok-insert w ↦
           rw w.inputs-is
           (first_more name_of input_of _ _ _ c.loop-place.inputs _ c.as_bytes-name.result _ c.loop-place-test.true refl c.as_bytes-name.ensures
           (ap (λ (k : ℕ). input_of k _) w.in_ok-place.ensures) (sym c.contains_key.ensures ∙ w.if-not-contains_key.true) c.loop-place.invariant w.in_ok-insert.ensures.updates.0)

@@ -57,8 +57,8 @@ returns-in-None c =
     (ap (place_in x.events) (sym c.as_bytes-2.ensures) ∙ sym c.event_place.ensures ∙ c.in-Some-event_place.is)
     (λ t. true≢false (sym (c.in_ok-has_setting_twice.ensures.1 t) ∙ c.if-branch.false)) (sym c.in_ok-slots_of.ensures ∙ c.in-None.is)
 
-pub returns-in-Some : goal.returns-in-Some
-returns-in-Some c =
+pub returns : goal.returns
+returns c =
     let lib = c.args.library.now in
     let d = c.args.directory.now in
     let s = c.args.stimulus.now in

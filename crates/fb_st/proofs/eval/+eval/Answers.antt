@@ -6,13 +6,6 @@ use Rattle.fb_st.proofs.Faults.{counted_at, compared_at}
 use Rattle.fb_st.proofs.Wanted.{binary_is, compares_of, gives_of, number_of, truth_of}
 use Rattle.fb_st.proofs.eval.+eval.Goals as goal
 
-pub eval-returns-in_ok-number-in-Binary : goal.eval-returns-in_ok-number-in-Binary
-eval-returns-in_ok-number-in-Binary t c =
-    let is : expr_of c.args.expr.now ≡ Binary c.in-Binary.operator (expr_of c.in-Binary.field-1) (expr_of c.in-Binary.field-2) = binary_is _ _ _ _ c.in-Binary.is in
-    let known = number_of (expr_of c.args.expr.now) c.in-Binary.operator _ _ is (values_of c.args.frame.now) c.in_ok-number-in-Binary.field-0
-    (sym c.is_arithmetic.ensures ∙ c.if-is_arithmetic.true) (sym c.number.ensures ∙ c.in_ok-number-in-Binary.was) in
-    rw known (search rules)
-
 pub value-returns-in_ok-number-in-Binary : goal.value-returns-in_ok-number-in-Binary
 value-returns-in_ok-number-in-Binary t c =
     let is : expr_of c.args.expr.now ≡ Binary c.in-Binary.operator (expr_of c.in-Binary.field-1) (expr_of c.in-Binary.field-2) = binary_is _ _ _ _ c.in-Binary.is in
