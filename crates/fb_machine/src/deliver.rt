@@ -44,6 +44,9 @@ pub(crate) fn deliver(
     ensures due { OnOk result (agenda.new.due ≡ agenda.old.due) }
     ensures none { OnOk result (mail.new.items ≡ []) }
 {
+    if mail.is_empty() {
+        return Ok(());
+    }
     system.facts();
     for message in mail.drain(..) {
         agenda.put(key_of_message(system, &message), Event::Arrival(message))?;

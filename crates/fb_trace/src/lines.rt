@@ -10,6 +10,7 @@ ghost use Rattle.fb_trace.specs.Progress.{Gathers, IsPartWritten, bounded};
 
 use crate::fault::WriteFault;
 use crate::names::{event_name, shown_by};
+use crate::number::Noted;
 use crate::page::Page;
 use crate::pieces::{put_head, put_key, put_values};
 use fb_system::system::System;
@@ -48,11 +49,13 @@ fn put_bindings<W: Write>(
     )
 }
 
+/// Puts the text of a line. The tick is noted with its digits.
 fn put_line<W: Write>(
     page: &mut Page,
     out: &mut W,
     system: &System,
     form: Form,
+    tick: &mut Noted,
     line: &Line,
 ) -> Result<(), WriteFault>
     requires { BelongsTo (system_of system.now) line.now }
@@ -60,10 +63,11 @@ fn put_line<W: Write>(
         (let sys = system_of system.now in line_text form sys (line_of sys line.now)) result }
 {
     put_key(page, out, form, &line.key)?;
+    tick.note(line.key.tick);
     put_head(
         page,
         out,
-        line.key.tick,
+        tick.digits(),
         system.resource_name(line.key.resource as usize),
         sign(line.taken),
         system.path(line.instance),
@@ -87,8 +91,9 @@ pub(crate) fn put_lines<W: Write>(
     ensures { Gathers (W.contents out.old) (W.contents out.new) page.old page.new
         (let sys = system_of system.now in lines_text form sys (map (line_of sys) lines.now)) result }
 {
+    let mut tick = Noted::of(0);
     for line in lines {
-        put_line(page, out, system, form, line)?;
+        put_line(page, out, system, form, &mut tick, line)?;
     }
     Ok(())
 }

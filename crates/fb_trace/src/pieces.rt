@@ -8,6 +8,7 @@ ghost use Rattle.fb_system.specs.Stands.{variable_at};
 ghost use Rattle.fb_trace.specs.Progress.{Gathers, Puts};
 
 use crate::fault::WriteFault;
+use crate::number::MOST_DIGITS;
 use crate::page::{Page, SHORT, SIZE};
 use fb_system::system::System;
 use fb_types::key::Key;
@@ -66,13 +67,21 @@ const HEAD: usize = 44;
 const BINDING: usize = 42;
 
 /// Puts a head of short texts, where there is room for it.
-fn append_head(page: &mut Page, tick: u64, resource: &[u8], sign: &[u8], path: &[u8], event: &[u8])
+fn append_head(
+    page: &mut Page,
+    tick: &[u8],
+    resource: &[u8],
+    sign: &[u8],
+    path: &[u8],
+    event: &[u8],
+)
+    requires tick { length tick.now ≤ MOST_DIGITS }
     requires sign { length sign.now ≡ 3 }
     requires room { length page.old.waiting + (HEAD + length resource.now + length path.now + length event.now) ≤ SIZE }
     ensures { (a : Option (List ℕ)) → Puts a a page.old page.new
-        (decimal tick ++ codes " " ++ resource.now ++ sign.now ++ path.now ++ codes "." ++ event.now) }
+        (tick.now ++ codes " " ++ resource.now ++ sign.now ++ path.now ++ codes "." ++ event.now) }
 {
-    page.append_number(tick as u128);
+    page.append(tick);
     page.append(b" ");
     page.append(resource);
     page.append(sign);
@@ -85,16 +94,16 @@ fn append_head(page: &mut Page, tick: u64, resource: &[u8], sign: &[u8], path: &
 fn put_long_head<W: Write>(
     page: &mut Page,
     out: &mut W,
-    tick: u64,
+    tick: &[u8],
     resource: &[u8],
     sign: &[u8],
     path: &[u8],
     event: &[u8],
 ) -> Result<(), WriteFault>
     ensures { Gathers (W.contents out.old) (W.contents out.new) page.old page.new
-        (decimal tick ++ codes " " ++ resource.now ++ sign.now ++ path.now ++ codes "." ++ event.now) result }
+        (tick.now ++ codes " " ++ resource.now ++ sign.now ++ path.now ++ codes "." ++ event.now) result }
 {
-    page.put_number(out, tick as u128)?;
+    page.put(out, tick)?;
     page.put(out, b" ")?;
     page.put(out, resource)?;
     page.put(out, sign)?;
@@ -103,20 +112,21 @@ fn put_long_head<W: Write>(
     page.put(out, event)
 }
 
-/// Puts the head of a line: its tick, the name of a resource, a sign, a path, and the name of an event. Where all are
+/// Puts the head of a line: the digits of its tick, the name of a resource, a sign, a path, and the name of an event. Where all are
 /// short there is room on the page for the whole, and no piece has to ask for it.
 pub(crate) fn put_head<W: Write>(
     page: &mut Page,
     out: &mut W,
-    tick: u64,
+    tick: &[u8],
     resource: &[u8],
     sign: &[u8],
     path: &[u8],
     event: &[u8],
 ) -> Result<(), WriteFault>
-    requires { length sign.now ≡ 3 }
+    requires tick { length tick.now ≤ MOST_DIGITS }
+    requires sign { length sign.now ≡ 3 }
     ensures { Gathers (W.contents out.old) (W.contents out.new) page.old page.new
-        (decimal tick ++ codes " " ++ resource.now ++ sign.now ++ path.now ++ codes "." ++ event.now) result }
+        (tick.now ++ codes " " ++ resource.now ++ sign.now ++ path.now ++ codes "." ++ event.now) result }
 {
     if resource.len() > SHORT || path.len() > SHORT || event.len() > SHORT {
         return put_long_head(page, out, tick, resource, sign, path, event);

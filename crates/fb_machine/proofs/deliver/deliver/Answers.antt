@@ -1,4 +1,6 @@
-use Rattle.std.proofs.Common.{◌≡◌, ◌++◌, ◌∷◌, ◌<◌, [], All, map, sym, ap, subst, ◌∙◌, append_assoc, append-nil, arith}
+use Rattle.std.proofs.Common.{◌≡◌, ◌++◌, ◌∷◌, ◌<◌, [], All, map, vec_len, sym, ap, subst, ◌∙◌, append_assoc, append-nil, arith}
+use Rattle.std.proofs.lemmas.Bool.{eqb-true}
+use Rattle.std.proofs.lemmas.List.{nil_from_length}
 use Rattle.std.specs.Vec.Iter.{drain_items}
 use Rattle.fb_types.specs.Headline.{system_of}
 use Rattle.fb_types.specs.Keys.{found, or_else}
@@ -10,6 +12,22 @@ use Rattle.fb_take.proofs.Lists.{slice_all}
 use Rattle.fb_take.proofs.PostLaws.{next_of, order_put}
 use Rattle.fb_machine.proofs.DeliverIs.{delivered_more, message_waits}
 use Rattle.fb_machine.proofs.deliver.deliver.Goals as goal
+
+-- ---- No message
+
+pub returns-then-is_empty-clause-put : goal.returns-then-is_empty-clause-put
+returns-then-is_empty-clause-put c j =
+    let i = c.args.system.now in
+    let mail = c.args.mail.now in
+    let none = nil_from_length mail.items (sym mail.ok.0 ∙ eqb-true (vec_len mail) 0 (sym c.is_empty.ensures ∙ c.if-is_empty.true)) in
+    ap (λ ms. or_else (found j (map (arriving i) ms)) (meaning i c.args.agenda.now j)) (sym none)
+
+pub returns-then-is_empty-clause-none : goal.returns-then-is_empty-clause-none
+returns-then-is_empty-clause-none c =
+    let mail = c.args.mail.now in
+    nil_from_length mail.items (sym mail.ok.0 ∙ eqb-true (vec_len mail) 0 (sym c.is_empty.ensures ∙ c.if-is_empty.true))
+
+-- ---- Messages
 
 pub loop-message-preserved : goal.loop-message-preserved
 loop-message-preserved c =

@@ -8,9 +8,9 @@ returns c a =
     (Puts-more
     (Puts-more
     (Puts-more
-    (Puts-more (Puts-appended a c.append_number.ensures.text) (Puts-appended a c.append.ensures.text))
-    (Puts-appended a c.append-2.ensures.text))
+    (Puts-more (Puts-appended a c.append.ensures.text) (Puts-appended a c.append-2.ensures.text))
     (Puts-appended a c.append-3.ensures.text))
     (Puts-appended a c.append-4.ensures.text))
     (Puts-appended a c.append-5.ensures.text))
-    (Puts-appended a c.append-6.ensures.text)
+    (Puts-appended a c.append-6.ensures.text))
+    (Puts-appended a c.append-7.ensures.text)
