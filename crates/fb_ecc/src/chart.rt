@@ -1,11 +1,11 @@
-//! The chart of a basic type, with places in place of names. It is made once for a block, so that no name of
+//! The chart of a basic type, with places in place of names. It is made once for a type, so that no name of
 //! a state, an algorithm or an event is compared during a reaction.
 
 ghost use Rattle.std.specs.Prelude.{◌≡◌, IfOk, map, option_map, position};
 ghost use Rattle.std.specs.List.{filter, list_any};
 ghost use Rattle.fb_types.specs.Names.{same_name};
 ghost use Rattle.fb_types.specs.Blocks.{among, variables_with};
-ghost use Rattle.fb_ecc.specs.Numbered.{number_in, exit_of, exits_at, exits_from, act_of, row_of, names_with_each, chart_of};
+ghost use Rattle.fb_ecc.specs.Numbered.{number_in, exit_of, exits_from, act_of, row_of, names_with_each, chart_of};
 
 use fb_types::items::Items;
 use fb_types::library::{Action, Algorithm, BasicType, EventPort, State, Transition, Variable};
@@ -241,16 +241,6 @@ fn all_names_with(
 }
 
 impl Chart {
-    /// The transitions that leave the state at a place, or none where there is no state.
-    pub fn leaving(&self, state: usize) -> &[Exit]
-        ensures { result.now ≡ exits_at self.now.rows state }
-    {
-        match self.rows.as_slice().get(state) {
-            Some(row) => row.exits.as_slice(),
-            None => &[],
-        }
-    }
-
     /// The chart of a basic type.
     pub fn of(alloc: Global, block: &BasicType) -> Result<Chart, AllocError>
         ensures { IfOk result (λ chart. chart ≡ chart_of block.now) }

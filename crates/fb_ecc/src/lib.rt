@@ -1,15 +1,16 @@
 //! The reactions of basic blocks by their execution control charts (IEC 61499-1, 5.2).
 //!
 //! What is promised above: `reaction::react` goes through the chain of states of the definitions: variables, emissions,
-//! steps, and the reason to stop; `state::BasicState::open` opens a block of each type of an accepted declaration.
+//! steps, and the reason to stop; `state::BasicState::open` opens a block of a type of an accepted declaration, with the
+//! one chart that all blocks of the type share.
 //!
-//! To be read in this order: `state` and `chart`, what a block is between reactions; `reaction`; `trial` and `action`;
-//! `known`.
+//! To be read in this order: `state`, what a block is between reactions; `chart`, and `shared`, how its blocks share it;
+//! `reaction`; `trial` and `action`.
 #![tactic(auto)]
 
 mod action;
 mod chart;
-mod known;
 pub mod reaction;
+pub mod shared;
 pub mod state;
 mod trial;

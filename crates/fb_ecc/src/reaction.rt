@@ -50,8 +50,8 @@ fn enter(
     ensures well_formed { let IsFit = IsWellFormed block.now in All IsFit emits.old → All IsFit emits.new }
 {
     state.state = target;
-    let acts = state.chart.rows.as_slice()[target].acts.as_slice();
-    let shown = state.chart.shown.as_slice();
+    let acts = state.chart.rows()[target].acts.as_slice();
+    let shown = state.chart.shown();
     perform_all(block, acts, shown, &mut state.frame, meter, emits)
 }
 
@@ -115,7 +115,7 @@ pub fn react(
     ensures well_formed { let IsFit = IsWellFormed block.now in All IsFit emits.old → All IsFit emits.new }
 {
     let event = event as usize;
-    let variables = state.chart.sampled.as_slice()[event].as_slice();
+    let variables = state.chart.sampled()[event].as_slice();
     sample(variables, values, &mut state.frame);
     let mut present = Some(event);
     while link(state, block, present, meter, emits)? {

@@ -30,7 +30,7 @@ use Rattle.fb_tree.proofs.Known.{data_names, kind_once, kind_there, known_of, on
 is_eq-nat_cmp : (m n : ℕ) → is_eq (nat_cmp m n) ≡ nat_eq m n
 is_eq-nat_cmp m n = grind (arith, nat_tests)
 
-nat_same : (m n : ℕ) → is_eq (nat_cmp m n) ≡ true → m ≡ n
+pub nat_same : (m n : ℕ) → is_eq (nat_cmp m n) ≡ true → m ≡ n
 nat_same m n h = let e : nat_eq m n ≡ true = sym (is_eq-nat_cmp m n) ∙ h in grind (arith, nat_tests)
 
 nat_itself : (m : ℕ) → is_eq (nat_cmp m m) ≡ true

@@ -1,5 +1,6 @@
 pub mod Alone
 pub mod Apart
+pub mod Charts
 pub mod Components
 pub mod Holding
 pub mod Others

@@ -1,7 +1,8 @@
 -- The blocks of a resource before the first event (IEC 61499-1, 5.2 and 5.3; that they stand as trees, with held copies, is this project's profile).
-use Rattle.std.specs.Prelude.{◌≡◌, ◌≢◌, ◌<◌, ◌+◌, ℕ, zero, suc, Bool, true, List, [], ◌∷◌, length, nat_eq, Option, Some, slice_get}
+use Rattle.std.specs.Prelude.{◌≡◌, ◌≢◌, ◌<◌, ◌+◌, ◌⊎◌, ℕ, zero, suc, Bool, true, List, [], ◌∷◌, length, nat_eq, Option, Some, slice_get}
 use Rattle.std.specs.List.{filter}
 use Rattle.std.specs.BTreeMap.{BTreeMap, get}
+use Rattle.std.specs.Ordering.{nat_cmp}
 use Rattle.fb_types.specs.Names.{Name, Path, with_value}
 use Rattle.fb_types.specs.Values.{Values}
 use Rattle.fb_types.specs.Flat.{network_at}
@@ -9,10 +10,14 @@ use Rattle.fb_types.specs.Headline.{Inputs, system_of}
 use Rattle.fb_types.specs.Numbers.{path_at}
 use Rattle.fb_types.specs.Simulation.{opening_block}
 use Rattle.fb_types.specs.Systems.{System}
+use Rattle.fb_types.specs.declared.library.BasicType.{BasicType}
+use Rattle.fb_types.specs.declared.library.BlockType.TheVariants as block
 use Rattle.fb_types.specs.declared.library.Instance.{Instance}
 use Rattle.fb_types.specs.declared.library.Network.{Network}
 use Rattle.fb_types.specs.declared.value.Value.{Value}
 use Rattle.fb_st.specs.Frames.{Declared, is_declared}
+use Rattle.fb_ecc.specs.Numbered.{chart_of}
+use Rattle.fb_ecc.specs.declared.chart.Chart.{Chart}
 use Rattle.fb_types.specs.declared.run.Place.{Place}
 use Rattle.fb_fabric.specs.Layouts.{AreNumbers}
 use Rattle.fb_system.specs.Ports.{IsVariable, variable_of}
@@ -31,6 +36,19 @@ abbrev pub begun_all : List Name → List Value → Values → Values
 begun_all [] vs m = m
 begun_all (n ∷ ns) [] m = m
 begun_all (n ∷ ns) (v ∷ vs) m = begun_all ns vs (with_value n v m)
+
+-- ---- Charts
+
+abbrev pub Charts : Type 0
+Charts = BTreeMap ℕ Chart
+
+-- Each chart that was made is that of the basic type at its place of the library.
+abbrev pub AreCharts : Inputs → Charts → Type 0
+AreCharts i charts = (place : ℕ) (t : BasicType) (c : Chart) → slice_get i.library.blocks place ≡ Some (block.Basic t) → get nat_cmp charts place ≡ Some c → c ≡ chart_of t
+
+-- Each chart was there before, or is that of the type at the place.
+abbrev pub ChartsGrow : Charts → (place : ℕ) → BasicType → Charts → Type 0
+ChartsGrow old place t new = (q : ℕ) (c : Chart) → get nat_cmp new q ≡ Some c → (get nat_cmp old q ≡ Some c) ⊎ ((place ≡ q) × (c ≡ chart_of t))
 
 -- ---- Trees
 

@@ -13,6 +13,7 @@ use crate::seats::{seats_of, top_in};
 use fb_system::system::System;
 use fb_types::items::Items;
 use std::alloc::{AllocError, Global};
+use std::collections::BTreeMap;
 
 /// How deep an instance stands at most: the components of the highest composite's lowest one.
 const DEPTH: usize = 17;
@@ -30,7 +31,8 @@ pub fn build(alloc: Global, system: &System, resource: u32) -> Result<Forest, Al
     system.facts();
     let resource = resource as usize;
     let top = top_in(alloc, system, resource)?;
-    let blocks = blocks_of(alloc, system, top.as_slice(), DEPTH)?;
+    let mut charts = BTreeMap::new(alloc);
+    let blocks = blocks_of(alloc, system, top.as_slice(), DEPTH, &mut charts)?;
     Ok(Forest {
         resource,
         seats: seats_of(alloc, system)?,

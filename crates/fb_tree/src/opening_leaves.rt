@@ -7,13 +7,16 @@ ghost use Rattle.fb_types.specs.Numbers.{path_at, ports_at};
 ghost use Rattle.fb_types.specs.Simulation.{opening_block};
 ghost use Rattle.fb_types.specs.declared.library.CompositeType.{CompositeType};
 ghost use Rattle.fb_st.specs.Frames.{declared_in, values_of};
+ghost use Rattle.fb_ecc.specs.Numbered.{chart_of};
 ghost use Rattle.fb_system.specs.Stimuli.{initial_inputs, initial_outputs};
 ghost use Rattle.fb_tree.specs.Blocks.{components_of, own_of};
 ghost use Rattle.fb_tree.specs.Worlds.{BasicStands, StandsFor};
-ghost use Rattle.fb_tree.specs.Opening.{AreDeclared, begun_all};
+ghost use Rattle.fb_tree.specs.Opening.{AreCharts, AreDeclared, begun_all};
 
 use crate::block::{BasicBlock, Block, CompositeBlock, EventBlock};
+use crate::opening_charts::{Charts, chart_at};
 use crate::shell::Shell;
+use fb_ecc::shared::SharedChart;
 use fb_ecc::state::BasicState;
 use fb_event::state::EventState;
 use fb_names::numbers::TypeNumber;
@@ -44,7 +47,7 @@ fn shell_of(alloc: Global, system: &System, instance: u32) -> Result<Shell, Allo
     Ok(Shell { slots, published })
 }
 
-/// Gives data inputs their values in a frame.
+/// Gives data inputs, which are the first variables of a frame, their values.
 fn set_inputs(
     alloc: Global,
     inputs: &[Variable],
@@ -58,6 +61,7 @@ fn set_inputs(
 {
     for (place, input) in inputs.iter().enumerate() {
         let variable = Reference::new(input.name.try_clone(alloc)?);
+        variable.expect_at(place);
         frame.put(&variable, values[place]);
     }
     Ok(())
@@ -69,31 +73,35 @@ fn basic_of(
     system: &System,
     instance: u32,
     block: &BasicType,
+    chart: SharedChart,
 ) -> Result<BasicState, AllocError>
     requires instance { instance < length (system_of system.now).paths }
     requires kind { (system_of system.now).kind (path_at (system_of system.now) instance) ≡ Some (Basic block.now) }
+    requires chart { chart ≡ chart_of block.now }
     ensures { IfOk result (λ s. BasicStands block.now s (opening_block (system_of system.now) (path_at (system_of system.now) instance))) }
 {
     system.facts();
-    let Some(mut state) = BasicState::open(alloc, block)? else {
-        unreachable!()
-    };
+    let mut state = BasicState::open(alloc, block, chart)?;
     let values = system.initial_inputs(alloc, instance)?;
     let inputs = block.ports.inputs.as_slice();
     set_inputs(alloc, inputs, values.as_slice(), &mut state.frame)?;
     Ok(state)
 }
 
-/// The block of an instance. Its components stand inside it where it is a composite.
+/// The block of an instance. Its components stand inside it where it is a composite. A basic block shares the chart of
+/// its type, which is put among the others where the block is the first of the type.
 pub(crate) fn block_with(
     alloc: Global,
     system: &System,
     instance: u32,
     components: Vec<Block>,
+    charts: &mut Charts,
 ) -> Result<Block, AllocError>
-    requires { instance < length (system_of system.now).paths }
+    requires instance { instance < length (system_of system.now).paths }
+    requires charts { AreCharts system.now charts.old }
     ensures stands { IfOk result (λ b. let p = path_at (system_of system.now) instance in StandsFor (system_of system.now) p (own_of b) (opening_block (system_of system.now) p)) }
     ensures components { IfOk result (λ b. (c : CompositeType) → (system_of system.now).kind (path_at (system_of system.now) instance) ≡ Some (Composite c) → components_of b ≡ components.items) }
+    ensures charts { OnOk result (AreCharts system.now charts.new) }
 {
     system.facts();
     let shell = shell_of(alloc, system, instance)?;
@@ -109,7 +117,8 @@ pub(crate) fn block_with(
         }
         TypeNumber::Declared(place) => match system.library().blocks.get(place) {
             Some(BlockType::Basic(block)) => {
-                let state = basic_of(alloc, system, instance, block)?;
+                let chart = chart_at(alloc, block, place, charts)?;
+                let state = basic_of(alloc, system, instance, block, chart)?;
                 Ok(Block::Basic(BasicBlock { state, shell }))
             }
             Some(BlockType::Composite(_)) => {

@@ -1,37 +1,21 @@
-use Rattle.std.proofs.Common.{◌++◌, [], List, map, refl, sym, ◌∙◌, ap, append_assoc, append-nil}
-use Rattle.std.proofs.lemmas.List.{map-append}
+use Rattle.std.proofs.Common.{List, sym, ◌∙◌, ap, subst}
+use Rattle.fb_types.specs.Names.{Name}
 use Rattle.fb_types.specs.Blocks.{variables_of}
-use Rattle.fb_types.specs.declared.library.Ports.{Ports}
-use Rattle.fb_types.specs.declared.library.Variable.{Variable}
-use Rattle.fb_st.specs.declared.frame.Slot.{Slot}
-use Rattle.fb_ecc.specs.Opened.{slot_of}
-use Rattle.fb_ecc.proofs.Soundness.{twice_opened}
+use Rattle.fb_types.specs.Repeated.{Twice}
+use Rattle.fb_st.specs.Frames.{names_of}
+use Rattle.fb_ecc.proofs.Soundness.{all_slots, names_opened}
 use Rattle.fb_ecc.proofs.state.frame_of.Goals as goal
 
-pub returns-then-not-branch : goal.returns-then-not-branch
-returns-then-not-branch c =
-    let p : Ports = c.args.block.now.ports in
-    let internals : List Variable = c.args.block.now.internals in
-    twice_opened [] p.inputs (p.outputs ++ internals) (variables_of c.args.block.now) c.new-frame.result c.as_slice.result.now c.new-frame.ensures c.as_slice.ensures
-    (sym (append_assoc p.inputs p.outputs internals)) (rw c.if-not-branch.true at c.in_ok-declare_all.ensures)
+pub of-requires : goal.of-requires
+of-requires c =
+    let told =
+    all_slots c.args.block.now _ _ _ _ _ _ _ c.new-slots.ensures.items c.as_slice.ensures c.as_slice-2.ensures c.as_slice-3.ensures
+    c.in_ok-add_all.ensures c.in_ok-add_all-2.ensures c.in_ok-add_all-3.ensures in
+    let P : List Name → Type 0 = λ ns. ¬ (Twice ns) in
+    subst P (sym (ap names_of told ∙ names_opened (variables_of c.args.block.now))) c.requires
 
-pub returns-then-not-branch-2 : goal.returns-then-not-branch-2
-returns-then-not-branch-2 c =
-    let p : Ports = c.args.block.now.ports in
-    let internals : List Variable = c.args.block.now.internals in
-    twice_opened p.inputs p.outputs internals (variables_of c.args.block.now) c.declare_all.new.frame c.as_slice-2.result.now
-    ((rw c.if-not-branch.false at c.in_ok-declare_all.ensures)
-    ∙ ap (λ (l : List Slot). l ++ map slot_of c.as_slice.result.now) c.new-frame.ensures ∙ ap (map slot_of) c.as_slice.ensures)
-    c.as_slice-2.ensures refl (rw c.if-not-branch-2.true at c.in_ok-declare_all-2.ensures)
-
-pub returns-then-not-branch-3 : goal.returns-then-not-branch-3
-returns-then-not-branch-3 c =
-    let p : Ports = c.args.block.now.ports in
-    let internals : List Variable = c.args.block.now.internals in
-    twice_opened (p.inputs ++ p.outputs) internals [] (variables_of c.args.block.now) c.declare_all-2.new.frame c.as_slice-3.result.now
-    ((rw c.if-not-branch-2.false at c.in_ok-declare_all-2.ensures)
-    ∙ ap (λ (l : List Slot). l ++ map slot_of c.as_slice-2.result.now)
-    ((rw c.if-not-branch.false at c.in_ok-declare_all.ensures)
-    ∙ ap (λ (l : List Slot). l ++ map slot_of c.as_slice.result.now) c.new-frame.ensures ∙ ap (map slot_of) c.as_slice.ensures)
-    ∙ ap (λ (l : List Variable). map slot_of p.inputs ++ map slot_of l) c.as_slice-2.ensures ∙ sym (map-append slot_of p.inputs p.outputs))
-    c.as_slice-3.ensures (append-nil (variables_of c.args.block.now)) (rw c.if-not-branch-3.true at c.in_ok-declare_all-3.ensures)
+pub returns : goal.returns
+returns c =
+    c.of.ensures
+    ∙ all_slots c.args.block.now _ _ _ _ _ _ _ c.new-slots.ensures.items c.as_slice.ensures c.as_slice-2.ensures c.as_slice-3.ensures
+    c.in_ok-add_all.ensures c.in_ok-add_all-2.ensures c.in_ok-add_all-3.ensures

@@ -1,6 +1,0 @@
-use Rattle.std.proofs.Common.{◌≡◌, ◌++◌, map, take}
-use Rattle.fb_ecc.specs.Opened.{slot_of}
-use Rattle.fb_ecc.proofs.state.declare_all.Given as goal
-
-abbrev pub invariant-loop-variable : goal.invariant-loop-variable
-invariant-loop-variable l = l.frame ≡ l.initial.frame ++ map slot_of (take l.variable-index l.variables)
