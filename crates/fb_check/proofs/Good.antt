@@ -1,6 +1,6 @@
 -- What the directory says of a stimulus is whether it is good.
 use Rattle.std.proofs.Common.{◌≡◌, ℕ, ◌<◌, length, get_or, Bool, true, false, not, ◌&&◌, cond, List, [], ◌∷◌, map, Option, Some, None, Contains, Bor, refl, sym, ◌∙◌, ap, subst, inl, inr}
-use Rattle.std.specs.Prelude.{◌↔◌, IsTrue, MatchOption, is_none, option_map, option_and_then, is_some, position, slice_get}
+use Rattle.std.specs.Prelude.{◌↔◌, IsTrue, MatchOption, option_map, option_and_then, is_some, position, slice_get}
 use Rattle.std.specs.Bool.{Decides}
 use Rattle.std.specs.BTreeMap.{BTreeMap}
 use Rattle.std.specs.List.{list_all, filter}
@@ -277,7 +277,11 @@ none_bad lib plan ss once known none bad =
     let names : Known lib = record { plan = plan; once = once; known = known } in none (bad.0, bad.1, λ take. bad.2 (good_from lib bad.0 names take))
 
 pub bad_is :
-    (lib : Library) (ss : List Stimulus) (o : Option (List StimulusRow)) (b : Bool) → b ≡ is_none o → MatchOption o (BadStimulus lib ss) (AreTaken lib ss)
+    (lib : Library) (ss : List Stimulus) (o : Option (List StimulusRow)) (b : Bool) → is_some o ≡ not b → MatchOption o (BadStimulus lib ss) (AreTaken lib ss)
     → (IsTrue b ↔ BadStimulus lib ss)
-bad_is lib ss None b is bad = (λ _. bad, λ _. is)
-bad_is lib ss (Some rows) b is taken = (λ h. absurd (true≢false (sym h ∙ is)), λ bad. absurd (taken.good bad))
+bad_is lib ss None b is bad = (λ _. bad, λ _. from b is)
+  where
+    from : (b : Bool) → false ≡ not b → b ≡ true
+    from true h = refl
+    from false h = absurd (true≢false (sym h))
+bad_is lib ss (Some rows) b is taken = (λ h. absurd (true≢false (is ∙ ap not h)), λ bad. absurd (taken.good bad))

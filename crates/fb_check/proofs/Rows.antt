@@ -166,8 +166,9 @@ slots_none lib d s x k e directory placed event distinct slots takes =
 
 -- ---- Rows
 
-pub rows_none : (lib : Library) (ss : List Stimulus) → AreRowsUpTo 0 lib ss []
-rows_none lib ss = record { counted = refl; each = λ k s row h g. absurd (cc) }
+pub rows_none : (lib : Library) (ss : List Stimulus) (rows : List StimulusRow) → rows ≡ [] → AreRowsUpTo 0 lib ss rows
+rows_none lib ss rows none =
+    subst (λ (l : List StimulusRow). AreRowsUpTo 0 lib ss l) (sym none) (record { counted = refl; each = λ k s row h g. absurd (cc) })
 
 -- one more stimulus
 pub rows_more :

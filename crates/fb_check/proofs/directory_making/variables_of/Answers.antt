@@ -1,4 +1,4 @@
-use Rattle.std.proofs.Common.{ℕ, refl, sym, ◌∙◌, ap}
+use Rattle.std.proofs.Common.{ℕ, sym, ◌∙◌, ap}
 use Rattle.fb_types.specs.Names.{Name}
 use Rattle.fb_types.specs.declared.library.Variable.{Variable}
 use Rattle.fb_check.specs.Directory.{input_of}
@@ -17,10 +17,10 @@ loop-place-preserved c =
     elim c.if-not-contains_key.branch [
       | then-not-contains_key+in_ok-place+in_ok-insert w ↦
           rw w.inputs-is
-          (first_more name_of input_of _ _ _ c.loop-place.inputs _ c.as_bytes-name.result _ c.loop-place-test.true refl c.as_bytes-name.ensures
-          (ap (λ (k : ℕ). input_of k _) w.in_ok-place.ensures) (sym c.contains_key.ensures ∙ w.if-not-contains_key.true) c.loop-place.invariant w.in_ok-insert.ensures.updates.0)
+          (first_more name_of input_of _ _ _ c.loop-place.inputs _ c.as_bytes-name.result _ c.loop-place-test.true c.index-variables-place.is c.as_bytes-name.ensures
+          (ap (λ (k : ℕ). input_of k c.index-variables-place.result) w.in_ok-place.ensures) (sym c.contains_key.ensures ∙ w.if-not-contains_key.true) c.loop-place.invariant w.in_ok-insert.ensures.updates.0)
       | else-not-contains_key w ↦
           rw w.inputs-is
-          (first_kept name_of input_of _ _ _ c.loop-place.inputs c.as_bytes-name.result.now c.loop-place-test.true refl c.as_bytes-name.ensures
+          (first_kept name_of input_of _ _ _ c.loop-place.inputs c.as_bytes-name.result.now c.loop-place-test.true c.index-variables-place.is c.as_bytes-name.ensures
           (sym c.contains_key.ensures ∙ w.if-not-contains_key.false) c.loop-place.invariant)
     ]

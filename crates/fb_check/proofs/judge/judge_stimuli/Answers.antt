@@ -16,10 +16,10 @@ pub returns-in-Some-clause-rows : goal.returns-in-Some-clause-rows
 returns-in-Some-clause-rows c =
     let lib = c.args.case.now.library.now in
     let ss = c.args.case.now.stimuli.now in
-    (MatchOption-at_some (BadStimulus lib ss) (AreTaken lib ss) _ c.in-Some.is c.in_ok-rows_of.ensures).rows
+    (MatchOption-at_some (BadStimulus lib ss) (AreTaken lib ss) _ c.in-Some.is c.in_ok-rows.ensures).rows
 
 pub returns-in-Some-clause-ok : goal.returns-in-Some-clause-ok
 returns-in-Some-clause-ok c =
     let lib = c.args.case.now.library.now in
     let ss = c.args.case.now.stimuli.now in
-    passes_29 lib c.args.case.now.plan.now ss c.requires.passed (MatchOption-at_some (BadStimulus lib ss) (AreTaken lib ss) _ c.in-Some.is c.in_ok-rows_of.ensures).good
+    passes_29 lib c.args.case.now.plan.now ss c.requires.passed (MatchOption-at_some (BadStimulus lib ss) (AreTaken lib ss) _ c.in-Some.is c.in_ok-rows.ensures).good

@@ -55,10 +55,10 @@ returns-in-None c =
     slots_none lib d s x c.in-Some.place c.in-Some-event_place.event c.requires.directory
     (at ∙ c.in-Some.is, subst P (ap option_copied c.in-Some-inputs_at.is) c.inputs_at.ensures)
     (ap (place_in x.events) (sym c.as_bytes-2.ensures) ∙ sym c.event_place.ensures ∙ c.in-Some-event_place.is)
-    (λ t. true≢false (sym (c.in_ok-has_setting_twice.ensures.1 t) ∙ c.if-branch.false)) (sym c.in_ok-slots_of.ensures ∙ c.in-None.is)
+    (λ t. true≢false (sym (c.in_ok-has_setting_twice.ensures.1 t) ∙ c.if-branch.false)) (sym c.in_ok-sets.ensures ∙ c.in-None.is)
 
-pub returns : goal.returns
-returns c =
+pub returns-in-Some-2 : goal.returns-in-Some-2
+returns-in-Some-2 c =
     let lib = c.args.library.now in
     let d = c.args.directory.now in
     let s = c.args.stimulus.now in
@@ -69,5 +69,5 @@ returns c =
     taken_is lib d s x _ c.in-Some.place c.in-Some-event_place.event c.requires.directory
     (at ∙ c.in-Some.is, subst P (ap option_copied c.in-Some-inputs_at.is) c.inputs_at.ensures)
     (ap (place_in x.events) (sym c.as_bytes-2.ensures) ∙ sym c.event_place.ensures ∙ c.in-Some-event_place.is)
-    (λ t. true≢false (sym (c.in_ok-has_setting_twice.ensures.1 t) ∙ c.if-branch.false)) (sym c.in_ok-slots_of.ensures ∙ c.in-Some-slots_of.is)
+    (λ t. true≢false (sym (c.in_ok-has_setting_twice.ensures.1 t) ∙ c.if-branch.false)) (sym c.in_ok-sets.ensures ∙ c.in-Some-2.is)
     refl c.in_ok-instance.ensures refl

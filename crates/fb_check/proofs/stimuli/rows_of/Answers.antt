@@ -7,7 +7,7 @@ use Rattle.fb_check.proofs.Rows.{rows_none, rows_more, rows_all}
 use Rattle.fb_check.proofs.stimuli.rows_of.Goals as goal
 
 pub loop-stimulus-init : goal.loop-stimulus-init
-loop-stimulus-init c = record { within = omega arith; none = refused_none c.args.library.now; rows = rows_none c.args.library.now c.args.stimuli.now }
+loop-stimulus-init c = record { within = omega arith; none = refused_none c.args.library.now; rows = rows_none c.args.library.now c.args.stimuli.now _ c.new-rows.ensures }
 
 pub returns-in-None : goal.returns-in-None
 returns-in-None c =
@@ -15,13 +15,13 @@ returns-in-None c =
     let plan = c.requires.0 in
     let s = c.stimulus-item.result in
     bad_at lib plan c.args.stimuli.now _ s c.requires.1.once c.requires.2 c.loop-stimulus-test.true c.stimulus-item.is
-    (MatchOption-at_none (¬ (CanTake lib s)) (IsTaken lib s) _ c.in-None.is c.in_ok-row_of.ensures)
+    (MatchOption-at_none (¬ (CanTake lib s)) (IsTaken lib s) c.in-None.is c.in_ok-row.ensures)
 
 pub loop-stimulus-preserved : goal.loop-stimulus-preserved
 loop-stimulus-preserved c =
     let lib = c.args.library.now in
     let s = c.stimulus-item.result in
-    let taken = MatchOption-at_some (¬ (CanTake lib s)) (IsTaken lib s) _ c.in-Some.is c.in_ok-row_of.ensures in
+    let taken = MatchOption-at_some (¬ (CanTake lib s)) (IsTaken lib s) _ c.in-Some.is c.in_ok-row.ensures in
     record {
       within = (let test = c.loop-stimulus-test.true in omega (arith, test));
       none = refused_more lib c.args.stimuli.now _ s c.loop-stimulus-test.true c.stimulus-item.is c.loop-stimulus.invariant.none taken.takes;
