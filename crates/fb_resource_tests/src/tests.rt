@@ -1,15 +1,14 @@
-//! Resources that run by themselves, runs by rounds, and texts of traces, worked out by hand. Each test ends the process where
-//! memory is wanting, and forgets what holds a system or blocks: whoever drops these proves how each of their parts is dropped.
+//! What no run of the program shows of systems and resources: resources that run by themselves, rounds made by hand, lines and inputs
+//! that no run has, worked out by hand. Each test ends the process where memory is wanting, and forgets what holds a system or blocks:
+//! whoever drops these proves how each of their parts is dropped.
 
-mod alone;
+mod belonging;
 mod chain;
-mod drawn;
-mod given;
 mod hand;
-mod kinds;
-mod lots;
-mod merging;
+mod inputs;
+mod latencies;
+mod limits;
 mod messages;
+mod numbers;
 mod rows;
-mod trace;
-mod words;
+mod wiring;

@@ -1,4 +1,4 @@
-//! What the program does not show of a run: pieces, gates, writers that fail. Its traces stand in cases/, where the program
+//! What the program does not show of a run: pieces, gates, what follows a failure. Its traces stand in cases/, where the program
 //! is called for them. Each test ends the process where a call fails that is not to, so that little is dropped on the way.
 
 mod advances;

@@ -17,7 +17,7 @@ use fb_resource::resource::{Resource, WindowDone};
 use fb_system::system::System;
 use fb_trace::lines::write_lines;
 use fb_types::deploy::Deploy;
-use fb_types::run::{Form, Line, Message, StopMark};
+use fb_types::run::{Form, Line, Message};
 use std::alloc::Global;
 use std::mem::forget;
 use std::process::Abort;
@@ -77,13 +77,11 @@ pub fn opened(rt: &impl Abort, alloc: Global, system: &System, number: u32) -> R
 /// What a run gave.
 #[derive(Drop)]
 pub struct Ran {
-    pub resource: Resource,
     pub lines: Vec<Line>,
     pub sent: Vec<Message>,
-    pub stop: Option<StopMark>,
 }
 
-/// Runs a resource that has not stopped below a tick that is not before its clock.
+/// Runs a resource below a tick that is not before its clock. It has not stopped, and does not stop.
 pub fn run(
     rt: &impl Abort,
     resource: Resource,
@@ -93,8 +91,6 @@ pub fn run(
     steps: u64,
 ) -> Ran
     requires { IsOf system.now steps resource }
-    ensures of { IsOf system.now steps result.resource }
-    ensures number { result.resource.tree.resource ≡ resource.tree.resource }
     ensures lines { All (BelongsTo (system_of system.now)) result.lines.items }
     ensures sent { All (IsMessage system.now) result.sent.items }
 {
@@ -106,22 +102,28 @@ pub fn run(
             lines,
             sent,
             stop,
-        } => Ran {
-            resource,
-            lines,
-            sent,
-            stop,
-        },
+        } => {
+            assert!(rt; stop.is_none() && resource.clock() == to);
+            forget(resource);
+            Ran { lines, sent }
+        }
         WindowDone::NoMemory => panic!(rt; "memory"),
     }
 }
 
-/// The lines of a system have that text.
-pub fn expect_text(rt: &impl Abort, alloc: Global, system: &System, lines: &[Line], text: &[u8])
+/// The lines of a system have that text in this form.
+pub fn expect_text(
+    rt: &impl Abort,
+    alloc: Global,
+    system: &System,
+    form: Form,
+    lines: &[Line],
+    text: &[u8],
+)
     requires { All (BelongsTo (system_of system.now)) lines.now }
 {
     let mut out = Vec::new(alloc);
-    write_lines(&mut out, system, Form::One, lines).expect(rt, "written");
+    write_lines(&mut out, system, form, lines).expect(rt, "written");
     assert!(rt; out.as_slice() == text);
 }
 
@@ -178,28 +180,6 @@ fn are_for(resource: &Resource, number: usize, system: &System, messages: &[Mess
         }
     }
     true
-}
-
-/// Puts messages on the agenda of the resource of this number, to which they go.
-pub fn deliver(
-    rt: &impl Abort,
-    mut resource: Resource,
-    number: usize,
-    system: &System,
-    messages: Vec<Message>,
-) -> Resource
-    requires of { IsOf system.now 1000000 resource }
-    requires number { resource.tree.resource ≡ number }
-    requires messages { All (IsMessage system.now) messages.items }
-    ensures { IsOf system.now 1000000 result }
-{
-    if !are_for(&resource, number, system, messages.as_slice()) {
-        panic!(rt; "messages for another resource");
-    }
-    match resource.receive(messages) {
-        Ok(()) => resource,
-        Err(_) => panic!(rt; "memory"),
-    }
 }
 
 /// Puts the first messages on the agenda of the resource of this number, to which they go. Where memory is refused, it

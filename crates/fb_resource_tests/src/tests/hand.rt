@@ -7,11 +7,7 @@ ghost use Rattle.fb_system.specs.Lines.{BelongsTo};
 ghost use Rattle.fb_window.specs.Jobs.{Does};
 ghost use Rattle.fb_resource_tests.specs.Coming.{HasCome, IsAfter};
 
-use super::given::{Texts, made, run_on_one_thread};
-use super::words::Part::{Number, Word};
-use super::words::push_all;
 use fb_resource::resource::{Resource, WindowDone};
-use fb_sim::outcome::Outcome;
 use fb_system::system::System;
 use fb_trace::last::{End, write_last};
 use fb_trace::lines::write_lines;
@@ -32,10 +28,10 @@ const MANY: u32 = 100_000;
 pub const RISING: u64 = 0;
 
 /// The last job of a list is run first.
-const FALLING: u64 = u64::MAX;
+pub const FALLING: u64 = u64::MAX;
 
 /// An order without a rule.
-const SHUFFLED: u64 = 0x9e37_79b9_7f4a_7c15;
+pub const SHUFFLED: u64 = 0x9e37_79b9_7f4a_7c15;
 
 /// How a run is made.
 #[derive(Clone, Copy)]
@@ -77,20 +73,32 @@ fn run_jobs<R: Abort>(rt: &R, alloc: Global, mut jobs: Vec<Job>, order: u64) -> 
     dones
 }
 
-/// Writes the bounds of a round, in the order of the resources. A dash stands for one that has stopped.
-fn tell<R: Abort>(rt: &R, alloc: Global, core: &Core, bounds: &Bounds, out: &mut Vec<u8>) {
-    let mut line = String::new(alloc);
-    push_all(rt, &mut line, &[Word("below")]);
-    for (resource, bound) in core.resources.iter().zip(bounds.all.iter()) {
-        if resource.stopped().is_some() {
-            push_all(rt, &mut line, &[Word(" -")]);
-        } else {
-            push_all(rt, &mut line, &[Word(" "), Number(*bound)]);
+fn digit(number: u64) -> u8 {
+    b'0' + (number % 10) as u8
+}
+
+/// Puts a number of at most five digits behind a text.
+fn push_number<R: Abort>(rt: &R, text: &mut Vec<u8>, number: u64) {
+    for unit in [10_000, 1_000, 100, 10, 1] {
+        if number >= unit || unit == 1 {
+            let next = digit(number.checked_div(unit).unwrap_or(0));
+            text.push(next).expect(rt, "memory");
         }
     }
-    push_all(rt, &mut line, &[Word("\n")]);
-    out.extend_from_slice(line.as_bytes()).expect(rt, "memory");
-    forget(line);
+}
+
+/// Writes the bounds of a round, in the order of the resources. A dash stands for one that has stopped.
+fn tell<R: Abort>(rt: &R, core: &Core, bounds: &Bounds, out: &mut Vec<u8>) {
+    out.extend_from_slice(b"below").expect(rt, "memory");
+    for (resource, bound) in core.resources.iter().zip(bounds.all.iter()) {
+        out.push(b' ').expect(rt, "memory");
+        if resource.stopped().is_some() {
+            out.push(b'-').expect(rt, "memory");
+        } else {
+            push_number(rt, out, *bound);
+        }
+    }
+    out.push(b'\n').expect(rt, "memory");
 }
 
 /// The turns before a round.
@@ -121,7 +129,7 @@ fn window<R: Abort>(
 {
     let bounds = core.bounds(plan.horizon, CAP);
     if plan.tells_bounds {
-        tell(rt, alloc, &core, &bounds, out);
+        tell(rt, &core, &bounds, out);
     }
     let Ok((away, jobs)) = core.jobs(alloc, system, bounds) else {
         panic!(rt; "memory");
@@ -205,40 +213,4 @@ pub fn run_by_hand<R: Abort>(
         panic!(rt; "memory");
     };
     run_on(rt, alloc, system, core, plan, out);
-}
-
-/// Orders of jobs, each with a number of turns that are made before a round.
-static MANNERS: [(u64, u64); 6] = [
-    (RISING, 0),
-    (FALLING, 0),
-    (SHUFFLED, 0),
-    (RISING, 1),
-    (FALLING, 3),
-    (SHUFFLED, 256),
-];
-
-/// Writes the trace of texts by the run on one thread, which is that by rounds too, with the jobs of each in several orders,
-/// and with walks before them. How it ends is told.
-pub fn one_trace<R: Abort>(
-    rt: &R,
-    alloc: Global,
-    texts: Texts<'_>,
-    plan: Plan,
-    trace: &mut Vec<u8>,
-) -> Outcome {
-    let outcome = run_on_one_thread(rt, alloc, texts, plan, trace);
-    let system = made(rt, alloc, texts);
-    for (order, walk) in &MANNERS {
-        let plan = Plan {
-            order: *order,
-            walk: *walk,
-            ..plan
-        };
-        let mut out = Vec::new(alloc);
-        run_by_hand(rt, alloc, &system, plan, &mut out);
-        assert!(rt; out.as_slice() == trace.as_slice());
-        forget(out);
-    }
-    forget(system);
-    outcome
 }

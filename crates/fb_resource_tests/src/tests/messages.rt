@@ -1,13 +1,8 @@
 //! Messages that one resource sends and another takes.
 
-ghost use Rattle.std.specs.Prelude.{◌≡◌};
-ghost use Rattle.fb_resource.specs.Resources.{IsOf};
-
-use super::chain::{
-    ENOUGH, accepted, deliver, deliver_first, expect_text, handed, opened, run, turned,
-};
-use fb_resource::resource::Resource;
+use super::chain::{ENOUGH, accepted, deliver_first, expect_text, handed, opened, run, turned};
 use fb_system::system::System;
+use fb_types::run::Form;
 use std::alloc::Global;
 use std::mem::forget;
 use std::process::Abort;
@@ -110,10 +105,10 @@ fn expect_heard(rt: &impl Abort, alloc: Global, system: &System, talk: &Talk) {
         rt,
         alloc,
         system,
+        Form::One,
         ran.lines.as_slice(),
         talk.trace.as_bytes(),
     );
-    forget(sender.resource);
     forget(sender.lines);
     forget(ran);
 }
@@ -127,61 +122,4 @@ fn messages_come_after_a_want_of_memory(rt: HostRuntime) {
         expect_heard(&rt, rt.alloc(), &system, talk);
         forget(system);
     }
-}
-
-/// The receiver, which has run to this clock, and takes nothing before.
-fn early(rt: &impl Abort, alloc: Global, system: &System, clock: u64) -> Resource
-    ensures of { IsOf system.now 1000000 result }
-    ensures number { result.tree.resource ≡ 1 }
-{
-    let receiver = opened(rt, alloc, system, 1);
-    assert!(rt; receiver.next() == Some(5));
-    let early = run(rt, receiver, alloc, system, clock, ENOUGH);
-    assert!(rt; early.lines.is_empty());
-    forget(early.lines);
-    forget(early.sent);
-    early.resource
-}
-
-/// What the latch sends comes to the switch once that has run to a tick, which is not after that of the arrival.
-fn expect_arrival(rt: &impl Abort, alloc: Global, system: &System, clock: u64) {
-    let sender = opened(rt, alloc, system, 0);
-    let sender = run(rt, sender, alloc, system, 5, ENOUGH);
-    assert!(rt; sender.sent.len() == 1);
-    expect_text(rt, alloc, system, sender.lines.as_slice(), SENT.as_bytes());
-    let receiver = early(rt, alloc, system, clock);
-    let receiver = deliver(rt, receiver, 1, system, sender.sent);
-    assert!(rt; receiver.next() == Some(5));
-    let late = run(rt, receiver, alloc, system, 6, ENOUGH);
-    expect_text(
-        rt,
-        alloc,
-        system,
-        late.lines.as_slice(),
-        LATCH.trace.as_bytes(),
-    );
-    assert!(rt; late.sent.is_empty() && late.stop.is_none());
-    assert!(rt; late.resource.next().is_none() && late.resource.clock() == 6);
-    forget(sender.resource);
-    forget(sender.lines);
-    forget(late);
-}
-
-/// The lines of the latch.
-static SENT: &str = "3 R1 > F.S\n3 R1 < F.EO Q=TRUE\n";
-
-/// The tick of an arrival may be that to which its receiver has run, or a later one.
-#[test]
-fn a_message_arrives_at_the_clock(rt: HostRuntime) {
-    let system = accepted(
-        &rt,
-        rt.alloc(),
-        LATCH.declaration,
-        LATCH.deploy,
-        LATCH.stimuli,
-    );
-    for clock in [0, 5] {
-        expect_arrival(&rt, rt.alloc(), &system, clock);
-    }
-    forget(system);
 }

@@ -1,13 +1,18 @@
 //! Systems whose rounds were worked out by hand.
 
-use super::given::{NO_STIMULI, Texts, made};
-use super::hand::{Plan, RISING, one_trace, run_by_hand};
+use super::chain::accepted;
+use super::hand::{FALLING, Plan, RISING, SHUFFLED, run_by_hand};
+use fb_system::system::System;
 use fb_types::run::Form;
 use std::alloc::Global;
 use std::mem::forget;
 use std::process::Abort;
 
-/// A system, and what its rounds hand out: before each stand the bounds of all resources that have not stopped.
+/// The head of stimuli that are none.
+const NO_STIMULI: &str = "tick,event,values\n";
+
+/// A system, and what its rounds hand out. Before each stand the bounds of all resources that have not stopped, unless they stand before
+/// none.
 #[derive(Clone, Copy)]
 struct Row {
     declaration: &'static str,
@@ -257,33 +262,8 @@ const KEYS: Row = Row {
         end 8\n",
 };
 
-static ROWS: [Row; 10] = [
-    ARRIVAL,
-    LATER_FIRST,
-    OLD_COPY,
-    BETWEEN,
-    TWO_STOPS,
-    LATER_STOP,
-    BEHIND_A_STOP,
-    OVERTAKEN,
-    TOGETHER,
-    KEYS,
-];
-
-/// The lines without the bounds.
-fn put_lines(rt: &impl Abort, rounds: &str, lines: &mut Vec<u8>) {
-    for line in rounds.lines() {
-        if !line.starts_with("below ") {
-            lines
-                .extend_from_slice(line.as_bytes())
-                .expect(rt, "memory");
-            lines.push(b'\n').expect(rt, "memory");
-        }
-    }
-}
-
 /// An event goes round four resources, over links of 1, 2, 3 and 4 ticks.
-static RING: Row = Row {
+const RING: Row = Row {
     declaration: "APPLICATION A FBS S : E_RESTART; M0 : E_MERGE; M1 : E_MERGE; M2 : E_MERGE; M3 : E_MERGE; END_FBS\n\
         EVENT_CONNECTIONS S.COLD TO M0.EI2; M0.EO TO M1.EI1; M1.EO TO M2.EI1; M2.EO TO M3.EI1; M3.EO TO M0.EI1;\n\
         END_CONNECTIONS END_APPLICATION",
@@ -315,47 +295,72 @@ static RING: Row = Row {
         end 20\n",
 };
 
-fn texts_of(row: &Row) -> Texts<'static> {
-    Texts {
-        declaration: row.declaration,
-        deploy: row.deploy,
-        stimuli: row.stimuli,
+static ROWS: [Row; 11] = [
+    ARRIVAL,
+    LATER_FIRST,
+    OLD_COPY,
+    BETWEEN,
+    TWO_STOPS,
+    LATER_STOP,
+    BEHIND_A_STOP,
+    OVERTAKEN,
+    TOGETHER,
+    KEYS,
+    RING,
+];
+
+/// Orders of jobs, each with a number of turns that are made before a round. By such turns a round has other bounds, which are not told.
+static MANNERS: [(u64, u64); 6] = [
+    (RISING, 0),
+    (FALLING, 0),
+    (SHUFFLED, 0),
+    (RISING, 1),
+    (FALLING, 3),
+    (SHUFFLED, 256),
+];
+
+/// The lines, with the bounds where these are told.
+fn put_lines(rt: &impl Abort, rounds: &str, has_bounds: bool, lines: &mut Vec<u8>) {
+    for line in rounds.lines() {
+        if has_bounds || !line.starts_with("below ") {
+            lines
+                .extend_from_slice(line.as_bytes())
+                .expect(rt, "memory");
+            lines.push(b'\n').expect(rt, "memory");
+        }
     }
 }
 
-fn plan_of(row: &Row, tells_bounds: bool) -> Plan {
-    Plan {
+/// The rounds of a row in a manner.
+fn expect_rounds<R: Abort>(
+    rt: &R,
+    alloc: Global,
+    system: &System,
+    row: &Row,
+    (order, walk): (u64, u64),
+) {
+    let tells_bounds = walk == 0 && row.rounds.starts_with("below ");
+    let plan = Plan {
         horizon: row.horizon,
         steps: row.steps,
         form: row.form,
-        order: RISING,
-        walk: 0,
+        order,
+        walk,
         tells_bounds,
-    }
-}
-
-/// The trace of a row in each manner.
-fn expect_trace<R: Abort>(rt: &R, alloc: Global, row: &Row) {
-    let (mut trace, mut lines) = (Vec::new(alloc), Vec::new(alloc));
-    one_trace(rt, alloc, texts_of(row), plan_of(row, false), &mut trace);
-    put_lines(rt, row.rounds, &mut lines);
-    assert!(rt; trace.as_slice() == lines.as_slice());
-}
-
-/// The rounds of a row one by one.
-fn expect_rounds<R: Abort>(rt: &R, alloc: Global, row: &Row) {
-    let mut rounds = Vec::new(alloc);
-    let system = made(rt, alloc, texts_of(row));
-    run_by_hand(rt, alloc, &system, plan_of(row, true), &mut rounds);
-    assert!(rt; rounds.as_slice() == row.rounds.as_bytes());
-    forget(system);
+    };
+    let (mut rounds, mut lines) = (Vec::new(alloc), Vec::new(alloc));
+    run_by_hand(rt, alloc, system, plan, &mut rounds);
+    put_lines(rt, row.rounds, tells_bounds, &mut lines);
+    assert!(rt; rounds.as_slice() == lines.as_slice());
 }
 
 #[test]
 fn rounds_have_their_bounds_and_lines(rt: HostRuntime) {
     for row in &ROWS {
-        expect_trace(&rt, rt.alloc(), row);
-        expect_rounds(&rt, rt.alloc(), row);
+        let system = accepted(&rt, rt.alloc(), row.declaration, row.deploy, row.stimuli);
+        for manner in &MANNERS {
+            expect_rounds(&rt, rt.alloc(), &system, row, *manner);
+        }
+        forget(system);
     }
-    expect_trace(&rt, rt.alloc(), &RING);
 }

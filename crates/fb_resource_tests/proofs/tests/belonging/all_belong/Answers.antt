@@ -3,7 +3,7 @@ use Rattle.std.proofs.lemmas.List.{take_all}
 use Rattle.std.proofs.lemmas.List.Elements.{All-more}
 use Rattle.fb_types.specs.Headline.{system_of}
 use Rattle.fb_system.specs.Lines.{BelongsTo}
-use Rattle.fb_resource_tests.proofs.tests.trace.belonging.all_belong.Goals as goal
+use Rattle.fb_resource_tests.proofs.tests.belonging.all_belong.Goals as goal
 
 pub loop-line-preserved : goal.loop-line-preserved
 loop-line-preserved c =

@@ -48,7 +48,7 @@ fn a_name_is_its_bytes(rt: HostRuntime) {
     for text in &OTHERS {
         let other = name(&rt, rt.alloc(), text);
         assert!(rt; other.as_bytes() == text.as_bytes());
-        assert!(rt; !first.is(&other) && !other.is(&first), "{text}");
+        assert!(rt; !first.is(&other) && !other.is(&first));
     }
 }
 
@@ -119,7 +119,7 @@ static RISING: [Key; 6] = [
 fn keys_are_compared_part_by_part(rt: HostRuntime) {
     for (i, first) in RISING.iter().enumerate() {
         for (j, second) in RISING.iter().enumerate() {
-            assert!(rt; compare(first, second) == i.cmp(&j), "{i} {j}");
+            assert!(rt; compare(first, second) == i.cmp(&j));
         }
     }
 }

@@ -148,13 +148,9 @@ fn expect_network(rt: &impl Abort, alloc: Global, network: &Network) {
     forget(wiring);
 }
 
+/// The ports below the far one have no ends, at either sort of wires.
 #[test]
 fn connections_by_their_ends(rt: HostRuntime) {
     expect_network(&rt, rt.alloc(), &NEAR);
-}
-
-/// The ports below the one that is connected have no ends, at either sort of wires.
-#[test]
-fn far_port_of_a_component(rt: HostRuntime) {
     expect_network(&rt, rt.alloc(), &FAR);
 }

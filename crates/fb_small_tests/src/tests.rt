@@ -1,2 +1,0 @@
-mod latencies;
-mod words;
