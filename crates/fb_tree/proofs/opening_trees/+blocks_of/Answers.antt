@@ -15,8 +15,10 @@ blocks_of-requires t c =
     let deep = c.requires.deep c.loop-instance.instance-index _ (slice_get-get_or c.args.instances.now c.loop-instance.instance-index 0 c.loop-instance-test.true) in
     let enough : 1 ≤ c.args.depth = room c.args.system.now c.args.depth _ c.facts.ensures.accepted deep in (
       omega (arith, enough),
-      deeper c.args.system.now c.args.depth _ c.components-inside.result.now c.facts.ensures.accepted deep c.components-inside.ensures,
-      c.loop-instance.invariant.charts,
+      (
+        deeper c.args.system.now c.args.depth _ c.components-inside.result.now c.facts.ensures.accepted deep c.components-inside.ensures,
+        c.loop-instance.invariant.charts,
+      ),
     )
 
 pub block_with-requires-clause-instance : goal.block_with-requires-clause-instance
