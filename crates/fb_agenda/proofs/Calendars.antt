@@ -1,5 +1,5 @@
 -- The events of a calendar: a row of few, and a tree of many.
-use Rattle.std.proofs.Common.{◌≡◌, ℕ, zero, suc, ◌<◌, ◌≤◌, Bool, true, false, cond, List, [], ◌∷◌, ◌++◌, length, get_or, set, refl, sym, ap, subst, ◌∙◌, Option, Some, None, Result, Ok, Err, arith}
+use Rattle.std.proofs.Common.{◌≡◌, ℕ, zero, suc, ◌<◌, ◌≤◌, Bool, true, false, cond, List, [], ◌∷◌, ◌++◌, length, get_or, set, refl, sym, ap, subst, ◌∙◌, Option, Some, None, Result, Ok, Err, arith, append-nil}
 use Rattle.std.specs.Prelude.{IsSome, IfSome, IfNone, OnOk, OnErr, is_some, option_to_list}
 use Rattle.std.specs.Bool.{OnFalse, OnTrue}
 use Rattle.std.specs.List.{remove}
@@ -14,7 +14,7 @@ use Rattle.std.proofs.lemmas.Map.Keys.{sorted_tail}
 use Rattle.fb_types.specs.Keys.{Precedes, key_cmp, or_else, same_key}
 use Rattle.fb_types.specs.declared.key.Key.{Key}
 use Rattle.fb_types.proofs.KeyLaws.{before_least, key_cmp_total, same_key_is, same_key_itself}
-use Rattle.fb_agenda.specs.Agendas.{AreRising, IsFirst}
+use Rattle.fb_agenda.specs.Agendas.{AreRising, IsFirst, IsFirstTick}
 use Rattle.fb_agenda.specs.Calendars.{AreSplit, IsPlaceOf, Leads, Sets}
 use Rattle.fb_types.specs.declared.run.Event.{Event}
 use Rattle.fb_types.proofs.Lookups.{or_else_none}
@@ -96,6 +96,15 @@ module _ (few many : List (Key × Event)) where
   pub many_first : Leads many few → (o : Option Key) → IfSome o (IsFirst many) → IfSome o (IsFirst (few ++ many))
   many_first leads None first = tt
   many_first leads (Some k) first = many_is_first leads k first
+
+  -- where the tree is empty
+  pub tick_of_few : many ≡ [] → (o : Option ℕ) → IfSome o (IsFirstTick few) → IfSome o (IsFirstTick (few ++ many))
+  tick_of_few empty None first = tt
+  tick_of_few empty (Some t) first = subst (λ es. IsFirstTick es t) (sym (ap (λ es. few ++ es) empty ∙ append-nil few)) first
+
+  pub none_of_few : many ≡ [] → (o : Option ℕ) → IfNone o (few ≡ []) → IfNone o (few ++ many ≡ [])
+  none_of_few empty None none = ap (λ es. es ++ many) none ∙ empty
+  none_of_few empty (Some t) none = tt
 
   -- ---- Changes of one of the two
 

@@ -143,6 +143,9 @@ impl Calendar {
         ensures some { IfSome result (IsFirstTick self.now) }
         ensures none { IfNone result (self.now ≡ []) }
     {
+        if self.many.is_empty() {
+            return rising::first_tick(&self.few);
+        }
         let first = self.first()?;
         Some(first.tick)
     }

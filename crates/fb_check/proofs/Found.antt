@@ -5,7 +5,7 @@ use Rattle.std.proofs.lemmas.Option.{slice_get-map}
 use Rattle.fb_types.specs.Names.{Name, same_name}
 use Rattle.fb_types.specs.Blocks.{Kind, Event, named, event_blocks, event_block_named, ports_of, ports_of_event_block}
 use Rattle.fb_types.specs.EventPorts.{kind_place}
-use Rattle.fb_types.specs.Flat.{kind_of, type_name, type_named, instance_in, kind_of_instance}
+use Rattle.fb_types.specs.Flat.{kind_of, type_name, type_named, kind_of_instance}
 use Rattle.fb_types.specs.declared.event_kind.EventKind.{EventKind}
 use Rattle.fb_types.specs.declared.library.Library.{Library}
 use Rattle.fb_types.specs.declared.library.BlockType.{BlockType}

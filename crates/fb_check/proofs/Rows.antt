@@ -7,9 +7,9 @@ use Rattle.std.proofs.lemmas.List.Elements.{All-nil, All-cons}
 use Rattle.std.proofs.lemmas.Option.{slice_get-map, slice_get_read, slice_get_within, same_Some}
 use Rattle.fb_types.specs.Names.{Name, same_name}
 use Rattle.fb_types.specs.Values.{fits}
-use Rattle.fb_types.specs.Blocks.{Kind, ports_of, event_names, variable_names}
+use Rattle.fb_types.specs.Blocks.{event_names, variable_names}
 use Rattle.fb_types.specs.Flat.{instance_in, kind_of_instance}
-use Rattle.fb_types.specs.Repeated.{Twice, instance_names}
+use Rattle.fb_types.specs.Repeated.{Twice}
 use Rattle.fb_types.specs.Accepted.{kind_of_stimulus, set_names}
 use Rattle.fb_types.specs.Unknown.{event_ins, data_ins}
 use Rattle.fb_types.specs.declared.value.Value.{Value}

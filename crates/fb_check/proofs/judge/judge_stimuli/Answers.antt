@@ -1,5 +1,5 @@
 use Rattle.std.proofs.Common.{arith}
-use Rattle.std.proofs.lemmas.Option.{MatchOption-at_none, MatchOption-at_some}
+use Rattle.std.proofs.lemmas.Option.{MatchOption-at_some}
 use Rattle.fb_types.specs.Accepted.{BadStimulus}
 use Rattle.fb_check.specs.Directory.{AreTaken}
 use Rattle.fb_check.proofs.Verdict.{known, passes_29}

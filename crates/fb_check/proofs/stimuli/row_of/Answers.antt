@@ -1,11 +1,10 @@
-use Rattle.std.proofs.Common.{◌≡◌, Bool, Option, Some, None, false, refl, sym, ◌∙◌, ap, subst}
+use Rattle.std.proofs.Common.{Bool, Option, Some, None, false, refl, sym, ◌∙◌, ap, subst}
 use Rattle.std.specs.Option.{option_copied}
 use Rattle.std.specs.Prelude.{is_some}
 use Rattle.std.proofs.lemmas.Bool.{true≢false}
 use Rattle.fb_types.specs.Repeated.{instance_names}
 use Rattle.fb_names.specs.Places.{place_in}
-use Rattle.fb_names.specs.Numbers.{each_or_none}
-use Rattle.fb_check.specs.Directory.{IsFound, ports_at_place, slot_of}
+use Rattle.fb_check.specs.Directory.{IsFound, ports_at_place}
 use Rattle.fb_check.specs.declared.directory_making.Inputs.{Inputs}
 use Rattle.fb_check.proofs.Found.{unknown_instance}
 use Rattle.fb_check.proofs.Good.{found_at, no_event, no_instance, placed_at, set_twice}
