@@ -1,6 +1,3 @@
-mod NetworkPlaces
-mod BlockPlaces
-mod TypePorts
-mod DeploymentPlaces
-mod AllPlaces
 mod Reading
+mod Verdicts
+mod Parts

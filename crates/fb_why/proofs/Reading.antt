@@ -32,6 +32,13 @@ excess_told excess text bytes given library plan rows (Ok None) read planned fed
     inl (record { library = library; plan = plan; list = rows; read = read; planned = planned; listed = fed; nowhere = holds })
 excess_told excess text bytes given library plan rows (Ok (Some r)) read planned fed holds = record { library = library; list = rows; read = read; listed = fed; applies = holds }
 
+-- a declaration that can't be read, and is not refused for want of memory
+pub unread_told :
+    {E : Type 0} (made : Result (Option Reason) E) (F N : Type 0) (T : Reason → Type 0) → IfOk made (λ o. (o ≡ None) × F) → (F → N) → IfOk made (λ o. MatchOption o N T)
+unread_told (Err e) F N T said so = tt
+unread_told (Ok None) F N T said so = so said.1
+unread_told (Ok (Some r)) F N T said so = absurd (let other : Some r ≡ None = said.0 in cc)
+
 -- and by the number
 pub numbered :
     {E : Type 0} (cause : Cause) (n : ℕ) (text : List ℕ) (bytes given : Option (List ℕ)) (made : Result (Option Reason) E) → IsCause n cause

@@ -1,6 +1,5 @@
 pub mod Explained
-pub mod Sites
-pub mod Unknown
-pub mod Mentions
 pub mod Causes
 pub mod Reasons
+pub mod Stimuli
+pub mod Trials

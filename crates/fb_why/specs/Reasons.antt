@@ -19,7 +19,7 @@ use Rattle.fb_types.specs.declared.deploy.Plan.{Plan}
 use Rattle.fb_types.specs.declared.deploy.Stimulus.{Stimulus}
 use Rattle.fb_types.specs.declared.library.Library.{Library}
 use Rattle.fb_why.specs.Causes.{IsCause}
-use Rattle.fb_why.specs.Unknown.{IsUnknownAt}
+use Rattle.fb_why_kinds.specs.Unknown.{IsUnknownAt}
 use Rattle.fb_why.specs.declared.cause.Cause.TheVariants as cause
 use Rattle.fb_why.specs.declared.cause.Cause.{Cause}
 use Rattle.fb_why.specs.declared.cause.Excess.TheVariants as excess
@@ -34,14 +34,14 @@ use Rattle.fb_why_names.specs.Twice.{IsTwiceAt}
 use Rattle.fb_why_names.specs.Unlinked.{IsUnlinkedAt}
 use Rattle.fb_why_names.specs.Unmapped.{IsUnmappedAt}
 use Rattle.fb_why_names.specs.Unserved.{IsUnservedAt}
-use Rattle.fb_why_rows.specs.Rows as rows
-use Rattle.fb_why_rows.specs.Rows.{AreTaken}
-use Rattle.fb_why_rows.specs.Tables as tables
-use Rattle.fb_why_rows.specs.Tables.{IsShaped}
-use Rattle.fb_why_stimuli.specs.Stimuli.{IsBadAt, IsOver}
-use Rattle.fb_why_texts.specs.Faults.{TellsFault}
-use Rattle.fb_why_values.specs.Misfits.{IsMisfitAt}
-use Rattle.fb_why_values.specs.Misjoins.{IsMisjoinedAt}
+use Rattle.fb_why_bytes.specs.Rows as rows
+use Rattle.fb_why_bytes.specs.Rows.{AreTaken}
+use Rattle.fb_why_bytes.specs.Tables as tables
+use Rattle.fb_why_bytes.specs.Tables.{IsShaped}
+use Rattle.fb_why.specs.Stimuli.{IsBadAt, IsOver}
+use Rattle.fb_why_bytes.specs.Faults.{TellsFault}
+use Rattle.fb_why_kinds.specs.Misfits.{IsMisfitAt}
+use Rattle.fb_why_kinds.specs.Misjoins.{IsMisjoinedAt}
 
 -- ---- What is read
 

@@ -7,10 +7,13 @@ ghost use Rattle.fb_why.specs.declared.cause.Flaw.TheVariants as flaw;
 
 use crate::cause::Flaw;
 use crate::spot::{Reason, Spot};
-use crate::tell::tell;
-use crate::unknown::unknown_place;
 use fb_types::deploy::Plan;
 use fb_types::library::Library;
+use fb_why_kinds::misfits::misfit_place;
+use fb_why_kinds::misjoins::misjoin_place;
+use fb_why_kinds::tell_kinds::{tell_misfit, tell_misjoin};
+use fb_why_kinds::tell_unknown::tell_unknown;
+use fb_why_kinds::unknown::unknown_place;
 use fb_why_names::heights::too_high_place;
 use fb_why_names::sources::joined_place;
 use fb_why_names::tell_heights::tell_too_high;
@@ -23,9 +26,6 @@ use fb_why_names::twice::twice_place;
 use fb_why_names::unlinked::unlinked_place;
 use fb_why_names::unmapped::unmapped_place;
 use fb_why_names::unserved::unserved_place;
-use fb_why_values::misfits::misfit_place;
-use fb_why_values::misjoins::misjoin_place;
-use fb_why_values::tell::{tell_misfit, tell_misjoin};
 use std::alloc::{AllocError, Global};
 
 /// What is given twice.
@@ -51,7 +51,7 @@ fn unknown_reason(
     let Some(place) = unknown_place(alloc, library, plan)? else {
         return Ok(None);
     };
-    let text = tell(alloc, library, plan, place)?;
+    let text = tell_unknown(alloc, library, plan, place)?;
     let place = Spot::Unknown(place);
     Ok(Some(Reason { place, text }))
 }

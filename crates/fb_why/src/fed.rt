@@ -5,12 +5,12 @@ ghost use Rattle.fb_why.specs.Reasons.{ExceedsAt, ExceedsNowhere};
 ghost use Rattle.fb_why.specs.declared.cause.Excess.TheVariants as excess;
 
 use crate::cause::Excess;
+use crate::limit::limit_place;
 use crate::spot::{Reason, Spot};
+use crate::stimulus::stimulus_place;
+use crate::tell::{tell_limit, tell_stimulus};
 use fb_types::deploy::{Plan, Stimulus};
 use fb_types::library::Library;
-use fb_why_stimuli::limit::limit_place;
-use fb_why_stimuli::stimulus::stimulus_place;
-use fb_why_stimuli::tell::{tell_limit, tell_stimulus};
 use std::alloc::{AllocError, Global};
 
 /// Where a stimulus does not fit its event input.

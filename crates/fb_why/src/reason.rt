@@ -1,9 +1,9 @@
 //! The reason of a refusal: what was read is read once more, and looked through for a place at which the refusal
 //! applies.
 
-ghost use Rattle.std.specs.Prelude.{◌≡◌, IfOk, MatchOption, option_map};
-ghost use Rattle.fb_read.specs.Whole.{IsLibraryText};
-ghost use Rattle.fb_why.specs.Reasons.{AreNoStimuli, AreStimuli, HasNoExcess, HasNoFlaw, IsNoPlan, IsNoText, IsPlan, IsSilent, IsSilentOf, Tells, TellsExcess, TellsFlaw, TellsOf};
+ghost use Rattle.std.specs.Prelude.{◌≡◌, ℕ, List, Option, None, IfOk, MatchOption, option_map};
+ghost use Rattle.fb_read.specs.Whole.{IsLibraryText, IsMemory};
+ghost use Rattle.fb_why.specs.Reasons.{AreNoStimuli, AreStimuli, HasNoExcess, HasNoFlaw, IsNoPlan, IsPlan, IsSilent, IsSilentOf, Tells, TellsExcess, TellsFlaw, TellsOf};
 
 use crate::cause::{Cause, Excess, Flaw, cause_of};
 use crate::declared::reason_in;
@@ -15,18 +15,18 @@ use fb_inputs::error::InputError;
 use fb_inputs::stimuli::read_stimuli;
 use fb_read::error::ReadError;
 use fb_read::read::read_library;
-use fb_types::deploy::{Deploy, Stimulus};
+use fb_types::deploy::{Deploy, Plan, Stimulus};
 use fb_types::library::Library;
+use fb_why_bytes::discard::discard;
 use std::alloc::{AllocError, Global};
 
-/// The library that the declaration is, if it is one.
-fn library_of(alloc: Global, declaration: &[u8]) -> Result<Option<Library>, AllocError>
-    ensures { IfOk result (λ o. MatchOption o (IsNoText declaration.now) (IsLibraryText declaration.now)) }
+/// What is told of a declaration that can't be read: nothing, where that is not for want of memory.
+fn untold(fault: ReadError) -> Result<Option<Reason>, AllocError>
+    ensures { IfOk result (λ o. (o ≡ None) × ¬ (IsMemory fault)) }
 {
-    match read_library(alloc, declaration) {
-        Ok(library) => Ok(Some(library)),
-        Err(ReadError::Memory) => Err(AllocError),
-        Err(_) => Ok(None),
+    match fault {
+        ReadError::Memory => Err(AllocError),
+        _ => Ok(None),
     }
 }
 
@@ -58,6 +58,22 @@ fn stimuli_of(alloc: Global, stimuli: Option<&[u8]>) -> Result<Option<Vec<Stimul
     }
 }
 
+/// Where the refusal applies to a library and to what the bytes of a deployment stand for.
+fn flaw_reason_in(
+    alloc: Global,
+    flaw: Flaw,
+    library: &Library,
+    deploy: Option<&[u8]>,
+) -> Result<Option<Reason>, AllocError>
+    ensures { let plan = option_map (λ b. b.now) deploy.entry in (declaration : List ℕ) → IsLibraryText declaration library.now →
+        IfOk result (λ o. MatchOption o (HasNoFlaw flaw declaration plan) (λ r. TellsFlaw flaw declaration plan r.place)) }
+{
+    let Some(deploy) = deploy_of(alloc, deploy)? else {
+        return Ok(None);
+    };
+    reason_in(alloc, flaw, library, deploy.plan())
+}
+
 /// Where the refusal applies to what the bytes of a declaration and a deployment stand for.
 fn flaw_reason(
     alloc: Global,
@@ -67,13 +83,48 @@ fn flaw_reason(
 ) -> Result<Option<Reason>, AllocError>
     ensures { let plan = option_map (λ b. b.now) deploy.entry in IfOk result (λ o. MatchOption o (HasNoFlaw flaw declaration.now plan) (λ r. TellsFlaw flaw declaration.now plan r.place)) }
 {
-    let Some(library) = library_of(alloc, declaration)? else {
+    match read_library(alloc, declaration) {
+        Ok(library) => {
+            let reason = flaw_reason_in(alloc, flaw, &library, deploy);
+            discard(library);
+            reason
+        }
+        Err(fault) => untold(fault),
+    }
+}
+
+/// Where the refusal applies to a library, a plan and what the bytes of stimuli stand for.
+fn excess_reason_with(
+    alloc: Global,
+    excess: Excess,
+    library: &Library,
+    plan: &Plan,
+    stimuli: Option<&[u8]>,
+) -> Result<Option<Reason>, AllocError>
+    ensures { let rows = option_map (λ b. b.now) stimuli.entry in (declaration : List ℕ) (deploy : Option (List ℕ)) → IsLibraryText declaration library.now → IsPlan deploy plan.now →
+        IfOk result (λ o. MatchOption o (HasNoExcess excess declaration deploy rows) (λ r. TellsExcess excess declaration deploy rows r.place)) }
+{
+    let Some(stimuli) = stimuli_of(alloc, stimuli)? else {
         return Ok(None);
     };
+    reason_with(alloc, excess, library, plan, stimuli.as_slice())
+}
+
+/// Where the refusal applies to a library and to what the bytes of a deployment and of stimuli stand for.
+fn excess_reason_in(
+    alloc: Global,
+    excess: Excess,
+    library: &Library,
+    deploy: Option<&[u8]>,
+    stimuli: Option<&[u8]>,
+) -> Result<Option<Reason>, AllocError>
+    ensures { let plan = option_map (λ b. b.now) deploy.entry in let rows = option_map (λ b. b.now) stimuli.entry in (declaration : List ℕ) → IsLibraryText declaration library.now →
+        IfOk result (λ o. MatchOption o (HasNoExcess excess declaration plan rows) (λ r. TellsExcess excess declaration plan rows r.place)) }
+{
     let Some(deploy) = deploy_of(alloc, deploy)? else {
         return Ok(None);
     };
-    reason_in(alloc, flaw, &library, deploy.plan())
+    excess_reason_with(alloc, excess, library, deploy.plan(), stimuli)
 }
 
 /// Where the refusal applies to what all bytes stand for.
@@ -87,16 +138,14 @@ fn excess_reason(
     ensures { let plan = option_map (λ b. b.now) deploy.entry in let rows = option_map (λ b. b.now) stimuli.entry in
         IfOk result (λ o. MatchOption o (HasNoExcess excess declaration.now plan rows) (λ r. TellsExcess excess declaration.now plan rows r.place)) }
 {
-    let Some(library) = library_of(alloc, declaration)? else {
-        return Ok(None);
-    };
-    let Some(deploy) = deploy_of(alloc, deploy)? else {
-        return Ok(None);
-    };
-    let Some(stimuli) = stimuli_of(alloc, stimuli)? else {
-        return Ok(None);
-    };
-    reason_with(alloc, excess, &library, deploy.plan(), stimuli.as_slice())
+    match read_library(alloc, declaration) {
+        Ok(library) => {
+            let reason = excess_reason_in(alloc, excess, &library, deploy, stimuli);
+            discard(library);
+            reason
+        }
+        Err(fault) => untold(fault),
+    }
 }
 
 /// Where the refusal applies.

@@ -1,18 +1,19 @@
 //! Where the bytes of a declaration, of a deployment or of stimuli are refused.
 
 ghost use Rattle.std.specs.Prelude.{IfOk, IfSome, MatchOption, option_map};
-ghost use Rattle.fb_why_rows.specs.Rows.{AreTaken};
-ghost use Rattle.fb_why_rows.specs.Tables.{IsShaped};
+ghost use Rattle.fb_why_bytes.specs.Rows.{AreTaken};
+ghost use Rattle.fb_why_bytes.specs.Tables.{IsShaped};
 ghost use Rattle.fb_why.specs.Reasons.{AreTakenBoth, IsDeploymentSpot, IsStimuliSpot, TellsBytes, TellsDeployment, TellsStimuli, TellsText};
 
 use crate::spot::{Reason, Spot};
 use fb_read::read::read_library;
-use fb_why_rows::deployment::deployment_place;
-use fb_why_rows::stimuli::stimuli_place;
-use fb_why_rows::tell_deployment::tell_deployment;
-use fb_why_rows::tell_stimuli::tell_stimuli;
-use fb_why_texts::find::text_place;
-use fb_why_texts::tell::tell;
+use fb_why_bytes::deployment::deployment_place;
+use fb_why_bytes::discard::discard;
+use fb_why_bytes::find::text_place;
+use fb_why_bytes::stimuli::stimuli_place;
+use fb_why_bytes::tell_deployment::tell_deployment;
+use fb_why_bytes::tell_stimuli::tell_stimuli;
+use fb_why_bytes::tell_text::tell_text;
 use std::alloc::{AllocError, Global};
 
 /// Where the text of a declaration is refused.
@@ -20,13 +21,16 @@ pub fn text_reason(alloc: Global, declaration: &[u8]) -> Result<Option<Reason>, 
     ensures { IfOk result (λ o. IfSome o (λ r. TellsText declaration.now r.place)) }
 {
     let fault = match read_library(alloc, declaration) {
-        Ok(_) => return Ok(None),
+        Ok(library) => {
+            discard(library);
+            return Ok(None);
+        }
         Err(fault) => fault,
     };
     let Some(place) = text_place(alloc, declaration, &fault)? else {
         return Ok(None);
     };
-    let text = tell(alloc, declaration, &fault, place)?;
+    let text = tell_text(alloc, declaration, &fault, place)?;
     let place = Spot::Text(place);
     Ok(Some(Reason { place, text }))
 }

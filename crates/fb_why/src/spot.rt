@@ -1,15 +1,14 @@
 //! Where a refusal applies, of any number.
 
-use crate::place::Place;
+use crate::place::{Limit, StimulusPlace};
+use fb_why_bytes::place::{DeployPlace, StimuliPlace};
+use fb_why_bytes::text_place::TextPlace;
+use fb_why_kinds::place::{Misfit, Misjoin, Place};
 use fb_why_names::heights::Descent;
 use fb_why_names::sources::Joined;
 use fb_why_names::twice::Given;
 use fb_why_names::unlinked::Unlinked;
 use fb_why_names::unmapped::Unmapped;
-use fb_why_rows::place::{DeployPlace, StimuliPlace};
-use fb_why_stimuli::place::{Limit, StimulusPlace};
-use fb_why_texts::place::TextPlace;
-use fb_why_values::place::{Misfit, Misjoin};
 
 /// A place at which a refusal applies.
 #[derive(Clone, Copy)]

@@ -1,485 +1,167 @@
-//! The text that tells a place: where it is, and what was wanted there.
+//! The texts that tell such places.
 
-use crate::lookup::{Sort, Types};
-use crate::mentions::{Mention, push_body, push_expression};
-use crate::place::{ActionPart, Direction, Flow, Place, Side, Site, TransitionPart};
-use crate::words::{Text, algorithm_names, port_names, state_names};
-use fb_types::deploy::Plan;
-use fb_types::library::{
-    Action, BasicType, BlockType, CompositeType, Connection, Instance, Library, Network, PortName,
-    Ports, Transition, instance_named,
-};
+use crate::place::{Limit, StimulusFault, StimulusPlace};
+use fb_types::deploy::{Setting, Stimulus};
+use fb_types::library::{Connection, Library};
 use fb_types::name::Name;
+use fb_types::value::Value;
 use std::alloc::{AllocError, Global};
 
-/// The inputs of which something is told.
-#[derive(Clone, Copy)]
-struct Inputs<'a> {
-    library: &'a Library,
-    plan: &'a Plan,
-    types: &'a Types<'a>,
+/// What stands behind a place, as in 1st.
+fn ending(place: usize) -> &'static str {
+    match (place % 10, place % 100) {
+        (_, 11..=13) => "th",
+        (1, _) => "st",
+        (2, _) => "nd",
+        (3, _) => "rd",
+        _ => "th",
+    }
 }
 
-/// The line that tells the place: where it is, what stands there, and what was wanted.
-pub fn tell(
+/// What is wrong with the stimulus at the place.
+pub fn tell_stimulus(
     alloc: Global,
     library: &Library,
-    plan: &Plan,
-    place: Place,
+    stimuli: &[Stimulus],
+    place: StimulusPlace,
 ) -> Result<String, AllocError> {
-    let types = Types::new(alloc, library)?;
-    let inputs = Inputs {
-        library,
-        plan,
-        types: &types,
-    };
-    told(alloc, &inputs, place)
+    let mut text = String::new(alloc);
+    push_stimulus(alloc, &mut text, library, stimuli, place)?;
+    Ok(text)
 }
 
-/// The text of the place. What it reads it borrows, and what it writes to has one owner above all that may fail.
-fn told(alloc: Global, inputs: &Inputs, place: Place) -> Result<String, AllocError> {
-    let mut text = Text::new(alloc);
-    tell_place(alloc, &mut text, inputs, place)?;
-    Ok(text.into_string())
+/// Which limit is passed.
+pub fn tell_limit(alloc: Global, limit: Limit) -> Result<String, AllocError> {
+    let mut text = String::new(alloc);
+    text.push_str(match limit {
+        Limit::Instances => "application: there are more than 4,096 instances, components included",
+        Limit::Stimuli => "stimuli: there are more than 100,000 rows",
+    })?;
+    Ok(text)
 }
 
-fn tell_place(
+fn push_stimulus(
     alloc: Global,
-    text: &mut Text,
-    inputs: &Inputs,
-    place: Place,
+    text: &mut String,
+    library: &Library,
+    stimuli: &[Stimulus],
+    place: StimulusPlace,
 ) -> Result<(), AllocError> {
-    match place {
-        Place::InstanceType { site, instance } => tell_type(text, inputs, site, instance),
-        Place::Parameter {
-            site,
-            instance,
-            parameter,
-        } => tell_parameter(alloc, text, inputs, site, (instance, parameter)),
-        Place::End {
-            site,
-            flow,
-            connection,
-            side,
-        } => tell_end(alloc, text, inputs, site, (flow, connection, side)),
-        Place::Mapped { resource, instance } => tell_mapped(text, inputs, resource, instance),
-        Place::LinkEnd { link, side } => tell_link(text, inputs, link, side),
-        _ => tell_in_block(alloc, text, inputs, place),
-    }
-}
-
-/// The network of a site, with the composite type around it.
-fn network_of(library: &Library, site: Site) -> Option<(Option<&CompositeType>, &Network)> {
-    match site {
-        Site::Application => Some((None, &library.application.network)),
-        Site::Inside(block) => match library.blocks.get(block)? {
-            BlockType::Basic(_) => None,
-            BlockType::Composite(composite) => Some((Some(composite), &composite.network)),
-        },
-    }
-}
-
-fn instance_of(library: &Library, site: Site, instance: usize) -> Option<&Instance> {
-    let (_, network) = network_of(library, site)?;
-    network.instances.get(instance)
-}
-
-fn push_block(text: &mut Text, library: &Library, block: usize) -> Result<(), AllocError> {
-    match library.blocks.get(block) {
-        Some(block) => text.named("block type ", block.type_name()),
+    text.push_str("stimuli: ")?;
+    push_place(alloc, text, place.row)?;
+    text.push_str(" row behind the heading: ")?;
+    match stimuli.get(place.row) {
+        Some(stimulus) => push_fault(alloc, text, library, stimulus, place.fault),
         None => Ok(()),
     }
 }
 
-fn push_site(text: &mut Text, library: &Library, site: Site) -> Result<(), AllocError> {
-    match site {
-        Site::Application => text.named("application ", &library.application.name),
-        Site::Inside(block) => push_block(text, library, block),
+/// Adds a place that is counted from 0, as in 1st for 0.
+fn push_place(alloc: Global, text: &mut String, place: usize) -> Result<(), AllocError> {
+    let counted = place.saturating_add(1);
+    let digits = format!(in alloc; "{counted}")?;
+    text.push_str(digits.as_str())?;
+    text.push_str(ending(counted))
+}
+
+fn push_name(text: &mut String, name: &Name) -> Result<(), AllocError> {
+    for byte in name.as_bytes() {
+        text.push(char::from(*byte))?;
     }
+    Ok(())
 }
 
-fn push_instance(text: &mut Text, instance: &Instance) -> Result<(), AllocError> {
-    text.named(": instance ", &instance.name)?;
-    text.named(" : ", &instance.block_type)
-}
-
-fn tell_type(
-    text: &mut Text,
-    inputs: &Inputs,
-    site: Site,
-    instance: usize,
-) -> Result<(), AllocError> {
-    push_site(text, inputs.library, site)?;
-    let Some(instance) = instance_of(inputs.library, site, instance) else {
-        return Ok(());
-    };
-    push_instance(text, instance)?;
-    text.named(": there is no block type ", &instance.block_type)
-}
-
-fn tell_parameter(
+fn push_fault(
     alloc: Global,
-    text: &mut Text,
-    inputs: &Inputs,
-    site: Site,
-    (instance, parameter): (usize, usize),
+    text: &mut String,
+    library: &Library,
+    stimulus: &Stimulus,
+    fault: StimulusFault,
 ) -> Result<(), AllocError> {
-    push_site(text, inputs.library, site)?;
-    let Some(instance) = instance_of(inputs.library, site, instance) else {
-        return Ok(());
-    };
-    push_instance(text, instance)?;
-    let Some(parameter) = instance.parameters.get(parameter) else {
-        return Ok(());
-    };
-    text.named(", parameter ", &parameter.name)?;
-    match inputs.types.ports_named(&instance.block_type) {
-        Some(ports) => {
-            let names = port_names(alloc, ports, Sort::Input)?;
-            text.lacks(&instance.block_type, Sort::Input, &parameter.name, &names)
-        }
-        None => Ok(()),
-    }
-}
-
-fn push_port(text: &mut Text, port: &PortName) -> Result<(), AllocError> {
-    if let Some(component) = &port.component {
-        text.name(component)?;
-        text.words(".")?;
-    }
-    text.name(&port.port)
-}
-
-fn push_connection(text: &mut Text, connection: &Connection) -> Result<(), AllocError> {
-    push_port(text, &connection.from)?;
-    text.words(" TO ")?;
-    push_port(text, &connection.to)
-}
-
-/// The sorts of ports that an end may be: at a component, and at the boundary.
-fn sorts_of(flow: Flow, side: Side) -> (Sort, Sort) {
-    match (flow, side) {
-        (Flow::Events, Side::From) => (Sort::EventOutput, Sort::EventInput),
-        (Flow::Events, Side::To) => (Sort::EventInput, Sort::EventOutput),
-        (Flow::Data, Side::From) => (Sort::Output, Sort::Input),
-        (Flow::Data, Side::To) => (Sort::Input, Sort::Output),
-    }
-}
-
-fn tell_end(
-    alloc: Global,
-    text: &mut Text,
-    inputs: &Inputs,
-    site: Site,
-    (flow, connection, side): (Flow, usize, Side),
-) -> Result<(), AllocError> {
-    push_site(text, inputs.library, site)?;
-    let Some((composite, network)) = network_of(inputs.library, site) else {
-        return Ok(());
-    };
-    let (words, connections) = match flow {
-        Flow::Events => (": event connection ", &network.event_connections),
-        Flow::Data => (": data connection ", &network.data_connections),
-    };
-    let Some(connection) = connections.get(connection) else {
-        return Ok(());
-    };
-    text.words(words)?;
-    push_connection(text, connection)?;
-    let end = match side {
-        Side::From => &connection.from,
-        Side::To => &connection.to,
-    };
-    let (sort, boundary) = sorts_of(flow, side);
-    match &end.component {
-        Some(component) => {
-            let instances = network.instances.as_slice();
-            match instance_named(instances, component) {
-                Some(instance) => tell_port(alloc, text, inputs, instance, (sort, &end.port)),
-                None => text.named(": there is no instance ", component),
-            }
-        }
-        None => tell_boundary(alloc, text, composite, boundary, &end.port),
-    }
-}
-
-/// What the composite type around a network lacks, or that there is none.
-fn tell_boundary(
-    alloc: Global,
-    text: &mut Text,
-    composite: Option<&CompositeType>,
-    sort: Sort,
-    wanted: &Name,
-) -> Result<(), AllocError> {
-    match composite {
-        Some(composite) => {
-            let names = port_names(alloc, &composite.ports, sort)?;
-            text.lacks(&composite.name, sort, wanted, &names)
-        }
-        None => {
-            text.named(": ", wanted)?;
-            text.words(" has no instance before it, and an application has no ports")
-        }
-    }
-}
-
-/// What the type of an instance lacks.
-fn tell_port(
-    alloc: Global,
-    text: &mut Text,
-    inputs: &Inputs,
-    instance: &Instance,
-    (sort, wanted): (Sort, &Name),
-) -> Result<(), AllocError> {
-    match inputs.types.ports_named(&instance.block_type) {
-        Some(ports) => {
-            let names = port_names(alloc, ports, sort)?;
-            text.lacks(&instance.block_type, sort, wanted, &names)
-        }
-        None => text.named(": there is no block type ", &instance.block_type),
-    }
-}
-
-fn tell_mapped(
-    text: &mut Text,
-    inputs: &Inputs,
-    resource: usize,
-    instance: usize,
-) -> Result<(), AllocError> {
-    let Some(resource) = inputs.plan.resources.get(resource) else {
-        return Ok(());
-    };
-    text.named("resource ", &resource.name)?;
-    let Some(instance) = resource.instances.get(instance) else {
-        return Ok(());
-    };
-    text.named(": instance ", instance)?;
-    text.named(": application ", &inputs.library.application.name)?;
-    text.named(" has no instance ", instance)
-}
-
-fn tell_link(text: &mut Text, inputs: &Inputs, link: usize, side: Side) -> Result<(), AllocError> {
-    let Some(link) = inputs.plan.links.get(link) else {
-        return Ok(());
-    };
-    text.named("link from ", &link.from)?;
-    text.named(" to ", &link.to)?;
-    let wanted = match side {
-        Side::From => &link.from,
-        Side::To => &link.to,
-    };
-    text.named(": there is no resource ", wanted)
-}
-
-fn tell_in_block(
-    alloc: Global,
-    text: &mut Text,
-    inputs: &Inputs,
-    place: Place,
-) -> Result<(), AllocError> {
-    match place {
-        Place::With {
-            block,
-            direction,
-            event,
-            variable,
-        } => {
-            push_block(text, inputs.library, block)?;
-            match inputs.library.blocks.get(block) {
-                Some(block) => tell_with(alloc, text, block, direction, (event, variable)),
-                None => Ok(()),
-            }
-        }
-        Place::Transition { block, .. }
-        | Place::Action { block, .. }
-        | Place::Guard { block, .. }
-        | Place::Body { block, .. } => {
-            push_block(text, inputs.library, block)?;
-            match inputs.library.blocks.get(block) {
-                Some(BlockType::Basic(basic)) => tell_in_basic(alloc, text, basic, place),
-                _ => Ok(()),
-            }
-        }
-        _ => Ok(()),
-    }
-}
-
-fn tell_with(
-    alloc: Global,
-    text: &mut Text,
-    block: &BlockType,
-    direction: Direction,
-    (event, variable): (usize, usize),
-) -> Result<(), AllocError> {
-    let ports = block.ports();
-    let (words, sort, events) = match direction {
-        Direction::Input => (": event input ", Sort::Input, &ports.event_inputs),
-        Direction::Output => (": event output ", Sort::Output, &ports.event_outputs),
-    };
-    let Some(event) = events.get(event) else {
-        return Ok(());
-    };
-    text.named(words, &event.name)?;
-    let Some(variable) = event.with.get(variable) else {
-        return Ok(());
-    };
-    text.named(" WITH ", variable)?;
-    let names = port_names(alloc, ports, sort)?;
-    text.lacks(block.type_name(), sort, variable, &names)
-}
-
-fn tell_in_basic(
-    alloc: Global,
-    text: &mut Text,
-    basic: &BasicType,
-    place: Place,
-) -> Result<(), AllocError> {
-    match place {
-        Place::Transition {
-            transition,
-            part,
-            ..
-        } => match basic.transitions.get(transition) {
-            Some(transition) => tell_transition(alloc, text, basic, transition, part),
+    match fault {
+        StimulusFault::Event => push_event(text, library, stimulus),
+        StimulusFault::Setting(place) => match stimulus.settings.get(place) {
+            Some(setting) => push_setting(alloc, text, library, stimulus, setting),
             None => Ok(()),
         },
-        Place::Action {
-            state,
-            action,
-            part,
-            ..
-        } => match basic.states.get(state) {
-            Some(state) => {
-                text.named(": state ", &state.name)?;
-                match state.actions.get(action) {
-                    Some(action) => tell_action(alloc, text, basic, action, part),
-                    None => Ok(()),
-                }
-            }
-            None => Ok(()),
-        },
-        _ => tell_in_text(alloc, text, basic, place),
+        StimulusFault::Twice => push_twice(text, stimulus),
     }
 }
 
-fn tell_in_text(
-    alloc: Global,
-    text: &mut Text,
-    basic: &BasicType,
-    place: Place,
-) -> Result<(), AllocError> {
-    match place {
-        Place::Guard {
-            transition,
-            mention,
-            ..
-        } => match basic.transitions.get(transition) {
-            Some(transition) => tell_guard(alloc, text, basic, transition, mention),
-            None => Ok(()),
-        },
-        Place::Body {
-            algorithm,
-            mention,
-            ..
-        } => match basic.algorithms.get(algorithm) {
-            Some(algorithm) => {
-                text.named(": algorithm ", &algorithm.name)?;
-                let mut mentions = Vec::new(alloc);
-                push_body(&mut mentions, &algorithm.body)?;
-                tell_mention(text, basic, mentions.as_slice(), mention)
-            }
-            None => Ok(()),
-        },
-        _ => Ok(()),
-    }
-}
-
-fn push_transition(text: &mut Text, transition: &Transition) -> Result<(), AllocError> {
-    text.named(": transition ", &transition.from)?;
-    text.named(" TO ", &transition.to)
-}
-
-fn tell_transition(
-    alloc: Global,
-    text: &mut Text,
-    basic: &BasicType,
-    transition: &Transition,
-    part: TransitionPart,
-) -> Result<(), AllocError> {
-    push_transition(text, transition)?;
-    let state = match part {
-        TransitionPart::From => &transition.from,
-        TransitionPart::To => &transition.to,
-        TransitionPart::Event => {
-            let names = port_names(alloc, &basic.ports, Sort::EventInput)?;
-            return match &transition.condition.event {
-                Some(event) => text.lacks(&basic.name, Sort::EventInput, event, &names),
-                None => Ok(()),
-            };
+fn push_event(text: &mut String, library: &Library, stimulus: &Stimulus) -> Result<(), AllocError> {
+    let instances = library.application.network.instances.as_slice();
+    for instance in instances {
+        if instance.name.is(&stimulus.instance) {
+            text.push_str("instance ")?;
+            push_name(text, &instance.name)?;
+            text.push_str(" : ")?;
+            push_name(text, &instance.block_type)?;
+            text.push_str(" has no event input ")?;
+            return push_name(text, &stimulus.event);
         }
-    };
-    text.named(": ", &basic.name)?;
-    text.named(" has no state ", state)?;
-    text.list(&state_names(alloc, basic.states.as_slice())?)
+    }
+    text.push_str("there is no instance ")?;
+    push_name(text, &stimulus.instance)
 }
 
-fn tell_action(
-    alloc: Global,
-    text: &mut Text,
-    basic: &BasicType,
-    action: &Action,
-    part: ActionPart,
-) -> Result<(), AllocError> {
-    match part {
-        ActionPart::Algorithm => match &action.algorithm {
-            Some(algorithm) => {
-                text.named(": ", &basic.name)?;
-                text.named(" has no algorithm ", algorithm)?;
-                text.list(&algorithm_names(alloc, basic.algorithms.as_slice())?)
-            }
-            None => Ok(()),
-        },
-        ActionPart::Output => match &action.output {
-            Some(output) => {
-                let names = port_names(alloc, &basic.ports, Sort::EventOutput)?;
-                text.lacks(&basic.name, Sort::EventOutput, output, &names)
-            }
-            None => Ok(()),
-        },
+/// Whether a data connection leads to the variable of the instance.
+fn leads_to(connection: &Connection, instance: &Name, variable: &Name) -> bool {
+    match &connection.to.component {
+        Some(component) => component.is(instance) && connection.to.port.is(variable),
+        None => false,
     }
 }
 
-fn tell_guard(
-    alloc: Global,
-    text: &mut Text,
-    basic: &BasicType,
-    transition: &Transition,
-    mention: usize,
-) -> Result<(), AllocError> {
-    push_transition(text, transition)?;
-    let Some(guard) = &transition.condition.guard else {
-        return Ok(());
-    };
-    let mut mentions = Vec::new(alloc);
-    push_expression(&mut mentions, guard)?;
-    tell_mention(text, basic, mentions.as_slice(), mention)
+fn is_connected(library: &Library, instance: &Name, variable: &Name) -> bool {
+    let connections = library.application.network.data_connections.as_slice();
+    for connection in connections {
+        if leads_to(connection, instance, variable) {
+            return true;
+        }
+    }
+    false
 }
 
-fn tell_mention(
-    text: &mut Text,
-    basic: &BasicType,
-    mentions: &[Mention],
-    mention: usize,
+fn push_setting(
+    alloc: Global,
+    text: &mut String,
+    library: &Library,
+    stimulus: &Stimulus,
+    setting: &Setting,
 ) -> Result<(), AllocError> {
-    match mentions.get(mention) {
-        Some(Mention::Variable(name)) => {
-            text.named(": ", &basic.name)?;
-            text.named(" has no variable ", name)
-        }
-        Some(Mention::Function(name)) => {
-            text.named(": there is no function ", name)?;
-            text.words(" (there are MIN, MAX, ABS, LIMIT, SEL)")
-        }
-        None => Ok(()),
+    push_name(text, &setting.variable)?;
+    text.push_str("=")?;
+    push_value(alloc, text, setting.value)?;
+    if is_connected(library, &stimulus.instance, &setting.variable) {
+        return text.push_str(": a data connection leads to the variable");
     }
+    text.push_str(": no data input that goes WITH ")?;
+    push_name(text, &stimulus.event)?;
+    text.push_str(" has this name and holds this value")
+}
+
+fn push_value(alloc: Global, text: &mut String, value: Value) -> Result<(), AllocError> {
+    match value {
+        Value::Bool(true) => text.push_str("TRUE"),
+        Value::Bool(false) => text.push_str("FALSE"),
+        Value::Whole(number) => {
+            let digits = format!(in alloc; "{number}")?;
+            text.push_str(digits.as_str())
+        }
+    }
+}
+
+/// Tells the first variable that is set twice.
+fn push_twice(text: &mut String, stimulus: &Stimulus) -> Result<(), AllocError> {
+    let settings = stimulus.settings.as_slice();
+    for (place, setting) in settings.iter().enumerate() {
+        let before = settings.iter().take(place);
+        for other in before {
+            if other.variable.is(&setting.variable) {
+                push_name(text, &setting.variable)?;
+                return text.push_str(" is set twice");
+            }
+        }
+    }
+    Ok(())
 }

@@ -1,7 +1,0 @@
-use Rattle.std.proofs.Common.{take}
-use Rattle.std.specs.Prelude.{All}
-use Rattle.fb_why.specs.Unknown.{IsBlockKnown}
-use Rattle.fb_why.proofs.blocks.unknown_in_some.Given as goal
-
-abbrev pub invariant-loop-place : goal.invariant-loop-place
-invariant-loop-place l = All (IsBlockKnown l.types.library.now) (take l.place l.blocks)

@@ -1,8 +1,0 @@
-use Rattle.std.proofs.Common.{◌≡◌, drop}
-use Rattle.std.specs.List.{list_all}
-use Rattle.fb_kinds.specs.Checks.{action_met}
-use Rattle.fb_why.proofs.charts.unknown_in_actions.Given as goal
-
-abbrev pub invariant-loop-place : goal.invariant-loop-place
-invariant-loop-place l =
-    list_all (action_met l.basic) l.actions ≡ list_all (action_met l.basic) (drop l.place l.actions)

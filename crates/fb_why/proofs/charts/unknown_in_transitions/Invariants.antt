@@ -1,8 +1,0 @@
-use Rattle.std.proofs.Common.{◌≡◌, drop}
-use Rattle.std.specs.List.{list_all}
-use Rattle.fb_kinds.specs.Checks.{transition_met}
-use Rattle.fb_why.proofs.charts.unknown_in_transitions.Given as goal
-
-abbrev pub invariant-loop-place : goal.invariant-loop-place
-invariant-loop-place l =
-    list_all (transition_met l.basic) l.transitions ≡ list_all (transition_met l.basic) (drop l.place l.transitions)

@@ -1,9 +1,0 @@
-use Rattle.std.proofs.Common.{◌≡◌, drop}
-use Rattle.std.specs.List.{list_all}
-use Rattle.fb_why.specs.Unknown.{are_ends_known, placed}
-use Rattle.fb_why.proofs.networks.unknown_end.Given as goal
-
-abbrev pub invariant-loop-place : goal.invariant-loop-place
-invariant-loop-place l =
-    list_all (are_ends_known l.types.library.now (placed l.scope) l.flow) l.connections
-    ≡ list_all (are_ends_known l.types.library.now (placed l.scope) l.flow) (drop l.place l.connections)

@@ -1,7 +1,0 @@
-use Rattle.std.proofs.Common.{◌≡◌, drop}
-use Rattle.std.specs.List.{list_all}
-use Rattle.fb_why.specs.Unknown.{is_type_met}
-use Rattle.fb_why.proofs.networks.unknown_type.Given as goal
-
-abbrev pub invariant-loop-place : goal.invariant-loop-place
-invariant-loop-place l = list_all (is_type_met l.types.library.now) l.instances ≡ list_all (is_type_met l.types.library.now) (drop l.place l.instances)

@@ -1,0 +1,33 @@
+//! The limits of a check (E30).
+
+ghost use Rattle.std.specs.Prelude.{IfOk, MatchOption};
+ghost use Rattle.fb_types.specs.Accepted.{IsLeastFault};
+ghost use Rattle.fb_why.specs.Stimuli.{IsOver};
+
+use crate::place::Limit;
+use crate::verdict::{has_number, least_fault};
+use fb_types::deploy::{Plan, Stimulus};
+use fb_types::library::Library;
+use std::alloc::{AllocError, Global};
+
+/// The most stimuli that there may be.
+const MOST_STIMULI: usize = 100_000;
+
+/// A limit that the inputs pass, or `None` where that is not what they are refused for.
+pub fn limit_place(
+    alloc: Global,
+    library: &Library,
+    plan: &Plan,
+    stimuli: &[Stimulus],
+) -> Result<Option<Limit>, AllocError>
+    ensures { IfOk result (λ o. MatchOption o (¬ (IsLeastFault 30 library.now plan.now stimuli.now)) (IsOver library.now stimuli.now)) }
+{
+    let fault = least_fault(alloc, library, plan, stimuli)?;
+    if !has_number(fault, 30) {
+        return Ok(None);
+    }
+    if stimuli.len() > MOST_STIMULI {
+        return Ok(Some(Limit::Stimuli));
+    }
+    Ok(Some(Limit::Instances))
+}

@@ -1,0 +1,142 @@
+//! A stimulus that an application can't take (E29).
+
+ghost use Rattle.std.specs.Prelude.{◌≤◌, ◌∷◌, [], IfOk, MatchOption, length, take};
+ghost use Rattle.fb_types.specs.Accepted.{BadStimulus, IsLeastFault};
+ghost use Rattle.fb_why.specs.Stimuli.{HasUnfit, IsBad, IsBadAt};
+ghost use Rattle.fb_why.specs.Trials as spec;
+
+use crate::place::{StimulusFault, StimulusPlace};
+use crate::trial::{is_bare_refused, is_one_refused, is_refused};
+use crate::verdict::{has_number, least_fault};
+use fb_check::stimuli::has_bad_stimulus;
+use fb_names::catalog::{Catalog, catalog_of};
+use fb_types::deploy::{Plan, Setting, Stimulus};
+use fb_types::library::Library;
+use std::alloc::{AllocError, Global};
+
+/// So many halvings leave one stimulus of as many as there may be.
+const HALVINGS: usize = 20;
+
+/// Whether a setting can't be made alone, of a stimulus whose event is there.
+fn is_unfit(
+    alloc: Global,
+    library: &Library,
+    catalog: &Catalog,
+    stimulus: &Stimulus,
+    setting: &Setting,
+) -> Result<bool, AllocError>
+    requires known { spec.IsKnown library.now catalog.now }
+    requires named { ¬ (BadStimulus library.now (spec.with_settings stimulus.now [] ∷ [])) }
+    ensures { IfOk result (spec.Unfits library.now stimulus.now setting.now) }
+{
+    is_one_refused(alloc, library, catalog, stimulus, setting)
+}
+
+/// The first setting that can't be made alone, of a stimulus whose event is there.
+fn unfit_setting(
+    alloc: Global,
+    library: &Library,
+    catalog: &Catalog,
+    stimulus: &Stimulus,
+) -> Result<Option<usize>, AllocError>
+    requires known { spec.IsKnown library.now catalog.now }
+    requires named { ¬ (BadStimulus library.now (spec.with_settings stimulus.now [] ∷ [])) }
+    ensures { IfOk result (λ o. MatchOption o (¬ (¬ (spec.DoAllFit library.now stimulus.now stimulus.now.settings))) (HasUnfit library.now stimulus.now)) }
+{
+    let settings = stimulus.settings.as_slice();
+    for (place, setting) in settings.iter().enumerate() {
+        let unfit = is_unfit(alloc, library, catalog, stimulus, setting)?;
+        if unfit {
+            return Ok(Some(place));
+        }
+    }
+    Ok(None)
+}
+
+/// What is wrong with a stimulus that can't be taken.
+fn fault_of(
+    alloc: Global,
+    library: &Library,
+    catalog: &Catalog,
+    stimulus: &Stimulus,
+) -> Result<StimulusFault, AllocError>
+    requires known { spec.IsKnown library.now catalog.now }
+    requires refused { BadStimulus library.now (stimulus.now ∷ []) }
+    ensures { IfOk result (IsBad library.now stimulus.now) }
+{
+    let unnamed = is_bare_refused(alloc, library, catalog, stimulus)?;
+    if unnamed {
+        return Ok(StimulusFault::Event);
+    }
+    let unfit = unfit_setting(alloc, library, catalog, stimulus)?;
+    match unfit {
+        Some(place) => Ok(StimulusFault::Setting(place)),
+        None => Ok(StimulusFault::Twice),
+    }
+}
+
+/// So many stimuli from the front can all be taken. Where others can't, it is no more than a step to the first of those.
+fn taken_front(
+    alloc: Global,
+    library: &Library,
+    catalog: &Catalog,
+    stimuli: &[Stimulus],
+) -> Result<usize, AllocError>
+    requires { spec.IsKnown library.now catalog.now }
+    ensures { IfOk result (λ n. (n ≤ length stimuli.now) × ¬ (BadStimulus library.now (take n stimuli.now))) }
+{
+    let mut low = 0;
+    let mut high = stimuli.len();
+    for _ in 0..HALVINGS {
+        let middle = low + (high - low) / 2;
+        let refused = has_bad_stimulus(alloc, library, catalog, &stimuli[..middle])?;
+        if refused {
+            high = middle;
+        } else {
+            low = middle;
+        }
+    }
+    Ok(low)
+}
+
+/// The first stimulus that can't be taken, and what is wrong with it.
+fn bad_place(
+    alloc: Global,
+    library: &Library,
+    catalog: &Catalog,
+    stimuli: &[Stimulus],
+) -> Result<Option<StimulusPlace>, AllocError>
+    requires { spec.IsKnown library.now catalog.now }
+    ensures { IfOk result (λ o. MatchOption o (¬ (BadStimulus library.now stimuli.now)) (IsBadAt library.now stimuli.now)) }
+{
+    let front = taken_front(alloc, library, catalog, stimuli)?;
+    for row in front..stimuli.len() {
+        let stimulus = &stimuli[row];
+        let refused = is_refused(alloc, library, catalog, stimulus)?;
+        if refused {
+            let fault = fault_of(alloc, library, catalog, stimulus)?;
+            return Ok(Some(StimulusPlace { row, fault }));
+        }
+    }
+    Ok(None)
+}
+
+/// A stimulus that the application can't take, or `None` where that is not what the inputs are refused for.
+pub fn stimulus_place(
+    alloc: Global,
+    library: &Library,
+    plan: &Plan,
+    stimuli: &[Stimulus],
+) -> Result<Option<StimulusPlace>, AllocError>
+    ensures { IfOk result (λ o. MatchOption o (¬ (IsLeastFault 29 library.now plan.now stimuli.now)) (IsBadAt library.now stimuli.now)) }
+{
+    let fault = least_fault(alloc, library, plan, stimuli)?;
+    if !has_number(fault, 29) {
+        return Ok(None);
+    }
+    let found = catalog_of(alloc, library, plan)?;
+    match found {
+        Some(catalog) => bad_place(alloc, library, &catalog, stimuli),
+        None => Ok(None),
+    }
+}

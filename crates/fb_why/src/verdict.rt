@@ -1,0 +1,42 @@
+//! What inputs are refused for.
+
+ghost use Rattle.std.specs.Prelude.{◌≡◌, IfOk};
+ghost use Rattle.fb_why.specs.Trials as spec;
+
+use fb_check::case::Case;
+use fb_check::fault::{Fault, Refusal};
+use fb_check::judge::judge;
+use fb_types::deploy::{Plan, Stimulus};
+use fb_types::library::Library;
+use std::alloc::{AllocError, Global};
+
+/// The least fault of the inputs, or `None` where they are accepted.
+pub fn least_fault(
+    alloc: Global,
+    library: &Library,
+    plan: &Plan,
+    stimuli: &[Stimulus],
+) -> Result<Option<Fault>, AllocError>
+    ensures { IfOk result (spec.IsVerdict library.now plan.now stimuli.now) }
+{
+    let case = Case {
+        library,
+        plan,
+        stimuli,
+    };
+    match judge(alloc, &case) {
+        Ok(()) => Ok(None),
+        Err(Refusal::Fault(fault)) => Ok(Some(fault)),
+        Err(Refusal::Memory) => Err(AllocError),
+    }
+}
+
+/// Whether the fault has this number.
+pub fn has_number(fault: Option<Fault>, number: u8) -> bool
+    ensures { result ≡ spec.has_number fault number }
+{
+    match fault {
+        Some(fault) => fault.number() == number,
+        None => false,
+    }
+}

@@ -1,0 +1,11 @@
+pub mod Places
+pub mod TextVerdicts
+pub mod Faults
+pub mod RowTexts
+pub mod Rows
+pub mod RowParts
+pub mod RowVerdicts
+pub mod Names
+pub mod Keys
+pub mod Numbers
+pub mod Tables

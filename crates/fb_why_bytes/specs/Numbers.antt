@@ -1,0 +1,87 @@
+-- What is wrong with the numbers of a deployment (E12, E16, E15), by the tree of its document (this project's profile).
+use Rattle.std.specs.Prelude.{◌≡◌, ◌<◌, ◌-◌, ◌==◌, ℕ, ℤ, unsigned_abs, Bool, true, false, if◌then◌else◌, List, map, length, Option, Some, None, slice_get}
+use Rattle.toml.specs.Data.{Data, Members, as_table}
+use Rattle.toml.specs.View.{view}
+use Rattle.toml.specs.declared.value.Value.{Value}
+use Rattle.fb_inputs.specs.declared.document.Pair.{Pair}
+use Rattle.fb_inputs.specs.Documents.{array_of, constant, pair}
+use Rattle.fb_inputs.specs.Deployments.{is_after, is_latency, is_zero}
+use Rattle.fb_why_bytes.specs.Keys.{elements_at, value_at}
+use Rattle.fb_why_bytes.specs.declared.numbers.Entry.{Entry}
+use Rattle.fb_why_bytes.specs.declared.place.DeployPlace.{DeployPlace}
+use Rattle.fb_why_bytes.specs.declared.place.DeployPlace.TheVariants as place
+use Rattle.fb_why_bytes.specs.declared.place.Key.{Key}
+use Rattle.fb_why_bytes.specs.declared.place.Key.TheVariants as key
+
+abbrev pub pair_of : Entry → Pair
+pair_of e = record { start = e.start; ticks = e.ticks }
+
+abbrev pub pairs_of : List Entry → List Pair
+pairs_of t = map pair_of t
+
+-- an entry of two whole numbers
+abbrev pub whole_pair : Option ℤ → Option ℤ → Option Pair
+whole_pair None o = None
+whole_pair (Some s) None = None
+whole_pair (Some s) (Some t) = Some (record { start = s; ticks = t })
+
+-- one latency or a table of them
+abbrev pub either_table : Option Data → Option Data → Option (List Pair)
+either_table (Some d) None = constant d
+either_table None (Some d) = array_of pair d
+either_table None None = None
+either_table (Some d) (Some e) = None
+
+abbrev pub table_in : Members → Option (List Pair)
+table_in keys = either_table (value_at keys key.Latency) (value_at keys key.Latencies)
+
+-- The link with these keys has this table of latencies.
+abbrev pub HasEntries : Members → List Entry → Type 0
+HasEntries keys t = table_in keys ≡ Some (pairs_of t)
+
+-- The latency of the entry is out of range.
+abbrev pub IsLatencyWrong : List Entry → ℕ → Type 0
+IsLatencyWrong t k = (e : Entry) × (slice_get t k ≡ Some e) × (is_latency e.ticks ≡ false)
+
+-- whether an entry comes behind the one before it
+abbrev pub is_behind : Option Entry → Entry → Bool
+is_behind None e = true
+is_behind (Some before) e = is_after (unsigned_abs before.start) e.start
+
+abbrev pub is_in_order : List Entry → ℕ → Option Entry → Bool
+is_in_order t k None = true
+is_in_order t k (Some e) = if k == 0 then is_zero e.start else is_behind (slice_get t (k - 1)) e
+
+-- whether the entry at a place, if there is one, is the first one and at tick 0, or behind the one before it
+abbrev pub follows : List Entry → ℕ → Bool
+follows t k = is_in_order t k (slice_get t k)
+
+-- This is wrong with the table of a link.
+abbrev pub IsTablePlace : ℕ → List Entry → DeployPlace → Type 0
+IsTablePlace link t (place.Latency k e) = (k ≡ link) × IsLatencyWrong t e
+IsTablePlace link t (place.NoEntry k) = (k ≡ link) × (length t ≡ 0)
+IsTablePlace link t (place.Entry k e) = (k ≡ link) × (follows t e ≡ false)
+IsTablePlace link t (place.Entries k) = (k ≡ link) × (64 < length t)
+IsTablePlace link t _ = ⊥
+
+-- The value is a link, with whose table this is wrong.
+abbrev pub IsLinkPlace : ℕ → Data → DeployPlace → Type 0
+IsLinkPlace link d p = (keys : Members) × (t : List Entry) × (as_table d ≡ Some keys) × HasEntries keys t × IsTablePlace link t p
+
+-- One of the values is such a link.
+abbrev pub IsAmongLinks : List Value → DeployPlace → Type 0
+IsAmongLinks vs p = (link : ℕ) × (v : Value) × (slice_get vs link ≡ Some v) × IsLinkPlace link (view v) p
+
+abbrev pub count_in : Option (List Data) → ℕ
+count_in None = 0
+count_in (Some ds) = length ds
+
+-- how many elements the array at a key has
+abbrev pub count_at : Members → Key → ℕ
+count_at keys k = count_in (elements_at keys k)
+
+-- This is wrong with the numbers of a document.
+abbrev pub IsNumbersFault : Members → DeployPlace → Type 0
+IsNumbersFault keys place.Resources = 256 < count_at keys key.Resource
+IsNumbersFault keys place.Links = 1024 < count_at keys key.Link
+IsNumbersFault keys p = (ds : List Data) × (link : ℕ) × (d : Data) × (elements_at keys key.Link ≡ Some ds) × (slice_get ds link ≡ Some d) × IsLinkPlace link d p

@@ -1,0 +1,63 @@
+-- What the reader of stimuli says of a row, and what is wrong with the row then (this project's profile).
+use Rattle.std.specs.Prelude.{◌≡◌, ◌≤◌, ℕ, Bool, true, false, List, length, Some, None, Ok, Err, slice_get}
+use Rattle.fb_types.specs.declared.deploy.Stimulus.{Stimulus}
+use Rattle.fb_inputs.specs.Refusals.{bad_row, bad_number, over_limit}
+use Rattle.fb_inputs.specs.Words.{Text}
+use Rattle.fb_inputs.specs.Numbers.{natural}
+use Rattle.fb_inputs.specs.Rows.{Row, event, word, words}
+use Rattle.fb_inputs.specs.Stimuli.{most_bytes, stimuli_of, stimulus}
+use Rattle.fb_why_bytes.specs.Rows.{IsRowFault, number_of_row}
+use Rattle.fb_why_bytes.specs.RowParts.{is_valued}
+use Rattle.fb_why_bytes.specs.declared.place.RowFault.{RowFault}
+use Rattle.fb_why_bytes.specs.declared.place.RowFault.TheVariants as fault
+use Rattle.fb_why_bytes.specs.declared.row_verdict.Verdict.{Verdict}
+use Rattle.fb_why_bytes.specs.declared.row_verdict.Verdict.TheVariants as verdict
+
+-- The row is one of stimuli. So many rows come before it.
+abbrev pub IsFine : ℕ → Row → Type 0
+IsFine before row = (s : Stimulus) × (stimulus before row ≡ Ok s)
+
+abbrev pub IsVerdict : Row → Verdict → Type 0
+IsVerdict row verdict.Taken = IsFine 0 row
+IsVerdict row verdict.Shape = stimulus 0 row ≡ Err bad_row
+IsVerdict row verdict.Number = stimulus 0 row ≡ Err bad_number
+IsVerdict row verdict.Limit = stimulus 0 row ≡ Err over_limit
+
+-- nothing is said against the shape, against the numbers, or at all
+abbrev pub has_shape : Verdict → Bool
+has_shape verdict.Shape = false
+has_shape _ = true
+
+abbrev pub has_numbers : Verdict → Bool
+has_numbers verdict.Number = false
+has_numbers _ = true
+
+abbrev pub is_taken : Verdict → Bool
+is_taken verdict.Taken = true
+is_taken _ = false
+
+-- what is said of a text of stimuli, which is not too long
+abbrev pub IsTextVerdict : Text → Verdict → Type 0
+IsTextVerdict text verdict.Taken = (all : List Stimulus) × (stimuli_of text ≡ Ok all)
+IsTextVerdict text verdict.Shape = stimuli_of text ≡ Err bad_row
+IsTextVerdict text verdict.Number = stimuli_of text ≡ Err bad_number
+IsTextVerdict text verdict.Limit = stimuli_of text ≡ Err over_limit
+
+abbrev pub IsShortVerdict : Text → Verdict → Type 0
+IsShortVerdict text v = (length text ≤ most_bytes) × IsTextVerdict text v
+
+-- The row is refused for what is wrong with it.
+abbrev pub IsRefusedFor : ℕ → Row → RowFault → Type 0
+IsRefusedFor before row why = (stimulus before row ≡ Err (number_of_row why)) × IsRowFault before row why
+
+-- This is wrong with the shape of an event and of words.
+abbrev pub IsShapeFault : Text → Text → RowFault → Type 0
+IsShapeFault at values fault.Event = event at ≡ None
+IsShapeFault at values (fault.Word k) = (w : Text) × (slice_get (words values) k ≡ Some w) × (word w ≡ None)
+IsShapeFault at values _ = ⊥
+
+-- A number is none, where the shape is right.
+abbrev pub IsNumberFault : Text → Text → RowFault → Type 0
+IsNumberFault tick values fault.Tick = natural tick ≡ None
+IsNumberFault tick values (fault.Value k) = (w : Text) × (slice_get (words values) k ≡ Some w) × (is_valued w ≡ false)
+IsNumberFault tick values _ = ⊥

@@ -1,0 +1,157 @@
+//! Whether the refusal of a text applies at a place.
+
+ghost use Rattle.std.specs.Prelude.{◌≡◌, ◌≤◌, ◌<◌, IfOk, IsTrue, length, take, slice_range};
+ghost use Rattle.fb_read.specs.Blank.{at};
+ghost use Rattle.fb_read.specs.Front as spec;
+ghost use Rattle.fb_read.specs.Front.{bad_byte, bad_token};
+ghost use Rattle.fb_read.specs.Whole.{HasTokenFault, HasTokens, IsDerived, IsLibraryText};
+ghost use Rattle.fb_why_bytes.specs.Faults.{AppliesAt, IsByteAt, IsFaultyTokenAt, IsNestingAt, IsSyntaxAt};
+ghost use Rattle.fb_why_bytes.specs.Places.{IsPlace};
+ghost use Rattle.fb_why_bytes.specs.TextVerdicts.{IsNoLibrary};
+
+use crate::text_place::TextPlace;
+use crate::text_verdict::{Verdict, verdict_on};
+use fb_read::error::ReadError;
+use std::alloc::{AllocError, Global};
+
+/// The greatest length of a text, in bytes.
+pub const MOST_BYTES: usize = 1_048_576;
+
+/// Whether this byte may stand outside of comments.
+fn is_plain(b: u8) -> bool
+    ensures { result ≡ spec.is_plain b }
+{
+    b == b'\t' || b == b'\n' || b == b'\r' || (b' '..=b'~').contains(&b)
+}
+
+/// Whether all that stands before an offset is tokens.
+fn has_tokens(alloc: Global, text: &[u8], end: usize) -> Result<bool, AllocError>
+    requires { end ≤ length text.now }
+    ensures { IfOk result (λ b. IsTrue b → HasTokens (take end text.now)) }
+{
+    match verdict_on(alloc, &text[..end])? {
+        Verdict::Library => Ok(true),
+        Verdict::Syntax { .. } => Ok(true),
+        Verdict::Nesting => Ok(true),
+        _ => Ok(false),
+    }
+}
+
+/// Whether a byte that may stand in comments alone stands at the place.
+fn is_byte(alloc: Global, text: &[u8], place: TextPlace) -> Result<bool, AllocError>
+    requires { IsPlace text.now place }
+    ensures { IfOk result (λ b. IsTrue b → IsByteAt text.now place) }
+{
+    if place.end - place.start != 1 || is_plain(text[place.start]) {
+        return Ok(false);
+    }
+    if !has_tokens(alloc, text, place.start)? {
+        return Ok(false);
+    }
+    match verdict_on(alloc, &text[..place.end])? {
+        Verdict::Byte => Ok(true),
+        _ => Ok(false),
+    }
+}
+
+/// Whether a text is refused for a faulty token.
+fn is_faulty(alloc: Global, text: &[u8]) -> Result<bool, AllocError>
+    ensures { IfOk result (λ b. IsTrue b → HasTokenFault bad_token text.now) }
+{
+    match verdict_on(alloc, text)? {
+        Verdict::Token => Ok(true),
+        _ => Ok(false),
+    }
+}
+
+/// Whether a faulty token stands at the place.
+fn is_faulty_token(alloc: Global, text: &[u8], place: TextPlace) -> Result<bool, AllocError>
+    requires { IsPlace text.now place }
+    ensures { IfOk result (λ b. IsTrue b → IsFaultyTokenAt text.now place) }
+{
+    if !has_tokens(alloc, text, place.start)? {
+        return Ok(false);
+    }
+    if !is_faulty(alloc, &text[place.start..place.end])? {
+        return Ok(false);
+    }
+    is_faulty(alloc, &text[..place.end])
+}
+
+/// Whether no library has a text, whatever its nesting.
+fn is_underivable(alloc: Global, text: &[u8]) -> Result<bool, AllocError>
+    ensures { IfOk result (λ b. IsTrue b → IsNoLibrary IsDerived text.now) }
+{
+    match verdict_on(alloc, text)? {
+        Verdict::Syntax { .. } => Ok(true),
+        _ => Ok(false),
+    }
+}
+
+/// Whether a text is refused for its syntax in this line.
+fn is_syntax_fault(alloc: Global, text: &[u8], line: u32) -> Result<bool, AllocError>
+    ensures { IfOk result (λ b. IsTrue b → IsNoLibrary IsDerived text.now) }
+{
+    match verdict_on(alloc, text)? {
+        Verdict::Syntax { line: found } => Ok(found == line),
+        _ => Ok(false),
+    }
+}
+
+/// Whether the text is refused for its syntax in this line, and at the place.
+fn is_syntax(alloc: Global, text: &[u8], line: u32, place: TextPlace) -> Result<bool, AllocError>
+    requires { IsPlace text.now place }
+    ensures { IfOk result (λ b. IsTrue b → IsSyntaxAt text.now line place) }
+{
+    if place.line != line as usize || !has_tokens(alloc, text, place.start)? {
+        return Ok(false);
+    }
+    if !is_syntax_fault(alloc, text, line)? {
+        return Ok(false);
+    }
+    is_underivable(alloc, &text[..place.end])
+}
+
+/// Whether a text is refused for its nesting.
+fn is_too_deep(alloc: Global, text: &[u8]) -> Result<bool, AllocError>
+    ensures { IfOk result (λ b. IsTrue b → IsNoLibrary IsLibraryText text.now) }
+{
+    match verdict_on(alloc, text)? {
+        Verdict::Nesting => Ok(true),
+        _ => Ok(false),
+    }
+}
+
+/// Whether the text is refused for its nesting, and at the place.
+fn is_nesting(alloc: Global, text: &[u8], place: TextPlace) -> Result<bool, AllocError>
+    requires { IsPlace text.now place }
+    ensures { IfOk result (λ b. IsTrue b → IsNestingAt text.now place) }
+{
+    if !has_tokens(alloc, text, place.start)? {
+        return Ok(false);
+    }
+    if !is_too_deep(alloc, text)? {
+        return Ok(false);
+    }
+    is_too_deep(alloc, &text[..place.end])
+}
+
+/// Whether the refusal applies at the place.
+pub fn applies(
+    alloc: Global,
+    text: &[u8],
+    fault: &ReadError,
+    place: TextPlace,
+) -> Result<bool, AllocError>
+    requires { IsPlace text.now place }
+    ensures { IfOk result (λ b. IsTrue b → AppliesAt text.now fault.now place) }
+{
+    match fault {
+        ReadError::Memory => Ok(false),
+        ReadError::TooLong => Ok(text.len() > MOST_BYTES && place.start == MOST_BYTES),
+        ReadError::Byte => is_byte(alloc, text, place),
+        ReadError::Token => is_faulty_token(alloc, text, place),
+        ReadError::Syntax { line } => is_syntax(alloc, text, *line, place),
+        ReadError::Nesting => is_nesting(alloc, text, place),
+    }
+}

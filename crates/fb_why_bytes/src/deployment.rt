@@ -1,0 +1,43 @@
+//! Where a deployment is refused.
+
+ghost use Rattle.std.specs.Prelude.{◌≡◌, IfOk, MatchOption, is_some, true};
+ghost use Rattle.toml.specs.View.{table_view};
+ghost use Rattle.fb_inputs.specs.Documents.{draft};
+ghost use Rattle.fb_why_bytes.specs.Tables.{IsDocumentFault, IsFaultAt, IsShaped};
+
+use crate::numbers::numbers_place;
+use crate::place::DeployPlace;
+use crate::table::shape_fault;
+use std::alloc::{AllocError, Global};
+use toml::Table;
+
+/// The greatest length of the bytes.
+const MOST_BYTES: usize = 1_048_576;
+
+/// What is wrong with a document, if something is.
+fn document_place(alloc: Global, keys: &Table) -> Result<Option<DeployPlace>, AllocError>
+    ensures { IfOk result (λ o. MatchOption o (is_some (draft (table_view keys.now)) ≡ true) (IsDocumentFault (table_view keys.now))) }
+{
+    let shape = shape_fault(alloc, keys)?;
+    match shape {
+        Some((table, fault)) => Ok(Some(DeployPlace::Shape { table, fault })),
+        None => numbers_place(alloc, keys),
+    }
+}
+
+/// Where the deployment that bytes of TOML are meant to be is refused, as far as that is found: for all but numbers that
+/// are wrong it is found where it is.
+pub fn deployment_place(alloc: Global, bytes: &[u8]) -> Result<Option<DeployPlace>, AllocError>
+    ensures { IfOk result (λ o. MatchOption o (IsShaped bytes.now) (IsFaultAt bytes.now)) }
+{
+    if bytes.len() > MOST_BYTES {
+        return Ok(Some(DeployPlace::Bytes));
+    }
+    match toml::table_from_slice(alloc, bytes) {
+        Ok(keys) => document_place(alloc, &keys),
+        Err(error) => match error.span() {
+            Some(span) => Ok(Some(DeployPlace::Document(span.start))),
+            None => Err(AllocError),
+        },
+    }
+}

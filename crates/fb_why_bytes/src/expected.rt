@@ -1,0 +1,163 @@
+//! Which tokens could stand at the place of a syntax fault.
+
+use crate::text_place::line_feeds;
+use crate::text_verdict::{Verdict, verdict_on};
+use std::alloc::{AllocError, Global};
+
+/// How long a text may be to be tried with every token, in bytes: each try reads all of it.
+const MOST_TRIED: usize = 65_536;
+
+/// A sort of tokens, and one of it.
+#[derive(Clone, Copy)]
+struct Sort {
+    name: &'static str,
+    token: &'static str,
+}
+
+static SORTS: [Sort; 3] = [
+    Sort {
+        name: "name",
+        token: "X",
+    },
+    Sort {
+        name: "whole",
+        token: "1",
+    },
+    Sort {
+        name: "time",
+        token: "T#1s",
+    },
+];
+
+/// The keywords and the signs, and the names that the grammar asks for.
+static WORDS: [&str; 82] = [
+    "FUNCTION_BLOCK",
+    "END_FUNCTION_BLOCK",
+    "APPLICATION",
+    "END_APPLICATION",
+    "EVENT_INPUT",
+    "EVENT_OUTPUT",
+    "END_EVENT",
+    "WITH",
+    "VAR_INPUT",
+    "VAR_OUTPUT",
+    "VAR",
+    "END_VAR",
+    "FBS",
+    "END_FBS",
+    "EVENT_CONNECTIONS",
+    "DATA_CONNECTIONS",
+    "END_CONNECTIONS",
+    "EC_STATES",
+    "END_STATES",
+    "EC_TRANSITIONS",
+    "END_TRANSITIONS",
+    "ALGORITHM",
+    "END_ALGORITHM",
+    "TO",
+    "BOOL",
+    "SINT",
+    "INT",
+    "DINT",
+    "LINT",
+    "USINT",
+    "UINT",
+    "UDINT",
+    "ULINT",
+    "TIME",
+    "TRUE",
+    "FALSE",
+    "IF",
+    "THEN",
+    "ELSIF",
+    "ELSE",
+    "END_IF",
+    "CASE",
+    "OF",
+    "END_CASE",
+    "FOR",
+    "BY",
+    "DO",
+    "END_FOR",
+    "WHILE",
+    "END_WHILE",
+    "REPEAT",
+    "UNTIL",
+    "END_REPEAT",
+    "EXIT",
+    "RETURN",
+    "AND",
+    "OR",
+    "XOR",
+    "NOT",
+    "MOD",
+    ";",
+    ":",
+    ",",
+    ".",
+    "..",
+    "(",
+    ")",
+    "[",
+    "]",
+    ":=",
+    "->",
+    "=",
+    "<>",
+    "<",
+    ">",
+    "<=",
+    ">=",
+    "+",
+    "-",
+    "*",
+    "/",
+    "&",
+];
+
+/// Whether a text may go on with a token: it is refused, if at all, on the line behind it.
+fn may_stand(alloc: Global, before: &[u8], token: &str) -> Result<bool, AllocError> {
+    let mut text = Vec::from_slice(alloc, before)?;
+    text.push(b'\n')?;
+    text.extend_from_slice(token.as_bytes())?;
+    text.push(b'\n')?;
+    match verdict_on(alloc, text.as_slice())? {
+        Verdict::Library => Ok(true),
+        Verdict::Syntax { line } => Ok(line as usize > line_feeds(text.as_slice())),
+        _ => Ok(false),
+    }
+}
+
+/// The tokens with which a text may go on, parted by blanks. Of a long text none is told.
+pub fn expected(alloc: Global, before: &[u8]) -> Result<String, AllocError> {
+    let mut all = String::new(alloc);
+    if before.len() > MOST_TRIED {
+        return Ok(all);
+    }
+    for sort in &SORTS {
+        if may_stand(alloc, before, sort.token)? {
+            add(&mut all, sort.name)?;
+        }
+    }
+    // Where any name may stand, so may these.
+    if !all.as_str().starts_with("name") {
+        for word in ["IN", "ST"] {
+            if may_stand(alloc, before, word)? {
+                add(&mut all, word)?;
+            }
+        }
+    }
+    for word in &WORDS {
+        if may_stand(alloc, before, word)? {
+            add(&mut all, word)?;
+        }
+    }
+    Ok(all)
+}
+
+fn add(all: &mut String, word: &str) -> Result<(), AllocError> {
+    if !all.is_empty() {
+        all.push(' ')?;
+    }
+    all.push_str(word)
+}

@@ -1,0 +1,99 @@
+//! The place at which a text is at fault.
+
+ghost use Rattle.std.specs.Prelude.{IfOk, IfSome};
+ghost use Rattle.fb_why_bytes.specs.Faults.{TellsFault};
+
+use crate::applies::{MOST_BYTES, applies};
+use crate::scan::{Stretch, stretches};
+use crate::text_place::{TextPlace, line_feeds, place_at};
+use crate::text_verdict::{Verdict, verdict_on};
+use fb_read::error::ReadError;
+use std::alloc::{AllocError, Global};
+
+/// Whether a text is refused for its syntax before its end. Behind one more line feed a fault at the end has a line of its
+/// own. A text of the greatest length has no room for it, and counts as one that is at fault at its end.
+fn breaks_syntax(alloc: Global, text: &[u8]) -> Result<bool, AllocError> {
+    let mut ended = Vec::from_slice(alloc, text)?;
+    ended.push(b'\n')?;
+    match verdict_on(alloc, ended.as_slice())? {
+        Verdict::Syntax { line } => Ok(line as usize <= line_feeds(text) + 1),
+        _ => Ok(false),
+    }
+}
+
+/// Whether a text shows the fault.
+fn shows(alloc: Global, text: &[u8], fault: &ReadError) -> Result<bool, AllocError> {
+    if let ReadError::Syntax { .. } = fault {
+        return breaks_syntax(alloc, text);
+    }
+    match (verdict_on(alloc, text)?, fault) {
+        (Verdict::Byte, ReadError::Byte) => Ok(true),
+        (Verdict::Token, ReadError::Token) => Ok(true),
+        (Verdict::Nesting, ReadError::Nesting) => Ok(true),
+        _ => Ok(false),
+    }
+}
+
+/// Which token is the first with which the text shows the fault, or how many there are. Where a beginning of the text shows it,
+/// so does each longer one, if it ends behind a token.
+fn first_faulty(
+    alloc: Global,
+    text: &[u8],
+    found: &[Stretch],
+    fault: &ReadError,
+) -> Result<usize, AllocError> {
+    let mut low = 0;
+    let mut high = found.len();
+    while low < high {
+        let middle = low + (high - low) / 2;
+        let front = match found.get(middle) {
+            Some(stretch) => text.get(..stretch.end).unwrap_or(text),
+            None => text,
+        };
+        if shows(alloc, front, fault)? {
+            high = middle;
+        } else {
+            low = middle + 1;
+        }
+    }
+    Ok(low)
+}
+
+/// Where the first token stands with which the text shows the fault. Behind the last one the text ends.
+fn faulty_stretch(alloc: Global, text: &[u8], fault: &ReadError) -> Result<Stretch, AllocError> {
+    if let ReadError::TooLong = fault {
+        return Ok(Stretch {
+            start: MOST_BYTES,
+            end: MOST_BYTES + 1,
+        });
+    }
+    let found = stretches(alloc, text)?;
+    let first = first_faulty(alloc, text, found.as_slice(), fault)?;
+    match found.get(first) {
+        Some(stretch) => Ok(*stretch),
+        None => Ok(Stretch {
+            start: text.len(),
+            end: text.len(),
+        }),
+    }
+}
+
+/// Where the refusal of a text applies. Told is the first such place; none is told where the text is not refused so, or memory
+/// was wanting.
+pub fn text_place(
+    alloc: Global,
+    text: &[u8],
+    fault: &ReadError,
+) -> Result<Option<TextPlace>, AllocError>
+    ensures { IfOk result (λ o. IfSome o (λ place. TellsFault text.now fault.now place)) }
+{
+    let Stretch { start, end } = faulty_stretch(alloc, text, fault)?;
+    let Some(place) = place_at(text, start, end) else {
+        return Ok(None);
+    };
+    if applies(alloc, text, fault, place)? {
+        Ok(Some(place))
+    } else {
+        Ok(None)
+    }
+}

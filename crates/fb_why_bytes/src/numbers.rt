@@ -1,0 +1,293 @@
+//! What is wrong with the numbers of a deployment whose shape is right (E12, E16, E15).
+
+ghost use Rattle.std.specs.Prelude.{◌≡◌, IfOk, IfSome, false, map, option_map};
+ghost use Rattle.toml.specs.View.{table_view, view};
+ghost use Rattle.fb_inputs.specs.Deployments as inputs;
+ghost use Rattle.fb_inputs.specs.Documents as documents;
+ghost use Rattle.fb_inputs.specs.Documents.{pair};
+ghost use Rattle.fb_inputs.specs.Lists.{each};
+ghost use Rattle.fb_why_bytes.specs.Numbers as spec;
+
+use crate::place::{DeployPlace, Key};
+use crate::table::value_at;
+use std::alloc::{AllocError, Global};
+use toml::{Table, Value};
+
+/// The greatest numbers of resources, of links and of entries of a link.
+const MOST_RESOURCES: usize = 256;
+
+const MOST_LINKS: usize = 1_024;
+
+const MOST_ENTRIES: usize = 64;
+
+/// The greatest latency, and the greatest tick from which on one holds.
+const MOST_TICKS: i64 = 1_000_000;
+
+const MOST_START: i64 = 1_000_000_000_000;
+
+/// From this tick on, so many ticks.
+#[derive(Clone, Copy)]
+pub struct Entry {
+    pub start: i64,
+    pub ticks: i64,
+}
+
+/// What is judged of the links, one after the other.
+#[derive(Clone, Copy)]
+pub enum Stage {
+    /// Latencies are in range (E12).
+    Latencies,
+    /// Ticks rise from 0 (E16).
+    Starts,
+    /// There are not too many entries (E15).
+    Counts,
+}
+
+/// An entry of two whole numbers.
+fn whole_pair(start: Option<i64>, ticks: Option<i64>) -> Option<Entry>
+    ensures { option_map spec.pair_of result ≡ spec.whole_pair start ticks }
+{
+    let Some(start) = start else {
+        return None;
+    };
+    let Some(ticks) = ticks else {
+        return None;
+    };
+    Some(Entry { start, ticks })
+}
+
+/// A pair of whole numbers.
+pub fn entry_of(value: &Value) -> Option<Entry>
+    ensures { option_map spec.pair_of result ≡ pair (view value.now) }
+{
+    let Some(values) = value.as_array() else {
+        return None;
+    };
+    let [start, ticks] = values.as_slice() else {
+        return None;
+    };
+    whole_pair(start.as_integer(), ticks.as_integer())
+}
+
+/// The entries of a table of latencies.
+fn entries_of(alloc: Global, values: &[Value]) -> Result<Option<Vec<Entry>>, AllocError>
+    ensures { IfOk result (λ o. option_map (λ t. spec.pairs_of t.items) o ≡ each pair (map view values.now)) }
+{
+    let mut found = Vec::new(alloc);
+    for value in values {
+        let Some(entry) = entry_of(value) else {
+            return Ok(None);
+        };
+        found.push(entry)?;
+    }
+    Ok(Some(found))
+}
+
+/// One latency from tick 0 on.
+fn constant(alloc: Global, value: &Value) -> Result<Option<Vec<Entry>>, AllocError>
+    ensures { IfOk result (λ o. option_map (λ t. spec.pairs_of t.items) o ≡ documents.constant (view value.now)) }
+{
+    let Some(ticks) = value.as_integer() else {
+        return Ok(None);
+    };
+    let table = Vec::from_slice(alloc, &[Entry { start: 0, ticks }])?;
+    Ok(Some(table))
+}
+
+/// A table of latencies.
+fn entries_at(alloc: Global, value: &Value) -> Result<Option<Vec<Entry>>, AllocError>
+    ensures { IfOk result (λ o. option_map (λ t. spec.pairs_of t.items) o ≡ documents.array_of pair (view value.now)) }
+{
+    match value.as_array() {
+        Some(values) => entries_of(alloc, values.as_slice()),
+        None => Ok(None),
+    }
+}
+
+/// The one latency or the table of them that a link has.
+fn latencies_of(alloc: Global, keys: &Table) -> Result<Option<Vec<Entry>>, AllocError>
+    ensures { IfOk result (λ o. option_map (λ t. spec.pairs_of t.items) o ≡ spec.table_in (table_view keys.now)) }
+{
+    match value_at(keys, Key::Latency) {
+        Some(ticks) => match value_at(keys, Key::Latencies) {
+            Some(_) => Ok(None),
+            None => constant(alloc, ticks),
+        },
+        None => match value_at(keys, Key::Latencies) {
+            Some(table) => entries_at(alloc, table),
+            None => Ok(None),
+        },
+    }
+}
+
+fn is_latency(ticks: i64) -> bool
+    ensures { result ≡ inputs.is_latency ticks }
+{
+    1 <= ticks && ticks <= MOST_TICKS
+}
+
+fn is_after(last: u64, start: i64) -> bool
+    ensures { result ≡ inputs.is_after last start }
+{
+    0 <= start && last < start.unsigned_abs() && start <= MOST_START
+}
+
+/// The first entry whose latency is out of range.
+fn wrong_latency(table: &[Entry]) -> Option<usize>
+    ensures { IfSome result (spec.IsLatencyWrong table.now) }
+{
+    for (place, entry) in table.iter().enumerate() {
+        if !is_latency(entry.ticks) {
+            return Some(place);
+        }
+    }
+    None
+}
+
+/// Whether an entry comes behind the one before it, if there is one.
+fn is_behind(before: Option<&Entry>, entry: &Entry) -> bool
+    ensures { result ≡ spec.is_behind (option_map (λ e. e.now) before.entry) entry.now }
+{
+    match before {
+        Some(before) => is_after(before.start.unsigned_abs(), entry.start),
+        None => true,
+    }
+}
+
+/// Whether the entry at a place, if there is one, is the first one and at tick 0, or behind the one before it.
+fn follows(table: &[Entry], place: usize) -> bool
+    ensures { result ≡ spec.follows table.now place }
+{
+    let Some(entry) = table.get(place) else {
+        return true;
+    };
+    if place == 0 {
+        return entry.start == 0;
+    }
+    is_behind(table.get(place - 1), entry)
+}
+
+/// The first entry that does not follow the one before it.
+fn wrong_start(table: &[Entry]) -> Option<usize>
+    ensures { IfSome result (λ k. spec.follows table.now k ≡ false) }
+{
+    for place in 0..table.len() {
+        if !follows(table, place) {
+            return Some(place);
+        }
+    }
+    None
+}
+
+/// What is wrong with the table of a link, of what is judged now.
+fn table_place(stage: Stage, link: usize, table: &[Entry]) -> Option<DeployPlace>
+    ensures { IfSome result (spec.IsTablePlace link table.now) }
+{
+    match stage {
+        Stage::Latencies => {
+            let entry = wrong_latency(table)?;
+            Some(DeployPlace::Latency { link, entry })
+        }
+        Stage::Starts => {
+            if table.is_empty() {
+                return Some(DeployPlace::NoEntry { link });
+            }
+            let entry = wrong_start(table)?;
+            Some(DeployPlace::Entry { link, entry })
+        }
+        Stage::Counts => {
+            if table.len() > MOST_ENTRIES {
+                Some(DeployPlace::Entries { link })
+            } else {
+                None
+            }
+        }
+    }
+}
+
+/// What is wrong with a link, of what is judged now.
+fn link_place(
+    alloc: Global,
+    stage: Stage,
+    link: usize,
+    value: &Value,
+) -> Result<Option<DeployPlace>, AllocError>
+    ensures { IfOk result (λ o. IfSome o (spec.IsLinkPlace link (view value.now))) }
+{
+    let Some(keys) = value.as_table() else {
+        return Ok(None);
+    };
+    let entries = latencies_of(alloc, keys)?;
+    match entries {
+        Some(table) => Ok(table_place(stage, link, table.as_slice())),
+        None => Ok(None),
+    }
+}
+
+/// What is wrong with the first of the links that is wrong, of what is judged now.
+fn links_place(
+    alloc: Global,
+    stage: Stage,
+    values: &[Value],
+) -> Result<Option<DeployPlace>, AllocError>
+    ensures { IfOk result (λ o. IfSome o (spec.IsAmongLinks values.now)) }
+{
+    for (link, value) in values.iter().enumerate() {
+        let found = link_place(alloc, stage, link, value)?;
+        if let Some(place) = found {
+            return Ok(Some(place));
+        }
+    }
+    Ok(None)
+}
+
+/// How many elements the array at a key has.
+fn count_at(keys: &Table, key: Key) -> usize
+    ensures { result ≡ spec.count_at (table_view keys.now) key }
+{
+    let Some(value) = value_at(keys, key) else {
+        return 0;
+    };
+    match value.as_array() {
+        Some(values) => values.as_slice().len(),
+        None => 0,
+    }
+}
+
+/// What is wrong with the links of a document, of what is judged now.
+fn place_among_links(
+    alloc: Global,
+    stage: Stage,
+    keys: &Table,
+) -> Result<Option<DeployPlace>, AllocError>
+    ensures { IfOk result (λ o. IfSome o (spec.IsNumbersFault (table_view keys.now))) }
+{
+    let Some(value) = value_at(keys, Key::Link) else {
+        return Ok(None);
+    };
+    match value.as_array() {
+        Some(values) => links_place(alloc, stage, values.as_slice()),
+        None => Ok(None),
+    }
+}
+
+/// What is wrong with the numbers of a document: latencies first, then tables, then counts.
+pub fn numbers_place(alloc: Global, keys: &Table) -> Result<Option<DeployPlace>, AllocError>
+    ensures { IfOk result (λ o. IfSome o (spec.IsNumbersFault (table_view keys.now))) }
+{
+    let latency = place_among_links(alloc, Stage::Latencies, keys)?;
+    if latency.is_some() {
+        return Ok(latency);
+    }
+    let start = place_among_links(alloc, Stage::Starts, keys)?;
+    if start.is_some() {
+        return Ok(start);
+    }
+    if count_at(keys, Key::Resource) > MOST_RESOURCES {
+        return Ok(Some(DeployPlace::Resources));
+    }
+    if count_at(keys, Key::Link) > MOST_LINKS {
+        return Ok(Some(DeployPlace::Links));
+    }
+    place_among_links(alloc, Stage::Counts, keys)
+}

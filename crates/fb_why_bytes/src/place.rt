@@ -1,0 +1,150 @@
+//! Where a refusal of a deployment or of stimuli applies.
+
+ghost use Rattle.std.specs.Prelude.{◌≡◌};
+ghost use Rattle.fb_why_bytes.specs.Rows as rows;
+ghost use Rattle.fb_why_bytes.specs.Tables as tables;
+
+/// What is wrong with a row of stimuli. Words stand in the last field, parted by spaces, and are counted from 0.
+#[derive(Clone, Copy)]
+pub enum RowFault {
+    /// There are not three fields (E13).
+    Fields,
+    /// The event is not `INSTANCE.EVENT` (E13).
+    Event,
+    /// A word is not `NAME=VALUE` (E13).
+    Word(usize),
+    /// The tick is no number (E14).
+    Tick,
+    /// The value of a word is none (E14).
+    Value(usize),
+    /// The tick is over the greatest one (E15).
+    Late,
+    /// As many rows as there may be come before it (E15).
+    Crowded,
+}
+
+/// Where stimuli are refused.
+#[derive(Clone, Copy)]
+pub enum StimuliPlace {
+    /// There are too many bytes (E15).
+    Bytes,
+    /// The first record is not the heading (E13).
+    Heading,
+    /// A row, counted from 0 behind the heading.
+    Row { row: usize, fault: RowFault },
+}
+
+impl StimuliPlace {
+    /// The number of the refusal, 13 to 15.
+    pub fn number(self) -> u8
+        ensures { result ≡ rows.number_of self }
+    {
+        match self {
+            StimuliPlace::Bytes => 15,
+            StimuliPlace::Heading => 13,
+            StimuliPlace::Row { fault, .. } => match fault {
+                RowFault::Fields | RowFault::Event | RowFault::Word(_) => 13,
+                RowFault::Tick | RowFault::Value(_) => 14,
+                RowFault::Late | RowFault::Crowded => 15,
+            },
+        }
+    }
+}
+
+/// A table of a deployment. Those of a list are counted from 0.
+#[derive(Clone, Copy)]
+pub enum TablePlace {
+    Top,
+    Resource(usize),
+    Link(usize),
+}
+
+/// A key of a deployment.
+#[derive(Clone, Copy)]
+pub enum Key {
+    Resource,
+    Link,
+    Device,
+    Name,
+    Instances,
+    From,
+    To,
+    Latency,
+    Latencies,
+}
+
+/// What is wrong with a table of a deployment (E11).
+#[derive(Clone, Copy)]
+pub enum TableFault {
+    /// What stands there is no table.
+    NoTable,
+    /// A key is missing: of `latency` and `latencies`, both.
+    Missing(Key),
+    /// A key has no value of its kind.
+    Wrong(Key),
+    /// An element of the array at a key, counted from 0, is none of its kind.
+    Element(Key, usize),
+    /// There is no resource.
+    Empty,
+    /// There are both `latency` and `latencies`.
+    Both,
+    /// The link leads to the resource that it comes from.
+    Itself,
+    /// There are further keys.
+    Further,
+}
+
+/// Where a deployment is refused. Links and entries are counted from 0.
+#[derive(Clone, Copy)]
+pub enum DeployPlace {
+    /// There are too many bytes (E15).
+    Bytes,
+    /// The bytes are no document; the reader found so at this byte, or behind the last one (E10).
+    Document(usize),
+    /// A table has not the right shape (E11).
+    Shape {
+        table: TablePlace,
+        fault: TableFault,
+    },
+    /// A latency of a link is out of range (E12).
+    Latency {
+        link: usize,
+        entry: usize,
+    },
+    /// The table of a link has no entry (E16).
+    NoEntry {
+        link: usize,
+    },
+    /// An entry of a link's table does not come behind the one before it: the first one not at tick 0, or one that is too
+    /// late (E16).
+    Entry {
+        link: usize,
+        entry: usize,
+    },
+    /// There are too many resources (E15).
+    Resources,
+    /// There are too many links (E15).
+    Links,
+    /// A link's table has too many entries (E15).
+    Entries {
+        link: usize,
+    },
+}
+
+impl DeployPlace {
+    /// The number of the refusal, one of 10, 11, 12, 15 and 16.
+    pub fn number(self) -> u8
+        ensures { result ≡ tables.number_of self }
+    {
+        match self {
+            DeployPlace::Document(_) => 10,
+            DeployPlace::Shape { .. } => 11,
+            DeployPlace::Latency { .. } => 12,
+            DeployPlace::NoEntry { .. } | DeployPlace::Entry { .. } => 16,
+            DeployPlace::Bytes
+            | DeployPlace::Resources
+            | DeployPlace::Links
+            | DeployPlace::Entries { .. } => 15,
+        }
+    }
+}

@@ -1,0 +1,80 @@
+//! What the reader of stimuli says of a row by itself.
+
+ghost use Rattle.std.specs.Prelude.{◌≡◌, ◌∷◌, [], IfOk};
+ghost use Rattle.fb_why_bytes.specs.RowVerdicts as spec;
+
+use crate::row_text::row_text;
+use fb_inputs::error::InputError;
+use fb_inputs::stimuli::read_stimuli;
+use std::alloc::{AllocError, Global};
+
+/// The greatest length of the bytes of stimuli.
+pub const MOST_BYTES: usize = 16_777_216;
+
+/// What is said of a row.
+#[derive(Clone, Copy)]
+pub enum Verdict {
+    Taken,
+    /// It has the wrong shape.
+    Shape,
+    /// A tick or a value is none.
+    Number,
+    /// It is over a limit.
+    Limit,
+}
+
+/// Whether nothing is said against the shape.
+pub fn has_shape(verdict: Verdict) -> bool
+    ensures { result ≡ spec.has_shape verdict }
+{
+    !matches!(verdict, Verdict::Shape)
+}
+
+/// Whether nothing is said against the numbers.
+pub fn has_numbers(verdict: Verdict) -> bool
+    ensures { result ≡ spec.has_numbers verdict }
+{
+    !matches!(verdict, Verdict::Number)
+}
+
+/// Whether nothing is said against the row.
+pub fn is_taken(verdict: Verdict) -> bool
+    ensures { result ≡ spec.is_taken verdict }
+{
+    matches!(verdict, Verdict::Taken)
+}
+
+/// What the reader says of a text. One that is too long is not judged, as without memory for it.
+fn judge_text(alloc: Global, text: &[u8]) -> Result<Verdict, AllocError>
+    ensures { IfOk result (spec.IsShortVerdict text.now) }
+{
+    if text.len() > MOST_BYTES {
+        return Err(AllocError);
+    }
+    match read_stimuli(alloc, text) {
+        Ok(stimuli) => {
+            drop(stimuli);
+            Ok(Verdict::Taken)
+        }
+        Err(error) => match error {
+            InputError::Row => Ok(Verdict::Shape),
+            InputError::Number => Ok(Verdict::Number),
+            InputError::Limit => Ok(Verdict::Limit),
+            _ => Err(AllocError),
+        },
+    }
+}
+
+/// What the reader says of a row with these fields. A row for which there is no text that is short enough is not
+/// judged, as without memory for it.
+pub fn judge_row(
+    alloc: Global,
+    tick: &[u8],
+    event: &[u8],
+    values: &[u8],
+) -> Result<Verdict, AllocError>
+    ensures { IfOk result (spec.IsVerdict (tick.now ∷ event.now ∷ values.now ∷ [])) }
+{
+    let text = row_text(alloc, tick, event, values)?;
+    judge_text(alloc, text.as_slice())
+}

@@ -1,0 +1,78 @@
+//! Places in a text.
+
+ghost use Rattle.std.specs.Prelude.{◌≡◌, ◌==◌, ◌≤◌, ◌<◌, IfSome, count_by, length, not};
+ghost use Rattle.std.specs.List.{suffix_len};
+ghost use Rattle.fb_read.specs.Blank as spec;
+ghost use Rattle.fb_read.specs.Tokens.{behind_mark};
+ghost use Rattle.fb_why_bytes.specs.Places.{IsPlace, IsStretch};
+
+/// A place in a text: what stands from `start` up to `end`, offsets in bytes. At the end of the text nothing stands.
+#[derive(Clone, Copy)]
+pub struct TextPlace {
+    pub start: usize,
+    pub end: usize,
+    /// The line of `start`, counted from 1 by line feeds.
+    pub line: usize,
+    /// The column of `start`, counted from 1 by bytes.
+    pub column: usize,
+}
+
+/// The byte at a place, and 0 past the end.
+fn at(bytes: &[u8], i: usize) -> u8
+    ensures value { result ≡ spec.at bytes.now i }
+    ensures within { 0 < result → i < length bytes.now }
+{
+    if i < bytes.len() { bytes[i] } else { 0 }
+}
+
+/// What stands behind one leading byte order mark.
+pub fn behind_mark(text: &[u8]) -> &[u8]
+    ensures value { result.now ≡ behind_mark text.now }
+    ensures shorter { length result.now ≤ length text.now }
+{
+    if at(text, 0) == 0xEF && at(text, 1) == 0xBB && at(text, 2) == 0xBF {
+        &text[3..]
+    } else {
+        text
+    }
+}
+
+/// How many lines end in a text.
+pub fn line_feeds(text: &[u8]) -> usize
+    ensures { result ≡ count_by (λ b. b == 10) text.now }
+{
+    text.iter().filter(|b| **b == b'\n').count()
+}
+
+/// How many bytes stand behind the last line feed.
+fn behind_line_feed(text: &[u8]) -> usize
+    ensures value { result ≡ suffix_len (λ b. not (b == 10)) text.now }
+    ensures within { result ≤ length text.now }
+{
+    let mut behind = 0;
+    for b in text {
+        if *b == b'\n' {
+            behind = 0;
+        } else {
+            behind += 1;
+        }
+    }
+    behind
+}
+
+/// What stands between two offsets, if the text has them, behind its byte order mark.
+pub fn place_at(text: &[u8], start: usize, end: usize) -> Option<TextPlace>
+    ensures place { IfSome result (IsPlace text.now) }
+    ensures there { IfSome result (λ place. IsStretch start end place) }
+{
+    if start > end || end > text.len() || start < text.len() - behind_mark(text).len() {
+        return None;
+    }
+    let before = &text[..start];
+    Some(TextPlace {
+        start,
+        end,
+        line: line_feeds(before) + 1,
+        column: behind_line_feed(before) + 1,
+    })
+}

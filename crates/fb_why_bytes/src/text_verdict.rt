@@ -1,0 +1,41 @@
+//! What is read of a text, without its library.
+
+ghost use Rattle.std.specs.Prelude.{IfOk};
+ghost use Rattle.fb_why_bytes.specs.TextVerdicts.{IsVerdict};
+
+use crate::discard::discard;
+use fb_read::error::ReadError;
+use fb_read::read::read_library;
+use std::alloc::{AllocError, Global};
+
+/// Whether a text is read, or how it is refused.
+#[derive(Clone, Copy)]
+pub enum Verdict {
+    Library,
+    Byte,
+    Token,
+    Syntax { line: u32 },
+    TooLong,
+    Nesting,
+}
+
+/// How a text is read.
+#[tactic(auto, using(crate::proofs::TextReadings::library_tokens))]
+pub fn verdict_on(alloc: Global, text: &[u8]) -> Result<Verdict, AllocError>
+    ensures { IfOk result (IsVerdict text.now) }
+{
+    match read_library(alloc, text) {
+        Ok(library) => {
+            discard(library);
+            Ok(Verdict::Library)
+        }
+        Err(fault) => match fault {
+            ReadError::Memory => Err(AllocError),
+            ReadError::Byte => Ok(Verdict::Byte),
+            ReadError::Token => Ok(Verdict::Token),
+            ReadError::Syntax { line } => Ok(Verdict::Syntax { line }),
+            ReadError::TooLong => Ok(Verdict::TooLong),
+            ReadError::Nesting => Ok(Verdict::Nesting),
+        },
+    }
+}

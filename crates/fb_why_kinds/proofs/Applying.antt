@@ -1,0 +1,157 @@
+-- What is told of a place makes its number apply.
+use Rattle.std.proofs.Common.{◌≡◌, ℕ, Bool, true, false, [], ◌++◌, Option, Some, None, Contains, refl, sym, ◌∙◌, ap, subst, inl, inr}
+use Rattle.std.specs.Prelude.{flat_map, slice_get, option_and_then}
+use Rattle.std.specs.List.{list_all}
+use Rattle.std.proofs.lemmas.Bool.{and_left, and_right}
+use Rattle.std.proofs.lemmas.List.Elements.{Contains-append_left, Contains-append_right}
+use Rattle.std.proofs.lemmas.Option.{same_Some}
+use Rattle.fb_types.specs.Blocks.{Kind, ports_of}
+use Rattle.fb_types.specs.Flat.{kind_of, variables_in}
+use Rattle.fb_types.specs.Kinds.{KindWrong, declared_right, parameter_right}
+use Rattle.fb_types.specs.Joined.{OutOfRange}
+use Rattle.fb_types.specs.Repeated.{Placed, networks, networks_in}
+use Rattle.fb_types.specs.Syntax.{body_of}
+use Rattle.fb_types.specs.declared.library.BasicType.{BasicType}
+use Rattle.fb_types.specs.declared.library.BlockType.{BlockType}
+use Rattle.fb_types.specs.declared.library.BlockType.TheVariants as block
+use Rattle.fb_types.specs.declared.library.Library.{Library}
+use Rattle.fb_types.specs.declared.library.Variable.{Variable}
+use Rattle.fb_names.proofs.Elements.{Contains-flat_map, element_of_place, fails_from}
+use Rattle.fb_names.proofs.NameLemmas.{Contains-nil, Contains-here, Contains-there}
+use Rattle.fb_kinds.specs.Checks.{algorithm_right, chart_right, in_place, is_guard_right, is_right_block}
+use Rattle.fb_kinds.proofs.Checks.{chart_right_met, wrong_answer}
+use Rattle.fb_why_kinds.specs.declared.place.Misfit.{Misfit}
+use Rattle.fb_why_kinds.specs.declared.place.Misfit.TheVariants as misfit
+use Rattle.fb_why_kinds.specs.declared.place.Misjoin.{Misjoin}
+use Rattle.fb_why_kinds.specs.declared.place.Part.{Part}
+use Rattle.fb_why_kinds.specs.declared.place.Site.{Site}
+use Rattle.fb_why_kinds.specs.declared.place.Site.TheVariants.{Application, Inside}
+use Rattle.fb_why_kinds.specs.declared.place.Variables.{Variables}
+use Rattle.fb_why_kinds.specs.declared.place.Variables.TheVariants.{Inputs, Outputs, Internals}
+use Rattle.fb_why_kinds.specs.Misfits.{IsGuardMisfit, IsInitialMisfit, IsMisfitAt, IsParameterMisfit, IsStatementMisfit}
+use Rattle.fb_why_kinds.specs.Misjoins.{IsMisjoinedAt}
+use Rattle.fb_why_kinds.specs.Sites.{basic_at, basic_inside, network_at, network_inside, variables_at}
+use Rattle.fb_why_kinds.specs.Statements.{each_in_body, stands_right}
+use Rattle.fb_why_kinds.proofs.Bodies.{body_each}
+use Rattle.fb_why_kinds.proofs.Parts.{part_fails}
+
+-- ---- Networks and types at their places
+
+inside_networks : (t : BlockType) (n : Placed) → network_inside t ≡ Some n → Contains (networks_in t) n
+inside_networks (block.Basic t) n h = absurd (cc)
+inside_networks (block.Composite t) n h =
+    let here : Placed = (Some t, t.network) in
+    subst (λ (m : Placed). Contains (networks_in (block.Composite t)) m) (same_Some here n h) (Contains-here here [])
+
+site_network : (lib : Library) (s : Site) (n : Placed) → network_at lib s ≡ Some n → Contains (networks lib) n
+site_network lib Application n h =
+    let here : Placed = (None, lib.application.network) in
+    subst (λ (m : Placed). Contains (networks lib) m) (same_Some here n h) (Contains-here here (flat_map networks_in lib.blocks))
+site_network lib (Inside k) n h =
+    let here : Placed = (None, lib.application.network) in
+    elim (slice_get lib.blocks k) as (λ o. slice_get lib.blocks k ≡ o → option_and_then network_inside o ≡ Some n → Contains (networks lib) n) [
+      | None ↦ λ e h. absurd (cc)
+      | Some t ↦ λ e h.
+          Contains-there here (flat_map networks_in lib.blocks) n
+          (Contains-flat_map networks_in lib.blocks t n (element_of_place lib.blocks k t e) (inside_networks t n h))
+    ] refl h
+
+basic_block : (t : BlockType) (b : BasicType) → basic_inside t ≡ Some b → t ≡ block.Basic b
+basic_block (block.Basic t) b h = ap block.Basic (same_Some t b h)
+basic_block (block.Composite t) b h = absurd (cc)
+
+basic_among : (lib : Library) (k : ℕ) (b : BasicType) → basic_at lib k ≡ Some b → Contains lib.blocks (block.Basic b)
+basic_among lib k b h =
+    elim (slice_get lib.blocks k) as (λ o. slice_get lib.blocks k ≡ o → option_and_then basic_inside o ≡ Some b → Contains lib.blocks (block.Basic b)) [
+      | None ↦ λ e h. absurd (cc)
+      | Some t ↦ λ e h. element_of_place lib.blocks k (block.Basic b) (e ∙ ap (λ (t : BlockType). Some t) (basic_block t b h))
+    ] refl h
+
+-- ---- Data connections
+
+pub misjoin_applies : (lib : Library) (p : Misjoin) → IsMisjoinedAt lib p → OutOfRange lib
+misjoin_applies lib p m = (
+  m.network,
+  m.stands,
+  m.source,
+  m.target,
+  site_network lib p.site m.network m.network_is,
+  element_of_place m.network.1.data_connections p.connection m.stands m.found,
+  m.from,
+  m.to,
+  m.out,
+)
+
+-- ---- Block types
+
+block_wrong : (lib : Library) (t : BlockType) → Contains lib.blocks t → is_right_block t ≡ false → KindWrong lib
+block_wrong lib t c h =
+    elim ((wrong_answer lib false (sym (fails_from is_right_block lib.blocks t c h))).0 refl) [
+      | inl chart ↦ inl chart
+      | inr value ↦ inr (inl value)
+    ]
+
+chart_wrong : (lib : Library) (k : ℕ) (b : BasicType) → basic_at lib k ≡ Some b → chart_right b ≡ false → KindWrong lib
+chart_wrong lib k b at h =
+    block_wrong lib (block.Basic b) (basic_among lib k b at)
+    (and_right (list_all declared_right (variables_in (kind_of (block.Basic b)))) (chart_right b) h)
+
+variable_among : (l : Variables) (t : BlockType) (v : Variable) → Contains (variables_at l t) v → Contains (variables_in (kind_of t)) v
+variable_among Inputs (block.Basic t) v c =
+    Contains-append_left (t.ports.inputs ++ t.ports.outputs) t.internals v (Contains-append_left t.ports.inputs t.ports.outputs v c)
+variable_among Outputs (block.Basic t) v c =
+    Contains-append_left (t.ports.inputs ++ t.ports.outputs) t.internals v (Contains-append_right t.ports.inputs t.ports.outputs v c)
+variable_among Internals (block.Basic t) v c = Contains-append_right (t.ports.inputs ++ t.ports.outputs) t.internals v c
+variable_among Inputs (block.Composite t) v c = Contains-append_left t.ports.inputs t.ports.outputs v c
+variable_among Outputs (block.Composite t) v c = Contains-append_right t.ports.inputs t.ports.outputs v c
+variable_among Internals (block.Composite t) v c = absurd (Contains-nil v c)
+
+initial_applies : (lib : Library) (b : ℕ) (l : Variables) (k : ℕ) → IsInitialMisfit lib b l k → KindWrong lib
+initial_applies lib b l k m =
+    inr (inl (
+      m.in_type,
+      m.stands,
+      element_of_place lib.blocks b m.in_type m.at,
+      variable_among l m.in_type m.stands (element_of_place (variables_at l m.in_type) k m.stands m.found),
+      m.wrong,
+    ))
+
+guard_applies : (lib : Library) (b k : ℕ) → IsGuardMisfit lib b k → KindWrong lib
+guard_applies lib b k m =
+    let t = m.in_type in
+    let guards = fails_from (is_guard_right t) t.transitions m.stands (element_of_place t.transitions k m.stands m.found) m.wrong in
+    chart_wrong lib b t m.at
+    (chart_right_met t ∙ and_left (list_all (is_guard_right t) t.transitions) (list_all (algorithm_right t) t.algorithms) guards)
+
+statement_applies : (lib : Library) (b a k : ℕ) (o : Part) → IsStatementMisfit lib b a k o → KindWrong lib
+statement_applies lib b a k o m =
+    let t = m.in_type in
+    let ss = each_in_body false (body_of m.algorithm.body) in
+    let body : algorithm_right t m.algorithm ≡ false =
+    sym (body_each t false (body_of m.algorithm.body))
+    ∙ fails_from (stands_right t) ss m.stands (element_of_place ss k m.stands m.found) (part_fails (in_place t m.stands.0) m.stands.1 o m.wrong) in
+    let bodies = fails_from (algorithm_right t) t.algorithms m.algorithm (element_of_place t.algorithms a m.algorithm m.algorithm_is) body in
+    chart_wrong lib b t m.at
+    (chart_right_met t ∙ and_right (list_all (is_guard_right t) t.transitions) (list_all (algorithm_right t) t.algorithms) bodies)
+
+-- ---- Parameters
+
+parameter_applies : (lib : Library) (s : Site) (i p : ℕ) → IsParameterMisfit lib s i p → KindWrong lib
+parameter_applies lib s i p m =
+    let x = m.of_instance in
+    let wrong = fails_from (parameter_right (ports_of m.kind)) x.parameters m.stands (element_of_place x.parameters p m.stands m.found) m.wrong in
+    inr (inr (
+      m.network,
+      x,
+      site_network lib s m.network m.at,
+      element_of_place m.network.1.instances i x m.instance_is,
+      ap (λ (o : Option Kind). elim o as (λ _. Bool) [ None ↦ true | Some k ↦ list_all (parameter_right (ports_of k)) x.parameters ]) m.kind_is ∙ wrong,
+    ))
+
+-- ---- All
+
+pub misfit_applies : (lib : Library) (p : Misfit) → IsMisfitAt lib p → KindWrong lib
+misfit_applies lib (misfit.Initial b l k) m = initial_applies lib b l k m
+misfit_applies lib (misfit.Parameter s i k) m = parameter_applies lib s i k m
+misfit_applies lib (misfit.Guard b k) m = guard_applies lib b k m
+misfit_applies lib (misfit.Statement b a k o) m = statement_applies lib b a k o m

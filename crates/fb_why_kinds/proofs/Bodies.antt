@@ -1,0 +1,128 @@
+-- An algorithm is right where each of its statements is, by itself.
+use Rattle.std.proofs.Common.{◌≡◌, ℕ, zero, suc, ◌+◌, ◌<◌, arith, Bool, true, false, ◌&&◌, List, [], ◌∷◌, ◌++◌, drop, get_or, length, Option, Some, None, refl, rules, subst, sym, ◌∙◌, ap}
+use Rattle.std.specs.Prelude.{MatchOption, slice_get}
+use Rattle.std.specs.List.{list_all}
+use Rattle.std.proofs.lemmas.List.{at_drop_more}
+use Rattle.std.proofs.lemmas.List.Folds.{list_all-append}
+use Rattle.fb_types.specs.Kinds.{is_right, body_right, choices_right, branches_right, is_whole, is_condition, Place}
+use Rattle.fb_types.specs.Syntax.{Stmt, Empty, Exit, Return, Assign, If, Case, For, While, Repeat, Stmts, no_stmt, then_stmts, Choices, no_choice, then_choices, Branches, no_branch, then_branches, body_of, expr_of}
+use Rattle.fb_types.specs.declared.library.Algorithm.{Algorithm}
+use Rattle.fb_types.specs.declared.library.BasicType.{BasicType}
+use Rattle.fb_types.specs.declared.text.Choice.{Choice, fold_out-Choice, out-Choice}
+use Rattle.fb_kinds.specs.Checks.{algorithm_right, in_place}
+use Rattle.fb_kinds.specs.Trees.{all_of, choice_of, choices_of}
+use Rattle.fb_why_kinds.specs.declared.place.Part.{Part}
+use Rattle.fb_why_kinds.specs.declared.statements.Standing as code
+use Rattle.fb_why_kinds.specs.Statements.{Standing, WrongAmong, all_standing, standing_of, choice_right, conditions_right, each_in_body, each_in_branches, each_in_choices, each_inside, own_right, stands_right}
+
+-- ---- Truth values
+
+and_assoc : (a b c : Bool) → (a && (b && c)) ≡ ((a && b) && c)
+and_assoc true b c = refl
+and_assoc false b c = refl
+
+and_true : (b : Bool) → (b && true) ≡ b
+and_true true = refl
+and_true false = refl
+
+and_both : {a b c d : Bool} → a ≡ c → b ≡ d → (a && b) ≡ (c && d)
+and_both p q = λ k. p k && q k
+
+shuffle : (a b c d : Bool) → ((a && b) && (c && d)) ≡ ((a && c) && (b && d))
+shuffle false b c d = refl
+shuffle true true c d = refl
+shuffle true false true d = refl
+shuffle true false false d = refl
+
+and_turned : (a b : Bool) → (a && b) ≡ (b && a)
+and_turned true true = refl
+and_turned true false = refl
+and_turned false true = refl
+and_turned false false = refl
+
+-- ---- All statements
+
+abbrev all_right : BasicType → List Standing → Bool
+all_right t ss = list_all (stands_right t) ss
+
+both_right : (t : BasicType) (xs ys : List Standing) (a b : Bool) → all_right t xs ≡ a → all_right t ys ≡ b → all_right t (xs ++ ys) ≡ (a && b)
+both_right t xs ys a b h g = list_all-append (stands_right t) xs ys ∙ and_both h g
+
+mutual
+  -- a statement by itself, and those inside of it
+  inside_each : (t : BasicType) (l : Bool) (s : Stmt) → (own_right (in_place t l) s && all_right t (each_inside l s)) ≡ is_right (in_place t l) s
+  inside_each t l Empty = refl
+  inside_each t l Exit = and_true l
+  inside_each t l Return = refl
+  inside_each t l (Assign n e) = and_true (own_right (in_place t l) (Assign n e))
+  inside_each t l (If cs others) =
+      let p = in_place t l in
+      ap (λ b. conditions_right p cs && b) (list_all-append (stands_right t) (each_in_choices l cs) (each_in_body l others))
+      ∙ and_assoc (conditions_right p cs) (all_right t (each_in_choices l cs)) (all_right t (each_in_body l others))
+      ∙ and_both (choices_each t l cs) (body_each t l others)
+  inside_each t l (Case e bs others) =
+      let p = in_place t l in
+      ap (λ b. is_whole p e && b) (both_right t (each_in_branches l bs) (each_in_body l others) (branches_right p bs) (body_right p others) (branches_each t l bs) (body_each t l others))
+      ∙ and_assoc (is_whole p e) (branches_right p bs) (body_right p others)
+  inside_each t l (For n a b c body) = ap (λ r. own_right (in_place t l) (For n a b c body) && r) (body_each t true body)
+  inside_each t l (While c body) = ap (λ r. is_condition (in_place t l) c && r) (body_each t true body)
+  inside_each t l (Repeat body c) =
+      ap (λ r. is_condition (in_place t l) c && r) (body_each t true body)
+      ∙ and_turned (is_condition (in_place t l) c) (body_right (in_place t true) body)
+
+  pub body_each : (t : BasicType) (l : Bool) (ss : Stmts) → all_right t (each_in_body l ss) ≡ body_right (in_place t l) ss
+  body_each t l no_stmt = refl
+  body_each t l (then_stmts s rest) =
+      let own = own_right (in_place t l) s in
+      ap (λ b. own && b) (list_all-append (stands_right t) (each_inside l s) (each_in_body l rest))
+      ∙ and_assoc own (all_right t (each_inside l s)) (all_right t (each_in_body l rest))
+      ∙ and_both (inside_each t l s) (body_each t l rest)
+
+  choices_each : (t : BasicType) (l : Bool) (cs : Choices) → (conditions_right (in_place t l) cs && all_right t (each_in_choices l cs)) ≡ choices_right (in_place t l) cs
+  choices_each t l no_choice = refl
+  choices_each t l (then_choices c body rest) =
+      let p = in_place t l in
+      ap (λ b. (is_condition p c && conditions_right p rest) && b) (list_all-append (stands_right t) (each_in_body l body) (each_in_choices l rest))
+      ∙ shuffle (is_condition p c) (conditions_right p rest) (all_right t (each_in_body l body)) (all_right t (each_in_choices l rest))
+      ∙ and_both (ap (λ b. is_condition p c && b) (body_each t l body)) (choices_each t l rest)
+
+  branches_each : (t : BasicType) (l : Bool) (bs : Branches) → all_right t (each_in_branches l bs) ≡ branches_right (in_place t l) bs
+  branches_each t l no_branch = refl
+  branches_each t l (then_branches ls body rest) =
+      both_right t (each_in_body l body) (each_in_branches l rest) (body_right (in_place t l) body) (branches_right (in_place t l) rest) (body_each t l body) (branches_each t l rest)
+
+-- ---- Conditions
+
+choice_says : (c : Choice) → choice_of c ≡ (expr_of (out-Choice c).condition, all_of (out-Choice c).body)
+choice_says c = search (rules, fold_out-Choice)
+
+pub choice_at :
+    (p : Place) (cs : List Choice) (k : ℕ) (c : Choice) → k < length cs → c ≡ get_or cs k c
+    → choice_right p (choices_of cs) k ≡ is_condition p (expr_of (out-Choice c).condition)
+choice_at p [] k c h e = absurd (omega (arith, h))
+choice_at p (d ∷ ds) zero c h e = ap (λ (x : Choice). is_condition p (choice_of x).0) (sym e) ∙ ap (λ r. is_condition p r.0) (choice_says c)
+choice_at p (d ∷ ds) (suc k) c h e = choice_at p ds k c (omega (arith, h)) e
+
+pub choices_on :
+    (p : Place) (cs : List Choice) (k : ℕ) (c : Choice) → k < length cs → c ≡ get_or cs k c → is_condition p (expr_of (out-Choice c).condition) ≡ true
+    → conditions_right p (choices_of (drop k cs)) ≡ conditions_right p (choices_of (drop (k + 1) cs))
+choices_on p cs k c h e right =
+    at_drop_more (λ (cs : List Choice). conditions_right p (choices_of cs)) cs k c h
+    ∙ ap (λ (x : Choice). is_condition p (choice_of x).0 && conditions_right p (choices_of (drop (k + 1) cs))) (sym e)
+    ∙ ap (λ b. b && conditions_right p (choices_of (drop (k + 1) cs))) (ap (λ r. is_condition p r.0) (choice_says c) ∙ right)
+
+-- ---- The search of an algorithm
+
+pub standing_at : (ss : List code.Standing) (k : ℕ) (x : code.Standing) → k < length ss → x ≡ get_or ss k x → slice_get (all_standing ss) k ≡ Some (standing_of x)
+standing_at [] k x h e = absurd (omega (arith, h))
+standing_at (y ∷ ys) zero x h e = ap (λ (z : code.Standing). Some (standing_of z)) (sym e)
+standing_at (y ∷ ys) (suc k) x h e = standing_at ys k x (omega (arith, h)) e
+
+pub statement_answer :
+    (t : BasicType) (a : Algorithm) (ss : List Standing) (r : Option (ℕ × Part)) → ss ≡ each_in_body false (body_of a.body)
+    → MatchOption r (all_right t ss ≡ true) (WrongAmong t ss) → MatchOption r (algorithm_right t a ≡ true) (WrongAmong t (each_in_body false (body_of a.body)))
+statement_answer t a ss r all answer =
+    elim r as (λ r. MatchOption r (all_right t ss ≡ true) (WrongAmong t ss) → MatchOption r (algorithm_right t a ≡ true) (WrongAmong t (each_in_body false (body_of a.body)))) [
+      | None ↦ λ h. sym (body_each t false (body_of a.body)) ∙ ap (all_right t) (sym all) ∙ h
+      | Some p ↦ λ h. subst (λ (ss : List Standing). WrongAmong t ss p) all h
+    ] answer

@@ -1,0 +1,12 @@
+mod NetworkPlaces
+mod BlockPlaces
+mod TypePorts
+mod DeploymentPlaces
+mod AllPlaces
+mod NetworkTests
+mod Joins
+mod Typed
+mod Bodies
+mod Placed
+mod Parts
+mod Applying

@@ -1,0 +1,71 @@
+-- The ports of the type that a name stands for.
+use Rattle.std.proofs.Common.{◌≡◌, ◌||◌, List, map, Some, None, Option, Bor, refl, sym, ◌∙◌, ap}
+use Rattle.std.specs.Prelude.{slice_get, option_map, is_some}
+use Rattle.std.specs.List.{find}
+use Rattle.std.specs.Option.{option_copied}
+use Rattle.std.proofs.lemmas.List.Folds.{list_any-append}
+use Rattle.std.proofs.lemmas.Option.{same_Some}
+use Rattle.fb_types.specs.Names.{Name, same_name}
+use Rattle.fb_types.specs.Blocks.{Kind, Event, among, named, event_blocks, event_block_named, ports_of, ports_of_event_block}
+use Rattle.fb_types.specs.EventPorts.{ArePortsOfKinds, kind_place}
+use Rattle.fb_types.specs.Flat.{kind_of, type_name, type_named}
+use Rattle.fb_types.specs.Repeated.{block_type_names}
+use Rattle.fb_types.specs.declared.event_kind.EventKind.{EventKind}
+use Rattle.fb_types.specs.declared.library.BlockType.{BlockType}
+use Rattle.fb_types.specs.declared.library.Library.{Library}
+use Rattle.fb_types.specs.declared.library.Ports.{Ports}
+use Rattle.fb_names.proofs.Positions.{find-named}
+use Rattle.fb_names.specs.Types.{ports_of_block}
+use Rattle.fb_names.proofs.Elements.{any-named}
+
+abbrev type_from : Library → Name → Option (Name × EventKind) → Option Kind
+type_from lib n o = elim o [ Some e ↦ Some (Event e.1) | None ↦ option_map kind_of (named type_name n lib.blocks) ]
+
+pub event_ports_are :
+    (lib : Library) (all : List Ports) (n : Name) (k : EventKind) → ArePortsOfKinds all → event_block_named n ≡ Some k
+    → slice_get all (kind_place k) ≡ option_map ports_of (type_named lib n)
+event_ports_are lib all n k are h =
+    elim (named (λ e. e.0) n event_blocks) as (λ o. option_map (λ e. e.1) o ≡ Some k → slice_get all (kind_place k) ≡ option_map ports_of (type_from lib n o)) [
+      | None ↦ λ h. absurd (cc)
+      | Some e ↦ λ h. are k ∙ ap (λ (k : EventKind). Some (ports_of_event_block k)) (sym (same_Some e.1 k h))
+    ] h
+
+pub declared_type : (lib : Library) (n : Name) → event_block_named n ≡ None → type_named lib n ≡ option_map kind_of (named type_name n lib.blocks)
+declared_type lib n h =
+    elim (named (λ e. e.0) n event_blocks) as (λ o. option_map (λ e. e.1) o ≡ None → type_from lib n o ≡ option_map kind_of (named type_name n lib.blocks)) [
+      | None ↦ λ h. refl
+      | Some e ↦ λ h. absurd (cc)
+    ] h
+
+ports_of_kind : (o : Option BlockType) → option_map ports_of_block o ≡ option_map ports_of (option_map kind_of o)
+ports_of_kind None = refl
+ports_of_kind (Some t) = refl
+
+pub declared_ports_are :
+    (lib : Library) (bs : List BlockType) (n : Name) (o : Option BlockType) → event_block_named n ≡ None → bs ≡ lib.blocks
+    → o ≡ find (λ b. same_name (type_name b) n) bs → option_map ports_of_block o ≡ option_map ports_of (type_named lib n)
+declared_ports_are lib bs n o h all found =
+    let is : o ≡ named type_name n lib.blocks =
+    found ∙ ap (find (λ (b : BlockType). same_name (type_name b) n)) all ∙ find-named type_name n lib.blocks in
+    ap (option_map ports_of_block) is ∙ ports_of_kind (named type_name n lib.blocks) ∙ ap (option_map ports_of) (sym (declared_type lib n h))
+
+is_some-map : {A B : Type 0} (f : A → B) (o : Option A) → is_some (option_map f o) ≡ is_some o
+is_some-map f None = refl
+is_some-map f (Some x) = refl
+
+is_some-copied : {A : Type 0} (o : Option (Bor A)) → is_some (option_copied o) ≡ is_some o
+is_some-copied None = refl
+is_some-copied (Some x) = refl
+
+type_is : (lib : Library) (n : Name) → is_some (type_named lib n) ≡ among (block_type_names lib) n
+type_is lib n =
+    (elim (named (λ e. e.0) n event_blocks) as (λ o. is_some (type_from lib n o) ≡ (is_some o || is_some (named type_name n lib.blocks))) [
+      | Some e ↦ refl
+      | None ↦ is_some-map kind_of (named type_name n lib.blocks)
+    ])
+    ∙ sym (list_any-append (same_name n) (map (λ e. e.0) event_blocks) (map type_name lib.blocks)
+    ∙ (λ i. any-named (λ e. e.0) n event_blocks i || any-named type_name n lib.blocks i))
+
+pub type_answer :
+    (lib : Library) (n : Name) (o : Option (Bor Ports)) → option_copied o ≡ option_map ports_of (type_named lib n) → is_some o ≡ among (block_type_names lib) n
+type_answer lib n o h = sym (is_some-copied o) ∙ ap is_some h ∙ is_some-map ports_of (type_named lib n) ∙ type_is lib n

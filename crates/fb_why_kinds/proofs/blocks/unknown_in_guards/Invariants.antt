@@ -1,0 +1,8 @@
+use Rattle.std.proofs.Common.{◌≡◌, drop}
+use Rattle.std.specs.List.{list_all}
+use Rattle.fb_kinds.specs.Checks.{guard_known}
+use Rattle.fb_why_kinds.proofs.blocks.unknown_in_guards.Given as goal
+
+abbrev pub invariant-loop-place : goal.invariant-loop-place
+invariant-loop-place l =
+    list_all (guard_known l.basic) l.transitions ≡ list_all (guard_known l.basic) (drop l.place l.transitions)

@@ -1,0 +1,7 @@
+use Rattle.std.proofs.Common.{take}
+use Rattle.std.specs.Prelude.{All}
+use Rattle.fb_why_kinds.specs.Unknown.{IsBlockKnown}
+use Rattle.fb_why_kinds.proofs.blocks.unknown_in_some.Given as goal
+
+abbrev pub invariant-loop-place : goal.invariant-loop-place
+invariant-loop-place l = All (IsBlockKnown l.types.library.now) (take l.place l.blocks)

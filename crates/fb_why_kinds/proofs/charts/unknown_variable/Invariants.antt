@@ -1,0 +1,9 @@
+use Rattle.std.proofs.Common.{◌≡◌, drop}
+use Rattle.std.specs.List.{list_all}
+use Rattle.fb_types.specs.Blocks.{among}
+use Rattle.fb_why_kinds.specs.Sites.{names_of_sort}
+use Rattle.fb_why_kinds.proofs.charts.unknown_variable.Given as goal
+
+abbrev pub invariant-loop-place : goal.invariant-loop-place
+invariant-loop-place l =
+    list_all (among (names_of_sort l.sort l.ports)) l.names ≡ list_all (among (names_of_sort l.sort l.ports)) (drop l.place l.names)

@@ -1,0 +1,11 @@
+use Rattle.std.proofs.Common.{◌≡◌, drop}
+use Rattle.std.specs.List.{list_all}
+use Rattle.fb_types.specs.Blocks.{among}
+use Rattle.fb_types.specs.declared.library.EventPort.{EventPort}
+use Rattle.fb_why_kinds.specs.Sites.{names_of_sort}
+use Rattle.fb_why_kinds.proofs.charts.unknown_with.Given as goal
+
+abbrev pub invariant-loop-place : goal.invariant-loop-place
+invariant-loop-place l =
+    list_all (λ (e : EventPort). list_all (among (names_of_sort l.sort l.ports)) e.with) l.events
+    ≡ list_all (λ (e : EventPort). list_all (among (names_of_sort l.sort l.ports)) e.with) (drop l.place l.events)

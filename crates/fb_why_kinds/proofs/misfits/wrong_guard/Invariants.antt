@@ -1,0 +1,7 @@
+use Rattle.std.proofs.Common.{◌≡◌, drop}
+use Rattle.std.specs.List.{list_all}
+use Rattle.fb_kinds.specs.Checks.{is_guard_right}
+use Rattle.fb_why_kinds.proofs.misfits.wrong_guard.Given as goal
+
+abbrev pub invariant-loop-place : goal.invariant-loop-place
+invariant-loop-place l = list_all (is_guard_right l.basic) l.transitions ≡ list_all (is_guard_right l.basic) (drop l.place l.transitions)

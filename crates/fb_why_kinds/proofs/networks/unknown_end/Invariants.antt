@@ -1,0 +1,10 @@
+use Rattle.std.proofs.Common.{◌≡◌, drop}
+use Rattle.std.specs.List.{list_all}
+use Rattle.fb_why_kinds.specs.Sites.{placed}
+use Rattle.fb_why_kinds.specs.Unknown.{are_ends_known}
+use Rattle.fb_why_kinds.proofs.networks.unknown_end.Given as goal
+
+abbrev pub invariant-loop-place : goal.invariant-loop-place
+invariant-loop-place l =
+    list_all (are_ends_known l.types.library.now (placed l.scope) l.flow) l.connections
+    ≡ list_all (are_ends_known l.types.library.now (placed l.scope) l.flow) (drop l.place l.connections)

@@ -1,0 +1,10 @@
+use Rattle.std.proofs.Common.{◌≡◌, drop}
+use Rattle.std.specs.List.{list_all}
+use Rattle.fb_types.specs.Blocks.{among}
+use Rattle.fb_types.specs.Unknown.{data_ins}
+use Rattle.fb_types.specs.declared.library.Parameter.{Parameter}
+use Rattle.fb_why_kinds.proofs.networks.unknown_input.Given as goal
+
+abbrev pub invariant-loop-place : goal.invariant-loop-place
+invariant-loop-place l =
+    list_all (λ (x : Parameter). among (data_ins l.ports) x.name) l.parameters ≡ list_all (λ (x : Parameter). among (data_ins l.ports) x.name) (drop l.place l.parameters)

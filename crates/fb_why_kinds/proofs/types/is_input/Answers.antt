@@ -1,0 +1,15 @@
+use Rattle.std.proofs.Common.{List, sym, ◌∙◌, ap}
+use Rattle.std.specs.Prelude.{is_some}
+use Rattle.fb_types.specs.Blocks.{named}
+use Rattle.fb_types.specs.declared.library.Variable.{Variable}
+use Rattle.fb_names.proofs.Elements.{any-named, is_some-option_map}
+use Rattle.fb_kinds.specs.Roles.{type_named}
+use Rattle.fb_why_kinds.proofs.types.is_input.Goals as goal
+
+pub returns : goal.returns
+returns c =
+    let n = c.args.name.now in
+    let inputs = c.args.basic.now.ports.inputs in
+    c.is_some.ensures ∙ ap is_some c.variable_type.ensures ∙ ap (λ (vs : List Variable). is_some (type_named vs n)) c.as_slice.ensures
+    ∙ sym (is_some-option_map (λ (v : Variable). v.ty) (named (λ (v : Variable). v.name) n inputs))
+    ∙ sym (any-named (λ (v : Variable). v.name) n inputs)

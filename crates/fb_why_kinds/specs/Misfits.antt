@@ -1,0 +1,111 @@
+-- Where an expression, a statement or a value has the wrong kind (E22; IEC 61131-3, 6.4.2 and 7.3; IEC 61499-1, 5.3).
+use Rattle.std.specs.Prelude.{◌≡◌, ℕ, List, Bool, false, ◌&&◌, Some, slice_get}
+use Rattle.std.specs.List.{list_all}
+use Rattle.fb_types.specs.Blocks.{Kind, ports_of}
+use Rattle.fb_types.specs.Flat.{kind_of, kind_of_instance, variables_in}
+use Rattle.fb_types.specs.Kinds.{declared_right, parameter_right, parameters_right}
+use Rattle.fb_types.specs.Repeated.{Placed}
+use Rattle.fb_types.specs.Syntax.{body_of}
+use Rattle.fb_types.specs.declared.library.Algorithm.{Algorithm}
+use Rattle.fb_types.specs.declared.library.BasicType.{BasicType}
+use Rattle.fb_types.specs.declared.library.BlockType.{BlockType}
+use Rattle.fb_types.specs.declared.library.Instance.{Instance}
+use Rattle.fb_types.specs.declared.library.Library.{Library}
+use Rattle.fb_types.specs.declared.library.Network.{Network}
+use Rattle.fb_types.specs.declared.library.Parameter.{Parameter}
+use Rattle.fb_types.specs.declared.library.Transition.{Transition}
+use Rattle.fb_types.specs.declared.library.Variable.{Variable}
+use Rattle.fb_kinds.specs.Checks.{in_place, is_guard_right, is_right_block}
+use Rattle.fb_why_kinds.specs.declared.place.Misfit.{Misfit}
+use Rattle.fb_why_kinds.specs.declared.place.Misfit.TheVariants as misfit
+use Rattle.fb_why_kinds.specs.declared.place.Part.{Part}
+use Rattle.fb_why_kinds.specs.declared.place.Site.{Site}
+use Rattle.fb_why_kinds.specs.declared.place.Variables.{Variables}
+use Rattle.fb_why_kinds.specs.Sites.{basic_at, each_inside, network_at, variables_at}
+use Rattle.fb_why_kinds.specs.Statements.{Standing, each_in_body, part_right}
+
+-- ---- Declared values
+
+-- The variable is declared with a value that is none of its type.
+pub record IsInitialMisfit (lib : Library) (b : ℕ) (list : Variables) (k : ℕ) : Type 0 where
+  pub in_type : BlockType
+  pub stands : Variable
+  pub at : slice_get lib.blocks b ≡ Some in_type
+  pub found : slice_get (variables_at list in_type) k ≡ Some stands
+  pub wrong : declared_right stands ≡ false
+
+-- the same of a list of variables alone, and of a block type
+abbrev pub MisfitAmong : List Variable → ℕ → Type 0
+MisfitAmong vs k = (v : Variable) × (slice_get vs k ≡ Some v) × (declared_right v ≡ false)
+
+abbrev pub InitialIn : BlockType → Variables × ℕ → Type 0
+InitialIn t r = MisfitAmong (variables_at r.0 t) r.1
+
+abbrev pub are_initials_right : BlockType → Bool
+are_initials_right t = list_all declared_right (variables_in (kind_of t))
+
+-- ---- Parameters
+
+-- The parameter of the instance is no value of its input's type.
+pub record IsParameterMisfit (lib : Library) (s : Site) (i p : ℕ) : Type 0 where
+  pub network : Placed
+  pub of_instance : Instance
+  pub stands : Parameter
+  pub kind : Kind
+  pub at : network_at lib s ≡ Some network
+  pub instance_is : slice_get network.1.instances i ≡ Some of_instance
+  pub found : slice_get of_instance.parameters p ≡ Some stands
+  pub kind_is : kind_of_instance lib of_instance ≡ Some kind
+  pub wrong : parameter_right (ports_of kind) stands ≡ false
+
+-- the same of an instance alone
+pub record IsParameterWrong (lib : Library) (of_instance : Instance) (p : ℕ) : Type 0 where
+  pub stands : Parameter
+  pub kind : Kind
+  pub found : slice_get of_instance.parameters p ≡ Some stands
+  pub kind_is : kind_of_instance lib of_instance ≡ Some kind
+  pub wrong : parameter_right (ports_of kind) stands ≡ false
+
+-- the same of a list of instances alone
+abbrev pub ParameterAmong : Library → List Instance → ℕ × ℕ → Type 0
+ParameterAmong lib is r = (i : Instance) × (slice_get is r.0 ≡ Some i) × IsParameterWrong lib i r.1
+
+-- each parameter of each instance of a network is a value of its input's type
+abbrev pub are_set_right : Library → Network → Bool
+are_set_right lib net = list_all (parameters_right lib) net.instances
+
+abbrev pub are_set_right_inside : Library → BlockType → Bool
+are_set_right_inside lib = each_inside (λ n. are_set_right lib n.1)
+
+-- ---- Guards and algorithms
+
+-- The guard of the transition is no truth value.
+pub record IsGuardMisfit (lib : Library) (b k : ℕ) : Type 0 where
+  pub in_type : BasicType
+  pub stands : Transition
+  pub at : basic_at lib b ≡ Some in_type
+  pub found : slice_get in_type.transitions k ≡ Some stands
+  pub wrong : is_guard_right in_type stands ≡ false
+
+-- A part of the statement is wrong.
+pub record IsStatementMisfit (lib : Library) (b a k : ℕ) (part : Part) : Type 0 where
+  pub in_type : BasicType
+  pub algorithm : Algorithm
+  pub stands : Standing
+  pub at : basic_at lib b ≡ Some in_type
+  pub algorithm_is : slice_get in_type.algorithms a ≡ Some algorithm
+  pub found : slice_get (each_in_body false (body_of algorithm.body)) k ≡ Some stands
+  pub wrong : part_right (in_place in_type stands.0) stands.1 part ≡ false
+
+-- ---- All
+
+-- The kind is wrong at this place.
+abbrev pub IsMisfitAt : Library → Misfit → Type 0
+IsMisfitAt lib (misfit.Initial b l k) = IsInitialMisfit lib b l k
+IsMisfitAt lib (misfit.Parameter s i p) = IsParameterMisfit lib s i p
+IsMisfitAt lib (misfit.Guard b k) = IsGuardMisfit lib b k
+IsMisfitAt lib (misfit.Statement b a k part) = IsStatementMisfit lib b a k part
+
+-- all is right in a block type, the parameters in its network too
+abbrev pub is_all_right : Library → BlockType → Bool
+is_all_right lib t = is_right_block t && are_set_right_inside lib t

@@ -1,0 +1,88 @@
+//! Names in a deployment that stand for nothing (E21): mapped instances and the ends of links.
+
+ghost use Rattle.std.specs.Prelude.{◌≡◌, MatchOption, Some, true, false, slice_get};
+ghost use Rattle.std.specs.List.{list_all, list_any};
+ghost use Rattle.fb_types.specs.Names.{Name, same_name};
+ghost use Rattle.fb_types.specs.declared.deploy.Link.{Link};
+ghost use Rattle.fb_types.specs.declared.deploy.Resource.{Resource};
+ghost use Rattle.fb_names.specs.Unknown.{DeploymentUnknown};
+ghost use Rattle.fb_why_kinds.specs.Unknown.{IsUnknownAt, are_sides_met, are_mapped, is_instance, is_resource, side_of};
+
+use crate::place::{Place, Side};
+use fb_types::deploy::{Link, Plan, Resource};
+use fb_types::library::{Instance, Library};
+use fb_types::name::Name;
+
+fn has_instance(instances: &[Instance], name: &Name) -> bool
+    ensures { result ≡ list_any (λ i. same_name name.now i.name) instances.now }
+{
+    instances.iter().any(|instance| name.is(&instance.name))
+}
+
+fn has_resource(resources: &[Resource], name: &Name) -> bool
+    ensures { result ≡ list_any (λ r. same_name name.now r.name) resources.now }
+{
+    resources.iter().any(|resource| name.is(&resource.name))
+}
+
+/// The first name that is no instance.
+fn unknown_name(instances: &[Instance], names: &[Name]) -> Option<usize>
+    ensures { MatchOption result (list_all (is_instance instances.now) names.now ≡ true) (λ k. (n : Name) × (slice_get names.now k ≡ Some n) × (is_instance instances.now n ≡ false)) }
+{
+    for (place, name) in names.iter().enumerate() {
+        if !has_instance(instances, name) {
+            return Some(place);
+        }
+    }
+    None
+}
+
+/// The first resource that lists such a name, and the name.
+fn unknown_mapped(instances: &[Instance], resources: &[Resource]) -> Option<(usize, usize)>
+    ensures { MatchOption result (list_all (are_mapped instances.now) resources.now ≡ true) (λ r. (x : Resource) × (slice_get resources.now r.0 ≡ Some x) × ((n : Name) × (slice_get x.instances r.1 ≡ Some n) × (is_instance instances.now n ≡ false))) }
+{
+    for (place, resource) in resources.iter().enumerate() {
+        if let Some(instance) = unknown_name(instances, resource.instances.as_slice()) {
+            return Some((place, instance));
+        }
+    }
+    None
+}
+
+/// The end of a link that is no resource, the first one where both are none.
+fn unknown_side(resources: &[Resource], link: &Link) -> Option<Side>
+    ensures { MatchOption result (are_sides_met resources.now link.now ≡ true) (λ side. is_resource resources.now (side_of side link.now) ≡ false) }
+{
+    if !has_resource(resources, &link.from) {
+        return Some(Side::From);
+    }
+    if !has_resource(resources, &link.to) {
+        return Some(Side::To);
+    }
+    None
+}
+
+/// The first link with such an end, and the end.
+fn unknown_link(resources: &[Resource], links: &[Link]) -> Option<(usize, Side)>
+    ensures { MatchOption result (list_all (are_sides_met resources.now) links.now ≡ true) (λ r. (l : Link) × (slice_get links.now r.0 ≡ Some l) × (is_resource resources.now (side_of r.1 l) ≡ false)) }
+{
+    for (place, link) in links.iter().enumerate() {
+        if let Some(side) = unknown_side(resources, link) {
+            return Some((place, side));
+        }
+    }
+    None
+}
+
+/// Where a name of a deployment stands for nothing, if there is such a place.
+pub fn unknown_in_deployment(library: &Library, plan: &Plan) -> Option<Place>
+    ensures { MatchOption result (¬ (DeploymentUnknown library.now plan.now)) (IsUnknownAt library.now plan.now) }
+{
+    let instances = library.application.network.instances.as_slice();
+    let resources = plan.resources.as_slice();
+    if let Some((resource, instance)) = unknown_mapped(instances, resources) {
+        return Some(Place::Mapped { resource, instance });
+    }
+    let (link, side) = unknown_link(resources, plan.links.as_slice())?;
+    Some(Place::LinkEnd { link, side })
+}

@@ -1,0 +1,83 @@
+//! What names stand for in a declaration, looked for from name to name.
+
+ghost use Rattle.std.specs.Prelude.{◌≡◌, IfOk, option_map};
+ghost use Rattle.std.specs.Option.{option_copied};
+ghost use Rattle.std.specs.List.{list_any};
+ghost use Rattle.fb_types.specs.Names.{same_name};
+ghost use Rattle.fb_types.specs.Blocks.{among, ports_of};
+ghost use Rattle.fb_types.specs.EventPorts.{ArePortsOfKinds};
+ghost use Rattle.fb_types.specs.Flat as spec;
+ghost use Rattle.fb_types.specs.Repeated.{block_type_names};
+ghost use Rattle.fb_why_kinds.specs.Sites.{names_of_sort};
+
+use fb_types::event_ports::{all_ports, kind_named};
+use fb_types::items::Items;
+use fb_types::library::{EventPort, Library, Ports, block_named, has_variable};
+use fb_types::name::Name;
+use std::alloc::{AllocError, Global};
+
+/// A sort of ports, each with a direction.
+#[derive(Clone, Copy)]
+pub enum Sort {
+    EventInput,
+    EventOutput,
+    Input,
+    Output,
+}
+
+/// The block types of a declaration, and the ports of the event blocks in the order of their kinds.
+#[derive(Drop)]
+pub struct Types<'a> {
+    pub library: &'a Library,
+    event_ports: Items<Ports>,
+    ghost of_kinds: { ArePortsOfKinds event_ports },
+}
+
+fn has_event(events: &[EventPort], name: &Name) -> bool
+    ensures { result ≡ list_any (λ e. same_name name.now e.name) events.now }
+{
+    events.iter().any(|event| name.is(&event.name))
+}
+
+/// Whether an interface has a port of the sort by the name.
+pub fn has_port(ports: &Ports, sort: Sort, name: &Name) -> bool
+    ensures { result ≡ among (names_of_sort sort ports.now) name.now }
+{
+    match sort {
+        Sort::EventInput => has_event(ports.event_inputs.as_slice(), name),
+        Sort::EventOutput => has_event(ports.event_outputs.as_slice(), name),
+        Sort::Input => has_variable(ports.inputs.as_slice(), name),
+        Sort::Output => has_variable(ports.outputs.as_slice(), name),
+    }
+}
+
+impl<'a> Types<'a> {
+    pub fn new(alloc: Global, library: &'a Library) -> Result<Types<'a>, AllocError>
+        ensures { IfOk result (λ t. t.library.now ≡ library.now) }
+    {
+        Ok(Types {
+            library,
+            event_ports: all_ports(alloc)?,
+        })
+    }
+
+    /// The ports of the type that a name stands for.
+    pub fn ports_named(&self, name: &Name) -> Option<&Ports>
+        ensures { option_copied result ≡ option_map ports_of (spec.type_named self.now.library.now name.now) }
+    {
+        match kind_named(name.as_bytes()) {
+            Some(kind) => self.event_ports.get(kind.place()),
+            None => {
+                let block = block_named(self.library.blocks.as_slice(), name)?;
+                Some(block.ports())
+            }
+        }
+    }
+
+    /// Whether a name stands for a type.
+    pub fn is_type(&self, name: &Name) -> bool
+        ensures { result ≡ among (block_type_names self.now.library.now) name.now }
+    {
+        self.ports_named(name).is_some()
+    }
+}

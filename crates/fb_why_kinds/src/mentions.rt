@@ -1,0 +1,186 @@
+//! Variables and functions that guards and algorithms name and that stand for nothing (E21).
+
+ghost use Rattle.std.specs.Prelude.{◌≡◌, ◌∷◌, ◌++◌, ◌||◌, [], IfOk};
+ghost use Rattle.fb_types.specs.Blocks.{among, variable_names, variables_of};
+ghost use Rattle.fb_types.specs.Names.{same_name};
+ghost use Rattle.std.specs.List.{list_any};
+ghost use Rattle.fb_types.specs.Syntax.{body_of, expr_of, stmt_of};
+ghost use Rattle.fb_types.specs.Unknown.{is_known, mentions, mentions_all, mentions_body, mentions_branches, mentions_choices, mentions_in};
+ghost use Rattle.fb_kinds.specs.Trees.{all_of, arguments_of, branches_of, choices_of};
+ghost use Rattle.fb_why_kinds.specs.Mentions.{meant, meant_all, mentions_of_control, mentions_of_step};
+
+use fb_types::function::Function;
+use fb_types::library::{BasicType, Ports, Variable, has_variable};
+use fb_types::name::Name;
+use fb_types::reference::Reference;
+use fb_types::text::{Body, Branch, Choice, Expr, Stmt};
+use std::alloc::{AllocError, Global};
+
+/// A variable or a function that a text names.
+#[derive(Clone, Copy)]
+pub enum Mention<'a> {
+    Variable(&'a Name),
+    Function(&'a Name),
+}
+
+/// Adds a variable or a function.
+fn push_mention<'a>(all: &mut Vec<Mention<'a>>, mention: Mention<'a>) -> Result<(), AllocError>
+    ensures { IfOk result (λ _. meant_all all.new.items ≡ meant_all all.old.items ++ (meant mention.entry ∷ [])) }
+{
+    all.push(mention)?;
+    Ok(())
+}
+
+/// Adds what an expression names, in the order of the text.
+#[cycle(expression)]
+pub fn push_expression<'a>(all: &mut Vec<Mention<'a>>, expr: &'a Expr) -> Result<(), AllocError>
+    ensures { IfOk result (λ _. meant_all all.new.items ≡ meant_all all.old.items ++ mentions (expr_of expr.now)) }
+{
+    match expr {
+        Expr::Whole(_) | Expr::Truth(_) => Ok(()),
+        Expr::Variable(variable) => push_mention(all, Mention::Variable(variable.name())),
+        Expr::Group(inner) => push_expression(all, inner.get()),
+        Expr::Unary(_, operand) => push_expression(all, operand.get()),
+        Expr::Binary(_, left, right) => {
+            push_expression(all, left.get())?;
+            push_expression(all, right.get())
+        }
+        Expr::Call(name, arguments) => {
+            push_mention(all, Mention::Function(name))?;
+            push_arguments(all, arguments.as_slice())
+        }
+    }
+}
+
+#[cycle(expression)]
+fn push_arguments<'a>(all: &mut Vec<Mention<'a>>, arguments: &'a [Expr]) -> Result<(), AllocError>
+    ensures { IfOk result (λ _. meant_all all.new.items ≡ meant_all all.old.items ++ mentions_all (arguments_of arguments.now)) }
+{
+    for argument in arguments {
+        push_expression(all, argument)?;
+    }
+    Ok(())
+}
+
+/// The same of the step of FOR, if there is one.
+fn push_step<'a>(all: &mut Vec<Mention<'a>>, step: &'a Option<Expr>) -> Result<(), AllocError>
+    ensures { IfOk result (λ _. meant_all all.new.items ≡ meant_all all.old.items ++ mentions_of_step step.now) }
+{
+    match step {
+        Some(step) => push_expression(all, step),
+        None => Ok(()),
+    }
+}
+
+/// The same of what controls a FOR: its variable, and what it begins, ends and goes on with.
+fn push_control<'a>(
+    all: &mut Vec<Mention<'a>>,
+    variable: &'a Reference,
+    start: &'a Expr,
+    end: &'a Expr,
+    step: &'a Option<Expr>,
+) -> Result<(), AllocError>
+    ensures { IfOk result (λ _. meant_all all.new.items ≡ meant_all all.old.items ++ mentions_of_control variable.now start.now end.now step.now) }
+{
+    push_mention(all, Mention::Variable(variable.name()))?;
+    push_expression(all, start)?;
+    push_expression(all, end)?;
+    push_step(all, step)
+}
+
+/// Adds what the statements of an algorithm name, in the order of the definitions.
+pub fn push_body<'a>(all: &mut Vec<Mention<'a>>, body: &'a Body) -> Result<(), AllocError>
+    ensures { IfOk result (λ _. meant_all all.new.items ≡ meant_all all.old.items ++ mentions_body (body_of body.now)) }
+{
+    push_statements(all, body.statements.as_slice())
+}
+
+#[cycle(statement)]
+fn push_statement<'a>(all: &mut Vec<Mention<'a>>, statement: &'a Stmt) -> Result<(), AllocError>
+    ensures { IfOk result (λ _. meant_all all.new.items ≡ meant_all all.old.items ++ mentions_in (stmt_of statement.now)) }
+{
+    match statement {
+        Stmt::Empty | Stmt::Exit | Stmt::Return => Ok(()),
+        Stmt::Assign(variable, expr) => {
+            push_mention(all, Mention::Variable(variable.name()))?;
+            push_expression(all, expr)
+        }
+        Stmt::If(choices, others) => {
+            push_choices(all, choices.as_slice())?;
+            push_statements(all, others.as_slice())
+        }
+        Stmt::Case(selector, branches, others) => {
+            push_expression(all, selector)?;
+            push_branches(all, branches.as_slice())?;
+            push_statements(all, others.as_slice())
+        }
+        Stmt::For(variable, start, end, step, body) => {
+            push_control(all, variable, start, end, step)?;
+            push_statements(all, body.as_slice())
+        }
+        Stmt::While(condition, body) => {
+            push_expression(all, condition)?;
+            push_statements(all, body.as_slice())
+        }
+        Stmt::Repeat(body, condition) => {
+            push_statements(all, body.as_slice())?;
+            push_expression(all, condition)
+        }
+    }
+}
+
+#[cycle(statement)]
+fn push_statements<'a>(all: &mut Vec<Mention<'a>>, statements: &'a [Stmt]) -> Result<(), AllocError>
+    ensures { IfOk result (λ _. meant_all all.new.items ≡ meant_all all.old.items ++ mentions_body (all_of statements.now)) }
+{
+    for statement in statements {
+        push_statement(all, statement)?;
+    }
+    Ok(())
+}
+
+#[cycle(statement)]
+fn push_choices<'a>(all: &mut Vec<Mention<'a>>, choices: &'a [Choice]) -> Result<(), AllocError>
+    ensures { IfOk result (λ _. meant_all all.new.items ≡ meant_all all.old.items ++ mentions_choices (choices_of choices.now)) }
+{
+    for choice in choices {
+        push_expression(all, &choice.condition)?;
+        push_statements(all, choice.body.as_slice())?;
+    }
+    Ok(())
+}
+
+#[cycle(statement)]
+fn push_branches<'a>(all: &mut Vec<Mention<'a>>, branches: &'a [Branch]) -> Result<(), AllocError>
+    ensures { IfOk result (λ _. meant_all all.new.items ≡ meant_all all.old.items ++ mentions_branches (branches_of branches.now)) }
+{
+    for branch in branches {
+        push_statements(all, branch.body.as_slice())?;
+    }
+    Ok(())
+}
+
+/// Whether a name is a variable of the type.
+fn is_variable(basic: &BasicType, name: &Name) -> bool
+    ensures { result ≡ among (variable_names (variables_of basic.now)) name.now }
+{
+    is_variable_among(&basic.ports, basic.internals.as_slice(), name)
+}
+
+fn is_variable_among(ports: &Ports, internals: &[Variable], name: &Name) -> bool
+    ensures { result ≡ ((list_any (λ v. same_name name.now v.name) ports.now.inputs || list_any (λ v. same_name name.now v.name) ports.now.outputs) || list_any (λ v. same_name name.now v.name) internals.now) }
+{
+    has_variable(ports.inputs.as_slice(), name)
+        || has_variable(ports.outputs.as_slice(), name)
+        || has_variable(internals, name)
+}
+
+/// Whether a variable is one of the type, or a function is known.
+pub fn is_mention_known(basic: &BasicType, mention: &Mention) -> bool
+    ensures { result ≡ is_known basic.now (meant mention.now) }
+{
+    match mention {
+        Mention::Variable(name) => is_variable(basic, name),
+        Mention::Function(name) => Function::named(name).is_some(),
+    }
+}

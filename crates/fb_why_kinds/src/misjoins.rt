@@ -1,0 +1,114 @@
+//! Data connections that lead from a type to one that does not hold all its values (E23).
+
+ghost use Rattle.std.specs.Prelude.{◌≡◌, MatchOption, Some, true, false, slice_get};
+ghost use Rattle.std.specs.List.{list_all};
+ghost use Rattle.fb_types.specs.Joined as joined;
+ghost use Rattle.fb_types.specs.Joined.{OutOfRange};
+ghost use Rattle.fb_types.specs.declared.library.BlockType.{BlockType};
+ghost use Rattle.fb_types.specs.declared.library.Connection.{Connection};
+ghost use Rattle.fb_why_kinds.specs.Sites.{placed};
+ghost use Rattle.fb_why_kinds.specs.Misjoins.{IsMisjoinedAt, IsMisjoinedInside, MisjoinedIn, are_joined, are_joined_inside, is_joined};
+
+use crate::networks::Scope;
+use crate::place::{Misjoin, Site};
+use crate::types::{port_type, type_named};
+use fb_joins::values::is_within;
+use fb_types::library::{BlockType, Connection, Library, PortName, instance_named};
+use fb_types::value::Ty;
+
+/// The type of the variable at an end of a data connection.
+pub fn type_at_end(library: &Library, scope: &Scope, end: &PortName) -> Option<Ty>
+    ensures { result ≡ joined.type_at_end library.now (placed scope.now) end.now }
+{
+    match &end.component {
+        None => {
+            let composite = scope.composite?;
+            port_type(&composite.ports, &end.port)
+        }
+        Some(name) => {
+            let instance = instance_named(scope.network.instances.as_slice(), name)?;
+            let kind = type_named(library, &instance.block_type)?;
+            kind.port_type(&end.port)
+        }
+    }
+}
+
+/// Whether the type at the end of a connection holds all values of the one at its beginning, where both are types.
+fn is_joined(library: &Library, scope: &Scope, connection: &Connection) -> bool
+    ensures { result ≡ is_joined library.now (placed scope.now) connection.now }
+{
+    let from = type_at_end(library, scope, &connection.from);
+    let to = type_at_end(library, scope, &connection.to);
+    match (from, to) {
+        (Some(from), Some(to)) => is_within(from, to),
+        _ => true,
+    }
+}
+
+/// The first of some data connections that leads out of a range.
+fn first_misjoined(library: &Library, scope: &Scope, connections: &[Connection]) -> Option<usize>
+    ensures { MatchOption result (list_all (is_joined library.now (placed scope.now)) connections.now ≡ true) (λ k. (c : Connection) × (slice_get connections.now k ≡ Some c) × (is_joined library.now (placed scope.now) c ≡ false)) }
+{
+    for (place, connection) in connections.iter().enumerate() {
+        if !is_joined(library, scope, connection) {
+            return Some(place);
+        }
+    }
+    None
+}
+
+/// The first data connection of a network that does.
+fn misjoined_in(library: &Library, scope: &Scope) -> Option<usize>
+    ensures { MatchOption result (are_joined library.now (placed scope.now) ≡ true) (MisjoinedIn library.now (placed scope.now)) }
+{
+    first_misjoined(library, scope, scope.network.data_connections.as_slice())
+}
+
+/// The first data connection inside a block type that does.
+fn misjoined_inside(library: &Library, block: &BlockType) -> Option<usize>
+    ensures { MatchOption result (are_joined_inside library.now block.now ≡ true) (IsMisjoinedInside library.now block.now) }
+{
+    match block {
+        BlockType::Basic(_) => None,
+        BlockType::Composite(composite) => {
+            let scope = Scope {
+                composite: Some(composite),
+                network: &composite.network,
+            };
+            misjoined_in(library, &scope)
+        }
+    }
+}
+
+/// The first block type with such a data connection inside, and that.
+fn misjoined_in_some(library: &Library, blocks: &[BlockType]) -> Option<(usize, usize)>
+    ensures { MatchOption result (list_all (are_joined_inside library.now) blocks.now ≡ true) (λ r. (b : BlockType) × (slice_get blocks.now r.0 ≡ Some b) × IsMisjoinedInside library.now b r.1) }
+{
+    for (place, block) in blocks.iter().enumerate() {
+        if let Some(connection) = misjoined_inside(library, block) {
+            return Some((place, connection));
+        }
+    }
+    None
+}
+
+/// A data connection that leads from a type to one that does not hold all its values, or `None` where there is none.
+pub fn misjoin_place(library: &Library) -> Option<Misjoin>
+    ensures { MatchOption result (¬ (OutOfRange library.now)) (IsMisjoinedAt library.now) }
+{
+    let scope = Scope {
+        composite: None,
+        network: &library.application.network,
+    };
+    if let Some(connection) = misjoined_in(library, &scope) {
+        return Some(Misjoin {
+            site: Site::Application,
+            connection,
+        });
+    }
+    let (block, connection) = misjoined_in_some(library, library.blocks.as_slice())?;
+    Some(Misjoin {
+        site: Site::Inside(block),
+        connection,
+    })
+}

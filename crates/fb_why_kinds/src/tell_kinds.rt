@@ -1,0 +1,350 @@
+//! The text that tells where a kind or a range is wrong: where it is, what stands there, and what was wanted.
+
+use crate::misfits::internals_of;
+use crate::misjoins::type_at_end;
+use crate::networks::Scope;
+use crate::place::{Misfit, Misjoin, Part, Site, Variables};
+use crate::sorts::sort_of;
+use crate::statements::{Standing, all_statements};
+use crate::tell_sites::{push_block, push_instance, push_site, scope_of};
+use crate::types::{type_named, type_of};
+use crate::words::{Text, type_words};
+use fb_kinds::sorts::sort_of_type;
+use fb_types::library::{BasicType, BlockType, Connection, Instance, Library, Variable};
+use fb_types::reference::Reference;
+use fb_types::sort::Sort;
+use fb_types::text::{Choice, Expr, Stmt};
+use fb_types::value::Ty;
+use std::alloc::{AllocError, Global};
+
+/// The line that tells where a value, an expression or a statement has the wrong kind.
+pub fn tell_misfit(alloc: Global, library: &Library, place: Misfit) -> Result<String, AllocError> {
+    let mut text = Text::new(alloc);
+    push_misfit(alloc, &mut text, library, place)?;
+    Ok(text.into_string())
+}
+
+/// The line that tells which data connection leads out of a range.
+pub fn tell_misjoin(
+    alloc: Global,
+    library: &Library,
+    place: Misjoin,
+) -> Result<String, AllocError> {
+    let mut text = Text::new(alloc);
+    push_misjoin(&mut text, library, place)?;
+    Ok(text.into_string())
+}
+
+fn push_misfit(
+    alloc: Global,
+    text: &mut Text,
+    library: &Library,
+    place: Misfit,
+) -> Result<(), AllocError> {
+    match place {
+        Misfit::Initial {
+            block,
+            variables,
+            variable,
+        } => {
+            push_block(text, library, block)?;
+            push_initial(text, library.blocks.get(block), variables, variable)
+        }
+        Misfit::Parameter {
+            site,
+            instance,
+            parameter,
+        } => {
+            push_site(text, library, site)?;
+            push_parameter(text, library, site, (instance, parameter))
+        }
+        Misfit::Guard { block, .. } | Misfit::Statement { block, .. } => {
+            push_block(text, library, block)?;
+            match library.blocks.get(block) {
+                Some(BlockType::Basic(basic)) => push_in_chart(alloc, text, basic, place),
+                _ => Ok(()),
+            }
+        }
+    }
+}
+
+fn push_in_chart(
+    alloc: Global,
+    text: &mut Text,
+    basic: &BasicType,
+    place: Misfit,
+) -> Result<(), AllocError> {
+    match place {
+        Misfit::Guard { transition, .. } => push_guard(text, basic, transition),
+        Misfit::Statement {
+            algorithm,
+            statement,
+            part,
+            ..
+        } => push_statement(alloc, text, basic, algorithm, (statement, part)),
+        _ => Ok(()),
+    }
+}
+
+/// That a value of the type is wanted.
+fn push_wanted(text: &mut Text, ty: Ty) -> Result<(), AllocError> {
+    text.words(": a value of ")?;
+    text.words(type_words(ty))?;
+    text.words(" is wanted")
+}
+
+fn push_initial(
+    text: &mut Text,
+    block: Option<&BlockType>,
+    variables: Variables,
+    variable: usize,
+) -> Result<(), AllocError> {
+    let Some(block) = block else {
+        return Ok(());
+    };
+    let ports = block.ports();
+    let (words, list) = match variables {
+        Variables::Inputs => (": data input ", ports.inputs.as_slice()),
+        Variables::Outputs => (": data output ", ports.outputs.as_slice()),
+        Variables::Internals => (": variable ", internals_of(block)),
+    };
+    match list.get(variable) {
+        Some(variable) => push_variable(text, words, variable),
+        None => Ok(()),
+    }
+}
+
+fn push_variable(text: &mut Text, words: &str, variable: &Variable) -> Result<(), AllocError> {
+    text.named(words, &variable.name)?;
+    if let Some(value) = variable.initial {
+        text.words(" := ")?;
+        text.value(value)?;
+    }
+    push_wanted(text, variable.ty)
+}
+
+fn push_parameter(
+    text: &mut Text,
+    library: &Library,
+    site: Site,
+    (instance, parameter): (usize, usize),
+) -> Result<(), AllocError> {
+    let Some(scope) = scope_of(library, site) else {
+        return Ok(());
+    };
+    match scope.network.instances.get(instance) {
+        Some(instance) => push_set(text, library, instance, parameter),
+        None => Ok(()),
+    }
+}
+
+fn push_set(
+    text: &mut Text,
+    library: &Library,
+    instance: &Instance,
+    parameter: usize,
+) -> Result<(), AllocError> {
+    push_instance(text, instance)?;
+    let Some(parameter) = instance.parameters.get(parameter) else {
+        return Ok(());
+    };
+    text.named(", parameter ", &parameter.name)?;
+    text.words(" := ")?;
+    text.value(parameter.value)?;
+    let Some(kind) = type_named(library, &instance.block_type) else {
+        return Ok(());
+    };
+    match kind.input_type(&parameter.name) {
+        Some(ty) => push_wanted(text, ty),
+        None => Ok(()),
+    }
+}
+
+fn push_guard(text: &mut Text, basic: &BasicType, transition: usize) -> Result<(), AllocError> {
+    let Some(transition) = basic.transitions.get(transition) else {
+        return Ok(());
+    };
+    text.named(": transition ", &transition.from)?;
+    text.named(" TO ", &transition.to)?;
+    match &transition.condition.guard {
+        Some(guard) => push_kind(text, basic, ": guard", (Sort::TruthValue, guard)),
+        None => Ok(()),
+    }
+}
+
+fn words_for(sort: Sort) -> &'static str {
+    match sort {
+        Sort::TruthValue => "a truth value",
+        Sort::WholeNumber => "a number",
+    }
+}
+
+/// Words for an expression, which kind of it is wanted, and what it has.
+fn push_kind(
+    text: &mut Text,
+    basic: &BasicType,
+    words: &str,
+    (wanted, expr): (Sort, &Expr),
+) -> Result<(), AllocError> {
+    text.words(words)?;
+    text.words(": ")?;
+    text.words(words_for(wanted))?;
+    text.words(" is wanted, and ")?;
+    match sort_of(expr, basic) {
+        Some(sort) => {
+            text.words("it is ")?;
+            text.words(words_for(sort))
+        }
+        None => text.words("an operand or an argument in it is wrong"),
+    }
+}
+
+fn push_statement(
+    alloc: Global,
+    text: &mut Text,
+    basic: &BasicType,
+    algorithm: usize,
+    found: (usize, Part),
+) -> Result<(), AllocError> {
+    let Some(algorithm) = basic.algorithms.get(algorithm) else {
+        return Ok(());
+    };
+    text.named(": algorithm ", &algorithm.name)?;
+    let statements = all_statements(alloc, &algorithm.body)?;
+    push_found(text, basic, statements.as_slice(), found)
+}
+
+fn push_found(
+    text: &mut Text,
+    basic: &BasicType,
+    statements: &[Standing],
+    (place, part): (usize, Part),
+) -> Result<(), AllocError> {
+    match statements.get(place) {
+        Some(standing) => {
+            text.numbered(": statement ", place as i128 + 1)?;
+            text.words(": ")?;
+            push_part(text, basic, standing.statement, part)
+        }
+        None => Ok(()),
+    }
+}
+
+fn push_part(
+    text: &mut Text,
+    basic: &BasicType,
+    statement: &Stmt,
+    part: Part,
+) -> Result<(), AllocError> {
+    match (statement, part) {
+        (Stmt::Exit, _) => text.words("EXIT: a loop around it is wanted"),
+        (Stmt::Assign(variable, expr), _) => push_assignment(text, basic, variable, expr, part),
+        (Stmt::If(choices, _), Part::Choice(place)) => {
+            push_choice(text, basic, choices.as_slice(), place)
+        }
+        (Stmt::Case(selector, _, _), _) => {
+            push_kind(text, basic, "CASE ..", (Sort::WholeNumber, selector))
+        }
+        (Stmt::While(condition, _), _) => {
+            push_kind(text, basic, "WHILE ..", (Sort::TruthValue, condition))
+        }
+        (Stmt::Repeat(_, condition), _) => push_kind(
+            text,
+            basic,
+            "REPEAT, UNTIL ..",
+            (Sort::TruthValue, condition),
+        ),
+        (Stmt::For(variable, start, end, step, _), _) => {
+            push_for(text, basic, variable, (start, end, step), part)
+        }
+        _ => Ok(()),
+    }
+}
+
+/// That a data input is assigned, or controls a FOR.
+fn push_assigned(text: &mut Text, words: &str, variable: &Reference) -> Result<(), AllocError> {
+    text.named(words, variable.name())?;
+    text.named(" := ..: ", variable.name())?;
+    text.words(" is a data input")
+}
+
+fn push_assignment(
+    text: &mut Text,
+    basic: &BasicType,
+    variable: &Reference,
+    expr: &Expr,
+    part: Part,
+) -> Result<(), AllocError> {
+    if let Part::Assigned = part {
+        return push_assigned(text, "", variable);
+    }
+    text.name(variable.name())?;
+    let wanted = sort_of_type(type_of(basic, variable.name()));
+    push_kind(text, basic, " := ..", (wanted, expr))
+}
+
+fn push_choice(
+    text: &mut Text,
+    basic: &BasicType,
+    choices: &[Choice],
+    place: usize,
+) -> Result<(), AllocError> {
+    let Some(choice) = choices.get(place) else {
+        return Ok(());
+    };
+    if place == 0 {
+        return push_kind(text, basic, "IF ..", (Sort::TruthValue, &choice.condition));
+    }
+    text.numbered("IF .., ELSIF number ", place as i128)?;
+    push_kind(text, basic, "", (Sort::TruthValue, &choice.condition))
+}
+
+fn push_for(
+    text: &mut Text,
+    basic: &BasicType,
+    variable: &Reference,
+    (start, end, step): (&Expr, &Expr, &Option<Expr>),
+    part: Part,
+) -> Result<(), AllocError> {
+    if let Part::Assigned = part {
+        return push_assigned(text, "FOR ", variable);
+    }
+    text.named("FOR ", variable.name())?;
+    match (part, step) {
+        (Part::Start, _) => push_kind(text, basic, " := ..", (Sort::WholeNumber, start)),
+        (Part::End, _) => push_kind(text, basic, " TO ..", (Sort::WholeNumber, end)),
+        (Part::Step, Some(step)) => push_kind(text, basic, " BY ..", (Sort::WholeNumber, step)),
+        _ => text.words(": a number is wanted, and it is a truth value"),
+    }
+}
+
+fn push_misjoin(text: &mut Text, library: &Library, place: Misjoin) -> Result<(), AllocError> {
+    push_site(text, library, place.site)?;
+    let Some(scope) = scope_of(library, place.site) else {
+        return Ok(());
+    };
+    match scope.network.data_connections.get(place.connection) {
+        Some(connection) => push_connection(text, library, &scope, connection),
+        None => Ok(()),
+    }
+}
+
+fn push_connection(
+    text: &mut Text,
+    library: &Library,
+    scope: &Scope,
+    connection: &Connection,
+) -> Result<(), AllocError> {
+    text.connection(": data connection ", connection)?;
+    let from = type_at_end(library, scope, &connection.from);
+    let to = type_at_end(library, scope, &connection.to);
+    match (from, to) {
+        (Some(from), Some(to)) => {
+            text.words(": ")?;
+            text.words(type_words(from))?;
+            text.words(" does not fit ")?;
+            text.words(type_words(to))
+        }
+        _ => Ok(()),
+    }
+}

@@ -1,0 +1,46 @@
+//! Words for networks, block types and instances, and where they are found.
+
+use crate::networks::Scope;
+use crate::place::Site;
+use crate::words::Text;
+use fb_types::library::{BlockType, Instance, Library};
+use std::alloc::AllocError;
+
+/// Words for a block type.
+pub fn push_block(text: &mut Text, library: &Library, block: usize) -> Result<(), AllocError> {
+    match library.blocks.get(block) {
+        Some(block) => text.named("block type ", block.type_name()),
+        None => Ok(()),
+    }
+}
+
+/// Words for the network of a site.
+pub fn push_site(text: &mut Text, library: &Library, site: Site) -> Result<(), AllocError> {
+    match site {
+        Site::Application => text.named("application ", &library.application.name),
+        Site::Inside(block) => push_block(text, library, block),
+    }
+}
+
+/// The network of a site, with the composite type around it.
+pub fn scope_of(library: &Library, site: Site) -> Option<Scope> {
+    match site {
+        Site::Application => Some(Scope {
+            composite: None,
+            network: &library.application.network,
+        }),
+        Site::Inside(block) => match library.blocks.get(block)? {
+            BlockType::Basic(_) => None,
+            BlockType::Composite(composite) => Some(Scope {
+                composite: Some(composite),
+                network: &composite.network,
+            }),
+        },
+    }
+}
+
+/// Words for an instance and its type.
+pub fn push_instance(text: &mut Text, instance: &Instance) -> Result<(), AllocError> {
+    text.named(": instance ", &instance.name)?;
+    text.named(" : ", &instance.block_type)
+}

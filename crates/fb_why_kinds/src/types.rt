@@ -1,0 +1,159 @@
+//! What the names of block types, instances and variables stand for, looked for from name to name.
+
+ghost use Rattle.std.specs.Prelude.{◌≡◌, [], ◌∷◌, ◌++◌, option_map};
+ghost use Rattle.std.specs.Option.{option_copied};
+ghost use Rattle.std.specs.List.{find};
+ghost use Rattle.fb_types.specs.Names.{same_name};
+ghost use Rattle.fb_types.specs.Blocks as blocks;
+ghost use Rattle.fb_types.specs.Flat as flat;
+ghost use Rattle.fb_kinds.specs.Roles as roles;
+ghost use Rattle.fb_why_kinds.specs.Types.{joinable, meant};
+
+use fb_types::event_kind::EventKind;
+use fb_types::event_ports::kind_named;
+use fb_types::library::{BasicType, BlockType, Library, Ports, Variable, block_named};
+use fb_types::name::Name;
+use fb_types::value::Ty;
+
+/// What the type of an instance is.
+#[derive(Clone, Copy)]
+pub enum Kind<'a> {
+    Event(EventKind),
+    Declared(&'a BlockType),
+}
+
+/// What a type's name stands for.
+pub fn type_named<'a>(library: &'a Library, name: &Name) -> Option<Kind<'a>>
+    ensures { option_map meant result ≡ flat.type_named library.now name.now }
+{
+    match kind_named(name.as_bytes()) {
+        Some(kind) => Some(Kind::Event(kind)),
+        None => {
+            let block = block_named(library.blocks.as_slice(), name)?;
+            Some(Kind::Declared(block))
+        }
+    }
+}
+
+fn variable_named<'a>(variables: &'a [Variable], name: &Name) -> Option<&'a Variable>
+    ensures { option_copied result ≡ find (λ v. same_name v.name name.now) variables.now }
+{
+    variables.iter().find(|variable| variable.name.is(name))
+}
+
+/// The type of the variable that has the name.
+pub fn variable_type(variables: &[Variable], name: &Name) -> Option<Ty>
+    ensures { result ≡ roles.type_named variables.now name.now }
+{
+    let variable = variable_named(variables, name)?;
+    Some(variable.ty)
+}
+
+/// The type of the data input or output that has the name.
+pub fn port_type(ports: &Ports, name: &Name) -> Option<Ty>
+    ensures { result ≡ roles.type_named (joinable ports.now) name.now }
+{
+    match variable_type(ports.inputs.as_slice(), name) {
+        Some(ty) => Some(ty),
+        None => variable_type(ports.outputs.as_slice(), name),
+    }
+}
+
+fn type_among(ports: &Ports, internals: &[Variable], name: &Name) -> Option<Ty>
+    ensures { result ≡ roles.type_named (joinable ports.now ++ internals.now) name.now }
+{
+    match port_type(ports, name) {
+        Some(ty) => Some(ty),
+        None => variable_type(internals, name),
+    }
+}
+
+/// The type of a variable of a basic type. What is no variable has the type BOOL here, and is refused elsewhere.
+pub fn type_of(basic: &BasicType, name: &Name) -> Ty
+    ensures { result ≡ blocks.types_of basic.now name.now }
+{
+    type_among(&basic.ports, basic.internals.as_slice(), name).unwrap_or(Ty::Bool)
+}
+
+/// Whether a name is that of a data input of the basic type.
+pub fn is_input(basic: &BasicType, name: &Name) -> bool
+    ensures { result ≡ blocks.is_input basic.now.ports name.now }
+{
+    variable_type(basic.ports.inputs.as_slice(), name).is_some()
+}
+
+/// The type, where the text is the name.
+fn if_named(text: &str, ty: Ty, name: &Name) -> Option<Ty>
+    ensures { result ≡ roles.type_named (blocks.variable text.now ty ∷ []) name.now }
+{
+    if text.as_bytes() == name.as_bytes() {
+        Some(ty)
+    } else {
+        None
+    }
+}
+
+/// The type of the data input of an event block that has the name.
+fn event_block_input(kind: EventKind, name: &Name) -> Option<Ty>
+    ensures { result ≡ roles.type_named (blocks.ports_of_event_block kind).inputs name.now }
+{
+    match kind {
+        EventKind::Restart
+        | EventKind::Split
+        | EventKind::Merge
+        | EventKind::Rendezvous
+        | EventKind::SetReset => None,
+        EventKind::Permit => if_named("PERMIT", Ty::Bool, name),
+        EventKind::Select | EventKind::Switch => if_named("G", Ty::Bool, name),
+        EventKind::DataLatch => if_named("D", Ty::Bool, name),
+        EventKind::RisingEdge | EventKind::FallingEdge => if_named("QI", Ty::Bool, name),
+        EventKind::Delay | EventKind::Cycle => if_named("DT", Ty::Time, name),
+        EventKind::CountUp => if_named("PV", Ty::Uint, name),
+    }
+}
+
+/// The type of the data output of an event block that has the name.
+fn event_block_output(kind: EventKind, name: &Name) -> Option<Ty>
+    ensures { result ≡ roles.type_named (blocks.ports_of_event_block kind).outputs name.now }
+{
+    match kind {
+        EventKind::SetReset | EventKind::DataLatch => if_named("Q", Ty::Bool, name),
+        EventKind::CountUp => match if_named("Q", Ty::Bool, name) {
+            Some(ty) => Some(ty),
+            None => if_named("CV", Ty::Uint, name),
+        },
+        _ => None,
+    }
+}
+
+/// The type of the data input or output of an event block that has the name.
+fn event_block_port(kind: EventKind, name: &Name) -> Option<Ty>
+    ensures { result ≡ roles.type_named (joinable (blocks.ports_of_event_block kind)) name.now }
+{
+    match event_block_input(kind, name) {
+        Some(ty) => Some(ty),
+        None => event_block_output(kind, name),
+    }
+}
+
+impl Kind<'_> {
+    /// The type of the data input that has the name.
+    pub fn input_type(self, name: &Name) -> Option<Ty>
+        ensures { result ≡ roles.type_named (blocks.ports_of (meant self.entry)).inputs name.now }
+    {
+        match self {
+            Kind::Event(kind) => event_block_input(kind, name),
+            Kind::Declared(block) => variable_type(block.ports().inputs.as_slice(), name),
+        }
+    }
+
+    /// The type of the data input or output that has the name.
+    pub fn port_type(self, name: &Name) -> Option<Ty>
+        ensures { result ≡ roles.type_named (joinable (blocks.ports_of (meant self.entry))) name.now }
+    {
+        match self {
+            Kind::Event(kind) => event_block_port(kind, name),
+            Kind::Declared(block) => port_type(block.ports(), name),
+        }
+    }
+}

@@ -1,0 +1,49 @@
+//! Where a name of a declaration or a deployment stands for nothing (E21).
+
+ghost use Rattle.std.specs.Prelude.{◌≡◌, IfOk, MatchOption};
+ghost use Rattle.fb_types.specs.Unknown.{NameUnknown};
+ghost use Rattle.fb_why_kinds.specs.Unknown.{IsUnknownAt};
+
+use crate::blocks::unknown_in_blocks;
+use crate::deployment::unknown_in_deployment;
+use crate::lookup::Types;
+use crate::networks::{Scope, unknown_in_network};
+use crate::place::{Place, Site};
+use fb_types::deploy::Plan;
+use fb_types::library::Library;
+use std::alloc::{AllocError, Global};
+
+/// The place, where the types of the declaration are at hand.
+fn unknown_with(
+    alloc: Global,
+    library: &Library,
+    plan: &Plan,
+    types: &Types,
+) -> Result<Option<Place>, AllocError>
+    requires { types.now.library.now ≡ library.now }
+    ensures { IfOk result (λ o. MatchOption o (¬ (NameUnknown library.now plan.now)) (IsUnknownAt library.now plan.now)) }
+{
+    let scope = Scope {
+        composite: None,
+        network: &library.application.network,
+    };
+    if let Some(place) = unknown_in_network(types, Site::Application, &scope) {
+        return Ok(Some(place));
+    }
+    if let Some(place) = unknown_in_blocks(alloc, types)? {
+        return Ok(Some(place));
+    }
+    Ok(unknown_in_deployment(library, plan))
+}
+
+/// A place at which a name stands for nothing of the wanted sort, or `None` where there is no such name.
+pub fn unknown_place(
+    alloc: Global,
+    library: &Library,
+    plan: &Plan,
+) -> Result<Option<Place>, AllocError>
+    ensures { IfOk result (λ o. MatchOption o (¬ (NameUnknown library.now plan.now)) (IsUnknownAt library.now plan.now)) }
+{
+    let types = Types::new(alloc, library)?;
+    unknown_with(alloc, library, plan, &types)
+}

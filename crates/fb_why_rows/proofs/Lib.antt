@@ -1,9 +1,0 @@
-mod RowTexts
-mod RowJudgements
-mod WordLists
-mod RowFaults
-mod Readings
-mod NameTexts
-mod TableValues
-mod TableFaults
-mod Entries

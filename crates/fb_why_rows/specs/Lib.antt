@@ -1,8 +1,0 @@
-pub mod RowTexts
-pub mod Rows
-pub mod RowParts
-pub mod Verdicts
-pub mod Names
-pub mod Keys
-pub mod Numbers
-pub mod Tables

@@ -1,2 +1,0 @@
-mod Verdicts
-mod Parts

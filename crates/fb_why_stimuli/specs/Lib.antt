@@ -1,2 +1,0 @@
-pub mod Stimuli
-pub mod Trials

@@ -1,7 +1,0 @@
-mod Networks
-mod Joins
-mod Typed
-mod Bodies
-mod Placed
-mod Parts
-mod Applying

@@ -1,7 +1,0 @@
-use Rattle.std.proofs.Common.{◌≡◌, drop}
-use Rattle.std.specs.List.{list_all}
-use Rattle.fb_types.specs.Kinds.{declared_right}
-use Rattle.fb_why_values.proofs.misfits.wrong_among.Given as goal
-
-abbrev pub invariant-loop-place : goal.invariant-loop-place
-invariant-loop-place l = list_all declared_right l.variables ≡ list_all declared_right (drop l.place l.variables)

@@ -1,7 +1,0 @@
-use Rattle.std.proofs.Common.{◌≡◌, drop}
-use Rattle.std.specs.List.{list_all}
-use Rattle.fb_kinds.specs.Checks.{algorithm_right}
-use Rattle.fb_why_values.proofs.misfits.wrong_body.Given as goal
-
-abbrev pub invariant-loop-place : goal.invariant-loop-place
-invariant-loop-place l = list_all (algorithm_right l.basic) l.algorithms ≡ list_all (algorithm_right l.basic) (drop l.place l.algorithms)

@@ -1,6 +1,0 @@
-pub mod Sites
-pub mod Types
-pub mod Misjoins
-pub mod Statements
-pub mod Misfits
-pub mod Applies
