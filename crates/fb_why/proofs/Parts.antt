@@ -13,7 +13,7 @@ use Rattle.fb_types.specs.Repeated.{Twice}
 use Rattle.fb_types.specs.declared.deploy.Setting.{Setting}
 use Rattle.fb_types.specs.declared.deploy.Stimulus.{Stimulus}
 use Rattle.fb_types.specs.declared.library.Library.{Library}
-use Rattle.fb_names.proofs.NameLemmas.{Contains-cons_cases, Contains-here, Contains-nil}
+use Rattle.fb_types.proofs.Elements.{Contains-cons_cases, Contains-here, Contains-nil}
 use Rattle.fb_why.specs.Stimuli.{Fits, HasNoEvent}
 use Rattle.fb_why.specs.Trials.{DoAllFit, DoesFit, Unfits, with_settings}
 

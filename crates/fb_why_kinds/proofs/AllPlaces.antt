@@ -9,11 +9,10 @@ use Rattle.fb_types.specs.declared.library.BlockType.{BlockType}
 use Rattle.fb_types.specs.declared.library.BlockType.TheVariants as block
 use Rattle.fb_types.specs.declared.library.Library.{Library}
 use Rattle.fb_types.specs.declared.deploy.Plan.{Plan}
-use Rattle.fb_names.proofs.NameLemmas.{Contains-nil, Contains-cons_cases, Contains-here, Contains-there}
+use Rattle.fb_types.proofs.Elements.{Contains-nil, Contains-cons_cases, Contains-here, Contains-there, flat_map-Contains}
 use Rattle.fb_kinds.specs.Checks.{is_known_block}
 use Rattle.fb_kinds.proofs.Checks.{known_answer}
 use Rattle.fb_names.specs.Unknown.{NetworkUnknown, DeploymentUnknown}
-use Rattle.fb_names.proofs.Elements.{Contains-flat_map_from}
 use Rattle.fb_names.proofs.Resolving.{all_known}
 use Rattle.fb_why_kinds.specs.declared.place.Place.{Place}
 use Rattle.fb_why_kinds.specs.declared.place.Place.TheVariants.{InstanceType, Parameter, End, With, Transition, Action, Guard, Body, Mapped, LinkEnd}
@@ -57,7 +56,7 @@ name_known lib plan application blocks deployment =
     (λ n c. elim (Contains-cons_cases of_application (flat_map networks_in lib.blocks) n c) [
       | inl e ↦ subst (λ (n : Placed). ¬ (NetworkUnknown lib n)) e application
       | inr rest ↦
-          let r = Contains-flat_map_from networks_in lib.blocks n rest in
+          let r = flat_map-Contains networks_in lib.blocks n rest in
           inside_known lib r.0 n (All-contains (IsBlockKnown lib) lib.blocks r.0 blocks r.1) r.2
     ])
     deployment

@@ -16,8 +16,9 @@ use Rattle.fb_types.specs.declared.library.BlockType.{BlockType}
 use Rattle.fb_types.specs.declared.library.BlockType.TheVariants as block
 use Rattle.fb_types.specs.declared.library.Library.{Library}
 use Rattle.fb_types.specs.declared.library.Variable.{Variable}
-use Rattle.fb_names.proofs.Elements.{Contains-flat_map, element_of_place, fails_from}
-use Rattle.fb_names.proofs.NameLemmas.{Contains-nil, Contains-here, Contains-there}
+use Rattle.fb_types.proofs.ListTests.{fails_from}
+use Rattle.fb_types.proofs.ByPlace.{element_of_place}
+use Rattle.fb_types.proofs.Elements.{Contains-flat_map, Contains-nil, Contains-here, Contains-there}
 use Rattle.fb_kinds.specs.Checks.{algorithm_right, chart_right, in_place, is_guard_right, is_right_block}
 use Rattle.fb_kinds.proofs.Checks.{chart_right_met, wrong_answer}
 use Rattle.fb_why_kinds.specs.declared.place.Misfit.{Misfit}

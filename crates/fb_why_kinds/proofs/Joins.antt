@@ -12,14 +12,14 @@ use Rattle.fb_types.specs.declared.library.Instance.{Instance}
 use Rattle.fb_types.specs.declared.library.Library.{Library}
 use Rattle.fb_types.specs.declared.library.PortName.{PortName}
 use Rattle.fb_types.specs.declared.value.Ty.{Ty}
-use Rattle.fb_names.proofs.Positions.{find-named}
+use Rattle.fb_types.proofs.NameLaws.{find-named}
 use Rattle.fb_joins.specs.Joins.{is_out}
 use Rattle.fb_joins.specs.Ranges.{is_within}
 use Rattle.fb_joins.proofs.Ranged.{within-Decides}
 use Rattle.fb_why_kinds.specs.declared.place.Misjoin.{Misjoin}
 use Rattle.fb_why_kinds.specs.Misjoins.{IsMisjoinedAt, MisjoinedIn, are_joined, is_joined}
-use Rattle.fb_why_kinds.specs.Sites.{each_inside, network_at}
 use Rattle.fb_types.proofs.ListTests.{passes_at}
+use Rattle.fb_why_kinds.specs.Sites.{each_inside, network_at}
 use Rattle.fb_why_kinds.proofs.NetworkTests.{network_passes}
 
 -- ---- The type at an end

@@ -19,11 +19,10 @@ use Rattle.fb_types.specs.declared.library.Parameter.{Parameter}
 use Rattle.fb_types.specs.declared.library.PortName.{PortName}
 use Rattle.fb_types.specs.declared.library.Ports.{Ports}
 use Rattle.fb_types.specs.declared.library.Variable.{Variable}
-use Rattle.fb_names.proofs.NameLemmas.{any_from_contains}
-use Rattle.fb_names.proofs.Positions.{find-named}
+use Rattle.fb_types.proofs.NameLaws.{any_from_contains, find-named}
 use Rattle.fb_kinds.specs.Checks.{is_met, all_met}
+use Rattle.fb_types.proofs.ListTests.{list_all-map, list_all-flat_map}
 use Rattle.fb_names.specs.Unknown.{NetworkUnknown}
-use Rattle.fb_names.proofs.Elements.{list_all-map, list_all-flat_map}
 use Rattle.fb_names.proofs.NetworkUnknown.{met, met_wanted, list_all-all_of}
 use Rattle.fb_why_kinds.specs.declared.place.Flow.{Flow}
 use Rattle.fb_why_kinds.specs.declared.place.Flow.TheVariants.{Events, Data}

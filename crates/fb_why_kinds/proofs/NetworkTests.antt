@@ -6,10 +6,9 @@ use Rattle.fb_types.specs.Repeated.{Placed, networks, networks_in}
 use Rattle.fb_types.specs.declared.library.BlockType.{BlockType}
 use Rattle.fb_types.specs.declared.library.BlockType.TheVariants as block
 use Rattle.fb_types.specs.declared.library.Library.{Library}
-use Rattle.fb_names.proofs.Elements.{Contains-flat_map_from}
-use Rattle.fb_names.proofs.NameLemmas.{Contains-cons_cases, Contains-nil}
-use Rattle.fb_why_kinds.specs.Sites.{each_inside}
+use Rattle.fb_types.proofs.Elements.{flat_map-Contains, Contains-cons_cases, Contains-nil}
 use Rattle.fb_types.proofs.ListTests.{passes_at}
+use Rattle.fb_why_kinds.specs.Sites.{each_inside}
 
 inside_passes : (test : Placed → Bool) (t : BlockType) (n : Placed) → each_inside test t ≡ true → Contains (networks_in t) n → test n ≡ true
 inside_passes test (block.Basic t) n h c = absurd (Contains-nil n c)
@@ -28,6 +27,6 @@ network_passes test lib n here inside c =
     elim (Contains-cons_cases of_application (flat_map networks_in lib.blocks) n c) [
       | inl e ↦ ap test (sym e) ∙ here
       | inr rest ↦
-          let r = Contains-flat_map_from networks_in lib.blocks n rest in
+          let r = flat_map-Contains networks_in lib.blocks n rest in
           inside_passes test r.0 n (passes_at (each_inside test) lib.blocks r.0 inside r.1) r.2
     ]

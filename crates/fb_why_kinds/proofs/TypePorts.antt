@@ -14,9 +14,8 @@ use Rattle.fb_types.specs.declared.event_kind.EventKind.{EventKind}
 use Rattle.fb_types.specs.declared.library.BlockType.{BlockType}
 use Rattle.fb_types.specs.declared.library.Library.{Library}
 use Rattle.fb_types.specs.declared.library.Ports.{Ports}
-use Rattle.fb_names.proofs.Positions.{find-named}
+use Rattle.fb_types.proofs.NameLaws.{find-named, any-named}
 use Rattle.fb_names.specs.Types.{ports_of_block}
-use Rattle.fb_names.proofs.Elements.{any-named}
 
 abbrev type_from : Library → Name → Option (Name × EventKind) → Option Kind
 type_from lib n o = elim o [ Some e ↦ Some (Event e.1) | None ↦ option_map kind_of (named type_name n lib.blocks) ]

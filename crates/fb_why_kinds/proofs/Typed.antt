@@ -11,7 +11,7 @@ use Rattle.fb_types.specs.declared.library.BlockType.{BlockType}
 use Rattle.fb_types.specs.declared.library.Library.{Library}
 use Rattle.fb_types.specs.declared.library.Variable.{Variable}
 use Rattle.fb_types.specs.declared.value.Ty.{Ty}
-use Rattle.fb_names.proofs.Positions.{find-named}
+use Rattle.fb_types.proofs.NameLaws.{find-named}
 use Rattle.fb_kinds.specs.Roles.{type_named}
 
 -- ---- Variables

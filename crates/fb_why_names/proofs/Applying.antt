@@ -19,10 +19,10 @@ use Rattle.fb_types.specs.declared.library.Network.{Network}
 use Rattle.fb_types.specs.declared.library.Ports.{Ports}
 use Rattle.fb_types.specs.declared.library.Variable.{Variable}
 use Rattle.fb_names.specs.GivenTwice.{BlockTwice, NetworkTwice, PortTwice, TypeTwice, names_of_ports}
-use Rattle.fb_names.proofs.Elements.{element_of_place}
-use Rattle.fb_names.proofs.NameLemmas.{Contains-here, Contains-there, contains_from_any}
+use Rattle.fb_types.proofs.NameLaws.{contains_from_any}
+use Rattle.fb_types.proofs.Elements.{Contains-here, Contains-there, Contains-flat_map, Contains-map}
+use Rattle.fb_types.proofs.ByPlace.{element_of_place}
 use Rattle.fb_names.proofs.NameTwice.{block_twice, network_twice, plan_twice, types_twice}
-use Rattle.fb_names.proofs.TwiceIn.{Contains-flat_map, Contains-map}
 use Rattle.fb_why_names.specs.Heights.{IsHeld}
 use Rattle.fb_why_names.specs.Applies.{HeightApplies, JoinedApplies, TwiceApplies, UnlinkedApplies, UnmappedApplies, UnservedApplies}
 use Rattle.fb_why_names.specs.Pairs.{IsPair}
@@ -36,10 +36,10 @@ use Rattle.fb_why_names.specs.declared.twice.InBlock.TheVariants as part
 use Rattle.fb_why_names.specs.declared.twice.InNetwork.{InNetwork}
 use Rattle.fb_why_names.specs.declared.twice.InNetwork.TheVariants as network
 use Rattle.fb_why_names.specs.declared.unlinked.Unlinked.TheVariants as unlinked
+use Rattle.fb_types.proofs.TwiceLaws.{Twice-append_right, Twice-both}
 use Rattle.fb_why_names.specs.declared.unmapped.Unmapped.TheVariants.{Unlisted, Again}
 use Rattle.fb_why_names.proofs.Once.{event_type_names, is_some-named}
 use Rattle.fb_why_names.proofs.Parted.{targets_are}
-use Rattle.fb_types.proofs.TwiceLaws.{Twice-append_right, Twice-both}
 
 -- ---- What stands twice
 

@@ -14,8 +14,7 @@ use Rattle.fb_types.specs.declared.library.Library.{Library}
 use Rattle.fb_types.specs.declared.library.PortName.{PortName}
 use Rattle.fb_types.specs.declared.library.Ports.{Ports}
 use Rattle.fb_types.specs.declared.library.Variable.{Variable}
-use Rattle.fb_names.proofs.NameLemmas.{same_from_same_name}
-use Rattle.fb_names.proofs.Positions.{find-named}
+use Rattle.fb_types.proofs.NameLaws.{same_from_same_name, find-named}
 use Rattle.fb_why_names.specs.Unserved.{carries}
 
 -- ---- One interface

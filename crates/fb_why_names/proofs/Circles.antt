@@ -10,7 +10,7 @@ use Rattle.fb_types.specs.declared.library.BlockType.{BlockType}
 use Rattle.fb_types.specs.declared.library.BlockType.TheVariants as block
 use Rattle.fb_types.specs.declared.library.CompositeType.{CompositeType}
 use Rattle.fb_types.specs.declared.library.Instance.{Instance}
-use Rattle.fb_names.proofs.Elements.{element_of_place}
+use Rattle.fb_types.proofs.ByPlace.{element_of_place}
 use Rattle.fb_why_names.specs.Heights.{IsRound, IsTooHighAt, LeadsBack, LeadsTo, below, marked_in, marks_after, place_of_type, type_inside}
 use Rattle.fb_why_names.specs.declared.heights.Descent.TheVariants.{Circle}
 use Rattle.fb_why_names.proofs.Marks.{by_place, held_at, kind_at, place_among}

@@ -13,10 +13,10 @@ use Rattle.fb_types.specs.Mapped.{IsCut, NoLink, data_pairs_of, event_pairs_of}
 use Rattle.fb_types.specs.declared.library.Connection.{Connection}
 use Rattle.fb_types.specs.declared.library.Library.{Library}
 use Rattle.fb_types.specs.declared.deploy.Plan.{Plan}
-use Rattle.fb_names.proofs.Positions.{is_some-position}
-use Rattle.fb_names.proofs.TwiceIn.{map-Contains}
-use Rattle.fb_why_names.specs.Unlinked.{IsUnlinked, are_linked, is_joining, is_linked}
+use Rattle.fb_types.proofs.Elements.{map-Contains}
 use Rattle.fb_types.proofs.Options.{none_from_is_some}
+use Rattle.fb_types.proofs.Positions.{is_some-position}
+use Rattle.fb_why_names.specs.Unlinked.{IsUnlinked, are_linked, is_joining, is_linked}
 
 abbrev ports_of : Connection → Port × Port
 ports_of c = (port_in [] c.from, port_in [] c.to)

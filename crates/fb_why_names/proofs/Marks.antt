@@ -14,11 +14,11 @@ use Rattle.fb_types.specs.declared.library.BlockType.{BlockType}
 use Rattle.fb_types.specs.declared.library.BlockType.TheVariants as block
 use Rattle.fb_types.specs.declared.library.CompositeType.{CompositeType}
 use Rattle.fb_types.specs.declared.library.Instance.{Instance}
-use Rattle.fb_names.proofs.Positions.{is_some-position, position-first, position-later}
+use Rattle.fb_types.proofs.Positions.{is_some-position, position-first, position-later}
 use Rattle.fb_why_names.specs.Heights.{IsHeld, IsTooHighAt, holds_marked, is_composite, is_marked, marked_in, marks_after, place_of_type}
 use Rattle.fb_why_names.specs.declared.heights.Descent.TheVariants.{Height}
-use Rattle.fb_why_names.proofs.Carried.{declared_type, event_type}
 use Rattle.fb_types.proofs.ListTests.{passes_somewhere}
+use Rattle.fb_why_names.proofs.Carried.{declared_type, event_type}
 use Rattle.fb_why_names.proofs.Served.{Contains-any}
 
 -- ---- Places

@@ -13,9 +13,8 @@ use Rattle.fb_types.specs.declared.library.BlockType.TheVariants as block
 use Rattle.fb_types.specs.declared.library.Connection.{Connection}
 use Rattle.fb_types.specs.declared.library.Library.{Library}
 use Rattle.fb_names.specs.Ends.{end_port}
-use Rattle.fb_names.proofs.NameLemmas.{Contains-nil, Contains-cons_cases}
+use Rattle.fb_types.proofs.Elements.{Contains-nil, Contains-cons_cases, flat_map-Contains}
 use Rattle.fb_names.proofs.Seen.{IsExact, end_cmp, pair_cmp-exact}
-use Rattle.fb_names.proofs.TwiceIn.{flat_map-Contains}
 use Rattle.fb_why_names.specs.Sources.{IsParted, targets}
 
 then_itself : (r : Ordering) → is_eq (ordering_then r r) ≡ is_eq r

@@ -16,10 +16,10 @@ use Rattle.fb_types.specs.declared.library.Library.{Library}
 use Rattle.fb_types.specs.declared.library.PortName.{PortName}
 use Rattle.fb_types.specs.declared.deploy.Plan.{Plan}
 use Rattle.fb_types.proofs.PathLaws.{same_path_is, same_path_itself}
-use Rattle.fb_names.proofs.NameLemmas.{Contains-nil, Contains-cons_cases, contains_from_any, any_from_contains}
-use Rattle.fb_names.proofs.TwiceIn.{Contains-map, map-Contains}
-use Rattle.fb_why_names.specs.Unserved.{IsUnservedAt, begin_together, brings, carries, end_together, is_served}
+use Rattle.fb_types.proofs.NameLaws.{contains_from_any, any_from_contains}
 use Rattle.fb_types.proofs.ListTests.{passes_somewhere}
+use Rattle.fb_types.proofs.Elements.{Contains-nil, Contains-cons_cases, Contains-map, map-Contains}
+use Rattle.fb_why_names.specs.Unserved.{IsUnservedAt, begin_together, brings, carries, end_together, is_served}
 
 abbrev ends_of : Connection → Port × Port
 ends_of c = (port_in [] c.from, port_in [] c.to)

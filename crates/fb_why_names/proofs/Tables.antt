@@ -9,10 +9,12 @@ use Rattle.std.proofs.lemmas.List.{map-append, length-map, length-take, take-app
 use Rattle.std.proofs.lemmas.List.Elements.{Contains-push_cases}
 use Rattle.std.proofs.lemmas.Option.{slice_get_within}
 use Rattle.fb_types.specs.Repeated.{Twice}
-use Rattle.fb_names.proofs.NameLemmas.{Contains-nil, once_push}
-use Rattle.fb_names.proofs.Seen.{IsExact, more_of_part}
-use Rattle.fb_why_names.specs.Pairs.{IsPair}
+use Rattle.fb_types.proofs.LoopSteps.{more_of_part}
+use Rattle.fb_types.proofs.TwiceLaws.{once_push}
 use Rattle.fb_types.proofs.ByPlace.{slice_get-append_left, slice_get-append_here}
+use Rattle.fb_types.proofs.Elements.{Contains-nil}
+use Rattle.fb_names.proofs.Seen.{IsExact}
+use Rattle.fb_why_names.specs.Pairs.{IsPair}
 
 -- ---- Places in longer lists
 

@@ -1,6 +1,6 @@
-use Rattle.fb_names.proofs.Elements.{match_none}
-use Rattle.fb_why_kinds.specs.Unknown.{IsBlockKnown, IsUnknownIn}
+use Rattle.fb_types.proofs.Options.{match_none}
 use Rattle.fb_types.proofs.LoopSteps.{all_next, all_of_taken}
+use Rattle.fb_why_kinds.specs.Unknown.{IsBlockKnown, IsUnknownIn}
 use Rattle.fb_why_kinds.proofs.blocks.unknown_in_some.Goals as goal
 
 pub loop-place-preserved : goal.loop-place-preserved

@@ -1,6 +1,6 @@
 use Rattle.std.proofs.Common.{◌≡◌, None, true, refl, sym, ◌∙◌, ap}
 use Rattle.std.specs.List.{list_all}
-use Rattle.fb_names.proofs.Elements.{match_none}
+use Rattle.fb_types.proofs.Options.{match_none}
 use Rattle.fb_why_kinds.specs.Misfits.{IsMisfitAt, is_all_right}
 use Rattle.fb_why_kinds.proofs.Placed.{whole_answer}
 use Rattle.fb_why_kinds.proofs.misfits.misfit_place.Goals as goal

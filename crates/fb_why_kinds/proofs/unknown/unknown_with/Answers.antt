@@ -1,7 +1,7 @@
 use Rattle.std.proofs.Common.{subst}
 use Rattle.std.specs.Prelude.{All}
 use Rattle.fb_types.specs.declared.library.Library.{Library}
-use Rattle.fb_names.proofs.Elements.{match_none, match_some}
+use Rattle.fb_types.proofs.Options.{match_none, match_some}
 use Rattle.fb_why_kinds.specs.Unknown.{IsBlockKnown, IsUnknownIn}
 use Rattle.fb_why_kinds.proofs.AllPlaces.{in_declaration, whole_answer}
 use Rattle.fb_why_kinds.proofs.unknown.unknown_with.Goals as goal
