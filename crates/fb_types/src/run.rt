@@ -1,9 +1,13 @@
 //! What waits in a simulation and what it gives: events, lines, messages, emissions, and how it ends. Instances,
 //! events and variables are numbers here, which stand for names only when a trace is written.
 
+ghost use Rattle.std.specs.Prelude.{◌≡◌};
+ghost use Rattle.fb_types.specs.declared.run.Halt.TheVariants.{Memory, Stop};
+
 use crate::items::Items;
 use crate::key::Key;
 use crate::value::{Reason, Value};
+use std::alloc::AllocError;
 
 /// A line of the trace: an event that was taken at an input of an instance, or emitted at an output.
 #[derive(Drop)]
@@ -98,6 +102,22 @@ pub enum TimerAsk {
 pub enum Halt {
     Stop(Reason),
     Memory,
+}
+
+impl From<AllocError> for Halt {
+    ghost from_gives = { λ _ halt. halt ≡ Memory };
+
+    fn from(_error: AllocError) -> Halt {
+        Halt::Memory
+    }
+}
+
+impl From<Reason> for Halt {
+    ghost from_gives = { λ reason halt. halt ≡ Stop reason };
+
+    fn from(reason: Reason) -> Halt {
+        Halt::Stop(reason)
+    }
 }
 
 /// Where and why a simulation stops.
