@@ -38,7 +38,11 @@ impl<'r, R: rt::Files + Input> Files<'r, R> {
 ///
 /// # Errors
 /// `File` where the reader fails, and `Memory`.
-pub fn read_most<R: Read>(alloc: Global, from: &mut R, most: usize) -> Result<Vec<u8>, SourceFault>
+pub(crate) fn read_most<R: Read>(
+    alloc: Global,
+    from: &mut R,
+    most: usize,
+) -> Result<Vec<u8>, SourceFault>
     ensures short { IfOk result (λ bytes. vec_len bytes ≤ most) }
     ensures front { IfOk result (λ bytes. IfSome (R.remaining from.old) (λ all. bytes.items ≡ take most all)) }
 {

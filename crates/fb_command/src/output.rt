@@ -12,7 +12,7 @@ use std::io::Write;
 ///
 /// # Errors
 /// `Write` where the writer failed before it had got all of it, with the bytes that it has got.
-pub fn write_text<W: Write>(out: &mut W, text: &[u8]) -> Result<(), Failure>
+pub(crate) fn write_text<W: Write>(out: &mut W, text: &[u8]) -> Result<(), Failure>
     ensures whole { OnOk result (Appends (W.contents out.old) (W.contents out.new) text.now) }
     ensures part { IfErr result (WritesPart (W.contents out.old) (W.contents out.new) text.now) }
 {

@@ -65,7 +65,7 @@ fn put_change(text: &mut Vec<u8>, signal: usize, shown: Shown) -> Result<(), All
 }
 
 /// Puts a time behind a text, unless it is told already.
-pub fn put_time(text: &mut Vec<u8>, told: u64, tick: u64) -> Result<(), AllocError>
+pub(crate) fn put_time(text: &mut Vec<u8>, told: u64, tick: u64) -> Result<(), AllocError>
     ensures { OnOk result (text.new.items ≡ text.old.items ++ time_text told tick) }
 {
     if tick == told {
@@ -77,7 +77,7 @@ pub fn put_time(text: &mut Vec<u8>, told: u64, tick: u64) -> Result<(), AllocErr
 }
 
 /// Puts the changes of a tick behind a text, and goes on to the next tick.
-pub fn put_changes(text: &mut Vec<u8>, levels: &mut Levels) -> Result<(), AllocError>
+pub(crate) fn put_changes(text: &mut Vec<u8>, levels: &mut Levels) -> Result<(), AllocError>
     requires { All (λ s. s < length levels.old.cells.items) levels.old.noted.items }
     ensures counted { length levels.new.cells.items ≡ length levels.old.cells.items }
     ensures none { OnOk result (levels.new.noted.items ≡ []) }

@@ -122,7 +122,7 @@ fn put_variables(
 }
 
 /// Declares the signals of an interface, the first with this number.
-pub fn put_ports(text: &mut Vec<u8>, first: usize, ports: &Ports) -> Result<(), AllocError>
+pub(crate) fn put_ports(text: &mut Vec<u8>, first: usize, ports: &Ports) -> Result<(), AllocError>
     requires { first + size_of ports.now < 2 ^ 64 }
     ensures { OnOk result (text.new.items ≡ text.old.items ++ spec.ports_declared first ports.now) }
 {

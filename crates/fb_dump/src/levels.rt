@@ -80,7 +80,7 @@ impl Levels {
     }
 
     /// A port had an event.
-    pub fn fire(&mut self, signal: usize) -> Result<(), AllocError>
+    pub(crate) fn fire(&mut self, signal: usize) -> Result<(), AllocError>
         requires signal { signal < length self.old.cells.items }
         requires within { All (λ s. s < length self.old.cells.items) self.old.noted.items }
         ensures counted { length self.new.cells.items ≡ length self.old.cells.items }

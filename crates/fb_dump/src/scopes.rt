@@ -6,7 +6,7 @@ ghost use Rattle.fb_dump.specs.Scopes as spec;
 use std::alloc::AllocError;
 
 /// Opens a scope with a name.
-pub fn put_opened(text: &mut Vec<u8>, name: &[u8]) -> Result<(), AllocError>
+pub(crate) fn put_opened(text: &mut Vec<u8>, name: &[u8]) -> Result<(), AllocError>
     ensures { OnOk result (text.new.items ≡ text.old.items ++ spec.opened name.now) }
 {
     text.extend_from_slice(b"$scope module ")?;
@@ -16,7 +16,7 @@ pub fn put_opened(text: &mut Vec<u8>, name: &[u8]) -> Result<(), AllocError>
 }
 
 /// Closes so many scopes.
-pub fn put_closed(text: &mut Vec<u8>, count: usize) -> Result<(), AllocError>
+pub(crate) fn put_closed(text: &mut Vec<u8>, count: usize) -> Result<(), AllocError>
     ensures { OnOk result (text.new.items ≡ text.old.items ++ spec.closed count) }
 {
     let mut left = count;

@@ -16,7 +16,7 @@ use std::alloc::{AllocError, Global};
 ///
 /// # Errors
 /// When memory runs out.
-pub fn dump_of(
+pub(crate) fn dump_of(
     alloc: Global,
     system: &System,
     lines: &[Line],

@@ -204,7 +204,11 @@ fn lay_out(
 
 /// The instances of an application, at most 4,096 of them, by their numbers. A row is moved once for each composite
 /// round its instance, and its route is as long, so the time is linear in the paths and routes together.
-pub fn layout_of(alloc: Global, library: &Library, numbers: &Resolved) -> Result<Layout, AllocError>
+pub(crate) fn layout_of(
+    alloc: Global,
+    library: &Library,
+    numbers: &Resolved,
+) -> Result<Layout, AllocError>
     requires resolved { (plan : Plan) × (¬ (NameTwice library.now plan)) × IsResolved library.now plan numbers.now }
     requires height { ¬ (TooHigh library.now) }
     requires few { length (paths_of library.now) ≤ 4096 }

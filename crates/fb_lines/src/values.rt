@@ -71,7 +71,7 @@ pub fn value_of(ty: Ty, text: &[u8]) -> Option<Value>
 }
 
 /// A variable with a value of its type, and what stands behind them.
-pub fn binding<'a>(variable: &Variable, text: &'a [u8]) -> Option<(Value, &'a [u8])>
+pub(crate) fn binding<'a>(variable: &Variable, text: &'a [u8]) -> Option<(Value, &'a [u8])>
     ensures { MatchOption result (IsUnbound variable.now.name variable.now.ty text.now)
         (λ p. IsBound variable.now.name variable.now.ty text.now p.0 p.1.now) }
 {

@@ -41,7 +41,7 @@ pub struct Options {
 
 impl Options {
     /// Whether each option is in its range.
-    pub fn are_within(&self) -> bool
+    pub(crate) fn are_within(&self) -> bool
         ensures { IsTrue result ↔ AreWithin self.now }
     {
         (1..=1_000_000_000_000).contains(&self.horizon)

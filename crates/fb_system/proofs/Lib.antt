@@ -1,5 +1,6 @@
 mod Seen
 mod Holding
+mod Seats
 mod WithPlaces
 mod Stimuli
 mod Beginning

@@ -134,7 +134,6 @@ module _ (i : Inputs) (accepted : AreAccepted i) (numbered : (k : ℕ) → k < l
         resource = refl;
         stands = λ w forest.
             record {
-              seats = forest.seats;
               blocks = forest.blocks;
               held = λ y is_y read other.
                   by_port w y is_y (w.held (variable_of (system_of i) y)) (forest.held y is_y read other) (same_port (variable_of (system_of i) y) (variable_of (system_of i) x)) refl;

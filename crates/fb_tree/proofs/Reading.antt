@@ -19,7 +19,7 @@ use Rattle.fb_fabric.specs.Layouts.{route_to}
 use Rattle.fb_system.specs.Ports.{IsVariable, data_input, data_output, variable_of, variables_at}
 use Rattle.fb_tree.specs.Blocks.{inputs_in, inputs_of, own_of, shell_in, shell_of}
 use Rattle.fb_tree.specs.Trees.{block_at}
-use Rattle.fb_tree.specs.Worlds.{CompositeStands, Found, InForest, IsComposite, IsForest, NodeStands, Reads, ShellStands, StandsFor, ValuesStand, route_in_tree, seat, seat_in, seated, value_in}
+use Rattle.fb_tree.specs.Worlds.{CompositeStands, Found, InForest, IsComposite, IsForest, NodeStands, Reads, ShellStands, StandsFor, ValuesStand, route_in_tree, value_in}
 use Rattle.fb_tree.specs.declared.block.Block.{Block}
 use Rattle.fb_tree.specs.declared.block.Block.TheOpen.{Block-F}
 use Rattle.fb_tree.specs.declared.block.Block.TheViews.{out-Block}
@@ -122,11 +122,6 @@ module _ (sys : System) (x : Place) (b : Block) (m : model.Block) (variable : Is
 
 -- ---- The trees
 
--- a route by the seats
-pub seated_so : (f g : ℕ → ℕ) → ((place : ℕ) → f place ≡ g place) → (route : List ℕ) → seated f route ≡ seated g route
-seated_so f g same [] = refl
-seated_so f g same (place ∷ rest) = ap (λ seat. seat ∷ rest) (same place)
-
 same_found : {A : Type 0} (o : Option A) (a b : A) → o ≡ Some a → o ≡ Some b → a ≡ b
 same_found o a b e f = cc
 
@@ -143,13 +138,13 @@ found_reads i t x part b v o is found reads w tree within =
 
 -- the block at the route of an instance stands for it
 pub found_at :
-    (i : Inputs) (t : Forest) (k : ℕ) → k < length (system_of i).paths → (route : List ℕ) → route ≡ seated (seat_in t.seats) (route_to i.library (path_at (system_of i) k)) →
+    (i : Inputs) (t : Forest) (k : ℕ) → k < length (system_of i).paths → (route : List ℕ) → route ≡ route_in_tree i k →
     (o : Option Block) → o ≡ block_at t.blocks route → (w : World) → IsForest i t w → InForest i t k → Found i k (w.blocks (path_at (system_of i) k)) o
 found_at i t k number route is o at w forest lies =
     let stands = forest.blocks k number lies in
     let b = map_parts own_of (block_at t.blocks (route_in_tree i k)) stands.own stands.stood in
     record {
       block = b.0;
-      is = at ∙ ap (block_at t.blocks) (is ∙ seated_so (seat_in t.seats) (seat i.library i.plan) forest.seats (route_to i.library (path_at (system_of i) k))) ∙ b.1;
+      is = at ∙ ap (block_at t.blocks) is ∙ b.1;
       stands = subst (λ own. StandsFor (system_of i) (path_at (system_of i) k) own (w.blocks (path_at (system_of i) k))) (sym b.2) stands.stands;
     }

@@ -19,7 +19,8 @@ use Rattle.fb_types.proofs.Options.{and_then_parts}
 use Rattle.fb_fabric.specs.Layouts.{path_of, place_at, route_to}
 use Rattle.fb_tree.specs.Blocks.{components_of, own_of}
 use Rattle.fb_tree.specs.Trees.{block_at, own_at}
-use Rattle.fb_tree.specs.Worlds.{IsForest, StandsAt, StandsFor, before, route_in_tree, seat, seat_in, seated}
+use Rattle.fb_system.specs.Linking.{before, seat}
+use Rattle.fb_tree.specs.Worlds.{IsForest, StandsAt, StandsFor, route_in_tree, seated}
 use Rattle.fb_tree.specs.declared.block.Block.{Block}
 use Rattle.fb_tree.specs.declared.resource.Forest.{Forest}
 use Rattle.fb_tree.specs.Opening.{AreDeep, AreGrown, CoversAll, Grown, IsTopIn, lies_in}
@@ -158,9 +159,8 @@ module _ (i : Inputs) (r : ℕ) (numbers : List ℕ) (blocks : List Block) (top 
 
 pub forest_is :
     (i : Inputs) (f : Forest) (r : ℕ) (numbers : List ℕ) → AreAccepted i → f.resource ≡ r → IsTopIn i r numbers → AreGrown i 17 numbers f.blocks
-    → ((place : ℕ) → seat_in f.seats place ≡ seat i.library i.plan place) → CoversAll i r f.held → IsForest i f (world_of (opening_state (system_of i)) r)
-forest_is i f r numbers accepted is top grown seats held = record {
-  seats = seats;
+    → CoversAll i r f.held → IsForest i f (world_of (opening_state (system_of i)) r)
+forest_is i f r numbers accepted is top grown held = record {
   blocks = λ k h lies. stands_at i r numbers f.blocks top grown accepted k h (lies ∙ is);
   held = λ x variable read outside.
       held read.to read.variable (read.within ∙ is) x variable read.source (λ e. outside (e ∙ sym is));

@@ -23,7 +23,8 @@ use Rattle.fb_fabric.proofs.Distinct.{AreOnce, below, paths_from}
 use Rattle.fb_types.proofs.ByPlace.{element_at, element_of_place, place_of_element}
 use Rattle.fb_fabric.proofs.Inside.{network_known}
 use Rattle.fb_fabric.proofs.Sites.{IsSite, all_once, inside_is, instance_is}
-use Rattle.fb_tree.specs.Worlds.{before, route_in_tree, seat, seated}
+use Rattle.fb_system.specs.Linking.{before, seat}
+use Rattle.fb_tree.specs.Worlds.{route_in_tree, seated}
 
 -- ---- Every path leads to an instance
 

@@ -26,7 +26,8 @@ use Rattle.fb_tree.specs.Blocks.{inputs_in, inputs_of, node_with_inputs, node_wi
 use Rattle.fb_tree.specs.Changes.{Changes}
 use Rattle.fb_tree.specs.Changes as specs
 use Rattle.fb_tree.specs.Trees.{ChangedAlone, own_at}
-use Rattle.fb_tree.specs.Worlds.{InForest, IsForest, NodeStands, ShellStands, StandsAt, StandsFor, TakesSamples, ValuesStand, input_names, output_names, route_in_tree, seat, seat_in, seated}
+use Rattle.fb_system.specs.Linking.{seat}
+use Rattle.fb_tree.specs.Worlds.{InForest, IsForest, NodeStands, ShellStands, StandsAt, StandsFor, TakesSamples, ValuesStand, input_names, output_names, route_in_tree, seated}
 use Rattle.fb_tree.specs.declared.block.Block.{Block}
 use Rattle.fb_tree.specs.declared.block.Block.TheOpen.{Block-F}
 use Rattle.fb_tree.specs.declared.block.Block.TheViews.{out-Block}
@@ -36,7 +37,7 @@ use Rattle.fb_tree.specs.declared.shell.Shell.{Shell}
 use Rattle.fb_tree.proofs.Components.{out_roll}
 use Rattle.fb_tree.proofs.Apart.{kind_apart}
 use Rattle.fb_types.proofs.ByPlace.{element_of_place}
-use Rattle.fb_tree.proofs.Reading.{among_inputs, among_outputs, name_there, seated_so, shell_stands}
+use Rattle.fb_tree.proofs.Reading.{among_inputs, among_outputs, name_there, shell_stands}
 use Rattle.fb_tree.proofs.Ways.{RoutesDiffer, routes_differ}
 
 length_set : (vs : List Value) (k : ℕ) (v : Value) → length (slice_set vs k v) ≡ length vs
@@ -225,7 +226,6 @@ module _ (i : Inputs) (t : Forest) (w : World) (tree : IsForest i t w) (differ :
   pub changed_forest : IsForest i (record t { blocks = new }) (with_block (path_at (system_of i) k) after w)
   changed_forest =
       record {
-        seats = tree.seats;
         blocks = λ j h lies_j. at_each j h lies_j (same_path (path_at (system_of i) j) (path_at (system_of i) k)) refl;
         held = tree.held;
       }
@@ -253,7 +253,7 @@ outputs_once i accepted p =
     ] refl
 
 module _ (i : Inputs) (accepted : AreAccepted i) (old : Forest) (x : Place) (variable : IsVariable (system_of i) x) (v : Value)
-    (first : ℕ) (rest : List ℕ) (route : first ∷ rest ≡ seated (seat_in old.seats) (route_to i.library (path_at (system_of i) x.instance))) (new : List Block) where
+    (first : ℕ) (rest : List ℕ) (route : first ∷ rest ≡ route_in_tree i x.instance) (new : List Block) where
   abbrev pub path : Path
   path = path_at (system_of i) x.instance
 
@@ -268,7 +268,7 @@ module _ (i : Inputs) (accepted : AreAccepted i) (old : Forest) (x : Place) (var
         resource = refl;
         stands = λ w forest lies.
             changed_forest i old w forest (routes_differ i accepted) x.instance variable.instance lies f new
-            (subst (λ r. ChangedAlone f old.blocks r new) (route ∙ seated_so (seat_in old.seats) (seat i.library i.plan) forest.seats (route_to i.library path)) alone)
+            (subst (λ r. ChangedAlone f old.blocks r new) route alone)
             (change (w.blocks path)) (λ own s. keeps own (w.blocks path) s);
       }
 
@@ -290,7 +290,7 @@ module _ (i : Inputs) (accepted : AreAccepted i) (old : Forest) (x : Place) (var
 
 pub state_changes :
     (i : Inputs) → AreAccepted i → (old : Forest) (k : ℕ) → k < length (system_of i).paths → (s : State) → (system_of i).kind (path_at (system_of i) k) ≡ Some (Event s.kind) →
-    (first : ℕ) (rest : List ℕ) → first ∷ rest ≡ seated (seat_in old.seats) (route_to i.library (path_at (system_of i) k)) → (new : List Block) →
+    (first : ℕ) (rest : List ℕ) → first ∷ rest ≡ route_in_tree i k → (new : List Block) →
     ChangedAlone (λ b. with_state b s) old.blocks (first ∷ rest) new → Changes i old k (specs.remembered s.memory) (record old { blocks = new })
 state_changes i accepted old k number s kind first rest route new alone =
     let path = path_at (system_of i) k in
@@ -299,6 +299,6 @@ state_changes i accepted old k number s kind first rest route new alone =
       resource = refl;
       stands = λ w forest lies.
           changed_forest i old w forest (routes_differ i accepted) k number lies change new
-          (subst (λ r. ChangedAlone change old.blocks r new) (route ∙ seated_so (seat_in old.seats) (seat i.library i.plan) forest.seats (route_to i.library path)) alone)
+          (subst (λ r. ChangedAlone change old.blocks r new) route alone)
           (specs.remembered s.memory (w.blocks path)) (λ own stands. state_set (system_of i) path own (w.blocks path) s kind stands);
     }

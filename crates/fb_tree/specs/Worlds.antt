@@ -1,23 +1,19 @@
 -- What the blocks of one resource stand for in the model (IEC 61499-1, 5.2 and 5.3; that a resource has trees of its own instances, and held copies, is this project's profile).
-use Rattle.std.specs.Prelude.{◌≡◌, ◌<◌, ◌≢◌, ℕ, Bool, false, List, [], ◌∷◌, length, nat_eq, Option, Some, None, unwrap_or, slice_get, take}
-use Rattle.std.specs.List.{filter}
+use Rattle.std.specs.Prelude.{◌≡◌, ◌<◌, ◌≢◌, ℕ, Bool, false, List, [], ◌∷◌, length, Option, Some, None, unwrap_or, slice_get}
 use Rattle.std.specs.BTreeMap.{get}
 use Rattle.std.specs.Ordering.{nat_cmp, bool_cmp, ordering_then}
 use Rattle.std.specs.declared.cmp.Ordering.{Ordering}
 use Rattle.fb_types.specs.Names.{Name, Path}
 use Rattle.fb_types.specs.Values.{Values}
 use Rattle.fb_types.specs.Blocks.{Kind, Basic, Event, Composite, among, variable_names}
-use Rattle.fb_types.specs.Flat.{holder, zero_value}
+use Rattle.fb_types.specs.Flat.{zero_value}
 use Rattle.fb_types.specs.Headline.{Inputs, system_of}
 use Rattle.fb_types.specs.Numbers.{path_at, ports_at}
 use Rattle.fb_types.specs.Reactions.{World, sampled_from, seen, shown}
 use Rattle.fb_types.specs.States as model
 use Rattle.fb_types.specs.Systems.{System}
-use Rattle.fb_types.specs.declared.deploy.Plan.{Plan}
 use Rattle.fb_types.specs.declared.event_kind.EventKind.{EventKind}
 use Rattle.fb_types.specs.declared.library.BasicType.{BasicType}
-use Rattle.fb_types.specs.declared.library.Instance.{Instance}
-use Rattle.fb_types.specs.declared.library.Library.{Library}
 use Rattle.fb_types.specs.declared.value.Value.{Value}
 use Rattle.fb_st.specs.Frames.{values_of}
 use Rattle.fb_ecc.specs.Places.{IsBlockOf, state_at}
@@ -25,6 +21,7 @@ use Rattle.fb_ecc.specs.Sound.{IsSound}
 use Rattle.fb_ecc.specs.declared.state.BasicState.{BasicState}
 use Rattle.fb_fabric.specs.Layouts.{route_to}
 use Rattle.fb_types.specs.declared.run.Place.{Place}
+use Rattle.fb_system.specs.Linking.{seat}
 use Rattle.fb_system.specs.Ports.{IsCompositeAt, IsSource, IsVariable, variable_of}
 use Rattle.fb_tree.specs.Blocks.{own_of}
 use Rattle.fb_tree.specs.Trees.{own_at}
@@ -94,17 +91,6 @@ StandsFor sys p x b = NodeStands sys p (sys.kind p) (out-Block x) b
 
 -- ---- The trees of one resource
 
-abbrev pub lies_with : Plan → Name → Instance → Bool
-lies_with plan n i = nat_eq (holder plan i.name) (holder plan n)
-
-abbrev pub before : Plan → List Instance → ℕ → Option Instance → ℕ
-before plan instances place None = 0
-before plan instances place (Some i) = length (filter (lies_with plan i.name) (take place instances))
-
--- how many instances of the application lie in the same resource and stand before the one at a place
-abbrev pub seat : Library → Plan → ℕ → ℕ
-seat lib plan place = let instances = lib.application.network.instances in before plan instances place (slice_get instances place)
-
 -- a route that begins with another place
 abbrev pub seated : (ℕ → ℕ) → List ℕ → List ℕ
 seated seat_of [] = []
@@ -113,10 +99,6 @@ seated seat_of (place ∷ rest) = seat_of place ∷ rest
 -- the route of an instance in the trees of its resource
 abbrev pub route_in_tree : Inputs → (instance : ℕ) → List ℕ
 route_in_tree i k = seated (seat i.library i.plan) (route_to i.library (path_at (system_of i) k))
-
--- the seat in a table of them
-abbrev pub seat_in : List ℕ → ℕ → ℕ
-seat_in seats place = unwrap_or (slice_get seats place) 0
 
 -- The own part of a block among the trees stands for an instance.
 pub record StandsAt (i : Inputs) (blocks : List Block) (k : ℕ) (b : model.Block) : Type 0 where
@@ -149,7 +131,6 @@ pub record IsRead (sys : System) (resource : ℕ) (x : Place) : Type 0 where
 
 -- Each instance of the resource has its block, and each variable of another resource that one is connected to has its held copy.
 pub record IsForest (i : Inputs) (t : Forest) (w : World) : Type 0 where
-  pub seats : (place : ℕ) → seat_in t.seats place ≡ seat i.library i.plan place
   pub blocks : (k : ℕ) → k < length (system_of i).paths → (system_of i).resource (path_at (system_of i) k) ≡ t.resource →
       StandsAt i t.blocks k (w.blocks (path_at (system_of i) k))
   pub held : (x : Place) → IsVariable (system_of i) x → IsRead (system_of i) t.resource x → (system_of i).resource (path_at (system_of i) x.instance) ≢ t.resource →

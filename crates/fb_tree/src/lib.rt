@@ -5,7 +5,7 @@
 //! for the opening state.
 //!
 //! To be read in this order: `block` and `shell`, what a block holds; `resource`, what is asked and changed; `tree` and
-//! `values`, the block at a route; `laws`. Then `build`, how they are made before the first event; `seats`,
+//! `values`, the block at a route; `laws`. Then `build`, how they are made before the first event;
 //! `opening_trees`, `opening_leaves` and `opening_charts`, the blocks; `opening_copies`.
 #![tactic(auto)]
 
@@ -17,7 +17,6 @@ mod opening_copies;
 mod opening_leaves;
 mod opening_trees;
 pub mod resource;
-mod seats;
 pub mod shell;
 pub mod tree;
 pub mod values;

@@ -8,10 +8,9 @@ ghost use Rattle.fb_types.specs.Flat.{zero_value};
 ghost use Rattle.fb_types.specs.Headline.{system_of};
 ghost use Rattle.fb_types.specs.Numbers.{path_at};
 ghost use Rattle.fb_types.specs.Reactions.{World};
-ghost use Rattle.fb_fabric.specs.Layouts.{route_to};
 ghost use Rattle.fb_system.specs.Ports.{IsVariable, variable_of};
 ghost use Rattle.fb_tree.specs.Changes.{Changes, Holds, ShowsInside, input_sampled, output_shown, remembered, slot_set};
-ghost use Rattle.fb_tree.specs.Worlds.{TakesSamples, Found, InForest, IsComposite, IsForest, Reads, Samples, Sees, Shows, key_cmp, key_of, seat_in, seated, value_in};
+ghost use Rattle.fb_tree.specs.Worlds.{TakesSamples, Found, InForest, IsComposite, IsForest, Reads, Samples, Sees, Shows, key_cmp, key_of, route_in_tree, value_in};
 
 use crate::block::Block;
 use crate::tree::find;
@@ -33,8 +32,6 @@ pub type Held = BTreeMap<(u32, u32, bool), Value, Global>;
 pub struct Forest {
     /// The number of the resource.
     pub resource: usize,
-    /// For each instance of the application, its place among the blocks of its resource.
-    pub seats: Items<u32>,
     /// The instances of the application that lie in the resource, in the order of the text.
     pub blocks: Items<Block>,
     pub held: Held,
@@ -43,33 +40,26 @@ pub struct Forest {
 /// What stands for a value that is not there.
 const NOTHING: Value = Value::Whole(0);
 
+/// The route of an instance among the blocks of its resource: its first place there, and the rest.
+pub fn route(system: &System, instance: u32) -> (u32, &[u32])
+    requires { instance < length (system_of system.now).paths }
+    ensures { result.0 ∷ result.1.now ≡ route_in_tree system.now instance }
+{
+    system.facts();
+    match system.route(instance) {
+        [] => unreachable!(),
+        [place, rest @ ..] => (system.seat(*place), rest),
+    }
+}
+
 impl Forest {
-    /// The place of an instance of the application among the blocks of its resource.
-    fn seat(&self, place: u32) -> u32
-        ensures { result ≡ seat_in self.now.seats place }
-    {
-        self.seats.value(place as usize).unwrap_or(0)
-    }
-
-    /// The route of an instance that lies in the resource: its first place among the blocks, and the rest.
-    pub fn route<'a>(&self, system: &'a System, instance: u32) -> (u32, &'a [u32])
-        requires { instance < length (system_of system.now).paths }
-        ensures { result.0 ∷ result.1.now ≡ seated (seat_in self.now.seats) (route_to system.now.library (path_at (system_of system.now) instance)) }
-    {
-        system.facts();
-        match system.route(instance) {
-            [] => unreachable!(),
-            [place, rest @ ..] => (self.seat(*place), rest),
-        }
-    }
-
     /// The block of an instance that lies in the resource.
     pub fn block(&self, system: &System, instance: u32) -> Option<&Block>
         requires { instance < length (system_of system.now).paths }
         ensures { (w : World) → IsForest system.now self.now w → InForest system.now self.now instance →
             Found system.now instance (w.blocks (path_at (system_of system.now) instance)) (option_copied result) }
     {
-        let (first, rest) = self.route(system, instance);
+        let (first, rest) = route(system, instance);
         find(self.blocks.as_slice(), first, rest)
     }
 
@@ -177,7 +167,7 @@ impl Forest {
         ensures { Changes system.now self.old input.instance (slot_set (variable_of (system_of system.now) input).name value) self.new }
     {
         system.facts();
-        let (first, rest) = self.route(system, input.instance);
+        let (first, rest) = route(system, input.instance);
         let place = input.variable as usize;
         set_slot(&mut self.blocks, first, rest, place, value);
     }
@@ -189,7 +179,7 @@ impl Forest {
         ensures { Changes system.now self.old output.instance (output_shown (variable_of (system_of system.now) output).name value) self.new }
     {
         system.facts();
-        let (first, rest) = self.route(system, output.instance);
+        let (first, rest) = route(system, output.instance);
         let place = output.variable as usize;
         publish(&mut self.blocks, first, rest, place, value);
     }
@@ -202,7 +192,7 @@ impl Forest {
         ensures { Changes system.now self.old input.instance (input_sampled (variable_of (system_of system.now) input).name value) self.new }
     {
         system.facts();
-        let (first, rest) = self.route(system, input.instance);
+        let (first, rest) = route(system, input.instance);
         let place = input.variable as usize;
         set_input(&mut self.blocks, first, rest, place, value);
     }
@@ -214,7 +204,7 @@ impl Forest {
         ensures { Changes system.now self.old instance (remembered state.memory) self.new }
     {
         system.facts();
-        let (first, rest) = self.route(system, instance);
+        let (first, rest) = route(system, instance);
         remember(&mut self.blocks, first, rest, state);
     }
 

@@ -17,5 +17,5 @@ returns-clause-opened c =
     subst (λ (ks : List ℕ). AreGrown c.args.system.now 17 ks c.from_vec.result) c.as_slice.ensures
     (subst (λ (bs : List Block). AreGrown c.args.system.now 17 c.as_slice.result.now bs) (sym c.from_vec.ensures) c.in_ok-blocks.ensures.grown) in
     forest_is c.args.system.now
-    (record { resource = c.args.resource; seats = c.in_ok-seats_of.field-0; blocks = c.from_vec.result; held = c.in_ok-held_of.field-0 }) c.args.resource
-    c.in_ok-top.top c.facts.ensures.accepted refl c.in_ok-top.ensures grown c.in_ok-seats_of.ensures c.in_ok-held_of.ensures
+    (record { resource = c.args.resource; blocks = c.from_vec.result; held = c.in_ok-held_of.field-0 }) c.args.resource
+    c.in_ok-top.top c.facts.ensures.accepted refl c.in_ok-top.ensures grown c.in_ok-held_of.ensures

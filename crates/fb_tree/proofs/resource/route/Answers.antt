@@ -1,6 +1,6 @@
 use Rattle.std.proofs.Common.{arith, ap, length}
 use Rattle.fb_tree.proofs.Ways.{route_there}
-use Rattle.fb_tree.proofs.resource.Forest.route.Goals as goal
+use Rattle.fb_tree.proofs.resource.route.Goals as goal
 
 pub unreachable-requires : goal.unreachable-requires
 unreachable-requires c =
