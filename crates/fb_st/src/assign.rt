@@ -76,16 +76,22 @@ pub struct Count {
 }
 
 /// Whether a value of the variable of FOR has passed the end. With step 0 none has.
+#[inline(always)]
 pub fn has_passed(count: Count, value: Value) -> bool
     ensures { result ≡ passed (whole count.end) (whole count.step) (whole value) }
 {
     is_past(whole_of(count.end), whole_of(count.step), whole_of(value))
 }
 
+#[inline(always)]
 fn is_past(end: i128, step: i128, number: i128) -> bool
     ensures { result ≡ passed end step number }
 {
-    (end < number && 0 < step) || (number < end && step < 0)
+    if 0 < step {
+        end < number
+    } else {
+        step < 0 && number < end
+    }
 }
 
 /// The next value of the variable of FOR, or the end of the loop, where the variable keeps its value.
@@ -96,7 +102,7 @@ pub fn advance(variable: &Reference, count: Count, frame: &mut Frame) -> Result<
 {
     let end = whole_of(count.end);
     let step = whole_of(count.step);
-    match whole_of(frame.value(variable)).checked_add(step) {
+    match frame.whole(variable).checked_add(step) {
         Some(next) if !is_past(end, step, next) => {
             frame.assign(variable, Value::Whole(next))?;
             Ok(Flow::Went)

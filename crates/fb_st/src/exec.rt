@@ -183,6 +183,7 @@ fn run_repeat(
 
 /// FOR: start, end and step are evaluated once, in this order, before the variable has its first value.
 #[cycle(exec)]
+#[inline(never)]
 fn run_for(
     body: &[Stmt],
     variable: &Reference,

@@ -134,7 +134,7 @@ impl Frame {
 
     /// The truth value that a variable holds which stands where it is expected. `None` says nothing of it.
     #[inline(always)]
-    pub fn small_truth(&self, variable: &Reference) -> Option<bool>
+    pub(crate) fn small_truth(&self, variable: &Reference) -> Option<bool>
         ensures { IfSome result (λ b. values_of self.now variable.now ≡ Value.Bool b) }
     {
         match self.value_as_expected(variable)? {

@@ -4,8 +4,8 @@
 //! `exec::exec` runs an algorithm as the definitions say, steps counted; a `frame::Frame` keeps variables within their
 //! types.
 //!
-//! To be read in this order: `frame`, the variables; `eval` with `operator`, `fault` and `function`; `meter`, the steps;
-//! `exec` with `assign`; `known`.
+//! To be read in this order: `frame`, the variables; `eval` with `operator`, `fault` and `function`; `small`, the common way
+//! of expressions whose numbers fit 64 bits; `meter`, the steps; `exec` with `assign`; `known`.
 #![tactic(auto)]
 
 mod assign;
