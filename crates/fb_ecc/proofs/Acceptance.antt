@@ -118,6 +118,15 @@ basic_among (block.Basic b ∷ bs) t h =
     ]
 basic_among (block.Composite c ∷ bs) t h = Contains-there (block.Composite c) bs (block.Basic t) (basic_among bs t h)
 
+-- The names of each sort differ.
+pub record NamesOnce (t : BasicType) : Type 0 where
+  pub states : ¬ (Twice (state_names t))
+  pub algorithms : ¬ (Twice (algorithm_names t))
+  pub event_inputs : ¬ (Twice (event_names t.ports.event_inputs))
+  pub event_outputs : ¬ (Twice (event_names t.ports.event_outputs))
+  pub inputs : ¬ (Twice (variable_names t.ports.inputs))
+  pub outputs : ¬ (Twice (variable_names t.ports.outputs))
+
 module _ (lib : Library) (plan : Plan) (t : BasicType) (once : ¬ (NameTwice lib plan)) (unknown : ¬ (NameUnknown lib plan)) (declared : Contains (basics lib) t) where
   -- a name space of the first three sorts
   space_once :
@@ -148,15 +157,37 @@ module _ (lib : Library) (plan : Plan) (t : BasicType) (once : ¬ (NameTwice lib
       (Contains-append_left types (map algorithm_names (basics lib)) ns
       (Contains-there (block_type_names lib) (map port_names lib.blocks) ns (Contains-map port_names lib.blocks (block.Basic t) (basic_among lib.blocks t declared)))))
 
-  events_once : ¬ (Twice (event_names t.ports.event_inputs))
-  events_once twice =
+  algorithms_once : ¬ (Twice (algorithm_names t))
+  algorithms_once =
+      let ns : List Name = algorithm_names t in
+      let first : List (List Name) = block_type_names lib ∷ map port_names lib.blocks in
+      space_once ns
+      (Contains-append_left (first ++ map algorithm_names (basics lib)) (map state_names (basics lib)) ns
+      (Contains-append_right first (map algorithm_names (basics lib)) ns (Contains-map algorithm_names (basics lib) t declared)))
+
+  -- the events and the inputs and outputs, in this order
+  interface_once : ¬ (Twice (event_names t.ports.event_inputs ++ event_names t.ports.event_outputs ++ variable_names t.ports.inputs ++ variable_names t.ports.outputs))
+  interface_once twice =
+      ports_once
+      (Twice-append_left (event_names t.ports.event_inputs ++ event_names t.ports.event_outputs ++ variable_names t.ports.inputs ++ variable_names t.ports.outputs) (variable_names t.internals)
+      twice)
+
+  names_differ : NamesOnce t
+  names_differ =
       let ins : List Name = event_names t.ports.event_inputs in
       let outs : List Name = event_names t.ports.event_outputs in
       let inputs : List Name = variable_names t.ports.inputs in
       let outputs : List Name = variable_names t.ports.outputs in
-      ports_once
-      (Twice-append_left (ins ++ outs ++ inputs ++ outputs) (variable_names t.internals)
-      (Twice-append_left (ins ++ outs ++ inputs) outputs (Twice-append_left (ins ++ outs) inputs (Twice-append_left ins outs twice))))
+      let before_outputs : Twice (ins ++ outs ++ inputs) → ⊥ = λ twice. interface_once (Twice-append_left (ins ++ outs ++ inputs) outputs twice) in
+      let before_inputs : Twice (ins ++ outs) → ⊥ = λ twice. before_outputs (Twice-append_left (ins ++ outs) inputs twice) in
+      record {
+        states = states_once;
+        algorithms = algorithms_once;
+        event_inputs = λ twice. before_inputs (Twice-append_left ins outs twice);
+        event_outputs = λ twice. before_inputs (Twice-append_right ins outs twice);
+        inputs = λ twice. before_outputs (Twice-append_right (ins ++ outs) inputs twice);
+        outputs = λ twice. interface_once (Twice-append_right (ins ++ outs ++ inputs) outputs twice);
+      }
 
   variables_once : ¬ (Twice (variable_names (variables_of t)))
   variables_once twice =
@@ -248,7 +279,7 @@ module _ (lib : Library) (plan : Plan) (t : BasicType) (once : ¬ (NameTwice lib
   sound_when_accepted =
       record {
         states = first_from_once (λ (s : State). s.name) t.states states_once;
-        events = first_from_once (λ (p : EventPort). p.name) t.ports.event_inputs events_once;
+        events = first_from_once (λ (p : EventPort). p.name) t.ports.event_inputs names_differ.event_inputs;
         variables = variables_once;
         sources = passes_from (λ (x : Transition). among (state_names t) x.from) t.transitions source_named;
         targets = passes_from (λ (x : Transition). among (state_names t) x.to) t.transitions target_named;
@@ -258,3 +289,6 @@ module _ (lib : Library) (plan : Plan) (t : BasicType) (once : ¬ (NameTwice lib
 
 pub sound_in_declaration : (t : BasicType) → IsOfDeclaration t → IsSound t
 sound_in_declaration t is = sound_when_accepted is.library is.plan t is.once is.known is.declared
+
+pub names_once : (t : BasicType) → IsOfDeclaration t → NamesOnce t
+names_once t is = names_differ is.library is.plan t is.once is.known is.declared

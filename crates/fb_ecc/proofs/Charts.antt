@@ -1,105 +1,143 @@
--- Charts with places in place of names, made one element at a time.
-use Rattle.std.proofs.Common.{◌≡◌, ℕ, suc, ◌+◌, ◌<◌, ◌≤◌, Bool, true, false, cond, ◌&&◌, ◌||◌, List, [], ◌∷◌, ◌++◌, length, map, Bor, get_or, drop, take, refl, sym, ◌∙◌, ap, arith, append-nil}
-use Rattle.std.specs.List.{filter, list_any}
-use Rattle.std.proofs.lemmas.List.{take_more, map-append}
-use Rattle.std.proofs.lemmas.List.Elements.{filter-append}
+-- The rows of a chart, made as the transitions are gone through.
+use Rattle.std.proofs.Common.{◌≡◌, ℕ, zero, suc, ◌+◌, ◌<◌, ◌≤◌, true, false, cond, List, [], ◌∷◌, ◌++◌, length, map, set, Some, None, Contains, get_or, take, refl, sym, ◌∙◌, ap, subst, arith, inl, inr}
+use Rattle.std.specs.Prelude.{position, option_map, slice_get, is_some}
+use Rattle.std.proofs.lemmas.Bool.{true≢false, false_from_ne_true}
+use Rattle.std.proofs.lemmas.List.{length-take-le, take_more}
+use Rattle.std.proofs.lemmas.Option.{get_or_from_slice_get, slice_get-map}
 use Rattle.fb_types.specs.Names.{Name, same_name}
-use Rattle.fb_types.specs.Blocks.{among, variable_names, variables_with}
+use Rattle.fb_types.specs.Repeated.{Twice, state_names}
 use Rattle.fb_types.specs.declared.library.BasicType.{BasicType}
-use Rattle.fb_types.specs.declared.library.EventPort.{EventPort}
+use Rattle.fb_types.specs.declared.library.State.{State}
 use Rattle.fb_types.specs.declared.library.Transition.{Transition}
-use Rattle.fb_types.specs.declared.library.Variable.{Variable}
-use Rattle.fb_ecc.specs.Numbered.{exit_of, exits_from}
+use Rattle.fb_types.proofs.NameLaws.{any_from_contains, same_from_same_name, same_name-itself}
+use Rattle.fb_types.proofs.Elements.{Contains-cons_cases, Contains-here, Contains-there}
+use Rattle.fb_types.proofs.Positions.{is_some-position, position-first, position_is}
+use Rattle.fb_st.proofs.Places.{position-later}
+use Rattle.fb_ecc.specs.Indexed.{row_within}
+use Rattle.fb_ecc.specs.Numbered.{act_of, exit_of, exits_from}
 use Rattle.fb_ecc.specs.declared.chart.Exit.{Exit}
-use Rattle.fb_ecc.proofs.Trials.{cut_at}
-use Rattle.fb_ecc.proofs.Links.{nothing_left}
+use Rattle.fb_ecc.specs.declared.chart.Row.{Row}
+use Rattle.fb_ecc.proofs.Indexing.{some_suc}
 
-append-one : {A : Type 0} (xs : List A) (x : A) (ys : List A) → (xs ++ x ∷ []) ++ ys ≡ xs ++ x ∷ ys
-append-one [] x ys = refl
-append-one (z ∷ xs) x ys = ap (λ l. z ∷ l) (append-one xs x ys)
+-- ---- One transition more
 
--- ---- Transitions
-
-exits_at :
-    (t : BasicType) (n : Name) (k : ℕ) (x : Transition) → k < length t.transitions → x ≡ get_or t.transitions k x
-    → exits_from t n k (drop k t.transitions) ≡ cond (same_name x.from n) (exit_of t k x ∷ exits_from t n (k + 1) (drop (k + 1) t.transitions)) (exits_from t n (k + 1) (drop (k + 1) t.transitions))
-exits_at t n k x within is =
-    ap (exits_from t n k) (cut_at t.transitions k x within is)
-    ∙ (let next : suc k ≡ k + 1 = omega arith in
-    ap (λ m. cond (same_name x.from n) (exit_of t k x ∷ exits_from t n m (drop (k + 1) t.transitions)) (exits_from t n m (drop (k + 1) t.transitions))) next)
-
-pub exits_take :
-    (t : BasicType) (n : Name) (k : ℕ) (x : Transition) (sofar more all : List Exit) → k < length t.transitions → x ≡ get_or t.transitions k x → same_name x.from n ≡ true
-    → more ≡ sofar ++ exit_of t k x ∷ [] → sofar ++ exits_from t n k (drop k t.transitions) ≡ all → more ++ exits_from t n (k + 1) (drop (k + 1) t.transitions) ≡ all
-exits_take t n k x sofar more all within is same grown told =
-    let rest : List Exit = exits_from t n (k + 1) (drop (k + 1) t.transitions) in
-    let here : exits_from t n k (drop k t.transitions) ≡ exit_of t k x ∷ rest =
-    exits_at t n k x within is ∙ ap (λ b. cond b (exit_of t k x ∷ rest) rest) same in
-    ap (λ (l : List Exit). l ++ rest) grown ∙ append-one sofar (exit_of t k x) rest ∙ ap (λ (l : List Exit). sofar ++ l) (sym here) ∙ told
-
-pub exits_skip :
-    (t : BasicType) (n : Name) (k : ℕ) (x : Transition) (sofar all : List Exit) → k < length t.transitions → x ≡ get_or t.transitions k x → same_name x.from n ≡ false
-    → sofar ++ exits_from t n k (drop k t.transitions) ≡ all → sofar ++ exits_from t n (k + 1) (drop (k + 1) t.transitions) ≡ all
-exits_skip t n k x sofar all within is apart told =
-    let rest : List Exit = exits_from t n (k + 1) (drop (k + 1) t.transitions) in
-    let here : exits_from t n k (drop k t.transitions) ≡ rest =
-    exits_at t n k x within is ∙ ap (λ b. cond b (exit_of t k x ∷ rest) rest) apart in
-    ap (λ (l : List Exit). sofar ++ l) (sym here) ∙ told
-
-pub exits_done :
-    (t : BasicType) (n : Name) (k : ℕ) (sofar all : List Exit) → length t.transitions ≤ k → sofar ++ exits_from t n k (drop k t.transitions) ≡ all → sofar ≡ all
-exits_done t n k sofar all past told =
-    sym (append-nil sofar) ∙ ap (λ (l : List Transition). sofar ++ exits_from t n k l) (sym (nothing_left t.transitions k past)) ∙ told
-
--- ---- Variables WITH an event
-
-abbrev pub goes_with : List EventPort → Name → Name → Bool
-goes_with events e v = list_any (λ p. same_name p.name e && among p.with v) events
-
-with_more :
-    (events : List EventPort) (vs : List Variable) (e : Name) (i : ℕ) (x : Variable) → i < length vs → x ≡ get_or vs i x
-    → variables_with events (take (i + 1) vs) e ≡ variables_with events (take i vs) e ++ cond (goes_with events e x.name) (x.name ∷ []) []
-with_more events vs e i x h is =
-    ap (filter (goes_with events e))
-    (ap variable_names (take_more vs i x h) ∙ map-append (λ (v : Variable). v.name) (take i vs) (get_or vs i x ∷ [])
-    ∙ ap (λ (v : Variable). variable_names (take i vs) ++ v.name ∷ []) (sym is))
-    ∙ filter-append (goes_with events e) (variable_names (take i vs)) (x.name ∷ [])
-
-pub with_take :
-    (events : List EventPort) (vs : List Variable) (e : Name) (i : ℕ) (x : Variable) (names more : List Name) → i < length vs → x ≡ get_or vs i x
-    → goes_with events e x.name ≡ true → more ≡ names ++ x.name ∷ [] → names ≡ variables_with events (take i vs) e → more ≡ variables_with events (take (i + 1) vs) e
-with_take events vs e i x names more h is with_it grown told =
-    grown ∙ ap (λ (l : List Name). l ++ x.name ∷ []) told
-    ∙ sym (with_more events vs e i x h is ∙ ap (λ b. variables_with events (take i vs) e ++ cond b (x.name ∷ []) []) with_it)
-
-pub with_skip :
-    (events : List EventPort) (vs : List Variable) (e : Name) (i : ℕ) (x : Variable) (names : List Name) → i < length vs → x ≡ get_or vs i x
-    → goes_with events e x.name ≡ false → names ≡ variables_with events (take i vs) e → names ≡ variables_with events (take (i + 1) vs) e
-with_skip events vs e i x names h is apart told =
-    told ∙ sym (append-nil (variables_with events (take i vs) e))
-    ∙ sym (with_more events vs e i x h is ∙ ap (λ b. variables_with events (take i vs) e ++ cond b (x.name ∷ []) []) apart)
-
-any_of_named :
-    (events : List EventPort) (e v : Name)
-    → list_any (λ p. among p.with v) (filter (λ p. same_name p.name e) events) ≡ goes_with events e v
-any_of_named [] e v = refl
-any_of_named (p ∷ events) e v =
-    let rest = any_of_named events e v in
-    elim (same_name p.name e) as (λ b. list_any (λ p. among p.with v) (cond b (p ∷ filter (λ p. same_name p.name e) events) (filter (λ p. same_name p.name e) events)) ≡ ◌||◌ (b && among p.with v) (goes_with events e v)) [
-      | true ↦ ap (λ b. ◌||◌ (among p.with v) b) rest
+exits_push :
+    (t : BasicType) (n : Name) (k j : ℕ) (xs : List Transition) (x : Transition) → j ≡ k + length xs
+    → exits_from t n k (xs ++ x ∷ []) ≡ exits_from t n k xs ++ cond (same_name x.from n) (exit_of t j x ∷ []) []
+exits_push t n k j [] x at =
+    let here : k ≡ j = omega (arith, at) in
+    ap (λ i. cond (same_name x.from n) (exit_of t i x ∷ []) []) here
+exits_push t n k j (y ∷ ys) x at =
+    let rest = exits_push t n (suc k) j ys x (omega (arith, at)) in
+    let more : List Exit = cond (same_name x.from n) (exit_of t j x ∷ []) [] in
+    elim (same_name y.from n) as (λ b. cond b (exit_of t k y ∷ exits_from t n (suc k) (ys ++ x ∷ [])) (exits_from t n (suc k) (ys ++ x ∷ []))
+    ≡ cond b (exit_of t k y ∷ exits_from t n (suc k) ys) (exits_from t n (suc k) ys) ++ more) [
+      | true ↦ ap (λ (l : List Exit). exit_of t k y ∷ l) rest
       | false ↦ rest
     ]
 
-any_of_borrowed :
-    (named : List (Bor EventPort)) (v : Name)
-    → list_any (λ p. among p.now.with v) named ≡ list_any (λ (p : EventPort). among p.with v) (map (λ p. p.now) named)
-any_of_borrowed [] v = refl
-any_of_borrowed (p ∷ named) v = ap (λ b. ◌||◌ (among p.now.with v) b) (any_of_borrowed named v)
+exits_more :
+    (t : BasicType) (n : Name) (k : ℕ) (x : Transition) → k < length t.transitions → x ≡ get_or t.transitions k x
+    → exits_from t n 0 (take (k + 1) t.transitions) ≡ exits_from t n 0 (take k t.transitions) ++ cond (same_name x.from n) (exit_of t k x ∷ []) []
+exits_more t n k x within is =
+    let counted : length (take k t.transitions) ≡ k = length-take-le k t.transitions (omega (arith, within)) in
+    ap (exits_from t n 0) (take_more t.transitions k x within ∙ ap (λ (y : Transition). take k t.transitions ++ y ∷ []) (sym is))
+    ∙ exits_push t n 0 k (take k t.transitions) x (omega (arith, counted))
 
--- A variable goes WITH an event where it goes WITH one of those that have its name.
-pub goes_with_named :
-    (events : List EventPort) (named : List (Bor EventPort)) (e v : Name)
-    → map (λ p. p.now) named ≡ filter (λ (p : EventPort). same_name p.name e) events
-    → list_any (λ p. among p.now.with v) named ≡ goes_with events e v
-goes_with_named events named e v is =
-    any_of_borrowed named v ∙ ap (list_any (λ (p : EventPort). among p.with v)) is ∙ any_of_named events e v
+append-nil : {A : Type 0} (xs : List A) → xs ++ [] ≡ xs
+append-nil [] = refl
+append-nil (x ∷ xs) = ap (λ ys. x ∷ ys) (append-nil xs)
+
+-- the row of a state that the transition leaves
+row_left :
+    (t : BasicType) (k : ℕ) (x : Transition) (s : State) (old new : Row) → k < length t.transitions → x ≡ get_or t.transitions k x
+    → same_name x.from s.name ≡ true → old ≡ row_within t k s → new.exits ≡ old.exits ++ exit_of t k x ∷ [] → new.acts ≡ old.acts → new ≡ row_within t (k + 1) s
+row_left t k x s old new within is leaves was exits acts =
+    let more : new.exits ≡ exits_from t s.name 0 (take (k + 1) t.transitions) =
+    exits ∙ ap (λ (r : Row). r.exits ++ exit_of t k x ∷ []) was
+    ∙ sym (exits_more t s.name k x within is ∙ ap (λ b. exits_from t s.name 0 (take k t.transitions) ++ cond b (exit_of t k x ∷ []) []) leaves) in
+    let same : new.acts ≡ map (act_of t) s.actions = acts ∙ ap (λ (r : Row). r.acts) was in
+    ap (λ (l : List Exit). record new { exits = l }) more ∙ ap (λ l. record (row_within t (k + 1) s) { acts = l }) same
+
+-- .. and of any other
+row_stays :
+    (t : BasicType) (k : ℕ) (x : Transition) (s : State) → k < length t.transitions → x ≡ get_or t.transitions k x
+    → same_name x.from s.name ≡ false → row_within t k s ≡ row_within t (k + 1) s
+row_stays t k x s within is apart =
+    ap (λ (l : List Exit). record (row_within t k s) { exits = l })
+    (sym
+    (exits_more t s.name k x within is ∙ ap (λ b. exits_from t s.name 0 (take k t.transitions) ++ cond b (exit_of t k x ∷ []) []) apart
+    ∙ append-nil (exits_from t s.name 0 (take k t.transitions))))
+
+-- ---- All rows
+
+map_same : {A B : Type 0} (f g : A → B) (xs : List A) → ((x : A) → Contains xs x → f x ≡ g x) → map f xs ≡ map g xs
+map_same f g [] same = refl
+map_same {A} {B} f g (x ∷ xs) same =
+    ap (λ (l : List B). f x ∷ l) (map_same f g xs (λ y c. same y (Contains-there x xs y c))) ∙ ap (λ y. y ∷ map g xs) (same x (Contains-here x xs))
+
+name_within : {A : Type 0} (name_of : A → Name) (xs : List A) (x : A) → Contains xs x → Contains (map name_of xs) (name_of x)
+name_within name_of [] x c = absurd (let f = c.1 in omega (arith, f))
+name_within {A} name_of (y ∷ ys) x c =
+    elim (Contains-cons_cases y ys x c) [
+      | inl same ↦ let P : A → Type 0 = λ z. Contains (map name_of (y ∷ ys)) (name_of z) in subst P same (Contains-here (name_of y) (map name_of ys))
+      | inr rest ↦ Contains-there (name_of y) (map name_of ys) (name_of x) (name_within name_of ys x rest)
+    ]
+
+not_named : {A : Type 0} (name_of : A → Name) (n : Name) (xs : List A) (x : A) → ¬ (Contains (map name_of xs) n) → Contains xs x → same_name n (name_of x) ≡ false
+not_named name_of n xs x absent c =
+    false_from_ne_true (same_name n (name_of x))
+    (λ t. absent (let P : Name → Type 0 = λ m. Contains (map name_of xs) m in subst P (sym (same_from_same_name n (name_of x) t)) (name_within name_of xs x c)))
+
+-- what stands at the place of a name changes, and nothing else
+set_named :
+    {A B : Type 0} (f g : A → B) (name_of : A → Name) (n : Name) (xs : List A) (i : ℕ) (x : A) (b : B) → ¬ (Twice (map name_of xs))
+    → position (same_name n) (map name_of xs) ≡ Some i → slice_get xs i ≡ Some x → b ≡ g x → ((y : A) → same_name n (name_of y) ≡ false → f y ≡ g y)
+    → set (map f xs) i b ≡ map g xs
+set_named f g name_of n [] i x b once found at is others = absurd (cc)
+set_named {A} {B} f g name_of n (y ∷ ys) i x b once found at is others =
+    elim (same_name n (name_of y)) as (λ c. same_name n (name_of y) ≡ c → set (map f (y ∷ ys)) i b ≡ map g (y ∷ ys)) [
+      | true ↦ λ e.
+          let first : Some 0 ≡ Some i = sym (position-first (same_name n) (name_of y) (map name_of ys) e) ∙ found in
+          let zeroth : i ≡ 0 = cc in
+          let same : y ≡ x = let there : Some y ≡ Some x = ap (slice_get (y ∷ ys)) (sym zeroth) ∙ at in cc in
+          let absent : ¬ (Contains (map name_of ys) n) =
+          λ c. once (inl (let P : Name → Type 0 = λ m. Contains (map name_of ys) m in subst P (same_from_same_name n (name_of y) e) c)) in
+          ap (λ j. set (map f (y ∷ ys)) j b) zeroth
+          ∙ ap (λ (l : List B). b ∷ l) (map_same f g ys (λ z c. others z (not_named name_of n ys z absent c)))
+          ∙ ap (λ (z : B). z ∷ map g ys) (is ∙ ap g (sym same))
+      | false ↦ λ e.
+          let later = some_suc (position (same_name n) (map name_of ys)) i (sym (position-later (same_name n) (name_of y) (map name_of ys) e) ∙ found) in
+          let next : slice_get ys later.0 ≡ Some x = ap (slice_get (y ∷ ys)) (sym later.2) ∙ at in
+          ap (λ j. set (map f (y ∷ ys)) j b) later.2
+          ∙ ap (λ (l : List B). f y ∷ l) (set_named f g name_of n ys later.0 x b (λ t. once (inr t)) later.1 next is others)
+          ∙ ap (λ (z : B). z ∷ map g ys) (others y e)
+    ] refl
+
+-- a transition more is put to the state at the place of its source ..
+pub rows_left :
+    (t : BasicType) (k i : ℕ) (x : Transition) (old after : List Row) (now new : Row) → k < length t.transitions → x ≡ get_or t.transitions k x
+    → ¬ (Twice (state_names t)) → position (same_name x.from) (state_names t) ≡ Some i → old ≡ map (row_within t k) t.states → now ≡ get_or old i now
+    → new.exits ≡ now.exits ++ exit_of t k x ∷ [] → new.acts ≡ now.acts → after ≡ set old i new → after ≡ map (row_within t (k + 1)) t.states
+rows_left t k i x old after now new within is once found was here exits acts written =
+    let source = position_is (λ (s : State). s.name) x.from t.states i found in
+    let s : State = source.0 in
+    let leaves : same_name x.from s.name ≡ true =
+    ap (λ (n : Name). same_name n s.name) (sym source.2) ∙ same_name-itself s.name in
+    let there : slice_get (map (row_within t k) t.states) i ≡ Some (row_within t k s) =
+    slice_get-map (row_within t k) t.states i ∙ ap (option_map (row_within t k)) source.1 in
+    let read : now ≡ row_within t k s =
+    here ∙ ap (λ (l : List Row). get_or l i now) was ∙ get_or_from_slice_get (map (row_within t k) t.states) i (row_within t k s) now there in
+    written ∙ ap (λ (l : List Row). set l i new) was
+    ∙ set_named (row_within t k) (row_within t (k + 1)) (λ (y : State). y.name) x.from t.states i s new once found source.1
+    (row_left t k x s now new within is leaves read exits acts) (λ y apart. row_stays t k x y within is apart)
+
+-- .. and changes nothing where there is none
+pub rows_stay :
+    (t : BasicType) (k : ℕ) (x : Transition) → k < length t.transitions → x ≡ get_or t.transitions k x → position (same_name x.from) (state_names t) ≡ None
+    → map (row_within t k) t.states ≡ map (row_within t (k + 1)) t.states
+rows_stay t k x within is nowhere =
+    let absent : ¬ (Contains (state_names t) x.from) =
+    λ c. true≢false (sym (any_from_contains x.from (state_names t) c) ∙ sym (is_some-position (same_name x.from) (state_names t)) ∙ ap is_some nowhere) in
+    map_same (row_within t k) (row_within t (k + 1)) t.states
+    (λ s c. row_stays t k x s within is (not_named (λ (y : State). y.name) x.from t.states s absent c))

@@ -1,4 +1,5 @@
 pub mod Actions
+pub mod Indexed
 pub mod Links
 pub mod Numbered
 pub mod Opened

@@ -116,17 +116,10 @@ fn perform(
     ensures fewer { meter.new.left ≤ meter.old.left }
     ensures well_formed { let IsFit = IsWellFormed block.now in All IsFit emits.old → All IsFit emits.new }
 {
-    if let Err(reason) = meter.step() {
-        return Err(Halt::Stop(reason));
-    }
-    match run(block, act.algorithm, frame, meter) {
-        Ok(()) => {}
-        Err(reason) => return Err(Halt::Stop(reason)),
-    }
-    match emit(block, act.output, shown, frame, emits) {
-        Ok(()) => Ok(()),
-        Err(_) => Err(Halt::Memory),
-    }
+    meter.step()?;
+    run(block, act.algorithm, frame, meter)?;
+    emit(block, act.output, shown, frame, emits)?;
+    Ok(())
 }
 
 /// The actions of a state, in their order. Each costs a step.

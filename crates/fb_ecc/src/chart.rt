@@ -1,17 +1,25 @@
 //! The chart of a basic type, with places in place of names. It is made once for a type, so that no name of
 //! a state, an algorithm or an event is compared during a reaction.
 
-ghost use Rattle.std.specs.Prelude.{◌≡◌, IfOk, map, option_map, position};
-ghost use Rattle.std.specs.List.{filter, list_any};
-ghost use Rattle.fb_types.specs.Names.{same_name};
-ghost use Rattle.fb_types.specs.Blocks.{among, variables_with};
-ghost use Rattle.fb_ecc.specs.Numbered.{number_in, exit_of, exits_from, act_of, row_of, names_with_each, chart_of};
+ghost use Rattle.std.specs.Prelude.{◌≡◌, ◌++◌, ◌∷◌, [], List, IfOk, OnOk, map};
+ghost use Rattle.std.specs.List.{filter};
+ghost use Rattle.fb_types.specs.Names.{Name};
+ghost use Rattle.fb_types.specs.Blocks.{among, event_names, variable_names};
+ghost use Rattle.fb_types.specs.Repeated.{Twice};
+ghost use Rattle.fb_types.specs.declared.library.Variable.{Variable};
+ghost use Rattle.fb_names.specs.Places.{IsIndex};
+ghost use Rattle.fb_ecc.specs.Indexed.{AreNumbers, entry_of, picked, row_within};
+ghost use Rattle.fb_ecc.specs.Numbered.{exit_of, act_of, row_of, names_with_each, chart_of};
+ghost use Rattle.fb_ecc.specs.Opened.{IsOfDeclaration};
 
+use crate::numbers::{Numbers, number, optional_number};
+use fb_names::places::{Places, place_of};
 use fb_types::items::Items;
-use fb_types::library::{Action, Algorithm, BasicType, EventPort, State, Transition, Variable};
+use fb_types::library::{Action, BasicType, EventPort, Transition};
 use fb_types::name::Name;
 use fb_types::reference::Reference;
 use std::alloc::{AllocError, Global};
+use std::collections::BTreeMap;
 
 /// A transition, with the places of what it names.
 #[derive(Clone, Copy, Debug)]
@@ -46,215 +54,173 @@ pub struct Chart {
     pub shown: Items<Items<Reference>>,
 }
 
-fn place_of_state(states: &[State], name: &Name) -> Option<usize>
-    ensures { result ≡ position (λ s. same_name name.now s.name) states.now }
-{
-    states.iter().position(|state| name.is(&state.name))
-}
-
-/// The place of a state, or the number of states where there is none of that name.
-pub(crate) fn state_number(states: &[State], name: &Name) -> usize
-    ensures { result ≡ number_in (λ s. s.name) states.now name.now }
-{
-    match place_of_state(states, name) {
-        Some(place) => place,
-        None => states.len(),
-    }
-}
-
-fn place_of_event(events: &[EventPort], name: &Name) -> Option<usize>
-    ensures { result ≡ position (λ p. same_name name.now p.name) events.now }
-{
-    events.iter().position(|port| name.is(&port.name))
-}
-
-/// The place of an event, or the number of events where there is none of that name.
-pub(crate) fn event_number(events: &[EventPort], name: &Name) -> usize
-    ensures { result ≡ number_in (λ p. p.name) events.now name.now }
-{
-    match place_of_event(events, name) {
-        Some(place) => place,
-        None => events.len(),
-    }
-}
-
-fn place_of_algorithm(algorithms: &[Algorithm], name: &Name) -> Option<usize>
-    ensures { result ≡ position (λ a. same_name name.now a.name) algorithms.now }
-{
-    algorithms
-        .iter()
-        .position(|algorithm| name.is(&algorithm.name))
-}
-
-/// The place of an algorithm, or the number of algorithms where there is none of that name.
-fn algorithm_number(algorithms: &[Algorithm], name: &Name) -> usize
-    ensures { result ≡ number_in (λ a. a.name) algorithms.now name.now }
-{
-    match place_of_algorithm(algorithms, name) {
-        Some(place) => place,
-        None => algorithms.len(),
-    }
-}
-
-fn optional_event(events: &[EventPort], name: &Option<Name>) -> Option<usize>
-    ensures { result ≡ option_map (number_in (λ p. p.name) events.now) name.now }
-{
-    match name {
-        Some(name) => Some(event_number(events, name)),
-        None => None,
-    }
-}
-
-fn optional_algorithm(algorithms: &[Algorithm], name: &Option<Name>) -> Option<usize>
-    ensures { result ≡ option_map (number_in (λ a. a.name) algorithms.now) name.now }
-{
-    match name {
-        Some(name) => Some(algorithm_number(algorithms, name)),
-        None => None,
-    }
-}
-
-fn numbered_transition(block: &BasicType, place: usize, transition: &Transition) -> Exit
+fn numbered_transition(
+    block: &BasicType,
+    numbers: &Numbers,
+    place: usize,
+    transition: &Transition,
+) -> Exit
+    requires { AreNumbers block.now numbers.now }
     ensures { result ≡ exit_of block.now place transition.now }
 {
-    let events = block.ports.event_inputs.as_slice();
+    let event = &transition.condition.event;
+    let events = block.ports.event_inputs.len();
     Exit {
         transition: place,
-        event: optional_event(events, &transition.condition.event),
-        target: state_number(block.states.as_slice(), &transition.to),
+        event: optional_number(&numbers.event_inputs, events, event),
+        target: number(&numbers.states, block.states.len(), &transition.to),
     }
 }
 
-/// The transitions that leave a state, in the order of the text.
-fn exits(alloc: Global, block: &BasicType, state: &Name) -> Result<Items<Exit>, AllocError>
-    ensures { IfOk result (λ exits. exits ≡ exits_from block.now state.now 0 block.now.transitions) }
-{
-    let mut exits = Items::new(alloc);
-    for (place, transition) in block.transitions.as_slice().iter().enumerate() {
-        if transition.from.is(state) {
-            exits.push(numbered_transition(block, place, transition))?;
-        }
-    }
-    Ok(exits)
-}
-
-fn numbered_action(block: &BasicType, action: &Action) -> Act
+fn numbered_action(block: &BasicType, numbers: &Numbers, action: &Action) -> Act
+    requires { AreNumbers block.now numbers.now }
     ensures { result ≡ act_of block.now action.now }
 {
-    let algorithm = optional_algorithm(block.algorithms.as_slice(), &action.algorithm);
-    let output = optional_event(block.ports.event_outputs.as_slice(), &action.output);
-    Act { algorithm, output }
+    let algorithms = block.algorithms.len();
+    let outputs = block.ports.event_outputs.len();
+    Act {
+        algorithm: optional_number(&numbers.algorithms, algorithms, &action.algorithm),
+        output: optional_number(&numbers.event_outputs, outputs, &action.output),
+    }
 }
 
-fn acts(alloc: Global, block: &BasicType, actions: &[Action]) -> Result<Items<Act>, AllocError>
+fn acts(
+    alloc: Global,
+    block: &BasicType,
+    numbers: &Numbers,
+    actions: &[Action],
+) -> Result<Items<Act>, AllocError>
+    requires { AreNumbers block.now numbers.now }
     ensures { IfOk result (λ acts. acts ≡ map (act_of block.now) actions.now) }
 {
     let mut acts = Items::new(alloc);
     for action in actions {
-        acts.push(numbered_action(block, action))?;
+        acts.push(numbered_action(block, numbers, action))?;
     }
     Ok(acts)
 }
 
-fn rows(alloc: Global, block: &BasicType) -> Result<Items<Row>, AllocError>
-    ensures { IfOk result (λ rows. rows ≡ map (row_of block.now) block.now.states) }
+/// The states with their actions, as yet without transitions.
+fn rows_begun(alloc: Global, block: &BasicType, numbers: &Numbers) -> Result<Vec<Row>, AllocError>
+    requires { AreNumbers block.now numbers.now }
+    ensures { IfOk result (λ rows. rows.items ≡ map (row_within block.now 0) block.now.states) }
 {
-    let mut rows = Items::new(alloc);
+    let mut rows = Vec::new(alloc);
     for state in block.states.as_slice() {
-        let exits = exits(alloc, block, &state.name)?;
-        let acts = acts(alloc, block, state.actions.as_slice())?;
+        let acts = acts(alloc, block, numbers, state.actions.as_slice())?;
+        let exits = Items::new(alloc);
         rows.push(Row { exits, acts })?;
     }
     Ok(rows)
 }
 
-fn is_among(names: &[Name], name: &Name) -> bool
-    ensures { result ≡ among names.now name.now }
+/// Puts a transition behind the others that leave a state.
+fn leave(row: &mut Row, exit: Exit) -> Result<(), AllocError>
+    ensures exits { OnOk result (row.new.exits ≡ row.old.exits ++ exit ∷ []) }
+    ensures acts { OnOk result (row.new.acts ≡ row.old.acts) }
 {
-    names.iter().any(|other| name.is(other))
+    row.exits.push(exit)
 }
 
-/// The events of a name.
-fn events_named<'a>(
-    alloc: Global,
-    events: &'a [EventPort],
-    name: &Name,
-) -> Result<Vec<&'a EventPort>, AllocError>
-    ensures { IfOk result (λ named. map (λ p. p.now) named.items ≡ filter (λ p. same_name p.name name.now) events.now) }
+/// The states. The transitions are gone through once, each in its turn put to the state that it leaves.
+fn rows(alloc: Global, block: &BasicType, numbers: &Numbers) -> Result<Items<Row>, AllocError>
+    requires { AreNumbers block.now numbers.now }
+    ensures { IfOk result (λ rows. rows ≡ map (row_of block.now) block.now.states) }
 {
-    let mut named = Vec::new(alloc);
-    for port in events {
-        if port.name.is(name) {
-            named.push(port)?;
+    let mut rows = rows_begun(alloc, block, numbers)?;
+    for (place, transition) in block.transitions.as_slice().iter().enumerate() {
+        if let Some(source) = place_of(&numbers.states, transition.from.as_bytes()) {
+            let exit = numbered_transition(block, numbers, place, transition);
+            leave(&mut rows[source], exit)?;
         }
     }
-    Ok(named)
+    Ok(Items::from_vec(rows))
 }
 
-/// Whether a variable goes WITH one of the events.
-fn is_with(events: &[&EventPort], variable: &Name) -> bool
-    ensures { result ≡ list_any (λ p. among p.now.with variable.now) events.now }
+/// The names that stand among others, by their places among these.
+fn found_among<'a>(
+    alloc: Global,
+    names: &'a [Name],
+    places: &Places,
+) -> Result<BTreeMap<usize, &'a Name, Global>, AllocError>
+    ensures { IfOk result (λ found. (all : List Name) → IsIndex all places.now → map entry_of found.entries ≡ picked (among names.now) all 0) }
 {
-    events
-        .iter()
-        .any(|port| is_among(port.with.as_slice(), variable))
+    let mut found = BTreeMap::new(alloc);
+    for name in names {
+        if let Some(place) = place_of(places, name.as_bytes()) {
+            found.insert(place, name)?;
+        }
+    }
+    Ok(found)
 }
 
-/// The variables WITH an event, in the order of the declaration. The first of the variables is expected at
-/// that place among all variables of the block.
+/// Names with their places, in the order of the places.
+fn in_order<'a>(
+    alloc: Global,
+    found: BTreeMap<usize, &'a Name, Global>,
+) -> Result<Vec<(usize, &'a Name)>, AllocError>
+    ensures { IfOk result (λ entries. entries.items ≡ found.entry.entries) }
+{
+    found.into_iter().collect(alloc)
+}
+
+/// The variables WITH an event, in the order of the declaration. The first of the variables is expected at that
+/// place among all variables of the block.
 fn names_with(
     alloc: Global,
-    events: &[EventPort],
-    variables: &[Variable],
+    with: &[Name],
+    variables: &Places,
     first: usize,
-    event: &Name,
 ) -> Result<Items<Reference>, AllocError>
-    ensures { IfOk result (λ names. names ≡ variables_with events.now variables.now event.now) }
+    ensures { IfOk result (λ names. (all : List Name) → IsIndex all variables.now → names ≡ filter (among with.now) all) }
 {
-    // Each variable is looked for in these alone: a search through all events would take long in a large type.
-    let named = events_named(alloc, events, event)?;
+    let found = found_among(alloc, with, variables)?;
+    let entries = in_order(alloc, found)?;
     let mut names = Items::new(alloc);
-    for (place, variable) in variables.iter().enumerate() {
-        if is_with(named.as_slice(), &variable.name) {
-            let name = Reference::new(variable.name.try_clone(alloc)?);
-            name.expect_at(first.saturating_add(place));
-            names.push(name)?;
-        }
+    for entry in entries.as_slice() {
+        let (place, name) = *entry;
+        let name = Reference::new(name.try_clone(alloc)?);
+        name.expect_at(first.saturating_add(place));
+        names.push(name)?;
     }
     Ok(names)
 }
 
-/// The variables WITH each event.
+/// The variables WITH each event. Events differ by their names, so each has those of its own list.
 fn all_names_with(
     alloc: Global,
     events: &[EventPort],
-    variables: &[Variable],
+    variables: &Places,
     first: usize,
 ) -> Result<Items<Items<Reference>>, AllocError>
-    ensures { IfOk result (λ all. all ≡ names_with_each events.now variables.now) }
+    requires { ¬ (Twice (event_names events.now)) }
+    ensures { IfOk result (λ all. (list : List Variable) → IsIndex (variable_names list) variables.now → all ≡ names_with_each events.now list) }
 {
     let mut all = Items::new(alloc);
     for event in events {
-        all.push(names_with(alloc, events, variables, first, &event.name)?)?;
+        all.push(names_with(alloc, event.with.as_slice(), variables, first)?)?;
     }
     Ok(all)
 }
 
 impl Chart {
-    /// The chart of a basic type.
+    /// The chart of a type of an accepted declaration.
+    ///
+    /// # Errors
+    /// When memory runs out.
     pub fn of(alloc: Global, block: &BasicType) -> Result<Chart, AllocError>
+        requires { IsOfDeclaration block.now }
         ensures { IfOk result (λ chart. chart ≡ chart_of block.now) }
     {
+        let numbers = Numbers::of(alloc, block)?;
         let ports = &block.ports;
-        let inputs = ports.inputs.as_slice();
-        let outputs = ports.outputs.as_slice();
-        let rows = rows(alloc, block)?;
-        let sampled = all_names_with(alloc, ports.event_inputs.as_slice(), inputs, 0)?;
-        let shown = all_names_with(alloc, ports.event_outputs.as_slice(), outputs, inputs.len())?;
+        let inputs = ports.event_inputs.as_slice();
+        let outputs = ports.event_outputs.as_slice();
+        let first_output = ports.inputs.len();
         Ok(Chart {
-            rows,
-            sampled,
-            shown,
+            rows: rows(alloc, block, &numbers)?,
+            sampled: all_names_with(alloc, inputs, &numbers.inputs, 0)?,
+            shown: all_names_with(alloc, outputs, &numbers.outputs, first_output)?,
         })
     }
 }

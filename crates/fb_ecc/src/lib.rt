@@ -4,12 +4,13 @@
 //! steps, and the reason to stop; `state::BasicState::open` opens a block of a type of an accepted declaration, with the
 //! one chart that all blocks of the type share.
 //!
-//! To be read in this order: `state`, what a block is between reactions; `chart`, and `shared`, how its blocks share it;
-//! `reaction`; `trial` and `action`.
+//! To be read in this order: `state`, what a block is between reactions; `chart`, how it is made by `numbers`, and `shared`,
+//! how the blocks of its type share it; `reaction`; `trial` and `action`.
 #![tactic(auto)]
 
 mod action;
 mod chart;
+mod numbers;
 pub mod reaction;
 pub mod shared;
 pub mod state;

@@ -75,13 +75,12 @@ fn link(
     ensures well_formed { let IsFit = IsWellFormed block.now in All IsFit emits.old → All IsFit emits.new }
 {
     let exits = state.chart.leaving(state.state);
-    match cleared(block, exits, present, &state.frame, meter) {
-        Ok(Some(target)) => {
+    match cleared(block, exits, present, &state.frame, meter)? {
+        Some(target) => {
             enter(state, block, target, meter, emits)?;
             Ok(true)
         }
-        Ok(None) => Ok(false),
-        Err(reason) => Err(Halt::Stop(reason)),
+        None => Ok(false),
     }
 }
 

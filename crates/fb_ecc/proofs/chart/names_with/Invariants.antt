@@ -1,6 +1,5 @@
-use Rattle.std.proofs.Common.{◌≡◌, take}
-use Rattle.fb_types.specs.Blocks.{variables_with}
+use Rattle.std.proofs.Common.{◌≡◌, map, take}
 use Rattle.fb_ecc.proofs.chart.names_with.Given as goal
 
-abbrev pub invariant-loop-place : goal.invariant-loop-place
-invariant-loop-place l = l.names ≡ variables_with l.events (take l.place l.variables) l.event
+abbrev pub invariant-loop-entry : goal.invariant-loop-entry
+invariant-loop-entry l = l.names ≡ map (λ e. e.1.now) (take l.entry-index l.entry-items)

@@ -1,6 +1,6 @@
-use Rattle.std.proofs.Common.{◌≡◌, map, take}
-use Rattle.fb_ecc.specs.Numbered.{row_of}
+use Rattle.std.proofs.Common.{◌≡◌, map}
+use Rattle.fb_ecc.specs.Indexed.{row_within}
 use Rattle.fb_ecc.proofs.chart.rows.Given as goal
 
-abbrev pub invariant-loop-state : goal.invariant-loop-state
-invariant-loop-state l = l.rows ≡ map (row_of l.block) (take l.state-index l.block.states)
+abbrev pub invariant-loop-place : goal.invariant-loop-place
+invariant-loop-place l = l.rows.items ≡ map (row_within l.block l.place) l.block.states

@@ -17,48 +17,49 @@ cleared-requires-clause-exits c =
     let has = exits_read c.args.block.now c.args.state.now.chart c.args.state.now.state c.leaving-exits.result.now c.requires.sound c.requires.block.chart c.requires.block.state c.leaving-exits.ensures in
     has.each
 
-pub returns-in_err-enter-in-Ok-Some-clause-linked : goal.returns-in_err-enter-in-Ok-Some-clause-linked
-returns-in_err-enter-in-Ok-Some-clause-linked c =
+pub returns-in_err-enter-in-Some-clause-linked : goal.returns-in_err-enter-in-Some-clause-linked
+returns-in_err-enter-in-Some-clause-linked c =
     let has = exits_read c.args.block.now c.args.state.now.chart c.args.state.now.state c.leaving-exits.result.now c.requires.sound c.requires.block.chart c.requires.block.state c.leaving-exits.ensures in
     let event : Option Name = option_map (event_at c.args.block.now.ports.event_inputs) c.args.present in
     let p : Place = place c.args.block.now c.args.state.now.state c.args.state.now.frame c.args.meter.now.left c.args.emits.now in
-    let target : Name = state_at c.args.block.now c.in-Ok-Some.target in
+    let target : Name = state_at c.args.block.now c.in-Some.target in
     let left : ℕ = c.cleared.new.meter.left in
-    let m : Place = place c.args.block.now c.in-Ok-Some.target c.args.state.now.frame left c.args.emits.now in
+    let m : Place = place c.args.block.now c.in-Some.target c.args.state.now.frame left c.args.emits.now in
     let q : Place = place c.args.block.now c.enter.new.state.state c.enter.new.state.frame c.enter.new.meter.left c.enter.new.emits in
-    let tried = trial_here c.args.block.now c.leaving-exits.result.now event p _ has.leaving_is (c.in-Ok-Some.ensures.trial ∙ ap (λ (o : Option ℕ). trial c.args.block.now (Ok o) c.cleared.new.meter.left) c.in-Ok-Some.field-0-is) in
+    let tried = trial_here c.args.block.now c.leaving-exits.result.now event p _ has.leaving_is (c.in_ok-target.ensures.trial ∙ ap (λ (o : Option ℕ). trial c.args.block.now (Ok o) c.cleared.new.meter.left) c.in-Some.is) in
     let moves = Acts c.args.block.now (actions_of c.args.block.now target) left in
-    let ended = subst (λ (r : Result (Unit {0}) Halt). Ended r moves m q) c.in_err-enter-in-Ok-Some.was c.enter.ensures.performed in
-    let x = err_from_is_err_and c.from_residual.result c.from_residual.ensures.1 in
+    let ended = subst (λ (r : Result (Unit {0}) Halt). Ended r moves m q) c.in_err-enter-in-Some.was c.enter.ensures.performed in
+    let x = err_from_is_err_and c.from_residual-in_err-enter-in-Some.result c.from_residual-in_err-enter-in-Some.ensures.1 in
     rw (x.1, x.2)
-    (linked_early c.args.block.now c.in_err-enter-in-Ok-Some.field-0.0 event moves p m q (λ r acts. stops_in c.args.block.now event p q target left r tried acts) ended)
+    (linked_early c.args.block.now c.in_err-enter-in-Some.field-0.0 event moves p m q (λ r acts. stops_in c.args.block.now event p q target left r tried acts) ended)
 
-pub returns-in_ok-enter-in-Ok-Some-clause-linked : goal.returns-in_ok-enter-in-Ok-Some-clause-linked
-returns-in_ok-enter-in-Ok-Some-clause-linked c =
+pub returns-in_ok-enter-in-Some-clause-linked : goal.returns-in_ok-enter-in-Some-clause-linked
+returns-in_ok-enter-in-Some-clause-linked c =
     let has = exits_read c.args.block.now c.args.state.now.chart c.args.state.now.state c.leaving-exits.result.now c.requires.sound c.requires.block.chart c.requires.block.state c.leaving-exits.ensures in
     let event : Option Name = option_map (event_at c.args.block.now.ports.event_inputs) c.args.present in
     let p : Place = place c.args.block.now c.args.state.now.state c.args.state.now.frame c.args.meter.now.left c.args.emits.now in
-    let target : Name = state_at c.args.block.now c.in-Ok-Some.target in
+    let target : Name = state_at c.args.block.now c.in-Some.target in
     let left : ℕ = c.cleared.new.meter.left in
-    let m : Place = place c.args.block.now c.in-Ok-Some.target c.args.state.now.frame left c.args.emits.now in
+    let m : Place = place c.args.block.now c.in-Some.target c.args.state.now.frame left c.args.emits.now in
     let q : Place = place c.args.block.now c.enter.new.state.state c.enter.new.state.frame c.enter.new.meter.left c.enter.new.emits in
-    let tried = trial_here c.args.block.now c.leaving-exits.result.now event p _ has.leaving_is (c.in-Ok-Some.ensures.trial ∙ ap (λ (o : Option ℕ). trial c.args.block.now (Ok o) c.cleared.new.meter.left) c.in-Ok-Some.field-0-is) in
+    let tried = trial_here c.args.block.now c.leaving-exits.result.now event p _ has.leaving_is (c.in_ok-target.ensures.trial ∙ ap (λ (o : Option ℕ). trial c.args.block.now (Ok o) c.cleared.new.meter.left) c.in-Some.is) in
     let moves = Acts c.args.block.now (actions_of c.args.block.now target) left in
-    let ended = subst (λ (r : Result (Unit {0}) Halt). Ended r moves m q) c.in_ok-enter-in-Ok-Some.was c.enter.ensures.performed in
+    let ended = subst (λ (r : Result (Unit {0}) Halt). Ended r moves m q) c.in_ok-enter-in-Some.was c.enter.ensures.performed in
     λ stop end rest. goes_on c.args.block.now event p q end target left stop tried ended rest
 
-pub returns-in-Ok-None-clause-linked : goal.returns-in-Ok-None-clause-linked
-returns-in-Ok-None-clause-linked c =
+pub returns-in-None-clause-linked : goal.returns-in-None-clause-linked
+returns-in-None-clause-linked c =
     let has = exits_read c.args.block.now c.args.state.now.chart c.args.state.now.state c.leaving-exits.result.now c.requires.sound c.requires.block.chart c.requires.block.state c.leaving-exits.ensures in
     let event : Option Name = option_map (event_at c.args.block.now.ports.event_inputs) c.args.present in
     let p : Place = place c.args.block.now c.args.state.now.state c.args.state.now.frame c.args.meter.now.left c.args.emits.now in
-    let tried = trial_here c.args.block.now c.leaving-exits.result.now event p _ has.leaving_is (c.in-Ok-None.ensures.trial ∙ ap (λ (o : Option ℕ). trial c.args.block.now (Ok o) c.cleared.new.meter.left) c.in-Ok-None.field-0-is) in
+    let tried = trial_here c.args.block.now c.leaving-exits.result.now event p _ has.leaving_is (c.in_ok-target.ensures.trial ∙ ap (λ (o : Option ℕ). trial c.args.block.now (Ok o) c.cleared.new.meter.left) c.in-None.is) in
     rests c.args.block.now event p c.cleared.new.meter.left tried
 
-pub returns-in-Err-clause-linked : goal.returns-in-Err-clause-linked
-returns-in-Err-clause-linked c =
+pub returns-in_err-target-clause-linked : goal.returns-in_err-target-clause-linked
+returns-in_err-target-clause-linked c =
     let has = exits_read c.args.block.now c.args.state.now.chart c.args.state.now.state c.leaving-exits.result.now c.requires.sound c.requires.block.chart c.requires.block.state c.leaving-exits.ensures in
     let event : Option Name = option_map (event_at c.args.block.now.ports.event_inputs) c.args.present in
     let p : Place = place c.args.block.now c.args.state.now.state c.args.state.now.frame c.args.meter.now.left c.args.emits.now in
-    let tried = trial_here c.args.block.now c.leaving-exits.result.now event p _ has.leaving_is c.in-Err.ensures.trial in
-    fails c.args.block.now event p c.cleared.new.meter.left c.in-Err.reason tried
+    let tried = trial_here c.args.block.now c.leaving-exits.result.now event p _ has.leaving_is c.in_err-target.ensures.trial in
+    let x = err_from_is_err_and c.from_residual.result c.from_residual.ensures.1 in
+    rw (x.1, x.2) (fails c.args.block.now event p c.cleared.new.meter.left c.in_err-target.field-0.0 tried)

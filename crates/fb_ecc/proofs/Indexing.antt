@@ -1,0 +1,241 @@
+-- Numbers from maps, and names that are picked out in their order.
+use Rattle.std.proofs.Common.{◌≡◌, ◌⊎◌, ℕ, zero, suc, ◌+◌, ◌<◌, ◌≤◌, Bool, true, false, cond, ◌&&◌, ◌||◌, List, [], ◌∷◌, ◌++◌, length, map, Option, Some, None, Bor, Contains, refl, sym, ◌∙◌, ap, subst, arith, inl, inr}
+use Rattle.std.specs.Prelude.{position, option_map, unwrap_or, is_some}
+use Rattle.std.specs.BTreeMap.{BTreeMap, insert_entry}
+use Rattle.std.specs.List.{filter, list_any}
+use Rattle.std.specs.Ordering.{match_ordering, nat_cmp}
+use Rattle.std.specs.declared.cmp.Ordering.TheVariants.{Less, Equal, Greater}
+use Rattle.std.proofs.lemmas.Bool.{true≢false, false_from_ne_true}
+use Rattle.std.proofs.lemmas.Bool.Decides.{nat_tests}
+use Rattle.std.proofs.lemmas.List.Folds.{list_any-append}
+use Rattle.fb_types.specs.Names.{Name, same_name}
+use Rattle.fb_types.specs.Blocks.{among, event_names}
+use Rattle.fb_types.specs.Repeated.{Twice}
+use Rattle.fb_types.specs.declared.library.EventPort.{EventPort}
+use Rattle.fb_types.proofs.NameLaws.{any_from_contains, same_from_same_name, same_name-flip, same_name-itself}
+use Rattle.fb_names.specs.Places.{IsIndex, place_in}
+use Rattle.fb_types.proofs.Elements.{Contains-cons_cases, Contains-here, Contains-there}
+use Rattle.fb_types.proofs.Positions.{is_some-position, position-cons, position-first}
+use Rattle.fb_st.proofs.Places.{position-later}
+use Rattle.fb_ecc.specs.Numbered.{number_in}
+use Rattle.fb_ecc.specs.Indexed.{entry_of, picked}
+
+-- ---- Numbers
+
+position_map : {A : Type 0} (f : A → Name) (n : Name) (xs : List A) → position (same_name n) (map f xs) ≡ position (λ x. same_name n (f x)) xs
+position_map f n [] = refl
+position_map f n (x ∷ xs) =
+    position-cons (same_name n) (f x) (map f xs)
+    ∙ ap (λ o. cond (same_name n (f x)) (Some 0) (option_map (λ i. i + 1) o)) (position_map f n xs) ∙ sym (position-cons (λ y. same_name n (f y)) x xs)
+
+pub numbered :
+    {A : Type 0} (f : A → Name) (xs : List A) (places : BTreeMap (Bor Name) ℕ) (count : ℕ) (n : Name) (r : ℕ) → IsIndex (map f xs) places → count ≡ length xs
+    → r ≡ unwrap_or (place_in places n) count → r ≡ number_in f xs n
+numbered f xs places count n r index counted told =
+    told ∙ ap (λ o. unwrap_or o count) (index.place n ∙ position_map f n xs)
+    ∙ ap (λ k. unwrap_or (position (λ x. same_name n (f x)) xs) k) counted
+
+pub numbered_if_named :
+    {A : Type 0} (f : A → Name) (xs : List A) (places : BTreeMap (Bor Name) ℕ) (count : ℕ) (o : Option Name) (r : Option ℕ) → IsIndex (map f xs) places
+    → count ≡ length xs → r ≡ option_map (λ n. unwrap_or (place_in places n) count) o → r ≡ option_map (number_in f xs) o
+numbered_if_named f xs places count None r index counted told = told
+numbered_if_named f xs places count (Some n) r index counted told =
+    told ∙ ap Some (numbered f xs places count n (unwrap_or (place_in places n) count) index counted refl)
+
+-- ---- Names that are picked
+
+pub picked_none : (ns : List Name) (k : ℕ) → picked (among []) ns k ≡ []
+picked_none [] k = refl
+picked_none (n ∷ ns) k = picked_none ns (suc k)
+
+picked_same : (p q : Name → Bool) (ns : List Name) (k : ℕ) → ((n : Name) → Contains ns n → p n ≡ q n) → picked p ns k ≡ picked q ns k
+picked_same p q [] k same = refl
+picked_same p q (n ∷ ns) k same =
+    ap (λ (l : List (ℕ × Name)). cond (p n) ((k, n) ∷ l) l) (picked_same p q ns (suc k) (λ m c. same m (Contains-there n ns m c)))
+    ∙ ap (λ b. cond b ((k, n) ∷ picked q ns (suc k)) (picked q ns (suc k))) (same n (Contains-here n ns))
+
+-- a place before all others is put before them
+insert_before : (p : Name → Bool) (ns : List Name) (k place : ℕ) (m : Name) → place < k → insert_entry nat_cmp (picked p ns k) place m ≡ (place, m) ∷ picked p ns k
+insert_before p [] k place m less = refl
+insert_before p (n ∷ ns) k place m less =
+    let below : nat_cmp place k ≡ Less = grind (arith, nat_tests, less) in
+    let rest : List (ℕ × Name) = picked p ns (suc k) in
+    elim (p n) as (λ b. insert_entry nat_cmp (cond b ((k, n) ∷ rest) rest) place m ≡ (place, m) ∷ cond b ((k, n) ∷ rest) rest) [
+      | true ↦ ap (λ o. match_ordering o ((place, m) ∷ (k, n) ∷ rest) ((k, m) ∷ rest) ((k, n) ∷ insert_entry nat_cmp rest place m)) below
+      | false ↦ insert_before p ns (suc k) place m (omega (arith, less))
+    ]
+
+abbrev OneMore : (Name → Bool) → (Name → Bool) → Name → Type 0
+OneMore p q m = (n : Name) → q n ≡ (p n || same_name n m)
+
+or_false : (b : Bool) → (b || false) ≡ b
+or_false true = refl
+or_false false = refl
+
+or_true : (b : Bool) → (b || true) ≡ true
+or_true true = refl
+or_true false = refl
+
+-- a name that is not in the list picks nothing more
+not_in : (m n : Name) (ns : List Name) → ¬ (Contains ns m) → Contains ns n → same_name n m ≡ false
+not_in m n ns absent c =
+    false_from_ne_true (same_name n m)
+    (λ t. absent (let P : Name → Type 0 = λ x. Contains ns x in subst P (same_from_same_name n m t) c))
+
+picked_apart : (p q : Name → Bool) (ns : List Name) (m : Name) (k : ℕ) → OneMore p q m → ¬ (Contains ns m) → picked p ns k ≡ picked q ns k
+picked_apart p q ns m k more absent =
+    picked_same p q ns k (λ n c. sym (more n ∙ ap (λ b. p n || b) (not_in m n ns absent c) ∙ or_false (p n)))
+
+at_here :
+    (p q : Name → Bool) (n : Name) (ns : List Name) (m : Name) (k place : ℕ) → ¬ (Contains ns n) → OneMore p q m → m ≡ n → place ≡ k
+    → insert_entry nat_cmp (picked p (n ∷ ns) k) place m ≡ picked q (n ∷ ns) k
+at_here p q n ns m k place absent more is at =
+    let rest : List (ℕ × Name) = picked p ns (suc k) in
+    let passes : q n ≡ true =
+    more n ∙ ap (λ x. p n || same_name n x) is ∙ ap (λ b. p n || b) (same_name-itself n) ∙ or_true (p n) in
+    let absent_m : ¬ (Contains ns m) = λ c. absent (let P : Name → Type 0 = λ x. Contains ns x in subst P is c) in
+    let others : rest ≡ picked q ns (suc k) = picked_apart p q ns m (suc k) more absent_m in
+    let equal : nat_cmp k k ≡ Equal = grind (arith, nat_tests) in
+    let inserted : insert_entry nat_cmp (cond (p n) ((k, n) ∷ rest) rest) k n ≡ (k, n) ∷ rest =
+    elim (p n) as (λ b. insert_entry nat_cmp (cond b ((k, n) ∷ rest) rest) k n ≡ (k, n) ∷ rest) [
+      | true ↦ ap (λ o. match_ordering o ((k, n) ∷ (k, n) ∷ rest) ((k, n) ∷ rest) ((k, n) ∷ insert_entry nat_cmp rest k n)) equal
+      | false ↦ insert_before p ns (suc k) k n (omega arith)
+    ] in
+    ap (λ (x : Name). insert_entry nat_cmp (picked p (n ∷ ns) k) place x) is ∙ ap (λ i. insert_entry nat_cmp (picked p (n ∷ ns) k) i n) at
+    ∙ inserted ∙ ap (λ (l : List (ℕ × Name)). (k, n) ∷ l) others
+    ∙ sym (ap (λ b. cond b ((k, n) ∷ picked q ns (suc k)) (picked q ns (suc k))) passes)
+
+pub some_suc : (o : Option ℕ) (i : ℕ) → option_map (λ j. suc j) o ≡ Some i → (j : ℕ) × (o ≡ Some j) × (i ≡ suc j)
+some_suc None i h = absurd (cc)
+some_suc (Some j) i h = (j, refl, let e : suc j ≡ i = cc in sym e)
+
+-- a name that stands at a place is picked as well
+picked_at :
+    (p q : Name → Bool) (ns : List Name) (m : Name) (k i place : ℕ) → ¬ (Twice ns) → OneMore p q m → position (same_name m) ns ≡ Some i → place ≡ k + i
+    → insert_entry nat_cmp (picked p ns k) place m ≡ picked q ns k
+picked_at p q [] m k i place once more found at = absurd (cc)
+picked_at p q (n ∷ ns) m k i place once more found at =
+    elim (same_name m n) as (λ b. same_name m n ≡ b → insert_entry nat_cmp (picked p (n ∷ ns) k) place m ≡ picked q (n ∷ ns) k) [
+      | true ↦ λ e.
+          let first : Some 0 ≡ Some i = sym (position-first (same_name m) n ns e) ∙ found in
+          let zeroth : 0 ≡ i = cc in
+          at_here p q n ns m k place (λ c. once (inl c)) more (same_from_same_name m n e) (omega (arith, at, zeroth))
+      | false ↦ λ e.
+          let later = some_suc (position (same_name m) ns) i (sym (position-later (same_name m) n ns e) ∙ found) in
+          let next : place ≡ suc k + later.0 = let f = later.2 in omega (arith, at, f) in
+          let above : nat_cmp place k ≡ Greater = let less : k < place = omega (arith, next) in grind (arith, nat_tests, less) in
+          let rest = picked_at p q ns m (suc k) later.0 place (λ t. once (inr t)) more later.1 next in
+          let same : q n ≡ p n = more n ∙ ap (λ b. p n || b) (same_name-flip n m ∙ e) ∙ or_false (p n) in
+          let others : List (ℕ × Name) = picked p ns (suc k) in
+          (elim (p n) as (λ b. insert_entry nat_cmp (cond b ((k, n) ∷ others) others) place m ≡ cond b ((k, n) ∷ picked q ns (suc k)) (picked q ns (suc k))) [
+            | true ↦ ap (λ o. match_ordering o ((place, m) ∷ (k, n) ∷ others) ((k, m) ∷ others) ((k, n) ∷ insert_entry nat_cmp others place m)) above
+                ∙ ap (λ (l : List (ℕ × Name)). (k, n) ∷ l) rest
+            | false ↦ rest
+          ])
+          ∙ ap (λ b. cond b ((k, n) ∷ picked q ns (suc k)) (picked q ns (suc k))) (sym same)
+    ] refl
+
+insert_named :
+    (es : List (ℕ × Bor Name)) (k : ℕ) (b : Bor Name) → map entry_of (insert_entry nat_cmp es k b) ≡ insert_entry nat_cmp (map entry_of es) k b.now
+insert_named [] k b = refl
+insert_named (e ∷ es) k b =
+    elim (nat_cmp k e.0) as (λ o. map entry_of (match_ordering o ((k, b) ∷ e ∷ es) ((e.0, b) ∷ es) (e ∷ insert_entry nat_cmp es k b))
+    ≡ match_ordering o ((k, b.now) ∷ entry_of e ∷ map entry_of es) ((e.0, b.now) ∷ map entry_of es) (entry_of e ∷ insert_entry nat_cmp (map entry_of es) k b.now)) [
+      | Less ↦ refl
+      | Equal ↦ refl
+      | Greater ↦ ap (λ (l : List (ℕ × Name)). entry_of e ∷ l) (insert_named es k b)
+    ]
+
+among_more : (ns : List Name) (m n : Name) → among (ns ++ m ∷ []) n ≡ (among ns n || same_name n m)
+among_more ns m n = list_any-append (same_name n) ns (m ∷ []) ∙ ap (λ b. among ns n || b) (or_false (same_name n m))
+
+-- one more name is gone through, which stands at a place ..
+pub picks_found :
+    (all sofar : List Name) (old new : List (ℕ × Bor Name)) (m : Bor Name) (place : ℕ) (places : BTreeMap (Bor Name) ℕ) → IsIndex all places
+    → place_in places m.now ≡ Some place → new ≡ insert_entry nat_cmp old place m → map entry_of old ≡ picked (among sofar) all 0
+    → map entry_of new ≡ picked (among (sofar ++ m.now ∷ [])) all 0
+picks_found all sofar old new m place places index found inserted told =
+    ap (map entry_of) inserted ∙ insert_named old place m ∙ ap (λ (l : List (ℕ × Name)). insert_entry nat_cmp l place m.now) told
+    ∙ picked_at (among sofar) (among (sofar ++ m.now ∷ [])) all m.now 0 place place index.once (among_more sofar m.now) (sym (index.place m.now) ∙ found) (omega arith)
+
+-- .. or which is none of all
+pub picks_none :
+    (all sofar : List Name) (old : List (ℕ × Bor Name)) (m : Name) (places : BTreeMap (Bor Name) ℕ) → IsIndex all places
+    → place_in places m ≡ None → map entry_of old ≡ picked (among sofar) all 0 → map entry_of old ≡ picked (among (sofar ++ m ∷ [])) all 0
+picks_none all sofar old m places index nowhere told =
+    told
+    ∙ picked_apart (among sofar) (among (sofar ++ m ∷ [])) all m 0 (among_more sofar m)
+    (λ c. true≢false (sym (any_from_contains m all c) ∙ sym (is_some-position (same_name m) all) ∙ ap is_some (sym (index.place m) ∙ nowhere)))
+
+names_of_picked : (p : Name → Bool) (ns : List Name) (k : ℕ) → map (λ e. e.1) (picked p ns k) ≡ filter p ns
+names_of_picked p [] k = refl
+names_of_picked p (n ∷ ns) k =
+    let rest = names_of_picked p ns (suc k) in
+    elim (p n) as (λ b. map (λ e. e.1) (cond b ((k, n) ∷ picked p ns (suc k)) (picked p ns (suc k))) ≡ cond b (n ∷ filter p ns) (filter p ns)) [
+      | true ↦ ap (λ (l : List Name). n ∷ l) rest
+      | false ↦ rest
+    ]
+
+names_read : (es : List (ℕ × Bor Name)) → map (λ e. e.1.now) es ≡ map (λ e. e.1) (map entry_of es)
+names_read [] = refl
+names_read (e ∷ es) = ap (λ (l : List Name). e.1.now ∷ l) (names_read es)
+
+pub picked_names :
+    (p : Name → Bool) (all : List Name) (es : List (ℕ × Bor Name)) → map entry_of es ≡ picked p all 0 → map (λ e. e.1.now) es ≡ filter p all
+picked_names p all es are = names_read es ∙ ap (map (λ e. e.1)) are ∙ names_of_picked p all 0
+
+-- ---- Lists of events
+
+pub filter_same : (f g : Name → Bool) (ns : List Name) → ((n : Name) → f n ≡ g n) → filter f ns ≡ filter g ns
+filter_same f g [] same = refl
+filter_same f g (n ∷ ns) same =
+    ap (λ (l : List Name). cond (f n) (n ∷ l) l) (filter_same f g ns same) ∙ ap (λ b. cond b (n ∷ filter g ns) (filter g ns)) (same n)
+
+abbrev pub goes_with : List EventPort → Name → Name → Bool
+goes_with events e v = list_any (λ p. same_name p.name e && among p.with v) events
+
+nowhere_named : (events : List EventPort) (e v : Name) → ¬ (Contains (event_names events) e) → goes_with events e v ≡ false
+nowhere_named [] e v absent = refl
+nowhere_named (p ∷ events) e v absent =
+    let apart : same_name p.name e ≡ false = not_in e p.name (event_names (p ∷ events)) absent (Contains-here p.name (event_names events)) in
+    ap (λ b. (b && among p.with v) || goes_with events e v) apart
+    ∙ nowhere_named events e v (λ c. absent (Contains-there p.name (event_names events) e c))
+
+names_contain : (events : List EventPort) (e : EventPort) → Contains events e → Contains (event_names events) e.name
+names_contain [] e c = absurd (let f = c.1 in omega (arith, f))
+names_contain (p ∷ events) e c =
+    elim (Contains-cons_cases p events e c) [
+      | inl same ↦ let P : EventPort → Type 0 = λ x. Contains (event_names (p ∷ events)) x.name in
+          subst P same (Contains-here p.name (event_names events))
+      | inr rest ↦ Contains-there p.name (event_names events) e.name (names_contain events e rest)
+    ]
+
+-- A variable goes WITH an event where it stands in the event's own list.
+own_list : (events : List EventPort) (e : EventPort) (v : Name) → ¬ (Twice (event_names events)) → Contains events e → goes_with events e.name v ≡ among e.with v
+own_list [] e v once c = absurd (let f = c.1 in omega (arith, f))
+own_list (p ∷ events) e v once c =
+    elim (Contains-cons_cases p events e c) [
+      | inl same ↦
+          let P : EventPort → Type 0 = λ x. goes_with (p ∷ events) x.name v ≡ among x.with v in
+          let here : goes_with (p ∷ events) p.name v ≡ among p.with v =
+          ap (λ b. (b && among p.with v) || goes_with events p.name v) (same_name-itself p.name)
+          ∙ ap (λ b. among p.with v || b) (nowhere_named events p.name v (λ d. once (inl d))) ∙ or_false (among p.with v) in
+          subst P same here
+      | inr rest ↦
+          let apart : same_name p.name e.name ≡ false =
+          false_from_ne_true (same_name p.name e.name)
+          (λ t. once (inl (let P : Name → Type 0 = λ x. Contains (event_names events) x in subst P (sym (same_from_same_name p.name e.name t)) (names_contain events e rest)))) in
+          ap (λ b. (b && among p.with v) || goes_with events e.name v) apart ∙ own_list events e v (λ t. once (inr t)) rest
+    ]
+
+map_same : {A : Type 0} (f g : EventPort → A) (xs : List EventPort) → ((x : EventPort) → Contains xs x → f x ≡ g x) → map f xs ≡ map g xs
+map_same f g [] same = refl
+map_same {A} f g (x ∷ xs) same =
+    ap (λ (l : List A). f x ∷ l) (map_same f g xs (λ y c. same y (Contains-there x xs y c))) ∙ ap (λ y. y ∷ map g xs) (same x (Contains-here x xs))
+
+pub own_lists :
+    (events : List EventPort) (ns : List Name) → ¬ (Twice (event_names events))
+    → map (λ e. filter (among e.with) ns) events ≡ map (λ e. filter (goes_with events e.name) ns) events
+own_lists events ns once =
+    map_same (λ e. filter (among e.with) ns) (λ e. filter (goes_with events e.name) ns) events
+    (λ e c. filter_same (among e.with) (goes_with events e.name) ns (λ v. sym (own_list events e v once c)))
