@@ -96,9 +96,7 @@ fn perform(
     ensures only_memory { IfErr result (λ halt. halt ≡ Halt.Memory) }
     ensures silent { step.now.emits.now ≡ [] → IsOk result }
 {
-    if emit_all(step.block, step.emits, emits).is_err() {
-        return Err(Halt::Memory);
-    }
+    emit_all(step.block, step.emits, emits)?;
     state.block = step.block;
     *ask = step.ask;
     Ok(())
