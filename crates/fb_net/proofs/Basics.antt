@@ -22,11 +22,10 @@ use Rattle.fb_st.specs.Frames.{values_of}
 use Rattle.fb_ecc.specs.Places.{Ended, IsBlockOf, place, sampled}
 use Rattle.fb_ecc.specs.Sound.{IsSound}
 use Rattle.fb_ecc.specs.declared.state.BasicState.{BasicState}
-use Rattle.fb_fabric.specs.Layouts.{route_to}
 use Rattle.fb_tree.specs.Blocks.{components_of, composite_with, own_of}
 use Rattle.fb_tree.specs.Changes.{block_in, with_instance}
 use Rattle.fb_tree.specs.Trees.{Changed, ChangedAlone, PutAlone, block_at, put_at}
-use Rattle.fb_tree.specs.Worlds.{BasicStands, Found, InForest, IsForest, NodeStands, ShellStands, StandsFor, seat, seat_in, seated}
+use Rattle.fb_tree.specs.Worlds.{BasicStands, Found, InForest, IsForest, NodeStands, ShellStands, StandsFor, route_in_tree}
 use Rattle.fb_tree.specs.declared.block.BasicBlock.{BasicBlock}
 use Rattle.fb_tree.specs.declared.block.Block.{Block}
 use Rattle.fb_tree.specs.declared.block.Block.TheOpen.{Block-F}
@@ -35,7 +34,7 @@ use Rattle.fb_tree.specs.declared.block.Block.TheViews.{out-Block, roll-Block, t
 use Rattle.fb_tree.specs.declared.block.CompositeBlock.{CompositeBlock}
 use Rattle.fb_tree.specs.declared.resource.Forest.{Forest}
 use Rattle.fb_tree.proofs.Others.{others_stay}
-use Rattle.fb_tree.proofs.Reading.{found_at, seated_so}
+use Rattle.fb_tree.proofs.Reading.{found_at}
 use Rattle.fb_tree.proofs.Ways.{routes_differ}
 use Rattle.fb_tree.proofs.Writing.{changed_forest}
 use Rattle.fb_net.specs.Leaves.{ChartCame, ChartEnded, EachWorld, HasCharted, IsOne, IsReadyAt, chart_start, charted_block}
@@ -95,7 +94,7 @@ stands_basic sys p t d b kind stands =
 
 -- The instance at a route is one of a basic type t.
 module _ (i : Inputs) (old : Forest) (k : ℕ) (t : BasicType) (kind : (system_of i).kind (path_at (system_of i) k) ≡ Some (Basic t)) (number : k < length (system_of i).paths)
-    (route : List ℕ) (is_route : route ≡ seated (seat_in old.seats) (route_to i.library (path_at (system_of i) k))) where
+    (route : List ℕ) (is_route : route ≡ route_in_tree i k) where
   there : (w : World) → IsForest i old w → InForest i old k → Found i k (block_in i w k) (block_at old.blocks route)
   there w forest lies = found_at i old k number route is_route (block_at old.blocks route) refl w forest lies
 
@@ -121,13 +120,12 @@ module _ (i : Inputs) (old : Forest) (k : ℕ) (t : BasicType) (kind : (system_o
         here = alone.here ∙ sym (ap (λ (o : Option Block). option_map (λ (p : Block). own_of left) (option_map own_of o)) stood);
         elsewhere = alone.elsewhere;
       } in
-      let in_tree = is_route ∙ seated_so (seat_in old.seats) (seat i.library i.plan) forest.seats (route_to i.library (path_at (system_of i) k)) in
-      changed_forest i old w forest (routes_differ i accepted) k number lies (λ o. own_of left) bs (subst (λ (r : List ℕ). ChangedAlone (λ o. own_of left) old.blocks r bs) in_tree changed) b (λ own s. stands)
+      changed_forest i old w forest (routes_differ i accepted) k number lies (λ o. own_of left) bs (subst (λ (r : List ℕ). ChangedAlone (λ o. own_of left) old.blocks r bs) is_route changed) b (λ own s. stands)
 
 -- It has reacted where it stands.
 module _ (i : Inputs) (accepted : AreAccepted i) (old : Forest) (at : Target) (t : BasicType) (values : List Value) (before after : ℕ) (emitted emits : List run.Emission) (r : Result (Unit {0}) Halt)
     (kind : (system_of i).kind (path_at (system_of i) at.instance) ≡ Some (Basic t)) (number : at.instance < length (system_of i).paths)
-    (route : List ℕ) (is_route : route ≡ seated (seat_in old.seats) (route_to i.library (path_at (system_of i) at.instance)))
+    (route : List ℕ) (is_route : route ≡ route_in_tree i at.instance)
     (bs : List Block) (changed : Changed (HasCharted t at.event values before emitted after emits) old.blocks route r bs) where
   abbrev pub new : Forest
   new = record old { blocks = bs }

@@ -1,6 +1,6 @@
 -- What arrives at an instance is taken as its kind says.
 use Rattle.std.proofs.Common.{◌≡◌, ◌<◌, inl, inr, ⊎_elim, ℕ, Bool, true, false, cond, List, [], ◌∷◌, ◌++◌, length, Contains, refl, sym, ap, subst, ◌∙◌}
-use Rattle.std.specs.Prelude.{MatchResult, None, OnOk, Option, Some, Result, Ok, Err, slice_get}
+use Rattle.std.specs.Prelude.{None, Option, Some, slice_get}
 use Rattle.std.proofs.lemmas.Bool.{false_from_ne_true}
 use Rattle.std.proofs.lemmas.List.{length-map}
 use Rattle.std.proofs.lemmas.List.Elements.{Contains-append_right, Contains-get_or}
@@ -20,8 +20,6 @@ use Rattle.fb_types.specs.declared.library.BlockType.TheVariants as block
 use Rattle.fb_types.specs.declared.library.CompositeType.{CompositeType}
 use Rattle.fb_types.specs.declared.library.EventPort.{EventPort}
 use Rattle.fb_types.specs.declared.library.Ports.{Ports}
-use Rattle.fb_types.specs.declared.run.Halt.{Halt}
-use Rattle.fb_types.specs.declared.run.Halt.TheVariants as halt
 use Rattle.fb_types.specs.declared.run.Target.{Target}
 use Rattle.fb_net.specs.declared.outbox.Outbox.{Outbox}
 use Rattle.fb_types.proofs.NameLaws.{any_from_contains, contains_from_any}
@@ -30,27 +28,23 @@ use Rattle.fb_types.proofs.Elements.{Contains-cons_cases, Contains-nil}
 use Rattle.fb_names.proofs.NameTwice.{block_twice}
 use Rattle.fb_system.specs.Ports.{IsPort}
 use Rattle.fb_tree.specs.declared.resource.Forest.{Forest}
-use Rattle.fb_net.specs.Arrivals.{Arrives, ComesTo, HasReacted, entering, leaving, reacting}
+use Rattle.fb_net.specs.Arrivals.{Arrives, ComesTo, ReactedIn, entering, leaving, reacting}
 use Rattle.fb_net.proofs.Charting.{emitted_all-left, emitted_all-stop}
 use Rattle.fb_net.proofs.Sampling.{input_port, output_port, ports-of_kind}
 
 -- ---- How a reaction ended
 
--- A step that needs memory alone has come to a reaction of the model.
-pub done-reacted : {E : Type 0} (i : Inputs) (step : World → ℕ → Outcome) (Comes : World → Outcome → Type 0) (old new : Forest) (x y : Outbox) (left : ℕ)
-    (done : Result (Unit {0}) E) (r : Result (Unit {0}) Halt) → MatchResult done (λ u. r ≡ Ok u) (λ e. r ≡ Err halt.Memory)
+-- A step that did not stop has come to a reaction of the model.
+pub done-reacted : (i : Inputs) (step : World → ℕ → Outcome) (Comes : World → Outcome → Type 0) (old new : Forest) (x y : Outbox) (left : ℕ)
     → ((w : World) → Comes w (step w left)) → ((w : World) → (step w left).stop ≡ None) → ((w : World) → (step w left).left ≡ left)
-    → OnOk done (ComesTo i step old x new y) → HasReacted i Comes old x r new left y
-done-reacted i step Comes old new x y left (Ok u) r ends comes stops leaves stands =
-    subst (λ (z : Result (Unit {0}) Halt). HasReacted i Comes old x z new left y) (sym ends) (λ w h. record {
-      outcome = step w left;
-      reacts = comes w;
-      stops = stops w;
-      leaves = leaves w;
-      stands = stands w left h;
-    })
-done-reacted i step Comes old new x y left (Err e) r ends comes stops leaves stands =
-    subst (λ (z : Result (Unit {0}) Halt). HasReacted i Comes old x z new left y) (sym ends) tt
+    → ComesTo i step old x new y → ReactedIn i Comes old x None new left y
+done-reacted i step Comes old new x y left comes stops leaves stands w h = record {
+  outcome = step w left;
+  reacts = comes w;
+  stops = stops w;
+  leaves = leaves w;
+  stands = stands w left h;
+}
 
 -- ---- Event blocks
 

@@ -1,6 +1,6 @@
 -- The taking of an event is what the model makes of it, by what the event is.
 use Rattle.std.proofs.Common.{◌≡◌, ℕ, Bool, true, false, cond, List, map, refl, sym, ap, subst, ◌∙◌}
-use Rattle.std.specs.Prelude.{MatchResult, None, OnOk, Option, Some, Result, Ok, Err}
+use Rattle.std.specs.Prelude.{None, Option, Some, Result, Ok, Err}
 use Rattle.std.specs.Option.{option_map}
 use Rattle.std.proofs.lemmas.List.{append-nil}
 use Rattle.fb_types.specs.Blocks.{Bound, Emission, Event, ports_of}
@@ -40,7 +40,7 @@ use Rattle.fb_tree.specs.declared.resource.Forest.{Forest}
 use Rattle.fb_laws.specs.Typed.{AreTyped, IsTypedEvent}
 use Rattle.fb_laws.proofs.Kept.{held_typed, slots_typed}
 use Rattle.fb_net.specs.Arrivals.{Arrives, ComesTo, HasReacted, IsReady, ReactedIn, StandTyped, expiring, lines_in}
-use Rattle.fb_net.specs.Events.{Came, HasTaken, Remembered, event_of, stimulated}
+use Rattle.fb_net.specs.Events.{Came, HasTaken, event_of, stimulated}
 use Rattle.fb_net.specs.Steps.{IsKept}
 use Rattle.fb_net.proofs.Crossing.{answered-left, answered-stop}
 use Rattle.fb_net.proofs.Sampling.{ports-of_kind}
@@ -216,18 +216,3 @@ timer-rests i k at declared f x is ready left w h =
       leaves = refl;
       stands = silent-stands i k f x ready w left h;
     }
-
--- What needs memory alone has taken a timer.
-pub timer-done : {E : Type 0} (i : Inputs) (k : Key) (at : ℕ) (old new : Forest) (x y : Outbox) (left : ℕ) (done : Result (Unit {0}) E) (r : Result (Unit {0}) Halt)
-    → MatchResult done (λ u. r ≡ Ok u) (λ e. r ≡ Err halt.Memory) → OnOk done ((left : ℕ) → Came i k (waits.Timer at) old x left None new left y)
-    → HasTaken i k (waits.Timer at) old x left r new left y
-timer-done i k at old new x y left (Ok u) r ends came =
-    subst (λ (z : Result (Unit {0}) Halt). HasTaken i k (waits.Timer at) old x left z new left y) (sym ends) (came left)
-timer-done i k at old new x y left (Err e) r ends came =
-    subst (λ (z : Result (Unit {0}) Halt). HasTaken i k (waits.Timer at) old x left z new left y) (sym ends) tt
-
--- what holds of all that does not end with want of memory
-pub timer-remembered : {E : Type 0} (holds : Type 0) (done : Result (Unit {0}) E) (r : Result (Unit {0}) Halt)
-    → MatchResult done (λ u. r ≡ Ok u) (λ e. r ≡ Err halt.Memory) → OnOk done holds → Remembered r holds
-timer-remembered holds (Ok u) r ends h = subst (λ (z : Result (Unit {0}) Halt). Remembered z holds) (sym ends) h
-timer-remembered holds (Err e) r ends h = subst (λ (z : Result (Unit {0}) Halt). Remembered z holds) (sym ends) tt

@@ -1,6 +1,6 @@
 //! The arrival of an event at a port of an instance.
 
-ghost use Rattle.std.specs.Prelude.{◌≡◌, ◌≢◌, ◌≤◌, ◌^◌, All, false, true, length, map, MatchResult, OnOk, Some};
+ghost use Rattle.std.specs.Prelude.{◌≡◌, ◌≢◌, ◌≤◌, ◌^◌, All, false, true, length, map, OnOk, Some};
 ghost use Rattle.fb_types.specs.Blocks.{Basic, Event};
 ghost use Rattle.fb_types.specs.Headline.{system_of};
 ghost use Rattle.fb_types.specs.Numbers.{emission_of, line_of, path_at, ports_at};
@@ -182,9 +182,7 @@ fn arrive_basic(
     ensures kept { IsKept system.now forest.old forest.new }
 {
     let alloc = *outbox.lines.allocator();
-    let Ok(values) = sampled_values(alloc, forest, system, at) else {
-        return Err(Halt::Memory);
-    };
+    let values = sampled_values(alloc, forest, system, at)?;
     let mut emits = Items::new(alloc);
     let end = react_basic(
         forest,
@@ -195,20 +193,8 @@ fn arrive_basic(
         meter,
         &mut emits,
     );
-    match tell(forest, outbox, system, key, at, values, emits) {
-        Ok(()) => end,
-        Err(_) => Err(Halt::Memory),
-    }
-}
-
-/// A reaction for which there was no memory is at its end.
-pub(crate) fn or_halt(done: Result<(), AllocError>) -> Result<(), Halt>
-    ensures { MatchResult done (λ u. result ≡ Ok u) (λ e. result ≡ Err Halt.Memory) }
-{
-    match done {
-        Ok(()) => Ok(()),
-        Err(_) => Err(Halt::Memory),
-    }
+    tell(forest, outbox, system, key, at, values, emits)?;
+    end
 }
 
 /// An event arrives at a port of an instance, in a tick that is at most 10^12.
@@ -237,16 +223,16 @@ pub(crate) fn arrive(
 {
     system.facts();
     match system.kind(at.instance) {
-        TypeNumber::Event(kind) => or_halt(arrive_event(forest, outbox, system, kind, key, at)),
+        TypeNumber::Event(kind) => Ok(arrive_event(forest, outbox, system, kind, key, at)?),
         TypeNumber::Declared(place) => match system.library().blocks.get(place) {
             Some(BlockType::Basic(block)) => {
                 arrive_basic(forest, outbox, system, block, key, at, meter)
             }
             Some(BlockType::Composite(_)) => {
                 if at.is_output {
-                    or_halt(leave(forest, outbox, system, key, at))
+                    Ok(leave(forest, outbox, system, key, at)?)
                 } else {
-                    or_halt(enter(forest, outbox, system, key, at))
+                    Ok(enter(forest, outbox, system, key, at)?)
                 }
             }
             None => unreachable!(),

@@ -17,7 +17,7 @@ use fb_ecc::reaction::react;
 use fb_st::meter::Meter;
 use fb_system::system::System;
 use fb_tree::block::Block;
-use fb_tree::resource::Forest;
+use fb_tree::resource::{Forest, route};
 use fb_types::items::Items;
 use fb_types::library::BasicType;
 use fb_types::run::{Emits, Halt, Target};
@@ -53,7 +53,7 @@ pub fn react_basic(
     ensures whole { (w : World) × IsForest system.now forest.new w }
 {
     system.facts();
-    let (first, rest) = forest.route(system, at.instance);
+    let (first, rest) = route(system, at.instance);
     let blocks = &mut forest.blocks;
     react_at(blocks, first, rest, block, at.event, values, meter, emits)
 }

@@ -11,7 +11,7 @@ ghost use Rattle.fb_net.specs.Arrivals.{ComesTo, IsReady, expiring};
 ghost use Rattle.fb_net.specs.Events.{Came};
 ghost use Rattle.fb_net.specs.Steps.{IsKept, MayTake, WasTaken};
 
-use crate::arrive::{arrive, or_halt};
+use crate::arrive::arrive;
 use crate::bring::{hold_carried, set_slots};
 use crate::emit::emit_all;
 use crate::event_blocks::expire_event;
@@ -129,7 +129,7 @@ pub(crate) fn take_event(
 {
     match event {
         Event::Stimulus(row) => take_stimulus(forest, outbox, system, key, *row, meter),
-        Event::Timer(instance) => or_halt(take_timer(forest, outbox, system, key, *instance)),
+        Event::Timer(instance) => Ok(take_timer(forest, outbox, system, key, *instance)?),
         Event::Arrival(message) => take_arrival(forest, outbox, system, key, message, meter),
         Event::Local(target) => arrive(forest, outbox, system, key, *target, meter),
     }

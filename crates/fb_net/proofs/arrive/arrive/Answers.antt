@@ -15,19 +15,19 @@ use Rattle.fb_net.proofs.arrive.arrive.Goals as goal
 pub arrive_event-requires-clause-sound : goal.arrive_event-requires-clause-sound
 arrive_event-requires-clause-sound c = (accepted_typed c.args.system.now c.facts.ensures.accepted).system
 
-pub returns-in-Event-clause-reacted : goal.returns-in-Event-clause-reacted
-returns-in-Event-clause-reacted c =
+pub returns-in_ok-arrive_event-in-Event-clause-reacted : goal.returns-in_ok-arrive_event-in-Event-clause-reacted
+returns-in_ok-arrive_event-in-Event-clause-reacted c =
     let i = c.args.system.now in
     let k = c.args.key.now in
     let at = c.args.at in
     let kind = c.in-Event.kind in
     let left = c.args.meter.now.left in
     done-reacted i (reacting i k kind at) (Arrives i k at left) c.args.forest.now c.arrive_event.new.forest c.args.outbox.now c.arrive_event.new.outbox left
-    c.arrive_event.result c.or_halt.result c.or_halt.ensures (event-arrives i k kind at (sym c.in-Event.ensures) left) (reacting-stop i k kind at left) (reacting-left i k kind at left)
-    c.arrive_event.ensures.reacted
+    (event-arrives i k kind at (sym c.in-Event.ensures) left) (reacting-stop i k kind at left) (reacting-left i k kind at left)
+    c.in_ok-arrive_event-in-Event.ensures.reacted
 
-pub returns-then-at-clause-reacted : goal.returns-then-at-clause-reacted
-returns-then-at-clause-reacted c =
+pub returns-in_ok-leave-in-Some-Composite-clause-reacted : goal.returns-in_ok-leave-in-Some-Composite-clause-reacted
+returns-in_ok-leave-in-Some-Composite-clause-reacted c =
     let i = c.args.system.now in
     let k = c.args.key.now in
     let at = c.args.at in
@@ -37,12 +37,11 @@ returns-then-at-clause-reacted c =
     ap (λ (l : Library). slice_get l.blocks c.in-Declared.place) (sym c.library.ensures) ∙ sym c.in-Some-Composite.ensures.value ∙ ap Some c.in-Some-Composite.field-0-is in
     let is : (system_of i).kind (path_at (system_of i) at.instance) ≡ Some (Composite t) = sym c.in-Declared.ensures ∙ ap (option_map kind_of) declared in
     done-reacted i (leaving i k at) (Arrives i k at left) c.args.forest.now c.leave.new.forest c.args.outbox.now c.leave.new.outbox left
-    c.leave.result c.or_halt-then-at.result c.or_halt-then-at.ensures
     (composite-leaves i k at t is c.requires.target.port c.facts.ensures.accepted c.in-Declared.place declared c.if-at.true left) (λ w. refl) (λ w. refl)
-    c.leave.ensures.left
+    c.in_ok-leave-in-Some-Composite.ensures.left
 
-pub returns-else-at-clause-reacted : goal.returns-else-at-clause-reacted
-returns-else-at-clause-reacted c =
+pub returns-in_ok-enter-in-Some-Composite-clause-reacted : goal.returns-in_ok-enter-in-Some-Composite-clause-reacted
+returns-in_ok-enter-in-Some-Composite-clause-reacted c =
     let i = c.args.system.now in
     let k = c.args.key.now in
     let at = c.args.at in
@@ -52,6 +51,5 @@ returns-else-at-clause-reacted c =
     ap (λ (l : Library). slice_get l.blocks c.in-Declared.place) (sym c.library.ensures) ∙ sym c.in-Some-Composite.ensures.value ∙ ap Some c.in-Some-Composite.field-0-is in
     let is : (system_of i).kind (path_at (system_of i) at.instance) ≡ Some (Composite t) = sym c.in-Declared.ensures ∙ ap (option_map kind_of) declared in
     done-reacted i (entering i k at) (Arrives i k at left) c.args.forest.now c.enter.new.forest c.args.outbox.now c.enter.new.outbox left
-    c.enter.result c.or_halt-else-at.result c.or_halt-else-at.ensures
     (composite-enters i k at t is c.requires.target.port c.if-at.false left) (λ w. refl) (λ w. refl)
-    c.enter.ensures.entered
+    c.in_ok-enter-in-Some-Composite.ensures.entered

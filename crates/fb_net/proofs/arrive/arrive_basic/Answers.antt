@@ -5,26 +5,26 @@ use Rattle.fb_net.proofs.Charting.{chart-reacts}
 use Rattle.fb_net.proofs.Wholes.{kept-same, kept-then, kept-world}
 use Rattle.fb_net.proofs.arrive.arrive_basic.Goals as goal
 
-pub returns-in-Ok-tell-clause-reacted : goal.returns-in-Ok-tell-clause-reacted
-returns-in-Ok-tell-clause-reacted c =
+pub returns-clause-reacted : goal.returns-clause-reacted
+returns-clause-reacted c =
     let i = c.args.system.now in
     let end = c.react_basic-end in
     let ended = subst (λ (vs : List Value). ChartEnded i c.args.forest.now c.args.at c.args.block.now vs c.args.meter.now.left end.result end.new.forest end.new.meter.left end.new.emits)
     c.as_slice.ensures end.ensures.reacted in
     chart-reacts i c.args.key.now c.args.at c.args.block.now c.requires.kind c.requires.input c.args.forest.now end.new.forest c.tell.new.forest
-    c.args.outbox.now c.tell.new.outbox c.requires.place.ready c.requires.place.here c.in-Ok.values c.in-Ok.ensures.sampled c.args.meter.now.left end.new.meter.left end.new.emits
-    c.in-Ok-tell.ensures.told end.result ended
+    c.args.outbox.now c.tell.new.outbox c.requires.place.ready c.requires.place.here c.in_ok-values.values c.in_ok-values.ensures.sampled c.args.meter.now.left end.new.meter.left end.new.emits
+    c.in_ok-tell.ensures.told end.result ended
 
-pub returns-in_default-clause-kept : goal.returns-in_default-clause-kept
-returns-in_default-clause-kept c =
+pub returns-in_err-values-clause-kept : goal.returns-in_err-values-clause-kept
+returns-in_err-values-clause-kept c =
     kept-same c.args.system.now c.args.forest.now
 
-pub returns-in-Ok-tell-clause-kept : goal.returns-in-Ok-tell-clause-kept
-returns-in-Ok-tell-clause-kept c =
+pub returns-clause-kept : goal.returns-clause-kept
+returns-clause-kept c =
     let end = c.react_basic-end in
     kept-then c.args.system.now c.args.forest.now end.new.forest c.tell.new.forest (kept-world c.args.system.now c.args.forest.now end.new.forest end.ensures.resource end.ensures.whole) c.tell.ensures.kept
 
-pub returns-in-Err-clause-kept : goal.returns-in-Err-clause-kept
-returns-in-Err-clause-kept c =
+pub returns-in_err-tell-clause-kept : goal.returns-in_err-tell-clause-kept
+returns-in_err-tell-clause-kept c =
     let end = c.react_basic-end in
     kept-then c.args.system.now c.args.forest.now end.new.forest c.tell.new.forest (kept-world c.args.system.now c.args.forest.now end.new.forest end.ensures.resource end.ensures.whole) c.tell.ensures.kept

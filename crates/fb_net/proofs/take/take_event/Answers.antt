@@ -1,20 +1,20 @@
-use Rattle.std.proofs.Common.{arith, sym, subst}
+use Rattle.std.proofs.Common.{Ok, arith, sym, subst}
 use Rattle.fb_types.specs.declared.run.Event.{Event}
 use Rattle.fb_net.specs.Steps.{WasTaken}
-use Rattle.fb_net.proofs.Taking.{local-taken, timer-done, timer-remembered}
+use Rattle.fb_net.proofs.Taking.{local-taken}
 use Rattle.fb_net.proofs.take.take_event.Goals as goal
 
-pub returns-in-Timer : goal.returns-in-Timer
-returns-in-Timer c =
+pub returns-in_ok-take_timer-in-Timer : goal.returns-in_ok-take_timer-in-Timer
+returns-in_ok-take_timer-in-Timer c =
     let i = c.args.system.now in
     let k = c.args.key.now in
     let f = c.args.forest.now in
     let left = c.args.meter.now.left in
     let done = c.take_timer in
-    subst (λ (e : Event). WasTaken i k e f c.args.outbox.now left c.or_halt.result done.new.forest left done.new.outbox) (sym c.in-Timer.is)
+    subst (λ (e : Event). WasTaken i k e f c.args.outbox.now left (Ok tt) done.new.forest left done.new.outbox) (sym c.in-Timer.is)
     (record {
-      taken = timer-done i k c.in-Timer.instance f done.new.forest c.args.outbox.now done.new.outbox left done.result c.or_halt.result c.or_halt.ensures done.ensures.taken;
-      outs = timer-remembered _ done.result c.or_halt.result c.or_halt.ensures done.ensures.outs;
+      taken = c.in_ok-take_timer-in-Timer.ensures.taken left;
+      outs = c.in_ok-take_timer-in-Timer.ensures.outs;
       fewer = omega arith;
       kept = done.ensures.kept;
     })
