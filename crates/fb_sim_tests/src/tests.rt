@@ -1,10 +1,13 @@
-//! What the program does not show of a run: pieces, gates, what follows a failure. Its traces stand in cases/, where the program
-//! is called for them. Each test ends the process where a call fails that is not to, so that little is dropped on the way.
+//! What the program does not show of a run: pieces, gates, what follows a failure; and of what it stands on, a board and a phase. Its
+//! traces stand in cases/, where the program is called for them. Each test ends the process where a call fails that is not to, so that
+//! little is dropped on the way.
 
 mod advances;
+mod board;
 mod gates;
 mod later_rounds;
 mod options;
+mod phase;
 mod texts;
 mod writers;
 

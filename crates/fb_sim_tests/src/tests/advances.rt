@@ -3,7 +3,7 @@
 //! Each simulation is ended here, also where a call on it failed. So none is dropped in this crate, and the destructors of
 //! all that a simulation holds are not proved once more.
 
-use super::texts::{BETWEEN, CYCLE, Case};
+use super::texts::{BETWEEN, BETWEEN_TRACE, CYCLE, CYCLE_TRACE, Case};
 use super::writers::with_room;
 use super::{ENOUGH, inputs_of};
 use fb_phase::OpenGate;
@@ -24,53 +24,87 @@ fn opened(rt: &impl Abort, alloc: Global, case: &Case, workers: u64) -> Simulati
     simulation
 }
 
-/// Each advance to a tick, and the end, answers as the outcome at the greatest tick so far. All together write the text.
+/// The greatest tick to advance to.
+const LAST: u64 = 1_000_000_000_000;
+
+/// A run in pieces.
+#[derive(Clone, Copy)]
+struct Pieces {
+    case: Case,
+    /// The ticks that it is advanced to, in this order, before it is ended.
+    ticks: &'static [u64],
+    /// What all of this writes.
+    trace: &'static str,
+}
+
+/// A tick that was advanced to before, or at which it has stopped, writes nothing once more. A tick past the last is none.
+static PIECES: [Pieces; 5] = [
+    Pieces {
+        case: CYCLE,
+        ticks: &[4, 8],
+        trace: CYCLE_TRACE,
+    },
+    Pieces {
+        case: CYCLE,
+        ticks: &[4, 4, 2, 8],
+        trace: CYCLE_TRACE,
+    },
+    Pieces {
+        case: CYCLE,
+        ticks: &[],
+        trace: "end 0\n",
+    },
+    Pieces {
+        case: CYCLE,
+        ticks: &[1_000_000_000_001, 8],
+        trace: CYCLE_TRACE,
+    },
+    Pieces {
+        case: BETWEEN,
+        ticks: &[9, 9],
+        trace: BETWEEN_TRACE,
+    },
+];
+
+/// How a run is at a tick.
+fn outcome_at(case: &Case, tick: u64) -> Outcome {
+    match case.outcome {
+        Outcome::Stop(mark) if mark.tick < tick => case.outcome,
+        _ => Outcome::End(tick),
+    }
+}
+
+/// Each advance to a tick, and the end, answers as the outcome at the greatest tick so far. All together write the trace.
 fn expect_pieces<R: Abort + Threads + Wait + Sync>(
     rt: &R,
     alloc: Global,
     workers: u64,
-    ticks: &[u64],
-    text: &str,
+    pieces: &Pieces,
 ) {
     let mut out = Vec::new(alloc);
     let mut most = 0;
-    let mut simulation = opened(rt, alloc, &CYCLE, workers);
-    for tick in ticks {
-        most = most.max(*tick);
-        let found = simulation
-            .advance(rt, *tick, &mut out, &OpenGate)
-            .expect(rt, "advanced");
-        assert!(rt; found == Outcome::End(most));
+    let mut simulation = opened(rt, alloc, &pieces.case, workers);
+    for tick in pieces.ticks {
+        match simulation.advance(rt, *tick, &mut out, &OpenGate) {
+            Ok(found) => {
+                most = most.max(*tick);
+                assert!(rt; *tick <= LAST && found == outcome_at(&pieces.case, most));
+            }
+            Err(error) => assert!(rt; *tick > LAST && matches!(error, RunError::BadOption)),
+        }
     }
     let ended = simulation.finish(&mut out).expect(rt, "ended");
-    assert!(rt; ended == Outcome::End(most));
-    assert!(rt; out.as_slice() == text.as_bytes());
+    assert!(rt; ended == outcome_at(&pieces.case, most));
+    assert!(rt; out.as_slice() == pieces.trace.as_bytes());
 }
 
-/// A tick that was advanced to writes nothing once more.
 #[test]
 fn pieces_make_the_whole(rt: HostRuntime) {
-    let alloc = rt.alloc();
-    for workers in [1, 2, 7, 64] {
-        expect_pieces(&rt, alloc, workers, &[4, 8], CYCLE.trace);
-        expect_pieces(&rt, alloc, workers, &[4, 4, 2, 8], CYCLE.trace);
-        expect_pieces(&rt, alloc, workers, &[], "end 0\n");
+    for pieces in &PIECES {
+        for workers in [1, 2, 7, 64] {
+            expect_pieces(&rt, rt.alloc(), workers, pieces);
+        }
     }
-}
-
-#[test]
-fn a_tick_past_the_last_is_none(rt: HostRuntime) {
-    let mut out = Vec::new(rt.alloc());
-    let mut simulation = opened(&rt, rt.alloc(), &CYCLE, 1);
-    let refused = simulation.advance(&rt, 1_000_000_000_001, &mut out, &OpenGate);
-    assert!(rt; matches!(refused, Err(RunError::BadOption)));
-    assert!(rt; out.is_empty());
-    let advanced = simulation
-        .advance(&rt, 8, &mut out, &OpenGate)
-        .expect(&rt, "advanced");
-    let ended = simulation.finish(&mut out).expect(&rt, "ended");
-    assert!(rt; advanced == Outcome::End(8) && ended == Outcome::End(8));
-    assert!(rt; out.as_slice() == CYCLE.trace.as_bytes());
 }
 
 /// Steps and workers out of their range, for a declaration that is none.
@@ -94,24 +128,6 @@ fn steps_and_workers_have_their_ranges(rt: HostRuntime) {
         assert!(rt; is_bad_option(rt.alloc(), *steps, *workers));
     }
     assert!(rt; !is_bad_option(rt.alloc(), 1, 1));
-}
-
-#[test]
-fn a_stop_is_written_once(rt: HostRuntime) {
-    for workers in [1, 2, 7, 64] {
-        let mut out = Vec::new(rt.alloc());
-        let mut simulation = opened(&rt, rt.alloc(), &BETWEEN, workers);
-        let first = simulation
-            .advance(&rt, 9, &mut out, &OpenGate)
-            .expect(&rt, "advanced");
-        let second = simulation
-            .advance(&rt, 9, &mut out, &OpenGate)
-            .expect(&rt, "advanced");
-        let ended = simulation.finish(&mut out).expect(&rt, "ended");
-        let stopped = BETWEEN.outcome;
-        assert!(rt; first == stopped && second == stopped && ended == stopped);
-        assert!(rt; out.as_slice() == BETWEEN.trace.as_bytes());
-    }
 }
 
 #[test]

@@ -17,25 +17,36 @@ pub struct Case {
     pub outcome: Outcome,
 }
 
+pub const CYCLE_TRACE: &str = "0 MAIN < S.COLD\n\
+    0 MAIN > C.START DT=3\n\
+    3 MAIN < C.EO\n\
+    6 MAIN < C.EO\n\
+    end 8\n";
+
 /// A cycle of three ticks that begins with the run.
-pub static CYCLE: Case = Case {
+pub const CYCLE: Case = Case {
     declaration: "APPLICATION A FBS S : E_RESTART; C : E_CYCLE(DT := T#3ms); END_FBS\n\
         EVENT_CONNECTIONS S.COLD TO C.START; END_CONNECTIONS END_APPLICATION",
     deploy: "",
     stimuli: "",
     horizon: 8,
     steps: ENOUGH,
-    trace: "0 MAIN < S.COLD\n\
-        0 MAIN > C.START DT=3\n\
-        3 MAIN < C.EO\n\
-        6 MAIN < C.EO\n\
-        end 8\n",
+    trace: CYCLE_TRACE,
     outcome: Outcome::End(8),
 };
 
+pub const BETWEEN_TRACE: &str = "7 R1 > A.EI1\n\
+    7 R1 < A.EO\n\
+    7 R2 > L.GO\n\
+    7 R2 < L.TICKED\n\
+    7 R2 < L.TICKED\n\
+    7 R2 < L.TICKED\n\
+    7 R2 < L.TICKED\n\
+    stop 7 R2 steps\n";
+
 /// In the tick of the stop the resource before it has run whole, and the one behind it not at all. An event, a transition
 /// and an action are the first three steps of the looper.
-pub static BETWEEN: Case = Case {
+pub const BETWEEN: Case = Case {
     declaration: "FUNCTION_BLOCK LOOPER\n\
         EVENT_INPUT GO; END_EVENT\n\
         EVENT_OUTPUT TICKED; END_EVENT\n\
@@ -51,14 +62,7 @@ pub static BETWEEN: Case = Case {
     stimuli: "tick,event,values\n7,C.EI1,\n7,L.GO,\n7,A.EI1,\n",
     horizon: 9,
     steps: 10,
-    trace: "7 R1 > A.EI1\n\
-        7 R1 < A.EO\n\
-        7 R2 > L.GO\n\
-        7 R2 < L.TICKED\n\
-        7 R2 < L.TICKED\n\
-        7 R2 < L.TICKED\n\
-        7 R2 < L.TICKED\n\
-        stop 7 R2 steps\n",
+    trace: BETWEEN_TRACE,
     outcome: Outcome::Stop(StopMark {
         tick: 7,
         resource: 1,

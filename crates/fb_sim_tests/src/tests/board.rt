@@ -2,20 +2,9 @@
 //! nothing is dropped on the way.
 ghost use Rattle.std.specs.Prelude.{◌≡◌, ◌*◌};
 
-use fb_board::{Board, Deal};
+use super::phase::Squares;
+use fb_board::Board;
 use std::alloc::Global;
-
-struct Squares;
-
-impl Deal for Squares {
-    ghost use Rattle.std.specs.Prelude.{◌≡◌, ◌*◌};
-
-    type Job = u32;
-
-    type Done = u64;
-
-    ghost does = { λ job done. done ≡ job * job };
-}
 
 fn square(job: u32) -> u64
     ensures { result ≡ job * job }

@@ -29,7 +29,7 @@ const EACH_ONCE: u64 = 0x11_1111_1111;
 
 /// How numbers are squared, and what is seen of it. It is the gate too.
 #[derive(Drop)]
-struct Squares {
+pub struct Squares {
     /// Whether the job that begins first waits for nine others, but gives up in the end.
     first_waits: bool,
     begun: AtomicU64,
