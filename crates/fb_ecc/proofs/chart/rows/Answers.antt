@@ -1,6 +1,6 @@
 use Rattle.std.proofs.Common.{◌≡◌, ◌<◌, ◌∷◌, [], ◌++◌, List, length, get_or, refl, sym, ◌∙◌, ap, subst}
 use Rattle.std.specs.Prelude.{position}
-use Rattle.fb_types.specs.Names.{Name, same_name}
+use Rattle.fb_types.specs.Names.{same_name}
 use Rattle.fb_types.specs.Repeated.{state_names}
 use Rattle.fb_types.specs.declared.library.Transition.{Transition}
 use Rattle.fb_names.specs.Places.{place_in}

@@ -1,4 +1,4 @@
-use Rattle.std.proofs.Common.{ℕ, List, Option, Result, Ok, sym, ◌∙◌, ap, subst}
+use Rattle.std.proofs.Common.{ℕ, Option, Result, Ok, ◌∙◌, ap, subst}
 use Rattle.std.specs.Prelude.{option_map}
 use Rattle.std.proofs.lemmas.Result.{err_from_is_err_and}
 use Rattle.fb_types.specs.Names.{Name}
@@ -6,9 +6,7 @@ use Rattle.fb_types.specs.Charts.{Acts, Place, actions_of}
 use Rattle.fb_types.specs.Numbers.{event_at}
 use Rattle.fb_types.specs.declared.run.Halt.{Halt}
 use Rattle.fb_ecc.specs.Places.{Ended, place, state_at}
-use Rattle.fb_ecc.specs.Sound.{Each}
-use Rattle.fb_ecc.specs.Trials.{IsExit, transitions_at, trial}
-use Rattle.fb_ecc.specs.declared.chart.Exit.{Exit}
+use Rattle.fb_ecc.specs.Trials.{trial}
 use Rattle.fb_ecc.proofs.Links.{exits_read, trial_here, linked_early, goes_on, stops_in, rests, fails}
 use Rattle.fb_ecc.proofs.reaction.link.Goals as goal
 
