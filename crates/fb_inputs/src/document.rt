@@ -6,6 +6,7 @@ ghost use Rattle.toml.specs.View.{table_view, view};
 ghost use Rattle.fb_inputs.specs.Lists as lists;
 ghost use Rattle.fb_inputs.specs.Documents as spec;
 
+use crate::beside::beside;
 use crate::text::name;
 use fb_types::deploy::Resource;
 use fb_types::items::Items;
@@ -14,7 +15,7 @@ use std::alloc::{AllocError, Global};
 use toml::{Table, Value};
 
 /// A latency as it is written: from this tick on, so many ticks.
-#[derive(Clone, Copy, Debug, PartialEq, Eq)]
+#[derive(Clone, Copy)]
 pub struct Pair {
     pub start: i64,
     pub ticks: i64,
@@ -128,12 +129,14 @@ impl Piece for Resource {
         let Some(device) = name_at(alloc, keys, "device")? else {
             return Ok(None);
         };
-        let Some(name) = name_at(alloc, keys, "name")? else {
+        let Some(names) = beside(device, name_at(alloc, keys, "name"))? else {
             return Ok(None);
         };
-        let Some(instances) = array_at::<Name>(alloc, keys, "instances")? else {
+        let instances = array_at::<Name>(alloc, keys, "instances");
+        let Some((names, instances)) = beside(names, instances)? else {
             return Ok(None);
         };
+        let (device, name) = names;
         if count_of(keys) != 3 {
             return Ok(None);
         }
@@ -203,12 +206,13 @@ impl Piece for LinkDraft {
         let Some(start) = name_at(alloc, keys, "from")? else {
             return Ok(None);
         };
-        let Some(end) = name_at(alloc, keys, "to")? else {
+        let Some(ends) = beside(start, name_at(alloc, keys, "to"))? else {
             return Ok(None);
         };
-        let Some(table) = table_of(alloc, keys)? else {
+        let Some((ends, table)) = beside(ends, table_of(alloc, keys))? else {
             return Ok(None);
         };
+        let (start, end) = ends;
         if count_of(keys) != 3 || start.is(&end) {
             return Ok(None);
         }
@@ -245,7 +249,7 @@ pub fn draft_of(alloc: Global, keys: &Table) -> Result<Option<PlanDraft>, AllocE
     let Some(resources) = array_at::<Resource>(alloc, keys, "resource")? else {
         return Ok(None);
     };
-    let Some(links) = links_at(alloc, keys)? else {
+    let Some((resources, links)) = beside(resources, links_at(alloc, keys))? else {
         return Ok(None);
     };
     if count_of(keys) != known_keys(keys) || resources.len() == 0 {

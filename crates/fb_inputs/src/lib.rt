@@ -3,10 +3,11 @@
 //! What is promised above: `read_deploy` gives the plan that the definitions make of the tree of the TOML reader, and
 //! `read_stimuli` the stimuli that they make of the records of the CSV reader, or the number of the refusal.
 //!
-//! To be read in this order: `deployment`, `document` and `table`; `stimuli` and `row`; `text`, `number`, `keyword` and
-//! `error`.
+//! To be read in this order: `deployment`, `document` and `table`; `stimuli` and `row`; `beside`; `text`, `number`,
+//! `keyword` and `error`.
 #![tactic(auto)]
 
+mod beside;
 pub mod deployment;
 mod document;
 pub mod error;

@@ -4,6 +4,7 @@ ghost use Rattle.std.specs.Prelude.{◌≡◌, ◌++◌, [], ◌∷◌, length, 
 ghost use Rattle.fb_inputs.specs.Lists.{each};
 ghost use Rattle.fb_inputs.specs.Rows as spec;
 
+use crate::beside::beside;
 use crate::number::value_of;
 use crate::text::{name, parted};
 use fb_types::deploy::Setting;
@@ -38,10 +39,7 @@ fn event(alloc: Global, text: &[u8]) -> Result<Option<(Name, Name)>, AllocError>
     let Some(instance) = name(alloc, before)? else {
         return Ok(None);
     };
-    let Some(event) = name(alloc, behind)? else {
-        return Ok(None);
-    };
-    Ok(Some((instance, event)))
+    beside(instance, name(alloc, behind))
 }
 
 /// The word `NAME=VALUE`.
@@ -81,12 +79,13 @@ fn words(alloc: Global, text: &[u8]) -> Result<Option<Items<Word>>, AllocError>
 pub fn draft_of(alloc: Global, at: &[u8], values: &[u8]) -> Result<Option<Draft>, AllocError>
     ensures { IfOk result (λ r. r ≡ spec.draft at.now values.now) }
 {
-    let Some((instance, event)) = event(alloc, at)? else {
+    let Some(ends) = event(alloc, at)? else {
         return Ok(None);
     };
-    let Some(words) = words(alloc, values)? else {
+    let Some((ends, words)) = beside(ends, words(alloc, values))? else {
         return Ok(None);
     };
+    let (instance, event) = ends;
     Ok(Some(Draft {
         instance,
         event,

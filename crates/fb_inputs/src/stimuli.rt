@@ -6,9 +6,10 @@ ghost use Rattle.csv.specs.Records.{fields_of};
 ghost use Rattle.fb_inputs.specs.Refusals.{Answers, number_of};
 ghost use Rattle.fb_inputs.specs.Stimuli as spec;
 
+use crate::beside::beside;
 use crate::error::InputError;
 use crate::number::natural;
-use crate::row::{draft_of, settings};
+use crate::row::{Draft, draft_of, settings};
 use csv::{ByteRecord, Error, ErrorKind, ReaderBuilder};
 use fb_types::deploy::Stimulus;
 use fb_types::items::Items;
@@ -48,9 +49,16 @@ fn is_head(row: &ByteRecord) -> bool
     }
 }
 
+/// Whether the record is `tick,event,values`. It is freed here, so that no caller holds it at its exits.
+fn heads(row: ByteRecord) -> bool
+    ensures { result ≡ spec.is_head (fields_of row) }
+{
+    is_head(&row)
+}
+
 /// The stimulus of a row, before which so many rows come.
 #[tactic(auto, unfolding(crate::specs::Stimuli::stimulus))]
-fn stimulus(alloc: Global, before: usize, row: &ByteRecord) -> Result<Stimulus, InputError>
+fn stimulus_of(alloc: Global, before: usize, row: &ByteRecord) -> Result<Stimulus, InputError>
     ensures { Answers (λ s. s) (spec.stimulus before (fields_of row.now)) result }
 {
     let Some((tick, event, values)) = three(row) else {
@@ -62,18 +70,31 @@ fn stimulus(alloc: Global, before: usize, row: &ByteRecord) -> Result<Stimulus, 
     let Some(tick) = natural(tick, MOST_TICK) else {
         return Err(InputError::Number);
     };
-    let Some(settings) = settings(alloc, draft.words)? else {
+    let Draft {
+        instance,
+        event,
+        words,
+    } = draft;
+    let Some((ends, settings)) = beside((instance, event), settings(alloc, words))? else {
         return Err(InputError::Number);
     };
     if tick > MOST_TICK || before >= MOST_ROWS {
         return Err(InputError::Limit);
     }
+    let (instance, event) = ends;
     Ok(Stimulus {
         tick: tick as u64,
-        instance: draft.instance,
-        event: draft.event,
+        instance,
+        event,
         settings,
     })
+}
+
+/// The stimulus of a row, before which so many rows come. The row is freed here, so that no caller holds it at its exits.
+fn stimulus(alloc: Global, before: usize, row: ByteRecord) -> Result<Stimulus, InputError>
+    ensures { Answers (λ s. s) (spec.stimulus before (fields_of row)) result }
+{
+    stimulus_of(alloc, before, &row)
 }
 
 /// What an error of reading a record tells. Records of bytes, of any lengths, are refused for want of memory, or because
@@ -112,7 +133,7 @@ pub fn read_stimuli(alloc: Global, bytes: &[u8]) -> Result<Vec<Stimulus>, InputE
         Ok(head) => head,
         Err(error) => return Err(refusal(error)),
     };
-    if !is_head(&head) {
+    if !heads(head) {
         return Err(InputError::Row);
     }
     let mut found = Items::new(alloc);
@@ -121,7 +142,7 @@ pub fn read_stimuli(alloc: Global, bytes: &[u8]) -> Result<Vec<Stimulus>, InputE
             Ok(row) => row,
             Err(error) => return Err(refusal(error)),
         };
-        found.push(stimulus(alloc, found.len(), &row)?)?;
+        found.push(stimulus(alloc, found.len(), row)?)?;
     }
     Ok(found.into_vec())
 }
