@@ -15,8 +15,8 @@ it is done to the program as ./simulate built it. A test that the kit built is a
 for want of memory is 101 where it answers that as a failure, or where it ends itself and says so (GAVE_UP), which an assertion that
 fails does not. ./gate does this to the tests in TESTS, for calls by themselves; by hand:
 
-    (cd crates/fb_resource_tests && ../../tools/rt test)
-    tools/refuse.py --memory 101 crates/fb_resource_tests/out/fb_resource_tests_tests tests::messages::messages_come_after_a_want_of_memory
+    (cd crates/fb_parts_tests && ../../tools/rt test)
+    tools/refuse.py --memory 101 crates/fb_parts_tests/out/fb_parts_tests_tests tests::messages::messages_come_after_a_want_of_memory
 
 (The kit's `rt try --fail-alloc N` does the same for one N, to a program that is not proved, and builds it anew for each.)"""
 
@@ -41,7 +41,7 @@ GAVE_UP = re.compile(rb"(memory|written|no (library|deployment|stimuli|system))\
 STOPPED = re.compile(rb"\ntest stopped at \S+\n")
 # The tests that are written for this, by their crates: each looks, where a call wanted memory, at what the calls behind it do.
 TESTS = {
-    "fb_resource_tests": ["tests::messages::messages_come_after_a_want_of_memory"],
+    "fb_parts_tests": ["tests::messages::messages_come_after_a_want_of_memory"],
     "fb_sim_tests": ["tests::advances::after_a_want_of_memory_nothing_is_written"],
 }
 # How many requests are refused side by side before it is looked at whether there were so many.

@@ -19,7 +19,7 @@ use Rattle.fb_types.specs.declared.run.Target.{Target}
 use Rattle.fb_types.specs.declared.value.Reason.{Reason}
 use Rattle.fb_types.specs.declared.value.Value.{Value}
 use Rattle.fb_st.specs.Frames.{values_of}
-use Rattle.fb_ecc.specs.Places.{Ended, IsBlockOf, place, sampled}
+use Rattle.fb_ecc.specs.Places.{Ended, place, sampled}
 use Rattle.fb_ecc.specs.Sound.{IsSound}
 use Rattle.fb_ecc.specs.declared.state.BasicState.{BasicState}
 use Rattle.fb_tree.specs.Blocks.{components_of, composite_with, own_of}

@@ -131,7 +131,7 @@ fn leave(
     emit_all(forest, outbox, system, key, at.instance, emits)
 }
 
-/// Tells an event that was taken at an event input of a leaf, and what its reaction emits.
+/// Tells an event that was taken at an event input of a basic block, and what its reaction emits.
 fn tell(
     forest: &mut Forest,
     outbox: &mut Outbox,

@@ -7,7 +7,7 @@ use Rattle.std.specs.Map.{lookup}
 use Rattle.std.specs.Ordering.{is_eq, nat_cmp}
 use Rattle.std.proofs.lemmas.Bool.{cases_lt}
 use Rattle.std.proofs.lemmas.Bool.Decides.{nat_tests}
-use Rattle.std.proofs.lemmas.List.{get_or_append_left}
+use Rattle.std.proofs.lemmas.List.{get_or_append_left, length-map}
 use Rattle.std.proofs.lemmas.List.Filters.{length-filter_more}
 use Rattle.std.proofs.lemmas.Option.{get_or_from_slice_get, slice_get-map, slice_get_past, slice_get_within, unwrap_or-slice_get}
 use Rattle.std.proofs.Math.Seq.{get_or-append_seam}
@@ -137,10 +137,6 @@ seat_of_instance lib plan holders place held =
       | Some i ↦ counted_map of (of i) is place
     ])
 
-map_long : {A B : Type 0} (f : A → B) (xs : List A) → length (map f xs) ≡ length xs
-map_long f [] = refl
-map_long f (x ∷ xs) = ap suc (map_long f xs)
-
 flat_long : {A B : Type 0} (f : A → List B) (xs : List A) → ((x : A) → 1 ≤ length (f x)) → length xs ≤ length (flat_map f xs)
 flat_long f [] each = omega arith
 flat_long f (x ∷ xs) each =
@@ -152,5 +148,5 @@ flat_long f (x ∷ xs) each =
 pub holders_few : (lib : Library) (plan : Plan) (holders : List ℕ) → holders ≡ holders_of lib plan → length (paths_of lib) ≤ 4096 → length holders ≤ 4096
 holders_few lib plan holders held few =
     let is = lib.application.network.instances in
-    let long = ap (λ (hs : List ℕ). length hs) held ∙ map_long (λ (i : Instance). holder plan i.name) is in
+    let long = ap (λ (hs : List ℕ). length hs) held ∙ length-map is (λ (i : Instance). holder plan i.name) in
     let all : length is ≤ length (paths_of lib) = flat_long (paths_from 16 lib []) is (λ x. omega arith) in omega (arith, long, all, few)

@@ -16,8 +16,8 @@ use std::marker::Model;
 /// The number of a link, by the resource that sends and the resource that receives.
 type Ways = BTreeMap<(usize, usize), usize, Global>;
 
-/// The resources of instances and of links, by number. Contracts see the resource that holds each instance, its seat there, and
-/// the resources of each link.
+/// The resources of instances and of links, by number. Contracts see the resource that holds each instance, its seat
+/// there, and the resources of each link.
 #[derive(Drop)]
 pub struct Links {
     /// For each instance of the application, the resource that holds it.
@@ -53,7 +53,7 @@ fn ways_of(alloc: Global, links: &[LinkEnds]) -> Result<Ways, AllocError>
     Ok(ways)
 }
 
-/// For each holder, how many before it are the same.
+/// For each holder, how many before it are the same. An application has at most 4,096 instances.
 fn seats_of(alloc: Global, holders: &[usize]) -> Result<Items<u32>, AllocError>
     requires { length holders.now ≤ 4096 }
     ensures { IfOk result (λ seats. (place : ℕ) → unwrap_or (slice_get seats place) 0 ≡ seat_among holders.now place) }
@@ -69,7 +69,7 @@ fn seats_of(alloc: Global, holders: &[usize]) -> Result<Items<u32>, AllocError>
 }
 
 impl Links {
-    /// The resources and links of a deployment, from the holders of the application's instances.
+    /// The resources and links of a deployment, from the holders of the application's instances, at most 4,096.
     pub fn of(alloc: Global, holders: Items<usize>, numbers: &Resolved) -> Result<Links, AllocError>
         requires { length holders ≤ 4096 }
         ensures { (library : Library) (plan : Plan) → IsResolved library plan numbers.now → ¬ (NameTwice library plan) → holders ≡ holders_of library plan → IfOk result (IsLinked library plan) }
@@ -85,14 +85,15 @@ impl Links {
         })
     }
 
-    /// The resource that holds an instance of the application, by the places of both from 0.
+    /// The resource that holds an instance of the application, by the places of both from 0. A place that no instance has gives 0.
     pub fn holder(&self, instance: usize) -> usize
         ensures { result ≡ holder_at self.now instance }
     {
         self.holders.get(instance).copied().unwrap_or(0)
     }
 
-    /// How many instances of the application before the one at a place lie in the same resource.
+    /// How many instances of the application before the one at a place lie in the same resource. A place that no instance has
+    /// gives 0.
     pub fn seat(&self, instance: usize) -> u32
         ensures { result ≡ seat_at self.now instance }
     {

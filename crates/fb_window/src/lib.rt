@@ -6,7 +6,7 @@
 //! law of schedules (`laws`), which knows nothing of this code.
 //!
 //! To be read in this order: `laws`; `cores` and `open`, what a core is; `bounds`; `leave` and `job`; `settle`, with
-//! `home`, `post`, `frontier`, `cut` and `ends`; `walk`, with `nexts`.
+//! `home`, `post`, `frontier`, `cut` and `ends`; `walk`, with `nexts`; `let_go`.
 #![tactic(auto)]
 
 pub mod bounds;
@@ -18,6 +18,7 @@ mod home;
 pub mod job;
 pub mod laws;
 mod leave;
+pub mod let_go;
 mod nexts;
 mod open;
 mod post;

@@ -1,0 +1,126 @@
+//! Messages that one resource sends and another takes.
+
+use super::chain::{ENOUGH, accepted, deliver_first, expect_text, handed, opened, run, turned};
+use fb_system::system::System;
+use fb_types::run::Form;
+use fb_window::let_go::let_system_go;
+use std::alloc::Global;
+use std::mem::forget;
+use std::process::Abort;
+
+/// Two resources of which the first sends to the second.
+#[derive(Clone, Copy)]
+struct Talk {
+    declaration: &'static str,
+    deploy: &'static str,
+    /// The first runs below this tick, and then the second below another.
+    sent_below: u64,
+    taken_below: u64,
+    /// Whether the messages are handed over in the other order.
+    turned: bool,
+    stimuli: &'static str,
+    /// The lines of the second.
+    trace: &'static str,
+}
+
+/// A text, and another one sixty times behind it.
+macro_rules! sixty {
+    ($first:literal, $text:literal) => {
+        concat!(
+            $first,
+            $text, $text, $text, $text, $text, $text, $text, $text, $text, $text,
+            $text, $text, $text, $text, $text, $text, $text, $text, $text, $text,
+            $text, $text, $text, $text, $text, $text, $text, $text, $text, $text,
+            $text, $text, $text, $text, $text, $text, $text, $text, $text, $text,
+            $text, $text, $text, $text, $text, $text, $text, $text, $text, $text,
+            $text, $text, $text, $text, $text, $text, $text, $text, $text, $text
+        )
+    };
+}
+
+/// A latch whose event and value go to a switch.
+static LATCH: Talk = Talk {
+    declaration: "APPLICATION A FBS F : E_SR; W : E_SWITCH; END_FBS\n\
+        EVENT_CONNECTIONS F.EO TO W.EI; END_CONNECTIONS\n\
+        DATA_CONNECTIONS F.Q TO W.G; END_CONNECTIONS END_APPLICATION",
+    deploy: "resource = [\n\
+        { device = 'D', name = 'R1', instances = ['F'] },\n\
+        { device = 'D', name = 'R2', instances = ['W'] },\n\
+        ]\n\
+        link = [{ from = 'R1', to = 'R2', latency = 2 }]\n",
+    sent_below: 5,
+    taken_below: 6,
+    turned: false,
+    stimuli: "tick,event,values\n3,F.S,\n5,W.EI,\n",
+    // The stimulus of the tick of the arrival is taken first, and sees the value that was held before.
+    trace: "5 R2 > W.EI G=FALSE\n5 R2 < W.EO0\n5 R2 > W.EI G=TRUE\n5 R2 < W.EO1\n",
+};
+
+/// A split whose second output stands first among the connections.
+const SPLIT: Talk = Talk {
+    declaration: "APPLICATION A FBS P : E_SPLIT; M : E_MERGE; END_FBS\n\
+        EVENT_CONNECTIONS P.EO2 TO M.EI2; P.EO1 TO M.EI1; END_CONNECTIONS END_APPLICATION",
+    deploy: "resource = [\n\
+        { device = 'D', name = 'R1', instances = ['P'] },\n\
+        { device = 'D', name = 'R2', instances = ['M'] },\n\
+        ]\n\
+        link = [{ from = 'R1', to = 'R2', latency = 1 }]\n",
+    sent_below: 1,
+    taken_below: 2,
+    turned: false,
+    stimuli: "tick,event,values\n0,P.EI,\n",
+    trace: "1 R2 > M.EI1\n1 R2 < M.EO\n1 R2 > M.EI2\n1 R2 < M.EO\n",
+};
+
+static OTHER: Talk = Talk {
+    turned: true,
+    ..SPLIT
+};
+
+/// A merge passes each of sixty events on: so many messages need several places to stand.
+static PASS: Talk = Talk {
+    declaration: "APPLICATION A FBS A : E_MERGE; M : E_MERGE; END_FBS\n\
+        EVENT_CONNECTIONS A.EO TO M.EI1; END_CONNECTIONS END_APPLICATION",
+    deploy: "resource = [\n\
+        { device = 'D', name = 'R1', instances = ['A'] },\n\
+        { device = 'D', name = 'R2', instances = ['M'] },\n\
+        ]\n\
+        link = [{ from = 'R1', to = 'R2', latency = 1 }]\n",
+    stimuli: sixty!("tick,event,values\n", "0,A.EI1,\n"),
+    sent_below: 1,
+    taken_below: 2,
+    turned: false,
+    trace: sixty!("", "1 R2 > M.EI1\n1 R2 < M.EO\n"),
+};
+
+/// What the first resource sends to the second one.
+fn expect_heard(rt: &impl Abort, alloc: Global, system: &System, talk: &Talk) {
+    let sender = opened(rt, alloc, system, 0);
+    let sender = run(rt, sender, alloc, system, talk.sent_below, ENOUGH);
+    let sent = turned(system, sender.sent, talk.turned);
+    let inbox = handed(rt, alloc, system, sent);
+    let receiver = opened(rt, alloc, system, 1);
+    let receiver = deliver_first(rt, receiver, 1, system, inbox);
+    let ran = run(rt, receiver, alloc, system, talk.taken_below, ENOUGH);
+    expect_text(
+        rt,
+        alloc,
+        system,
+        Form::One,
+        ran.lines.as_slice(),
+        talk.trace.as_bytes(),
+    );
+    forget(sender.lines);
+    forget(ran);
+}
+
+/// Where one request for memory is refused to a resource that takes messages, it takes them at a second try. Any other that is
+/// refused ends the test. `tools/refuse.py` runs this with each request refused in turn.
+#[test]
+fn messages_come_after_a_want_of_memory(rt: HostRuntime) {
+    for talk in [&LATCH, &SPLIT, &OTHER, &PASS] {
+        let system = accepted(&rt, rt.alloc(), talk.declaration, talk.deploy, talk.stimuli);
+        expect_heard(&rt, rt.alloc(), &system, talk);
+        let_system_go(system);
+    }
+}
