@@ -3,7 +3,8 @@
 The kit gives a proof all processors that no other proof waits for. A check by four jobs takes up to twice the processor time of one by
 a single job, since each job loads the libraries, and the tries of wrong bodies wait meanwhile. Here each task has one job, first those
 with the longest chain of others behind them, and two things more: the proof at the head of the longest chain of all has a second job,
-since everything waits for that chain; and where fewer tasks are ready than processors are free, the proofs among them share the rest."""
+since everything waits for that chain, even where one processor alone is free as it begins; and where fewer tasks are ready than
+processors are free, the proofs among them share the rest."""
 
 import os
 from concurrent.futures import FIRST_COMPLETED, ThreadPoolExecutor, wait
@@ -33,8 +34,8 @@ def jobs_of(key, is_longest, idle, ready):
     """Returns how many jobs a task gets that may begin, of so many processors that are idle, while so many tasks are ready, this one among them."""
     if key[1] not in PROOFS:
         return 1
-    wanted = max(2 if is_longest else 1, 1 + max(idle - ready, 0))
-    return min(wanted, idle, MOST_JOBS)
+    least = 2 if is_longest else 1
+    return min(max(least, 1 + max(idle - ready, 0)), max(least, idle), MOST_JOBS)
 
 
 def in_lanes(tasks):
@@ -57,7 +58,7 @@ def in_lanes(tasks):
                 if running and needs > room:
                     lacks = True
                     continue
-                jobs = jobs_of(key, behind[key] == longest, idle, len(ready) - number)
+                jobs = jobs_of(key, lanes > 1 and behind[key] == longest, idle, len(ready) - number)
                 jobs = max(1, min(jobs, 1 + int((room / needs - 1) / MORE_MEMORY)))
                 left.remove(key)
                 running[pool.submit(call, given, jobs)] = key, needs * (1 + MORE_MEMORY * (jobs - 1)), jobs
