@@ -29,6 +29,7 @@ import subprocess
 import sys
 import tempfile
 import time
+from concurrent.futures import ThreadPoolExecutor
 
 import calls
 import cases
@@ -82,6 +83,15 @@ class Crate(rt.Crate):
             rt.say("all of it is tests: see what is said of these", self.out)
             return 0
         return super().ci(flags, tests)
+
+    def compile_by(self, backend, words, to):
+        """Compiles and links a proved program. The kit asks for LLVM's, and then for that of Rattle's own compiler, when nothing else
+        goes on any more: here both work side by side."""
+        if backend == "llvm":
+            with ThreadPoolExecutor(1) as beside:
+                self.own = beside.submit(super().compile_by, "rattle", words, to)
+                return super().compile_by(backend, words, to)
+        return self.own.result()
 
     def has_tests_alone(self):
         return bool(TESTS_ALONE.fullmatch(rtlib.text_of(f"{self.folder}/src/lib.rt") or ""))

@@ -37,6 +37,10 @@ TAKEN = 0.6
 _reckoned = rt.need
 rt.need = lambda crate: int(TAKEN * _reckoned(crate))
 
+# The checker's allocator gives memory that it does not use back to the system, and asks for it again soon after. A check that keeps it takes a
+# twentieth less of processor time, and a thirtieth more of memory.
+os.environ.setdefault("MIMALLOC_PURGE_DELAY", "-1")
+
 # Whether the kit keeps on the machine what passed. One that does has names for what an edit's try comes to.
 KEEPS = hasattr(rt, "Kept")
 

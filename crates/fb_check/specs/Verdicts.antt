@@ -1,13 +1,10 @@
 -- How far inputs have been judged (this project's profile).
 use Rattle.std.specs.Prelude.{ℕ, ◌<◌, List}
-use Rattle.fb_types.specs.Accepted.{Applies, IsLeastFault, IsAccepted}
+use Rattle.fb_types.specs.Accepted.{Applies, IsAccepted}
 use Rattle.fb_types.specs.declared.library.Library.{Library}
 use Rattle.fb_types.specs.declared.deploy.Plan.{Plan}
 use Rattle.fb_types.specs.declared.deploy.Stimulus.{Stimulus}
 use Rattle.fb_check.specs.declared.case.Case.{Case}
-use Rattle.fb_check.specs.declared.fault.Refusal.{Refusal}
-use Rattle.fb_check.specs.declared.fault.Refusal.TheVariants.{Memory, Fault}
-use Rattle.fb_check.specs.Faults.{number_of}
 
 -- no number below m applies
 abbrev pub Passes : (m : ℕ) → Library → Plan → List Stimulus → Type 0
@@ -18,8 +15,3 @@ HasPassed m c = Passes m c.library.now c.plan.now c.stimuli.now
 
 abbrev pub AreAccepted : Case → Type 0
 AreAccepted c = IsAccepted c.library.now c.plan.now c.stimuli.now
-
--- A fault has the least number that applies.
-abbrev pub IsRightly : Case → Refusal → Type 0
-IsRightly c Memory = Unit {0}
-IsRightly c (Fault f) = IsLeastFault (number_of f) c.library.now c.plan.now c.stimuli.now

@@ -1,19 +1,19 @@
-//! Why there is no system.
+//! Why inputs are not accepted.
 
 ghost use Rattle.std.specs.Prelude.{◌≡◌};
-ghost use Rattle.fb_check.specs.Refusals.{error_of, number_of};
+ghost use Rattle.fb_check.specs.Refusals.{number_of};
 ghost use Rattle.fb_check.specs.declared.error.CheckError.TheVariants.{Memory};
 
-use crate::fault::{Fault, Refusal};
+use crate::fault::Fault;
 use std::alloc::AllocError;
 use thiserror::Error;
 
-/// Why no system stands for a declaration, a deployment and stimuli.
-#[derive(Debug, Drop, Error)]
+/// Why a declaration, a deployment and stimuli are not accepted, so that no system stands for them.
+#[derive(Clone, Copy, Debug, Error)]
 pub enum CheckError {
     #[error("out of memory")]
     Memory,
-    /// They are not accepted together. Of the faults that apply, this has the least number.
+    /// Of the faults that apply, this has the least number.
     #[error("{0}")]
     Refused(Fault),
 }
@@ -23,17 +23,6 @@ impl From<AllocError> for CheckError {
 
     fn from(_error: AllocError) -> CheckError {
         CheckError::Memory
-    }
-}
-
-impl From<Refusal> for CheckError {
-    ghost from_gives = { λ refusal e. e ≡ error_of refusal };
-
-    fn from(refusal: Refusal) -> CheckError {
-        match refusal {
-            Refusal::Memory => CheckError::Memory,
-            Refusal::Fault(fault) => CheckError::Refused(fault),
-        }
     }
 }
 

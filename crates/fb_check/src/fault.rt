@@ -2,9 +2,7 @@
 
 ghost use Rattle.std.specs.Prelude.{◌≡◌};
 ghost use Rattle.fb_check.specs.Faults.{number_of};
-ghost use Rattle.fb_check.specs.declared.fault.Refusal.TheVariants.{Memory};
 
-use std::alloc::AllocError;
 use thiserror::Error;
 
 /// Why inputs are not accepted. Each refusal has a number.
@@ -52,20 +50,5 @@ impl Fault {
             Fault::BadStimulus => 29,
             Fault::OverLimit => 30,
         }
-    }
-}
-
-/// Why there is no verdict of acceptance: want of memory, or the least fault.
-#[derive(Clone, Copy, Debug, PartialEq, Eq)]
-pub enum Refusal {
-    Memory,
-    Fault(Fault),
-}
-
-impl From<AllocError> for Refusal {
-    ghost from_gives = { λ _ e. e ≡ Memory };
-
-    fn from(_error: AllocError) -> Refusal {
-        Refusal::Memory
     }
 }

@@ -5,10 +5,12 @@ ghost use Rattle.fb_names.specs.Catalog.{IsCatalog};
 ghost use Rattle.fb_names.specs.Numbers.{IsResolved};
 ghost use Rattle.fb_system.specs.Linking.{holders_of};
 ghost use Rattle.fb_system.specs.Rows.{AreRows};
-ghost use Rattle.fb_check.specs.Verdicts.{AreAccepted, HasPassed, IsRightly};
+ghost use Rattle.fb_check.specs.Refusals.{IsRightly, inputs_in};
+ghost use Rattle.fb_check.specs.Verdicts.{AreAccepted, HasPassed};
 
 use crate::case::{Case, Judged};
-use crate::fault::{Fault, Refusal};
+use crate::error::CheckError;
+use crate::fault::Fault;
 use crate::mapping_checks::judge_mapping;
 use crate::network_checks::judge_networks;
 use crate::stimuli::rows_of;
@@ -25,28 +27,28 @@ use std::alloc::Global;
 const MOST_STIMULI: usize = 100_000;
 
 /// E20: the places of all names, where none is given twice.
-fn catalog<'a>(alloc: Global, case: &Case<'a>) -> Result<Catalog<'a>, Refusal>
+fn catalog<'a>(alloc: Global, case: &Case<'a>) -> Result<Catalog<'a>, CheckError>
     ensures ok { IfOk result (IsCatalog case.now.library.now case.now.plan.now) }
-    ensures refused { IfErr result (IsRightly case.now) }
+    ensures refused { IfErr result (IsRightly (inputs_in case.now)) }
 {
     match catalog_of(alloc, case.library, case.plan)? {
         Some(catalog) => Ok(catalog),
-        None => Err(Refusal::Fault(Fault::NameTwice)),
+        None => Err(CheckError::Refused(Fault::NameTwice)),
     }
 }
 
 /// E21: the numbers of all names, where each stands for something.
-fn numbers(alloc: Global, case: &Case, catalog: &Catalog) -> Result<Resolved, Refusal>
+fn numbers(alloc: Global, case: &Case, catalog: &Catalog) -> Result<Resolved, CheckError>
     requires { IsCatalog case.now.library.now case.now.plan.now catalog.now }
     ensures ok { IfOk result (IsResolved case.now.library.now case.now.plan.now) }
-    ensures refused { IfErr result (IsRightly case.now) }
+    ensures refused { IfErr result (IsRightly (inputs_in case.now)) }
 {
     if !are_parts_known(case.library, catalog) {
-        return Err(Refusal::Fault(Fault::NameUnknown));
+        return Err(CheckError::Refused(Fault::NameUnknown));
     }
     match resolve(alloc, case.library, case.plan, catalog)? {
         Some(resolved) => Ok(resolved),
-        None => Err(Refusal::Fault(Fault::NameUnknown)),
+        None => Err(CheckError::Refused(Fault::NameUnknown)),
     }
 }
 
@@ -55,40 +57,40 @@ fn judge_stimuli(
     alloc: Global,
     case: &Case,
     catalog: &Catalog,
-) -> Result<Items<StimulusRow>, Refusal>
+) -> Result<Items<StimulusRow>, CheckError>
     requires catalog { IsCatalog case.now.library.now case.now.plan.now catalog.now }
     requires passed { HasPassed 29 case.now }
     ensures rows { IfOk result (AreRows case.now.library.now case.now.stimuli.now) }
     ensures ok { IfOk result (λ _. HasPassed 30 case.now) }
-    ensures refused { IfErr result (IsRightly case.now) }
+    ensures refused { IfErr result (IsRightly (inputs_in case.now)) }
 {
     match rows_of(alloc, case.library, catalog, case.stimuli)? {
         Some(rows) => Ok(rows),
-        None => Err(Refusal::Fault(Fault::BadStimulus)),
+        None => Err(CheckError::Refused(Fault::BadStimulus)),
     }
 }
 
 /// E30: not over a limit.
-fn judge_limits(alloc: Global, case: &Case, resolved: &Resolved) -> Result<(), Refusal>
+fn judge_limits(alloc: Global, case: &Case, resolved: &Resolved) -> Result<(), CheckError>
     requires resolved { IsResolved case.now.library.now case.now.plan.now resolved.now }
     requires passed { HasPassed 30 case.now }
     ensures ok { IfOk result (λ _. AreAccepted case.now) }
-    ensures refused { IfErr result (IsRightly case.now) }
+    ensures refused { IfErr result (IsRightly (inputs_in case.now)) }
 {
     if case.stimuli.len() > MOST_STIMULI || has_too_many_instances(alloc, resolved)? {
-        return Err(Refusal::Fault(Fault::OverLimit));
+        return Err(CheckError::Refused(Fault::OverLimit));
     }
     Ok(())
 }
 
 /// What is made of inputs that are accepted. Else the error is as with `judge`.
-pub fn judged<'a>(alloc: Global, case: &Case<'a>) -> Result<Judged<'a>, Refusal>
+pub fn judged<'a>(alloc: Global, case: &Case<'a>) -> Result<Judged<'a>, CheckError>
     ensures accepted { IfOk result (λ _. AreAccepted case.now) }
     ensures catalog { IfOk result (λ j. IsCatalog case.now.library.now case.now.plan.now j.catalog) }
     ensures numbers { IfOk result (λ j. IsResolved case.now.library.now case.now.plan.now j.numbers) }
     ensures holders { IfOk result (λ j. j.holders ≡ holders_of case.now.library.now case.now.plan.now) }
     ensures rows { IfOk result (λ j. AreRows case.now.library.now case.now.stimuli.now j.rows) }
-    ensures refused { IfErr result (IsRightly case.now) }
+    ensures refused { IfErr result (IsRightly (inputs_in case.now)) }
 {
     let catalog = catalog(alloc, case)?;
     let numbers = numbers(alloc, case, &catalog)?;
@@ -106,9 +108,9 @@ pub fn judged<'a>(alloc: Global, case: &Case<'a>) -> Result<Judged<'a>, Refusal>
 
 /// Whether the inputs are accepted: `Ok` where none of the conditions from E20 to E30 holds, else the fault with the
 /// least number that applies.
-pub fn judge(alloc: Global, case: &Case) -> Result<(), Refusal>
+pub fn judge(alloc: Global, case: &Case) -> Result<(), CheckError>
     ensures accepted { IfOk result (λ _. AreAccepted case.now) }
-    ensures refused { IfErr result (IsRightly case.now) }
+    ensures refused { IfErr result (IsRightly (inputs_in case.now)) }
 {
     judged(alloc, case)?;
     Ok(())

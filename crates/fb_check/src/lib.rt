@@ -5,9 +5,9 @@
 //! and the stimuli by number. `accept::accept` gives a system exactly for inputs that are accepted, and else the least
 //! number that applies.
 //!
-//! To be read in this order: `case` and `fault`; `judge`, the checks in the order of their numbers; `network_checks` (E22
-//! to E25) and `mapping_checks` (E26 to E28); `stimuli` (E29) with `directory` and `directory_making`, what stimuli may
-//! name. Then `accept`, `error`.
+//! To be read in this order: `case`, `fault` and `error`; `judge`, the checks in the order of their numbers;
+//! `network_checks` (E22 to E25) and `mapping_checks` (E26 to E28); `stimuli` (E29) with `directory` and
+//! `directory_making`, what stimuli may name. Then `accept`.
 #![tactic(auto)]
 
 pub mod accept;

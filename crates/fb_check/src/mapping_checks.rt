@@ -4,10 +4,12 @@ ghost use Rattle.std.specs.Prelude.{◌≡◌, IfOk, IfErr};
 ghost use Rattle.fb_joins.specs.Mapping.{IsMapping};
 ghost use Rattle.fb_names.specs.Numbers.{IsResolved};
 ghost use Rattle.fb_system.specs.Linking.{holders_of};
-ghost use Rattle.fb_check.specs.Verdicts.{HasPassed, IsRightly};
+ghost use Rattle.fb_check.specs.Refusals.{IsRightly, inputs_in};
+ghost use Rattle.fb_check.specs.Verdicts.{HasPassed};
 
 use crate::case::Case;
-use crate::fault::{Fault, Refusal};
+use crate::error::CheckError;
+use crate::fault::Fault;
 use fb_joins::links::lacks_link;
 use fb_joins::mapping::{Mapping, holders_of, mapping_of};
 use fb_joins::uncarried::lacks_event;
@@ -16,27 +18,27 @@ use fb_types::items::Items;
 use std::alloc::Global;
 
 /// E26: each instance mapped once.
-fn mapping<'a>(alloc: Global, case: &Case<'a>) -> Result<Mapping<'a>, Refusal>
+fn mapping<'a>(alloc: Global, case: &Case<'a>) -> Result<Mapping<'a>, CheckError>
     requires passed { HasPassed 26 case.now }
     ensures ok { IfOk result (IsMapping case.now.library.now case.now.plan.now) }
     ensures passed { IfOk result (λ _. HasPassed 27 case.now) }
-    ensures refused { IfErr result (IsRightly case.now) }
+    ensures refused { IfErr result (IsRightly (inputs_in case.now)) }
 {
     match mapping_of(alloc, case.library, case.plan)? {
         Some(mapping) => Ok(mapping),
-        None => Err(Refusal::Fault(Fault::NotMapped)),
+        None => Err(CheckError::Refused(Fault::NotMapped)),
     }
 }
 
 /// E27: a link for each connection between two resources.
-fn judge_links(alloc: Global, case: &Case, mapping: &Mapping) -> Result<(), Refusal>
+fn judge_links(alloc: Global, case: &Case, mapping: &Mapping) -> Result<(), CheckError>
     requires mapping { IsMapping case.now.library.now case.now.plan.now mapping.now }
     requires passed { HasPassed 27 case.now }
     ensures ok { IfOk result (λ _. HasPassed 28 case.now) }
-    ensures refused { IfErr result (IsRightly case.now) }
+    ensures refused { IfErr result (IsRightly (inputs_in case.now)) }
 {
     if lacks_link(alloc, case.library, case.plan, mapping)? {
-        return Err(Refusal::Fault(Fault::NoLink));
+        return Err(CheckError::Refused(Fault::NoLink));
     }
     Ok(())
 }
@@ -47,15 +49,15 @@ fn judge_events(
     case: &Case,
     mapping: &Mapping,
     resolved: &Resolved,
-) -> Result<(), Refusal>
+) -> Result<(), CheckError>
     requires mapping { IsMapping case.now.library.now case.now.plan.now mapping.now }
     requires resolved { IsResolved case.now.library.now case.now.plan.now resolved.now }
     requires passed { HasPassed 28 case.now }
     ensures ok { IfOk result (λ _. HasPassed 29 case.now) }
-    ensures refused { IfErr result (IsRightly case.now) }
+    ensures refused { IfErr result (IsRightly (inputs_in case.now)) }
 {
     if lacks_event(alloc, case.library, case.plan, mapping, resolved)? {
-        return Err(Refusal::Fault(Fault::NoEvent));
+        return Err(CheckError::Refused(Fault::NoEvent));
     }
     Ok(())
 }
@@ -65,12 +67,12 @@ pub fn judge_mapping(
     alloc: Global,
     case: &Case,
     resolved: &Resolved,
-) -> Result<Items<usize>, Refusal>
+) -> Result<Items<usize>, CheckError>
     requires resolved { IsResolved case.now.library.now case.now.plan.now resolved.now }
     requires passed { HasPassed 26 case.now }
     ensures holders { IfOk result (λ h. h ≡ holders_of case.now.library.now case.now.plan.now) }
     ensures ok { IfOk result (λ _. HasPassed 29 case.now) }
-    ensures refused { IfErr result (IsRightly case.now) }
+    ensures refused { IfErr result (IsRightly (inputs_in case.now)) }
 {
     let mapping = mapping(alloc, case)?;
     judge_links(alloc, case, &mapping)?;

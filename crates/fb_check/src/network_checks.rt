@@ -3,10 +3,12 @@
 ghost use Rattle.std.specs.Prelude.{IfOk, IfErr};
 ghost use Rattle.fb_names.specs.Catalog.{IsCatalog};
 ghost use Rattle.fb_names.specs.Numbers.{IsResolved};
-ghost use Rattle.fb_check.specs.Verdicts.{HasPassed, IsRightly};
+ghost use Rattle.fb_check.specs.Refusals.{IsRightly, inputs_in};
+ghost use Rattle.fb_check.specs.Verdicts.{HasPassed};
 
 use crate::case::Case;
-use crate::fault::{Fault, Refusal};
+use crate::error::CheckError;
+use crate::fault::Fault;
 use fb_joins::heights::is_too_high;
 use fb_joins::parameters::has_wrong_parameter;
 use fb_joins::ranges::leads_out_of_range;
@@ -17,53 +19,53 @@ use fb_names::numbers::Resolved;
 use std::alloc::Global;
 
 /// E22: expressions, statements and values of the right kind.
-fn judge_kinds(case: &Case, catalog: &Catalog, resolved: &Resolved) -> Result<(), Refusal>
+fn judge_kinds(case: &Case, catalog: &Catalog, resolved: &Resolved) -> Result<(), CheckError>
     requires catalog { IsCatalog case.now.library.now case.now.plan.now catalog.now }
     requires resolved { IsResolved case.now.library.now case.now.plan.now resolved.now }
     requires passed { HasPassed 22 case.now }
     ensures ok { IfOk result (λ _. HasPassed 23 case.now) }
-    ensures refused { IfErr result (IsRightly case.now) }
+    ensures refused { IfErr result (IsRightly (inputs_in case.now)) }
 {
     if has_wrong_part(case.library, catalog) || has_wrong_parameter(case.library, resolved) {
-        return Err(Refusal::Fault(Fault::KindWrong));
+        return Err(CheckError::Refused(Fault::KindWrong));
     }
     Ok(())
 }
 
 /// E23: data connections to types that hold all values.
-fn judge_ranges(case: &Case, resolved: &Resolved) -> Result<(), Refusal>
+fn judge_ranges(case: &Case, resolved: &Resolved) -> Result<(), CheckError>
     requires resolved { IsResolved case.now.library.now case.now.plan.now resolved.now }
     requires passed { HasPassed 23 case.now }
     ensures ok { IfOk result (λ _. HasPassed 24 case.now) }
-    ensures refused { IfErr result (IsRightly case.now) }
+    ensures refused { IfErr result (IsRightly (inputs_in case.now)) }
 {
     if leads_out_of_range(case.library, resolved) {
-        return Err(Refusal::Fault(Fault::OutOfRange));
+        return Err(CheckError::Refused(Fault::OutOfRange));
     }
     Ok(())
 }
 
 /// E24: one source for each port.
-fn judge_sources(alloc: Global, case: &Case) -> Result<(), Refusal>
+fn judge_sources(alloc: Global, case: &Case) -> Result<(), CheckError>
     requires passed { HasPassed 24 case.now }
     ensures ok { IfOk result (λ _. HasPassed 25 case.now) }
-    ensures refused { IfErr result (IsRightly case.now) }
+    ensures refused { IfErr result (IsRightly (inputs_in case.now)) }
 {
     if has_two_sources(alloc, case.library)? {
-        return Err(Refusal::Fault(Fault::TwoSources));
+        return Err(CheckError::Refused(Fault::TwoSources));
     }
     Ok(())
 }
 
 /// E25: composites of a height up to 16.
-fn judge_heights(alloc: Global, case: &Case, resolved: &Resolved) -> Result<(), Refusal>
+fn judge_heights(alloc: Global, case: &Case, resolved: &Resolved) -> Result<(), CheckError>
     requires resolved { IsResolved case.now.library.now case.now.plan.now resolved.now }
     requires passed { HasPassed 25 case.now }
     ensures ok { IfOk result (λ _. HasPassed 26 case.now) }
-    ensures refused { IfErr result (IsRightly case.now) }
+    ensures refused { IfErr result (IsRightly (inputs_in case.now)) }
 {
     if is_too_high(alloc, resolved)? {
-        return Err(Refusal::Fault(Fault::TooHigh));
+        return Err(CheckError::Refused(Fault::TooHigh));
     }
     Ok(())
 }
@@ -74,11 +76,11 @@ pub fn judge_networks(
     case: &Case,
     catalog: &Catalog,
     resolved: &Resolved,
-) -> Result<(), Refusal>
+) -> Result<(), CheckError>
     requires catalog { IsCatalog case.now.library.now case.now.plan.now catalog.now }
     requires resolved { IsResolved case.now.library.now case.now.plan.now resolved.now }
     ensures ok { IfOk result (λ _. HasPassed 26 case.now) }
-    ensures refused { IfErr result (IsRightly case.now) }
+    ensures refused { IfErr result (IsRightly (inputs_in case.now)) }
 {
     judge_kinds(case, catalog, resolved)?;
     judge_ranges(case, resolved)?;

@@ -14,8 +14,8 @@ use Rattle.fb_wave.specs.declared.error.WaveError.{WaveError}
 use Rattle.fb_wave.specs.declared.error.WaveError.TheVariants as wave
 use Rattle.fb_command.specs.declared.failure.Failure.{Failure}
 use Rattle.fb_command.specs.declared.failure.Failure.TheVariants.{Refused, File, Write, Memory, Line, BadOption}
-use Rattle.fb_command.specs.declared.failure.Refusal.{Refusal}
-use Rattle.fb_command.specs.declared.failure.Refusal.TheVariants.{Numbered, Syntax, Trace}
+use Rattle.fb_command.specs.declared.failure.RefusalLine.{RefusalLine}
+use Rattle.fb_command.specs.declared.failure.RefusalLine.TheVariants.{Numbered, Syntax, Trace}
 use Rattle.fb_command.specs.declared.source.SourceFault.{SourceFault}
 use Rattle.fb_command.specs.declared.source.SourceFault.TheVariants as source
 use Rattle.fb_command.specs.declared.status.Done.{Done}
@@ -65,7 +65,7 @@ failure_of_source source.Memory = Memory
 
 -- ---- The texts
 
-abbrev pub refusal_text : Refusal → List ℕ
+abbrev pub refusal_text : RefusalLine → List ℕ
 refusal_text (Numbered n) = codes "refused E" ++ decimal (n / 10) ++ decimal (n % 10)
 refusal_text (Syntax line) = codes "refused E03 line " ++ decimal line
 refusal_text (Trace line) = codes "refused trace line " ++ decimal line

@@ -6,7 +6,7 @@ use Rattle.fb_why.specs.Reasons.{Tells}
 use Rattle.fb_why.specs.declared.spot.Reason.{Reason}
 use Rattle.fb_command.specs.declared.failure.Failure.{Failure}
 use Rattle.fb_command.specs.declared.failure.Failure.TheVariants.{Refused}
-use Rattle.fb_command.specs.declared.failure.Refusal.TheVariants.{Numbered, Syntax}
+use Rattle.fb_command.specs.declared.failure.RefusalLine.TheVariants.{Numbered, Syntax}
 use Rattle.fb_command.specs.declared.source.SourceFault.{SourceFault}
 use Rattle.fb_command.specs.declared.source.SourceFault.TheVariants.{File}
 use Rattle.fb_command.specs.declared.texts.Part.{Part}

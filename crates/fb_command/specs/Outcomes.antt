@@ -7,7 +7,7 @@ use Rattle.fb_sim.specs.declared.outcome.RunError.{RunError}
 use Rattle.fb_command.specs.Failures.{failure_of}
 use Rattle.fb_command.specs.declared.failure.Failure.{Failure}
 use Rattle.fb_command.specs.declared.failure.Failure.TheVariants.{Refused}
-use Rattle.fb_command.specs.declared.failure.Refusal.{Refusal}
+use Rattle.fb_command.specs.declared.failure.RefusalLine.{RefusalLine}
 use Rattle.fb_command.specs.declared.status.Done.{Done}
 
 -- what a call came to
@@ -19,7 +19,7 @@ abbrev pub Held : Type 0
 Held = Option Text
 
 -- the inputs are refused, for this reason
-pub record IsRefused (given : Given) (refusal : Refusal) : Type 0 where
+pub record IsRefused (given : Given) (refusal : RefusalLine) : Type 0 where
   pub error : RunError
   pub refused : IsRefusal given error
   pub told : failure_of error ≡ Refused refusal

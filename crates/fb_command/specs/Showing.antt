@@ -12,8 +12,8 @@ use Rattle.fb_command.specs.Failures.{failure_of_source}
 use Rattle.fb_command.specs.Outcomes.{End, Held, IsRefused}
 use Rattle.fb_command.specs.Reading.{Reading, AreRead, IsUnread}
 use Rattle.fb_command.specs.declared.failure.Failure.TheVariants.{Refused, File, Write, Memory, Line, BadOption}
-use Rattle.fb_command.specs.declared.failure.Refusal.{Refusal}
-use Rattle.fb_command.specs.declared.failure.Refusal.TheVariants.{Trace}
+use Rattle.fb_command.specs.declared.failure.RefusalLine.{RefusalLine}
+use Rattle.fb_command.specs.declared.failure.RefusalLine.TheVariants.{Trace}
 use Rattle.fb_command.specs.declared.source.SourceFault.{SourceFault}
 use Rattle.fb_command.specs.declared.status.Done.TheVariants.{Helped, Explained, Accepted, Shown, Ended, Stopped}
 use Rattle.fb_command.specs.declared.texts.Part.{Part}
@@ -33,7 +33,7 @@ abbrev pub DumpsFront : Given → (old new : Held) → Type 0
 DumpsFront given old new = (i : Inputs) × Declares given i × WritesFront (system_of i) old new
 
 -- the inputs are refused, as a check refuses them, or the trace is, in this line
-abbrev pub IsRefusedFor : Given → (old new : Held) → Refusal → Type 0
+abbrev pub IsRefusedFor : Given → (old new : Held) → RefusalLine → Type 0
 IsRefusedFor given old new refusal = (IsRefused given refusal × (new ≡ old)) ⊎ ((line : ℕ) × (refusal ≡ Trace line) × DumpsFront given old new)
 
 -- a trace of what the inputs declare is read, of which these bytes are known, and its dump is written

@@ -7,15 +7,14 @@ ghost use Rattle.fb_command.specs.declared.failure.Failure.TheVariants.{Memory};
 use crate::source::SourceFault;
 use fb_inputs::error::InputError;
 use fb_read::error::ReadError;
-use fb_sim::outcome;
-use fb_sim::outcome::RunError;
+use fb_sim::outcome::{Refusal, RunError};
 use fb_wave::error::WaveError;
 use std::alloc::AllocError;
 use std::fmt;
 
-/// Why the inputs are refused.
+/// What the line of a refusal says.
 #[derive(Clone, Copy)]
-pub enum Refusal {
+pub enum RefusalLine {
     /// The refusal of this number, 1 to 30.
     Numbered(u8),
     /// A syntax fault in this line, counted from 1.
@@ -27,7 +26,7 @@ pub enum Refusal {
 /// Why a call of the program does not do what is asked.
 #[derive(Drop)]
 pub enum Failure {
-    Refused(Refusal),
+    Refused(RefusalLine),
     /// A file could not be read.
     File,
     /// The output failed when it had taken so many bytes.
@@ -53,11 +52,11 @@ impl From<ReadError> for Failure {
     fn from(error: ReadError) -> Failure {
         match error {
             ReadError::Memory => Failure::Memory,
-            ReadError::Byte => Failure::Refused(Refusal::Numbered(1)),
-            ReadError::Token => Failure::Refused(Refusal::Numbered(2)),
-            ReadError::Syntax { line } => Failure::Refused(Refusal::Syntax(line)),
-            ReadError::TooLong => Failure::Refused(Refusal::Numbered(4)),
-            ReadError::Nesting => Failure::Refused(Refusal::Numbered(5)),
+            ReadError::Byte => Failure::Refused(RefusalLine::Numbered(1)),
+            ReadError::Token => Failure::Refused(RefusalLine::Numbered(2)),
+            ReadError::Syntax { line } => Failure::Refused(RefusalLine::Syntax(line)),
+            ReadError::TooLong => Failure::Refused(RefusalLine::Numbered(4)),
+            ReadError::Nesting => Failure::Refused(RefusalLine::Numbered(5)),
         }
     }
 }
@@ -67,21 +66,21 @@ impl From<InputError> for Failure {
 
     fn from(error: InputError) -> Failure {
         match error.number() {
-            Some(number) => Failure::Refused(Refusal::Numbered(number)),
+            Some(number) => Failure::Refused(RefusalLine::Numbered(number)),
             None => Failure::Memory,
         }
     }
 }
 
-impl From<outcome::Refusal> for Failure {
+impl From<Refusal> for Failure {
     ghost from_gives = { λ refusal failure. failure ≡ failure_of_refusal refusal };
 
-    fn from(refusal: outcome::Refusal) -> Failure {
+    fn from(refusal: Refusal) -> Failure {
         match refusal {
-            outcome::Refusal::Declaration(error) => Failure::from(error),
-            outcome::Refusal::Deployment(error) => Failure::from(error),
-            outcome::Refusal::Stimuli(error) => Failure::from(error),
-            outcome::Refusal::Check(fault) => Failure::Refused(Refusal::Numbered(fault.number())),
+            Refusal::Declaration(error) => Failure::from(error),
+            Refusal::Deployment(error) => Failure::from(error),
+            Refusal::Stimuli(error) => Failure::from(error),
+            Refusal::Check(fault) => Failure::Refused(RefusalLine::Numbered(fault.number())),
         }
     }
 }
@@ -106,7 +105,7 @@ impl From<WaveError> for Failure {
 
     fn from(error: WaveError) -> Failure {
         match error {
-            WaveError::Refused(line) => Failure::Refused(Refusal::Trace(line)),
+            WaveError::Refused(line) => Failure::Refused(RefusalLine::Trace(line)),
             WaveError::Memory => Failure::Memory,
             WaveError::Read => Failure::File,
             WaveError::Write(written) => Failure::Write(written),
@@ -127,7 +126,7 @@ impl From<SourceFault> for Failure {
     }
 }
 
-impl fmt::Display for Refusal {
+impl fmt::Display for RefusalLine {
     ghost use Rattle.std.specs.Prelude.{Some};
     ghost use Rattle.fb_command.specs.Failures.{refusal_text};
 
@@ -135,13 +134,13 @@ impl fmt::Display for Refusal {
 
     fn fmt<W: fmt::Write>(&self, f: &mut fmt::Formatter<W>) -> fmt::Result {
         match self {
-            Refusal::Numbered(number) => {
+            RefusalLine::Numbered(number) => {
                 let tens = number / 10;
                 let ones = number % 10;
                 write!(f, "refused E{tens}{ones}")
             }
-            Refusal::Syntax(line) => write!(f, "refused E03 line {line}"),
-            Refusal::Trace(line) => write!(f, "refused trace line {line}"),
+            RefusalLine::Syntax(line) => write!(f, "refused E03 line {line}"),
+            RefusalLine::Trace(line) => write!(f, "refused trace line {line}"),
         }
     }
 }

@@ -4,7 +4,7 @@ ghost use Rattle.std.specs.Prelude.{◌≡◌, IfSome, option_map, string_bytes}
 ghost use Rattle.fb_command.specs.Notes.{IsFileNote, IsMatter, IsNote, IsNoteOfName, IsNoteOfNumber, Notes, file_word, name_of, number_of};
 ghost use Rattle.fb_command.specs.Texts.{given_of};
 
-use crate::failure::{Failure, Refusal};
+use crate::failure::{Failure, RefusalLine};
 use crate::source::SourceFault;
 use crate::texts::{Part, Texts, Unread};
 use fb_call::line::Call;
@@ -78,8 +78,8 @@ fn number_of(failure: &Failure) -> Option<u8>
     ensures { result ≡ number_of failure.now }
 {
     match failure {
-        Failure::Refused(Refusal::Numbered(number)) => Some(*number),
-        Failure::Refused(Refusal::Syntax(_)) => Some(SYNTAX),
+        Failure::Refused(RefusalLine::Numbered(number)) => Some(*number),
+        Failure::Refused(RefusalLine::Syntax(_)) => Some(SYNTAX),
         _ => None,
     }
 }

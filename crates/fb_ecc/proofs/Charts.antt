@@ -16,7 +16,7 @@ use Rattle.fb_st.proofs.Places.{position-later}
 use Rattle.fb_ecc.specs.Indexed.{row_within}
 use Rattle.fb_ecc.specs.Numbered.{act_of, exit_of, exits_from}
 use Rattle.fb_ecc.specs.declared.chart.Exit.{Exit}
-use Rattle.fb_ecc.specs.declared.chart.Row.{Row}
+use Rattle.fb_ecc.specs.declared.chart.ChartState.{ChartState}
 use Rattle.fb_ecc.proofs.Indexing.{some_suc}
 
 -- ---- One transition more
@@ -50,13 +50,13 @@ append-nil (x ∷ xs) = ap (λ ys. x ∷ ys) (append-nil xs)
 
 -- the row of a state that the transition leaves
 row_left :
-    (t : BasicType) (k : ℕ) (x : Transition) (s : State) (old new : Row) → k < length t.transitions → x ≡ get_or t.transitions k x
+    (t : BasicType) (k : ℕ) (x : Transition) (s : State) (old new : ChartState) → k < length t.transitions → x ≡ get_or t.transitions k x
     → same_name x.from s.name ≡ true → old ≡ row_within t k s → new.exits ≡ old.exits ++ exit_of t k x ∷ [] → new.acts ≡ old.acts → new ≡ row_within t (k + 1) s
 row_left t k x s old new within is leaves was exits acts =
     let more : new.exits ≡ exits_from t s.name 0 (take (k + 1) t.transitions) =
-    exits ∙ ap (λ (r : Row). r.exits ++ exit_of t k x ∷ []) was
+    exits ∙ ap (λ (r : ChartState). r.exits ++ exit_of t k x ∷ []) was
     ∙ sym (exits_more t s.name k x within is ∙ ap (λ b. exits_from t s.name 0 (take k t.transitions) ++ cond b (exit_of t k x ∷ []) []) leaves) in
-    let same : new.acts ≡ map (act_of t) s.actions = acts ∙ ap (λ (r : Row). r.acts) was in
+    let same : new.acts ≡ map (act_of t) s.actions = acts ∙ ap (λ (r : ChartState). r.acts) was in
     ap (λ (l : List Exit). record new { exits = l }) more ∙ ap (λ l. record (row_within t (k + 1) s) { acts = l }) same
 
 -- .. and of any other
@@ -116,7 +116,7 @@ set_named {A} {B} f g name_of n (y ∷ ys) i x b once found at is others =
 
 -- a transition more is put to the state at the place of its source ..
 pub rows_left :
-    (t : BasicType) (k i : ℕ) (x : Transition) (old after : List Row) (now new : Row) → k < length t.transitions → x ≡ get_or t.transitions k x
+    (t : BasicType) (k i : ℕ) (x : Transition) (old after : List ChartState) (now new : ChartState) → k < length t.transitions → x ≡ get_or t.transitions k x
     → ¬ (Twice (state_names t)) → position (same_name x.from) (state_names t) ≡ Some i → old ≡ map (row_within t k) t.states → now ≡ get_or old i now
     → new.exits ≡ now.exits ++ exit_of t k x ∷ [] → new.acts ≡ now.acts → after ≡ set old i new → after ≡ map (row_within t (k + 1)) t.states
 rows_left t k i x old after now new within is once found was here exits acts written =
@@ -127,8 +127,8 @@ rows_left t k i x old after now new within is once found was here exits acts wri
     let there : slice_get (map (row_within t k) t.states) i ≡ Some (row_within t k s) =
     slice_get-map (row_within t k) t.states i ∙ ap (option_map (row_within t k)) source.1 in
     let read : now ≡ row_within t k s =
-    here ∙ ap (λ (l : List Row). get_or l i now) was ∙ get_or_from_slice_get (map (row_within t k) t.states) i (row_within t k s) now there in
-    written ∙ ap (λ (l : List Row). set l i new) was
+    here ∙ ap (λ (l : List ChartState). get_or l i now) was ∙ get_or_from_slice_get (map (row_within t k) t.states) i (row_within t k s) now there in
+    written ∙ ap (λ (l : List ChartState). set l i new) was
     ∙ set_named (row_within t k) (row_within t (k + 1)) (λ (y : State). y.name) x.from t.states i s new once found source.1
     (row_left t k x s now new within is leaves read exits acts) (λ y apart. row_stays t k x y within is apart)
 

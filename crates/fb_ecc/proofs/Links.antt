@@ -31,7 +31,7 @@ use Rattle.fb_ecc.specs.Places.{IsStateOf, state_at, Ended}
 use Rattle.fb_ecc.specs.Sound.{Each, IsSound, action_known, actions_known, declared_as, declared_by}
 use Rattle.fb_ecc.specs.Trials.{transitions_at, IsExit}
 use Rattle.fb_ecc.specs.declared.chart.Exit.{Exit}
-use Rattle.fb_ecc.specs.declared.chart.Row.{Row}
+use Rattle.fb_ecc.specs.declared.chart.ChartState.{ChartState}
 use Rattle.fb_types.proofs.ByPlace.{element_at}
 use Rattle.fb_ecc.specs.declared.chart.Chart.{Chart}
 use Rattle.fb_ecc.proofs.Trials.{transition_here, state_here, list_all-at, and_left, and_right, cut_at, event_here}
@@ -110,7 +110,7 @@ acts_are t (a ∷ as') h =
     )
 
 -- what the row of a state says
-pub record IsRow (t : BasicType) (i : ℕ) (row : Row) : Type 0 where
+pub record IsRow (t : BasicType) (i : ℕ) (row : ChartState) : Type 0 where
   pub leaving_is : transitions_at t row.exits ≡ leaving t (state_at t i)
   pub exits : Each (IsExit t) row.exits
   pub acts : AreActions t row.acts (actions_of t (state_at t i))
@@ -132,22 +132,22 @@ row_here t i s sound at =
     }
 
 pub row_is :
-    (t : BasicType) (rows : List Row) (i : ℕ) (d : Row) → IsSound t → rows ≡ map (row_of t) t.states → i < length t.states → IsRow t i (get_or rows i d)
+    (t : BasicType) (rows : List ChartState) (i : ℕ) (d : ChartState) → IsSound t → rows ≡ map (row_of t) t.states → i < length t.states → IsRow t i (get_or rows i d)
 row_is t rows i d sound all within =
     let s = element_at t.states i within in
-    let inside : i < length rows = subst (λ (l : List Row). i < length l) (sym all) (subst (λ n. i < n) (sym (length-map t.states (row_of t))) within) in
+    let inside : i < length rows = subst (λ (l : List ChartState). i < length l) (sym all) (subst (λ n. i < n) (sym (length-map t.states (row_of t))) within) in
     let read : slice_get rows i ≡ Some (get_or rows i d) = slice_get-get_or rows i d inside in
     let same : row_of t s.0 ≡ get_or rows i d =
     same_Some (row_of t s.0) (get_or rows i d)
-    (sym (ap (λ (l : List Row). slice_get l i) all ∙ slice_get-map (row_of t) t.states i ∙ ap (option_map (row_of t)) s.1) ∙ read) in
-    subst (λ (r : Row). IsRow t i r) same (row_here t i s.0 sound s.1)
+    (sym (ap (λ (l : List ChartState). slice_get l i) all ∙ slice_get-map (row_of t) t.states i ∙ ap (option_map (row_of t)) s.1) ∙ read) in
+    subst (λ (r : ChartState). IsRow t i r) same (row_here t i s.0 sound s.1)
 
 -- what the transitions say that leave the state at a place
 pub record HasExits (t : BasicType) (i : ℕ) (exits : List Exit) : Type 0 where
   pub leaving_is : transitions_at t exits ≡ leaving t (state_at t i)
   pub each : Each (IsExit t) exits
 
-abbrev exits_or : Option Row → List Exit
+abbrev exits_or : Option ChartState → List Exit
 exits_or o = elim o [ None ↦ [] | Some r ↦ r.exits ]
 
 no_transitions : (ns : List Name) (xs : List Transition) → ns ≡ [] → list_all (λ x. among ns x.from) xs ≡ true → xs ≡ []
@@ -189,11 +189,11 @@ none_or_first (s ∷ ss) = inr (omega arith)
 pub first_place : (t : BasicType) → IsStateOf t 0
 first_place t = none_or_first t.states
 
-pub row_within : (t : BasicType) (rows : List Row) (i : ℕ) → rows ≡ map (row_of t) t.states → i < length t.states → i < length rows
-row_within t rows i all within = subst (λ (l : List Row). i < length l) (sym all) (subst (λ n. i < n) (sym (length-map t.states (row_of t))) within)
+pub row_within : (t : BasicType) (rows : List ChartState) (i : ℕ) → rows ≡ map (row_of t) t.states → i < length t.states → i < length rows
+row_within t rows i all within = subst (λ (l : List ChartState). i < length l) (sym all) (subst (λ n. i < n) (sym (length-map t.states (row_of t))) within)
 
 pub row_read :
-    (t : BasicType) (chart : Chart) (rows : List Row) (i : ℕ) (d : Row) → IsSound t → chart ≡ chart_of t → rows ≡ chart.rows → i < length t.states → IsRow t i (get_or rows i d)
+    (t : BasicType) (chart : Chart) (rows : List ChartState) (i : ℕ) (d : ChartState) → IsSound t → chart ≡ chart_of t → rows ≡ chart.rows → i < length t.states → IsRow t i (get_or rows i d)
 row_read t chart rows i d sound is read within = row_is t rows i d sound (read ∙ ap (λ (c : Chart). c.rows) is) within
 
 -- what trying the transitions at the exits comes to

@@ -8,7 +8,7 @@ use Rattle.fb_types.specs.declared.library.BasicType.{BasicType}
 use Rattle.fb_types.specs.declared.library.State.{State}
 use Rattle.fb_names.specs.Places.{IsIndex}
 use Rattle.fb_ecc.specs.Numbered.{act_of, exits_from}
-use Rattle.fb_ecc.specs.declared.chart.Row.{Row}
+use Rattle.fb_ecc.specs.declared.chart.ChartState.{ChartState}
 use Rattle.fb_ecc.specs.declared.numbers.Numbers.{Numbers}
 
 -- The names of each sort differ, and their maps give the place of each.
@@ -30,5 +30,5 @@ picked passes [] place = []
 picked passes (n ∷ ns) place = if passes n then (place, n) ∷ picked passes ns (suc place) else picked passes ns (suc place)
 
 -- the row of a state, with as many of the first transitions as were gone through
-abbrev pub row_within : BasicType → ℕ → State → Row
+abbrev pub row_within : BasicType → ℕ → State → ChartState
 row_within t count s = record { exits = exits_from t s.name 0 (take count t.transitions); acts = map (act_of t) s.actions }

@@ -10,7 +10,7 @@ use Rattle.fb_types.specs.declared.library.Transition.{Transition}
 use Rattle.fb_types.specs.declared.library.Variable.{Variable}
 use Rattle.fb_ecc.specs.declared.chart.Exit.{Exit}
 use Rattle.fb_ecc.specs.declared.chart.Act.{Act}
-use Rattle.fb_ecc.specs.declared.chart.Row.{Row}
+use Rattle.fb_ecc.specs.declared.chart.ChartState.{ChartState}
 use Rattle.fb_ecc.specs.declared.chart.Chart.{Chart}
 
 -- the place of the first that has the name, or the length of the list where none has it
@@ -39,11 +39,11 @@ act_of t a =
       output = option_map (number_in (λ p. p.name) t.ports.event_outputs) a.output;
     }
 
-abbrev pub row_of : BasicType → State → Row
+abbrev pub row_of : BasicType → State → ChartState
 row_of t s = record { exits = exits_from t s.name 0 t.transitions; acts = map (act_of t) s.actions }
 
 -- the transitions that leave the state at a place, none where there is no state
-abbrev pub exits_at : List Row → ℕ → List Exit
+abbrev pub exits_at : List ChartState → ℕ → List Exit
 exits_at rows i = elim (slice_get rows i) [ None ↦ [] | Some r ↦ r.exits ]
 
 -- the variables WITH each event

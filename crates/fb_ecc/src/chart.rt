@@ -41,7 +41,7 @@ pub struct Act {
 
 /// A state: the transitions that leave it, in the order of the text, and its actions.
 #[derive(Drop)]
-pub struct Row {
+pub struct ChartState {
     pub exits: Items<Exit>,
     pub acts: Items<Act>,
 }
@@ -49,7 +49,7 @@ pub struct Row {
 /// A chart: its states, and the variables WITH each event input and each event output.
 #[derive(Drop)]
 pub struct Chart {
-    pub rows: Items<Row>,
+    pub rows: Items<ChartState>,
     pub sampled: Items<Items<Reference>>,
     pub shown: Items<Items<Reference>>,
 }
@@ -101,7 +101,11 @@ fn acts(
 }
 
 /// The states with their actions, as yet without transitions.
-fn rows_begun(alloc: Global, block: &BasicType, numbers: &Numbers) -> Result<Vec<Row>, AllocError>
+fn rows_begun(
+    alloc: Global,
+    block: &BasicType,
+    numbers: &Numbers,
+) -> Result<Vec<ChartState>, AllocError>
     requires { AreNumbers block.now numbers.now }
     ensures { IfOk result (λ rows. rows.items ≡ map (row_within block.now 0) block.now.states) }
 {
@@ -109,13 +113,13 @@ fn rows_begun(alloc: Global, block: &BasicType, numbers: &Numbers) -> Result<Vec
     for state in block.states.as_slice() {
         let acts = acts(alloc, block, numbers, state.actions.as_slice())?;
         let exits = Items::new(alloc);
-        rows.push(Row { exits, acts })?;
+        rows.push(ChartState { exits, acts })?;
     }
     Ok(rows)
 }
 
 /// Puts a transition behind the others that leave a state.
-fn leave(row: &mut Row, exit: Exit) -> Result<(), AllocError>
+fn add_exit(row: &mut ChartState, exit: Exit) -> Result<(), AllocError>
     ensures exits { OnOk result (row.new.exits ≡ row.old.exits ++ exit ∷ []) }
     ensures acts { OnOk result (row.new.acts ≡ row.old.acts) }
 {
@@ -123,7 +127,11 @@ fn leave(row: &mut Row, exit: Exit) -> Result<(), AllocError>
 }
 
 /// The states. The transitions are gone through once, each in its turn put to the state that it leaves.
-fn rows(alloc: Global, block: &BasicType, numbers: &Numbers) -> Result<Items<Row>, AllocError>
+fn rows(
+    alloc: Global,
+    block: &BasicType,
+    numbers: &Numbers,
+) -> Result<Items<ChartState>, AllocError>
     requires { AreNumbers block.now numbers.now }
     ensures { IfOk result (λ rows. rows ≡ map (row_of block.now) block.now.states) }
 {
@@ -131,13 +139,14 @@ fn rows(alloc: Global, block: &BasicType, numbers: &Numbers) -> Result<Items<Row
     for (place, transition) in block.transitions.as_slice().iter().enumerate() {
         if let Some(source) = place_of(&numbers.states, transition.from.as_bytes()) {
             let exit = numbered_transition(block, numbers, place, transition);
-            leave(&mut rows[source], exit)?;
+            add_exit(&mut rows[source], exit)?;
         }
     }
     Ok(Items::from_vec(rows))
 }
 
-/// The names that stand among others, by their places among these.
+/// The names that stand among others, by their places among these. Those that do not are skipped; an accepted type has
+/// none.
 fn found_among<'a>(
     alloc: Global,
     names: &'a [Name],
@@ -165,7 +174,7 @@ fn in_order<'a>(
 }
 
 /// The variables WITH an event, in the order of the declaration. The first of the variables is expected at that
-/// place among all variables of the block.
+/// place among all variables of the block. Names of none of them are skipped; an accepted type has none.
 fn names_with(
     alloc: Global,
     with: &[Name],

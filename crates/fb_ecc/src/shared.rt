@@ -4,7 +4,7 @@ ghost use Rattle.std.specs.Prelude.{◌≡◌, IfOk};
 ghost use Rattle.fb_ecc.specs.Numbered.{chart_of, exits_at};
 ghost use Rattle.fb_ecc.specs.Opened.{IsOfDeclaration};
 
-use crate::chart::{Chart, Exit, Row};
+use crate::chart::{Chart, ChartState, Exit};
 use fb_types::items::Items;
 use fb_types::library::BasicType;
 use fb_types::reference::Reference;
@@ -53,7 +53,7 @@ impl SharedChart {
     }
 
     /// The states.
-    pub(crate) fn rows(&self) -> &[Row]
+    pub(crate) fn rows(&self) -> &[ChartState]
         ensures { result.now ≡ self.now.rows }
     {
         self.chart.rows.as_slice()

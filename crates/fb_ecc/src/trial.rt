@@ -10,7 +10,7 @@ ghost use Rattle.fb_ecc.specs.Trials.{IsExit, transitions_at, is_number_present,
 use crate::chart::Exit;
 use fb_st::eval::holds;
 use fb_st::frame::Frame;
-use fb_st::meter::Meter;
+use fb_st::meter::StepMeter;
 use fb_types::library::{BasicType, Condition};
 use fb_types::value::Reason;
 
@@ -51,7 +51,7 @@ pub(crate) fn cleared(
     exits: &[Exit],
     present: Option<usize>,
     frame: &Frame,
-    meter: &mut Meter,
+    meter: &mut StepMeter,
 ) -> Result<Option<usize>, Reason>
     requires sound { IsSound block.now }
     requires exits { Each (IsExit block.now) exits.now }

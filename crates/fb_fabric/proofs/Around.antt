@@ -14,7 +14,7 @@ use Rattle.fb_names.specs.declared.numbers.NetworkNumbers.{NetworkNumbers}
 use Rattle.fb_types.proofs.ByPlace.{element_of_place, element_at}
 use Rattle.fb_fabric.specs.Layouts.{IsRow, path_of}
 use Rattle.fb_fabric.specs.declared.layout.Layout.{Layout}
-use Rattle.fb_fabric.specs.declared.layout.Row.{Row}
+use Rattle.fb_fabric.specs.declared.layout.InstanceRow.{InstanceRow}
 use Rattle.fb_types.specs.declared.run.Place.{Place}
 use Rattle.fb_fabric.specs.Fabrics.{IsPort, IsVariable, ports_here, port_of, variable_of, event_input, event_output, data_input, data_output}
 use Rattle.fb_fabric.specs.Networks.{AreTables, IsEndOf, IsThere, path_around, side, source_along, targets_along}
@@ -31,13 +31,13 @@ name_there ns k h =
     let x = element_at ns k h in x.1 ∙ ap (λ (o : Option Name). Some (unwrap_or o [])) (sym x.1)
 
 -- the ports of the type of a row's instance
-ports_of_row : (lib : Library) (i : ℕ) (r : Row) → (is : IsRow lib i r) → ports_here lib i ≡ ports_of is.kind
+ports_of_row : (lib : Library) (i : ℕ) (r : InstanceRow) → (is : IsRow lib i r) → ports_here lib i ≡ ports_of is.kind
 ports_of_row lib i r is = ap (λ (o : Option Kind). elim o as (λ _. Ports) [ None ↦ ports [] [] [] [] | Some k ↦ ports_of k ]) is.is_kind
 
 -- ---- A port of an instance as an end of connections
 
 around_end :
-    (lib : Library) (component boundary : Ports → List Name) (i : ℕ) (r : Row) (o : Option ℕ) (k : ℕ) (n : Name) → (is : IsRow lib i r) → o ≡ last_of r.route
+    (lib : Library) (component boundary : Ports → List Name) (i : ℕ) (r : InstanceRow) (o : Option ℕ) (k : ℕ) (n : Name) → (is : IsRow lib i r) → o ≡ last_of r.route
     → slice_get (component (ports_of is.kind)) k ≡ Some n
     → IsEndOf lib (path_around lib r.parent) component boundary (record { component = o; port = k }) (record { at = path_of lib i; name = n })
 around_end lib component boundary i r o k n is e h =
@@ -51,7 +51,7 @@ around_end lib component boundary i r o k n is e h =
     }
 
 inside_end :
-    (lib : Library) (component boundary : Ports → List Name) (i : ℕ) (r : Row) (k : ℕ) (n : Name) → (is : IsRow lib i r)
+    (lib : Library) (component boundary : Ports → List Name) (i : ℕ) (r : InstanceRow) (k : ℕ) (n : Name) → (is : IsRow lib i r)
     → slice_get (boundary (ports_of is.kind)) k ≡ Some n
     → IsEndOf lib (path_of lib i) component boundary (record { component = None; port = k }) (record { at = path_of lib i; name = n })
 inside_end lib component boundary i r k n is h = record { there = refl; kind = is.kind; is_kind = is.is_kind; name = h }
@@ -64,7 +64,7 @@ inside_wired :
 inside_wired lib layout app blocks i are within = λ net is. around_wired lib layout app blocks (Some i) net are within is
 
 outside_wired :
-    (lib : Library) (layout : Layout) (app : NetworkNumbers) (blocks : List (Option NetworkNumbers)) (i : ℕ) (r : Row) → AreTables lib layout app blocks
+    (lib : Library) (layout : Layout) (app : NetworkNumbers) (blocks : List (Option NetworkNumbers)) (i : ℕ) (r : InstanceRow) → AreTables lib layout app blocks
     → i < length (paths_of lib) → IsRow lib i r → MayBeWired lib (parent (path_of lib i))
 outside_wired lib layout app blocks i r are within is =
     subst (λ (p : Path). MayBeWired lib p) (parent_around lib i r.parent is.parent_is)
@@ -81,7 +81,7 @@ abbrev pub Leads : Library → Target → ℕ → Option Target → Type 0
 Leads lib from place result = option_map (port_of lib) result ≡ slice_get (targets_of lib (port_of lib from)) place
 
 output_name :
-    (lib : Library) (i e : ℕ) (r : Row) → (is : IsRow lib i r) → e < length (ports_here lib i).event_outputs
+    (lib : Library) (i e : ℕ) (r : InstanceRow) → (is : IsRow lib i r) → e < length (ports_here lib i).event_outputs
     → slice_get (event_outs (ports_of is.kind)) e ≡ Some (event_output lib i e).name
 output_name lib i e r is h =
     let ns = event_outs (ports_here lib i) in
@@ -89,7 +89,7 @@ output_name lib i e r is h =
     ap (λ (p : Ports). slice_get (event_outs p) e) (sym (ports_of_row lib i r is)) ∙ name_there ns e (omega (arith, h, l))
 
 input_name :
-    (lib : Library) (i e : ℕ) (r : Row) → (is : IsRow lib i r) → e < length (ports_here lib i).event_inputs
+    (lib : Library) (i e : ℕ) (r : InstanceRow) → (is : IsRow lib i r) → e < length (ports_here lib i).event_inputs
     → slice_get (event_ins (ports_of is.kind)) e ≡ Some (event_input lib i e).name
 input_name lib i e r is h =
     let ns = event_ins (ports_here lib i) in
@@ -111,21 +111,21 @@ input_within lib t h is =
     subst (λ (b : Bool). t.event < length (cond b (ports_here lib t.instance).event_outputs (ports_here lib t.instance).event_inputs)) h is.event
 
 pub output_end :
-    (lib : Library) (t : Target) (r : Row) (o : Option ℕ) → IsPort lib t → t.is_output ≡ true → IsRow lib t.instance r → o ≡ last_of r.route
+    (lib : Library) (t : Target) (r : InstanceRow) (o : Option ℕ) → IsPort lib t → t.is_output ≡ true → IsRow lib t.instance r → o ≡ last_of r.route
     → IsEndOf lib (path_around lib r.parent) event_outs event_ins (record { component = o; port = t.event }) (event_output lib t.instance t.event)
 output_end lib t r o port out is e =
     around_end lib event_outs event_ins t.instance r o t.event (event_output lib t.instance t.event).name is e
     (output_name lib t.instance t.event r is (output_within lib t out port))
 
 pub input_end :
-    (lib : Library) (t : Target) (r : Row) → IsPort lib t → t.is_output ≡ false → IsRow lib t.instance r
+    (lib : Library) (t : Target) (r : InstanceRow) → IsPort lib t → t.is_output ≡ false → IsRow lib t.instance r
     → IsEndOf lib (path_of lib t.instance) event_outs event_ins (record { component = None; port = t.event }) (event_input lib t.instance t.event)
 input_end lib t r port out is =
     inside_end lib event_outs event_ins t.instance r t.event (event_input lib t.instance t.event).name is
     (input_name lib t.instance t.event r is (input_within lib t out port))
 
 pub leads_around :
-    (lib : Library) (layout : Layout) (app : NetworkNumbers) (blocks : List (Option NetworkNumbers)) (t : Target) (r : Row) (o : Option ℕ) (place : ℕ) (result : Option Target)
+    (lib : Library) (layout : Layout) (app : NetworkNumbers) (blocks : List (Option NetworkNumbers)) (t : Target) (r : InstanceRow) (o : Option ℕ) (place : ℕ) (result : Option Target)
     → AreTables lib layout app blocks → IsPort lib t → t.is_output ≡ true → IsRow lib t.instance r → o ≡ last_of r.route
     → LeadsFrom lib (path_around lib r.parent) (record { component = o; port = t.event }) place result → Leads lib t place result
 leads_around lib layout app blocks t r o place result are port out is e leads =
@@ -166,7 +166,7 @@ abbrev pub Comes : Library → Place → Option Place → Type 0
 Comes lib to result = option_map (variable_of lib) result ≡ source_of lib (variable_of lib to)
 
 data_output_name :
-    (lib : Library) (i v : ℕ) (r : Row) → (is : IsRow lib i r) → v < length (ports_here lib i).outputs
+    (lib : Library) (i v : ℕ) (r : InstanceRow) → (is : IsRow lib i r) → v < length (ports_here lib i).outputs
     → slice_get (data_outs (ports_of is.kind)) v ≡ Some (data_output lib i v).name
 data_output_name lib i v r is h =
     let ns = data_outs (ports_here lib i) in
@@ -174,7 +174,7 @@ data_output_name lib i v r is h =
     ap (λ (p : Ports). slice_get (data_outs p) v) (sym (ports_of_row lib i r is)) ∙ name_there ns v (omega (arith, h, l))
 
 data_input_name :
-    (lib : Library) (i v : ℕ) (r : Row) → (is : IsRow lib i r) → v < length (ports_here lib i).inputs
+    (lib : Library) (i v : ℕ) (r : InstanceRow) → (is : IsRow lib i r) → v < length (ports_here lib i).inputs
     → slice_get (data_ins (ports_of is.kind)) v ≡ Some (data_input lib i v).name
 data_input_name lib i v r is h =
     let ns = data_ins (ports_here lib i) in
@@ -196,21 +196,21 @@ data_input_within lib x h is =
     subst (λ (b : Bool). x.variable < length (cond b (ports_here lib x.instance).outputs (ports_here lib x.instance).inputs)) h is.variable
 
 pub data_input_end :
-    (lib : Library) (x : Place) (r : Row) (o : Option ℕ) → IsVariable lib x → x.is_output ≡ false → IsRow lib x.instance r → o ≡ last_of r.route
+    (lib : Library) (x : Place) (r : InstanceRow) (o : Option ℕ) → IsVariable lib x → x.is_output ≡ false → IsRow lib x.instance r → o ≡ last_of r.route
     → IsEndOf lib (path_around lib r.parent) data_ins data_outs (record { component = o; port = x.variable }) (data_input lib x.instance x.variable)
 data_input_end lib x r o variable out is e =
     around_end lib data_ins data_outs x.instance r o x.variable (data_input lib x.instance x.variable).name is e
     (data_input_name lib x.instance x.variable r is (data_input_within lib x out variable))
 
 pub data_output_end :
-    (lib : Library) (x : Place) (r : Row) → IsVariable lib x → x.is_output ≡ true → IsRow lib x.instance r
+    (lib : Library) (x : Place) (r : InstanceRow) → IsVariable lib x → x.is_output ≡ true → IsRow lib x.instance r
     → IsEndOf lib (path_of lib x.instance) data_ins data_outs (record { component = None; port = x.variable }) (data_output lib x.instance x.variable)
 data_output_end lib x r variable out is =
     inside_end lib data_ins data_outs x.instance r x.variable (data_output lib x.instance x.variable).name is
     (data_output_name lib x.instance x.variable r is (data_output_within lib x out variable))
 
 pub comes_around :
-    (lib : Library) (layout : Layout) (app : NetworkNumbers) (blocks : List (Option NetworkNumbers)) (x : Place) (r : Row) (o : Option ℕ) (result : Option Place)
+    (lib : Library) (layout : Layout) (app : NetworkNumbers) (blocks : List (Option NetworkNumbers)) (x : Place) (r : InstanceRow) (o : Option ℕ) (result : Option Place)
     → AreTables lib layout app blocks → IsVariable lib x → x.is_output ≡ false → IsRow lib x.instance r → o ≡ last_of r.route
     → ComesFrom lib (path_around lib r.parent) (record { component = o; port = x.variable }) result → Comes lib x result
 comes_around lib layout app blocks x r o result are variable out is e comes =

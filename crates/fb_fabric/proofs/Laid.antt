@@ -20,7 +20,7 @@ use Rattle.fb_names.specs.Numbers.{IsResolved, each_or_none, type_number}
 use Rattle.fb_names.specs.declared.numbers.NetworkNumbers.{NetworkNumbers}
 use Rattle.fb_names.specs.declared.numbers.Resolved.{Resolved}
 use Rattle.fb_names.specs.declared.numbers.TypeNumber.{TypeNumber}
-use Rattle.fb_fabric.specs.declared.layout.Row.{Row}
+use Rattle.fb_fabric.specs.declared.layout.InstanceRow.{InstanceRow}
 use Rattle.fb_fabric.specs.declared.layout.Layout.{Layout}
 use Rattle.fb_fabric.specs.Layers.{Around, Layer, layer_of, layer_inside, layer_among, layer, network_inside, row_under, with_components}
 use Rattle.fb_fabric.specs.Layouts.{path_of, place_at, route_to, AreNumbers, AreComponents, IsRow, IsLayout}
@@ -116,7 +116,7 @@ components_of lib q numbers None = numbers ≡ []
 components_of lib q numbers (Some net) = AreNumbers lib q net.instances numbers
 
 inside_found :
-    (lib : Library) (r : Resolved) (d number : ℕ) (q : Path) (row : Row) (i : Instance) (net : Network) (o : Option Network) (n : Option (Network × NetworkNumbers))
+    (lib : Library) (r : Resolved) (d number : ℕ) (q : Path) (row : InstanceRow) (i : Instance) (net : Network) (o : Option Network) (n : Option (Network × NetworkNumbers))
     → inside lib i ≡ o → network_at lib q ≡ o → IsFound lib o n → IsRound lib q (number + 1) (number, row) → IsDeep lib (suc d) net → Contains net.instances i
     → AreLaidOut lib r d → IsPart (paths_of lib) (number + 1) (below d lib q o)
     → IsInside lib (number + 1) q (below d lib q o) (layer_inside (layer d lib r) number row n)
@@ -174,7 +174,7 @@ numbers_more lib p number i is numbers at rest =
 
 -- an instance, what is inside it, and then its next siblings
 put_together :
-    (lib : Library) (p : Path) (number : ℕ) (i : Instance) (is : List Instance) (row : Row) (inner rest : List Path) (below next : Layer)
+    (lib : Library) (p : Path) (number : ℕ) (i : Instance) (is : List Instance) (row : InstanceRow) (inner rest : List Path) (below next : Layer)
     → slice_get (paths_of lib) number ≡ Some (i.name ∷ p) → IsRow lib number (with_components row below.numbers)
     → IsInside lib (number + 1) (i.name ∷ p) inner below → IsLaid lib (number + 1 + length below.rows) p rest is next
     → IsLaid lib number p ((i.name ∷ p) ∷ inner ++ rest) (i ∷ is) (layer_of number row below next)
@@ -200,7 +200,7 @@ among_laid lib r d p o number net place (i ∷ is) ts fit site around deep laid 
     let q : Path = i.name ∷ p in
     let first = each_parts (λ (i : Instance). type_number lib i.block_type) i is ts typed in
     let t : TypeNumber = first.0 in
-    let row : Row = row_under o i t place [] in
+    let row : InstanceRow = row_under o i t place [] in
     let inner : List Path = below d lib q (inside lib i) in
     let rest : List Path = flat_map (paths_from d lib p) is in
     let under : Layer = layer_inside (layer d lib r) number row (network_inside lib r t) in
@@ -288,7 +288,7 @@ layout_is lib r x fit rows top =
       counted = ap length rows ∙ laid.counted;
       rows = λ k w h.
           let zero_more : 0 + k ≡ k = omega arith in
-          subst (λ k. IsRow lib k w) zero_more (laid.rows.at k w (ap (λ (ws : List Row). slice_get ws k) (sym rows) ∙ h));
+          subst (λ k. IsRow lib k w) zero_more (laid.rows.at k w (ap (λ (ws : List InstanceRow). slice_get ws k) (sym rows) ∙ h));
       top = subst (λ (numbers : List ℕ). AreNumbers lib [] lib.application.network.instances numbers) (sym top) laid.numbers;
       numbers = λ k h. number_is lib r k fit h;
     }

@@ -16,7 +16,7 @@ use Rattle.fb_types.specs.declared.library.Network.{Network}
 use Rattle.fb_types.specs.declared.deploy.Plan.{Plan}
 use Rattle.fb_types.proofs.Elements.{Contains-map}
 use Rattle.fb_types.proofs.Positions.{position_of_once, named_of_once}
-use Rattle.fb_fabric.specs.declared.layout.Row.{Row}
+use Rattle.fb_fabric.specs.declared.layout.InstanceRow.{InstanceRow}
 use Rattle.fb_fabric.specs.Layers.{Around, path_under, route_under}
 use Rattle.fb_fabric.specs.Layouts.{path_of, place_at, route_to, IsParent}
 use Rattle.fb_fabric.proofs.Inside.{composite_known, composite_of_inside}
@@ -88,7 +88,7 @@ never_deeper lib net low (inr below) =
 -- ---- Where a network stands
 
 -- the composite round a network, which has an earlier number
-pub record IsRound (lib : Library) (p : Path) (number : ℕ) (c : ℕ × Row) : Type 0 where
+pub record IsRound (lib : Library) (p : Path) (number : ℕ) (c : ℕ × InstanceRow) : Type 0 where
   pub earlier : c.0 < number
   pub there : path_of lib c.0 ≡ p
   pub text : c.1.path ≡ path_text p
@@ -124,7 +124,7 @@ route_is lib p number (Some c) is = is.route
 
 pub parent_is :
     (lib : Library) (p : Path) (number : ℕ) (o : Around) (n : Name) → path_of lib number ≡ n ∷ p → IsAround lib p number o
-    → IsParent lib number (option_map (λ (c : ℕ × Row). c.0) o)
+    → IsParent lib number (option_map (λ (c : ℕ × InstanceRow). c.0) o)
 parent_is lib p number None n at is = ap parent at ∙ is
 parent_is lib p number (Some c) n at is = (is.earlier, is.there ∙ sym (ap parent at))
 

@@ -13,7 +13,7 @@ use Rattle.fb_names.specs.declared.numbers.NetworkNumbers.{NetworkNumbers}
 use Rattle.fb_names.proofs.Each.{each_at}
 use Rattle.fb_fabric.specs.Layouts.{IsRow, path_of}
 use Rattle.fb_fabric.specs.declared.layout.Layout.{Layout}
-use Rattle.fb_fabric.specs.declared.layout.Row.{Row}
+use Rattle.fb_fabric.specs.declared.layout.InstanceRow.{InstanceRow}
 use Rattle.fb_fabric.specs.Networks.{AreTables, IsWired, path_around}
 use Rattle.fb_fabric.proofs.Wired.{around_wired, last_of_route, network_by_kind, parent_around, parent_within}
 
@@ -23,7 +23,7 @@ pub network_outermost : (lib : Library) (around : Option ℕ) → around ≡ Non
 network_outermost lib around e = ap (λ (o : Option ℕ). network_at lib (path_around lib o)) (sym e)
 
 pub network_inside :
-    (lib : Library) (i : ℕ) (r : Row) (around : Option ℕ) (o : Option Network) → IsRow lib i r → around ≡ Some i
+    (lib : Library) (i : ℕ) (r : InstanceRow) (around : Option ℕ) (o : Option Network) → IsRow lib i r → around ≡ Some i
     → o ≡ option_and_then network_of (kind_of_number lib r.kind) → o ≡ network_at lib (path_around lib around)
 network_inside lib i r around o is e h =
     h ∙ ap (option_and_then network_of) (is.numbered ∙ sym is.is_kind) ∙ sym (network_by_kind lib i is.placed)
@@ -31,30 +31,30 @@ network_inside lib i r around o is e h =
 
 -- ---- An instance in the network that it stands in
 
-pub around_there : (lib : Library) (i : ℕ) (r : Row) → (is : IsRow lib i r) → network_at lib (path_around lib r.parent) ≡ Some is.placed.network
+pub around_there : (lib : Library) (i : ℕ) (r : InstanceRow) → (is : IsRow lib i r) → network_at lib (path_around lib r.parent) ≡ Some is.placed.network
 around_there lib i r is = ap (network_at lib) (parent_around lib i r.parent is.parent_is) ∙ is.placed.is_network
 
-pub none_around : (lib : Library) (i : ℕ) (r : Row) (o : Option (Bor Network)) → IsRow lib i r → option_copied o ≡ network_at lib (path_around lib r.parent) → o ≡ None → ⊥
+pub none_around : (lib : Library) (i : ℕ) (r : InstanceRow) (o : Option (Bor Network)) → IsRow lib i r → option_copied o ≡ network_at lib (path_around lib r.parent) → o ≡ None → ⊥
 none_around lib i r o is h e =
     let g : None ≡ Some is.placed.network = sym (ap option_copied e) ∙ h ∙ around_there lib i r is in cc
 
-pub none_last : (lib : Library) (i : ℕ) (r : Row) (o : Option ℕ) (route : List ℕ) → IsRow lib i r → o ≡ last_of route → route ≡ r.route → o ≡ None → ⊥
+pub none_last : (lib : Library) (i : ℕ) (r : InstanceRow) (o : Option ℕ) (route : List ℕ) → IsRow lib i r → o ≡ last_of route → route ≡ r.route → o ≡ None → ⊥
 none_last lib i r o route is h same e =
     let g : None ≡ Some is.placed.place = sym e ∙ h ∙ ap last_of same ∙ last_of_route lib i r is in cc
 
-place_is : (lib : Library) (i : ℕ) (r : Row) (o : Option ℕ) (route : List ℕ) (place : ℕ) → (is : IsRow lib i r) → o ≡ last_of route → route ≡ r.route → o ≡ Some place → place ≡ is.placed.place
+place_is : (lib : Library) (i : ℕ) (r : InstanceRow) (o : Option ℕ) (route : List ℕ) (place : ℕ) → (is : IsRow lib i r) → o ≡ last_of route → route ≡ r.route → o ≡ Some place → place ≡ is.placed.place
 place_is lib i r o route place is h same e =
     same_Some place is.placed.place (sym e ∙ h ∙ ap last_of same ∙ last_of_route lib i r is)
 
 network_is :
-    (lib : Library) (i : ℕ) (r : Row) (o : Option (Bor Network)) (net : Bor Network) → (is : IsRow lib i r) → option_copied o ≡ network_at lib (path_around lib r.parent)
+    (lib : Library) (i : ℕ) (r : InstanceRow) (o : Option (Bor Network)) (net : Bor Network) → (is : IsRow lib i r) → option_copied o ≡ network_at lib (path_around lib r.parent)
     → o ≡ Some net → net.now ≡ is.placed.network
 network_is lib i r o net is h e =
     same_Some net.now is.placed.network (sym (ap option_copied e) ∙ h ∙ around_there lib i r is)
 
 -- the instance at its place in the network that is read
 pub declared_there :
-    (lib : Library) (i : ℕ) (r : Row) (o : Option (Bor Network)) (net : Bor Network) (q : Option ℕ) (route : List ℕ) (place : ℕ) (all : List Instance) → (is : IsRow lib i r)
+    (lib : Library) (i : ℕ) (r : InstanceRow) (o : Option (Bor Network)) (net : Bor Network) (q : Option ℕ) (route : List ℕ) (place : ℕ) (all : List Instance) → (is : IsRow lib i r)
     → option_copied o ≡ network_at lib (path_around lib r.parent) → o ≡ Some net → q ≡ last_of route → route ≡ r.route → q ≡ Some place → all ≡ net.now.instances
     → slice_get all place ≡ Some is.placed.instance
 declared_there lib i r o net q route place all is h e last same f read =
@@ -70,7 +70,7 @@ got o p x b h there e = sym there ∙ sym h ∙ ap option_copied e
 
 -- the instance with the path is the one that the row has
 pub declared_is :
-    (lib : Library) (layout : Layout) (app : NetworkNumbers) (blocks : List (Option NetworkNumbers)) (i : ℕ) (r : Row) → AreTables lib layout app blocks
+    (lib : Library) (layout : Layout) (app : NetworkNumbers) (blocks : List (Option NetworkNumbers)) (i : ℕ) (r : InstanceRow) → AreTables lib layout app blocks
     → i < length (paths_of lib) → (is : IsRow lib i r) → instance_at lib (path_of lib i) ≡ Some is.placed.instance
 declared_is lib layout app blocks i r are within is =
     let s = is.placed in
@@ -85,7 +85,7 @@ declared_is lib layout app blocks i r are within is =
 
 -- ---- Parameters
 
-pub none_wired : (lib : Library) (i : ℕ) (r : Row) (o : Option (Bor NetworkNumbers)) → IsRow lib i r → MatchOption o (network_at lib (path_around lib r.parent) ≡ None) (λ w. IsWired lib (path_around lib r.parent) w.now) → o ≡ None → ⊥
+pub none_wired : (lib : Library) (i : ℕ) (r : InstanceRow) (o : Option (Bor NetworkNumbers)) → IsRow lib i r → MatchOption o (network_at lib (path_around lib r.parent) ≡ None) (λ w. IsWired lib (path_around lib r.parent) w.now) → o ≡ None → ⊥
 none_wired lib i r o is h e =
     let none : network_at lib (path_around lib r.parent) ≡ None =
     subst (λ (o : Option (Bor NetworkNumbers)). MatchOption o (network_at lib (path_around lib r.parent) ≡ None) (λ w. IsWired lib (path_around lib r.parent) w.now)) e h in
@@ -93,7 +93,7 @@ none_wired lib i r o is h e =
 
 -- the parameters by number of the instance at its place
 pub parameters_there :
-    (lib : Library) (i : ℕ) (r : Row) (w : NetworkNumbers) (q : Option ℕ) (route : List ℕ) (place : ℕ) (all : List (List ℕ)) → (is : IsRow lib i r)
+    (lib : Library) (i : ℕ) (r : InstanceRow) (w : NetworkNumbers) (q : Option ℕ) (route : List ℕ) (place : ℕ) (all : List (List ℕ)) → (is : IsRow lib i r)
     → IsWired lib (path_around lib r.parent) w → q ≡ last_of route → route ≡ r.route → q ≡ Some place → all ≡ w.parameters
     → (ks : List ℕ) × (slice_get all place ≡ Some ks) × (parameter_numbers lib is.placed.instance ≡ Some ks)
 parameters_there lib i r w q route place all is wired last same f read =
@@ -106,7 +106,7 @@ parameters_there lib i r w q route place all is wired last same f read =
     (at.0, ap (λ (ks : List (List ℕ)). slice_get ks place) read ∙ at.1, at.2)
 
 pub parameters_of_instance :
-    (lib : Library) (layout : Layout) (app : NetworkNumbers) (blocks : List (Option NetworkNumbers)) (i : ℕ) (r : Row) (ks ls ms : List ℕ) (x : Instance)
+    (lib : Library) (layout : Layout) (app : NetworkNumbers) (blocks : List (Option NetworkNumbers)) (i : ℕ) (r : InstanceRow) (ks ls ms : List ℕ) (x : Instance)
     → AreTables lib layout app blocks → i < length (paths_of lib) → (is : IsRow lib i r) → parameter_numbers lib is.placed.instance ≡ Some ks → Some ks ≡ Some ls → ms ≡ ls
     → instance_at lib (path_of lib i) ≡ Some x → parameter_numbers lib x ≡ Some ms
 parameters_of_instance lib layout app blocks i r ks ls ms x are within is at same out h =

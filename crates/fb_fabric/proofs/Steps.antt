@@ -9,7 +9,7 @@ use Rattle.fb_types.specs.declared.library.Network.{Network}
 use Rattle.fb_names.specs.declared.numbers.NetworkNumbers.{NetworkNumbers}
 use Rattle.fb_names.specs.declared.numbers.Resolved.{Resolved}
 use Rattle.fb_names.specs.declared.numbers.TypeNumber.{TypeNumber}
-use Rattle.fb_fabric.specs.declared.layout.Row.{Row}
+use Rattle.fb_fabric.specs.declared.layout.InstanceRow.{InstanceRow}
 use Rattle.fb_fabric.specs.Layers.{Around, Layer, no_layer, layer_of, layer_inside, layer_among, layer, network_inside, row_under, with_components}
 
 -- ---- The rest of a list
@@ -34,23 +34,23 @@ instance_at is k i h e = slice_get_read is (length is) k i refl h e
 abbrev pub left : ℕ → Library → Resolved → Around → (number place : ℕ) → List Instance → List TypeNumber → Layer
 left b lib r o number place is ts = layer_among (layer b lib r) lib r o number place (drop place is) (drop place ts)
 
-pub record AreLaid (all rest : Layer) (place : ℕ) (rows : List Row) (numbers : List ℕ) : Type 0 where
+pub record AreLaid (all rest : Layer) (place : ℕ) (rows : List InstanceRow) (numbers : List ℕ) : Type 0 where
   pub rows_are : rows ++ rest.rows ≡ all.rows
   pub numbers_are : numbers ++ rest.numbers ≡ all.numbers
   pub few : place ≤ length rows
 
 pub first_laid :
-    (d b : ℕ) (lib : Library) (r : Resolved) (o : Around) (first n : ℕ) (net : Network) (is : List Instance) (ts : List TypeNumber) (rows : List Row) (numbers : List ℕ)
+    (d b : ℕ) (lib : Library) (r : Resolved) (o : Around) (first n : ℕ) (net : Network) (is : List Instance) (ts : List TypeNumber) (rows : List InstanceRow) (numbers : List ℕ)
     → d ≡ suc b → is ≡ net.instances → rows ≡ [] → numbers ≡ [] → n ≡ first + length rows
     → AreLaid (layer d lib r o first net ts) (left b lib r o n 0 is ts) 0 rows numbers
 unfolding layer
 first_laid d b lib r o first n net is ts rows numbers deep same none no_numbers e =
     let all : layer d lib r o first net ts ≡ left b lib r o first 0 net.instances ts = ap (λ d. layer d lib r o first net ts) deep in
-    let at : n ≡ first = e ∙ ap (λ (rows : List Row). first + length rows) none ∙ (let z : first + 0 ≡ first = omega arith in z) in
+    let at : n ≡ first = e ∙ ap (λ (rows : List InstanceRow). first + length rows) none ∙ (let z : first + 0 ≡ first = omega arith in z) in
     let rest : left b lib r o n 0 is ts ≡ layer d lib r o first net ts =
     ap (λ n. left b lib r o n 0 is ts) at ∙ ap (λ (is : List Instance). left b lib r o first 0 is ts) same ∙ sym all in
     record {
-      rows_are = ap (λ (xs : List Row). xs ++ (left b lib r o n 0 is ts).rows) none ∙ ap (λ (l : Layer). l.rows) rest;
+      rows_are = ap (λ (xs : List InstanceRow). xs ++ (left b lib r o n 0 is ts).rows) none ∙ ap (λ (l : Layer). l.rows) rest;
       numbers_are = ap (λ (xs : List ℕ). xs ++ (left b lib r o n 0 is ts).numbers) no_numbers ∙ ap (λ (l : Layer). l.numbers) rest;
       few = omega arith;
     }
@@ -74,12 +74,12 @@ same_layer a b rows numbers = λ i. record { rows = rows i; numbers = numbers i 
 
 -- nothing is laid out inside an instance with no network
 pub below_none :
-    (inside : Around → ℕ → Network → List TypeNumber → Layer) (number : ℕ) (row : Row) (o : Option (Network × NetworkNumbers)) (l : Layer)
+    (inside : Around → ℕ → Network → List TypeNumber → Layer) (number : ℕ) (row : InstanceRow) (o : Option (Network × NetworkNumbers)) (l : Layer)
     → None ≡ o → l.rows ≡ [] → l.numbers ≡ [] → l ≡ layer_inside inside number row o
 below_none inside number row o l h rows numbers = same_layer l no_layer rows numbers ∙ ap (layer_inside inside number row) h
 
 pub below_some :
-    (inside : Around → ℕ → Network → List TypeNumber → Layer) (number : ℕ) (row : Row) (o : Option (Network × NetworkNumbers)) (n : Network × NetworkNumbers) (l : Layer)
+    (inside : Around → ℕ → Network → List TypeNumber → Layer) (number : ℕ) (row : InstanceRow) (o : Option (Network × NetworkNumbers)) (n : Network × NetworkNumbers) (l : Layer)
     → Some n ≡ o → l.rows ≡ (inside (Some (number, row)) (number + 1) n.0 n.1.types).rows → l.numbers ≡ (inside (Some (number, row)) (number + 1) n.0 n.1.types).numbers
     → l ≡ layer_inside inside number row o
 below_some inside number row o n l h rows numbers =
@@ -87,14 +87,14 @@ below_some inside number row o n l h rows numbers =
 
 -- the same at a number that is written otherwise
 numbered_so :
-    (b : ℕ) (lib : Library) (r : Resolved) (o : Around) (n number place : ℕ) (is : List Instance) (ts : List TypeNumber) (all : Layer) (rows : List Row) (numbers : List ℕ)
+    (b : ℕ) (lib : Library) (r : Resolved) (o : Around) (n number place : ℕ) (is : List Instance) (ts : List TypeNumber) (all : Layer) (rows : List InstanceRow) (numbers : List ℕ)
     → number ≡ n → AreLaid all (left b lib r o n place is ts) place rows numbers → AreLaid all (left b lib r o number place is ts) place rows numbers
 numbered_so b lib r o n number place is ts all rows numbers e so_far =
     subst (λ n. AreLaid all (left b lib r o n place is ts) place rows numbers) (sym e) so_far
 
 pub next_laid :
     (b : ℕ) (lib : Library) (r : Resolved) (o : Around) (first number place : ℕ) (is : List Instance) (ts : List TypeNumber) (i : Instance) (t : TypeNumber)
-    (row : Row) (below : Layer) (all : Layer) (rows more : List Row) (numbers more_numbers : List ℕ)
+    (row : InstanceRow) (below : Layer) (all : Layer) (rows more : List InstanceRow) (numbers more_numbers : List ℕ)
     → slice_get is place ≡ Some i → slice_get ts place ≡ Some t → row ≡ row_under o i t place []
     → below ≡ layer_inside (layer b lib r) number row (network_inside lib r t) → number ≡ first + length rows
     → AreLaid all (left b lib r o (first + length rows) place is ts) place rows numbers
@@ -103,7 +103,7 @@ pub next_laid :
 next_laid b lib r o first number place is ts i t row below all rows more numbers more_numbers h g row_is below_is at so_far_there grown counted =
     let so_far = numbered_so b lib r o (first + length rows) number place is ts all rows numbers at so_far_there in
     let below_at : below ≡ layer_inside (layer b lib r) number (row_under o i t place []) (network_inside lib r t) =
-    below_is ∙ ap (λ (row : Row). layer_inside (layer b lib r) number row (network_inside lib r t)) row_is in
+    below_is ∙ ap (λ (row : InstanceRow). layer_inside (layer b lib r) number row (network_inside lib r t)) row_is in
     let long : length more ≡ length rows + suc (length below.rows) =
     ap length grown ∙ length-append rows (with_components row below.numbers ∷ below.rows) in
     let number_is : number + 1 + length below.rows ≡ first + length more = omega (arith, long, at) in
@@ -111,10 +111,10 @@ next_laid b lib r o first number place is ts i t row below all rows more numbers
     left_next b lib r o number place is ts i t h g
     ∙ ap (λ (below : Layer). layer_of number (row_under o i t place []) below (left b lib r o (number + 1 + length below.rows) (place + 1) is ts)) (sym below_at)
     ∙ ap (λ n. layer_of number (row_under o i t place []) below (left b lib r o n (place + 1) is ts)) number_is
-    ∙ ap (λ (row : Row). layer_of number row below (left b lib r o (first + length more) (place + 1) is ts)) (sym row_is) in
+    ∙ ap (λ (row : InstanceRow). layer_of number row below (left b lib r o (first + length more) (place + 1) is ts)) (sym row_is) in
     let rest = left b lib r o (first + length more) (place + 1) is ts in
     record {
-      rows_are = ap (λ (xs : List Row). xs ++ rest.rows) grown ∙ append_assoc rows (with_components row below.numbers ∷ below.rows) rest.rows
+      rows_are = ap (λ (xs : List InstanceRow). xs ++ rest.rows) grown ∙ append_assoc rows (with_components row below.numbers ∷ below.rows) rest.rows
           ∙ ap (λ (l : Layer). rows ++ l.rows) (sym rest_is) ∙ so_far.rows_are;
       numbers_are = ap (λ (xs : List ℕ). xs ++ rest.numbers) counted ∙ append_assoc numbers (number ∷ []) rest.numbers
           ∙ ap (λ (l : Layer). numbers ++ l.numbers) (sym rest_is) ∙ so_far.numbers_are;
@@ -124,7 +124,7 @@ next_laid b lib r o first number place is ts i t row below all rows more numbers
 -- the room that is left for what is inside the next instance
 pub room_inside :
     (b : ℕ) (lib : Library) (r : Resolved) (o : Around) (first number place : ℕ) (is : List Instance) (ts : List TypeNumber) (i : Instance) (t : TypeNumber)
-    (row : Row) (all : Layer) (rows : List Row) (numbers : List ℕ)
+    (row : InstanceRow) (all : Layer) (rows : List InstanceRow) (numbers : List ℕ)
     → slice_get is place ≡ Some i → slice_get ts place ≡ Some t → row ≡ row_under o i t place []
     → AreLaid all (left b lib r o (first + length rows) place is ts) place rows numbers → number ≡ first + length rows → first + length all.rows ≤ 4096
     → (number + 1) + length (layer_inside (layer b lib r) number row (network_inside lib r t)).rows ≤ 4096
@@ -137,13 +137,13 @@ room_inside b lib r o first number place is ts i t row all rows numbers h g row_
     sym (length-append rows (layer_of number (row_under o i t place []) below rest).rows)
     ∙ ap (λ (l : Layer). length (rows ++ l.rows)) (sym rest_is) ∙ ap length so_far.rows_are in
     let same : length (layer_inside (layer b lib r) number row (network_inside lib r t)).rows ≡ length below.rows =
-    ap (λ (row : Row). length (layer_inside (layer b lib r) number row (network_inside lib r t)).rows) row_is in
+    ap (λ (row : InstanceRow). length (layer_inside (layer b lib r) number row (network_inside lib r t)).rows) row_is in
     let parts : length (below.rows ++ rest.rows) ≡ length below.rows + length rest.rows = length-append below.rows rest.rows in
     omega (arith, total, same, parts, at, few)
 
 -- ---- The end
 
-at_end : (rest all : Layer) (place : ℕ) (rows : List Row) (numbers : List ℕ) → rest ≡ no_layer → AreLaid all rest place rows numbers → (rows ≡ all.rows) × (numbers ≡ all.numbers)
+at_end : (rest all : Layer) (place : ℕ) (rows : List InstanceRow) (numbers : List ℕ) → rest ≡ no_layer → AreLaid all rest place rows numbers → (rows ≡ all.rows) × (numbers ≡ all.numbers)
 at_end rest all place rows numbers none so_far = (
   sym (append-nil rows) ∙ ap (λ (l : Layer). rows ++ l.rows) (sym none) ∙ so_far.rows_are,
   sym (append-nil numbers) ∙ ap (λ (l : Layer). numbers ++ l.numbers) (sym none) ∙ so_far.numbers_are,
@@ -151,7 +151,7 @@ at_end rest all place rows numbers none so_far = (
 
 -- where no instance is left
 pub all_laid :
-    (b : ℕ) (lib : Library) (r : Resolved) (o : Around) (number place : ℕ) (is : List Instance) (ts : List TypeNumber) (all : Layer) (rows : List Row) (numbers : List ℕ)
+    (b : ℕ) (lib : Library) (r : Resolved) (o : Around) (number place : ℕ) (is : List Instance) (ts : List TypeNumber) (all : Layer) (rows : List InstanceRow) (numbers : List ℕ)
     → length is ≤ place → AreLaid all (left b lib r o number place is ts) place rows numbers → (rows ≡ all.rows) × (numbers ≡ all.numbers)
 all_laid b lib r o number place is ts all rows numbers h so_far =
     let none : left b lib r o number place is ts ≡ no_layer =
@@ -160,7 +160,7 @@ all_laid b lib r o number place is ts all rows numbers h so_far =
 
 -- where no type is left
 pub all_typed :
-    (b : ℕ) (lib : Library) (r : Resolved) (o : Around) (number place : ℕ) (is : List Instance) (ts : List TypeNumber) (i : Instance) (all : Layer) (rows : List Row) (numbers : List ℕ)
+    (b : ℕ) (lib : Library) (r : Resolved) (o : Around) (number place : ℕ) (is : List Instance) (ts : List TypeNumber) (i : Instance) (all : Layer) (rows : List InstanceRow) (numbers : List ℕ)
     → slice_get is place ≡ Some i → slice_get ts place ≡ None → AreLaid all (left b lib r o number place is ts) place rows numbers → (rows ≡ all.rows) × (numbers ≡ all.numbers)
 all_typed b lib r o number place is ts i all rows numbers h g so_far =
     let none : left b lib r o number place is ts ≡ no_layer =

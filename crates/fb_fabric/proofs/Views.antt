@@ -5,7 +5,7 @@ use Rattle.fb_types.specs.declared.library.Instance.{Instance}
 use Rattle.fb_types.specs.declared.library.Library.{Library}
 use Rattle.fb_names.specs.Numbers.{kind_of_number, parameter_numbers}
 use Rattle.fb_fabric.specs.Layouts.{AreComponents, IsRow, path_of}
-use Rattle.fb_fabric.specs.declared.layout.Row.{Row}
+use Rattle.fb_fabric.specs.declared.layout.InstanceRow.{InstanceRow}
 use Rattle.fb_types.specs.declared.run.Target.{Target}
 use Rattle.fb_types.specs.declared.run.Place.{Place}
 use Rattle.fb_fabric.specs.Fabrics.{IsPort, IsVariable}
@@ -26,13 +26,13 @@ count_of t lib is e = is.is_layout.counted ∙ ap (λ (lib : Library). length (p
 pub within_of : (t : Tables) (lib : Library) (i : ℕ) → t.library ≡ lib → i < length (paths_of lib) → i < length (paths_of t.library)
 within_of t lib i e h = subst (λ (lib : Library). i < length (paths_of lib)) (sym e) h
 
-pub row_of : (t : Tables) (lib : Library) (i : ℕ) (r : Row) → t.library ≡ lib → IsRow t.library i r → IsRow lib i r
+pub row_of : (t : Tables) (lib : Library) (i : ℕ) (r : InstanceRow) → t.library ≡ lib → IsRow t.library i r → IsRow lib i r
 row_of t lib i r e h = subst (λ (lib : Library). IsRow lib i r) e h
 
-pub kind_of_row : (lib : Library) (i : ℕ) (r : Row) → IsRow lib i r → kind_of_number lib r.kind ≡ kind_at lib (path_of lib i)
+pub kind_of_row : (lib : Library) (i : ℕ) (r : InstanceRow) → IsRow lib i r → kind_of_number lib r.kind ≡ kind_at lib (path_of lib i)
 kind_of_row lib i r is = is.numbered ∙ sym is.is_kind
 
-pub components_of_row : (lib : Library) (i : ℕ) (r : Row) (ks : List ℕ) → IsRow lib i r → ks ≡ r.components → AreComponents lib (path_of lib i) ks
+pub components_of_row : (lib : Library) (i : ℕ) (r : InstanceRow) (ks : List ℕ) → IsRow lib i r → ks ≡ r.components → AreComponents lib (path_of lib i) ks
 components_of_row lib i r ks is e = subst (λ (ks : List ℕ). AreComponents lib (path_of lib i) ks) (sym e) is.components
 
 pub declared_seen :

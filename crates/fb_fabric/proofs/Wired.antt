@@ -22,7 +22,7 @@ use Rattle.fb_names.specs.declared.numbers.TypeNumber.TheVariants as number
 use Rattle.fb_names.specs.Numbers.{IsNetwork, kind_of_number}
 use Rattle.fb_fabric.specs.Layouts.{AreComponents, AreNumbers, IsParent, IsPlaced, IsRow, path_of, place_at, route_to}
 use Rattle.fb_fabric.specs.declared.layout.Layout.{Layout}
-use Rattle.fb_fabric.specs.declared.layout.Row.{Row}
+use Rattle.fb_fabric.specs.declared.layout.InstanceRow.{InstanceRow}
 use Rattle.fb_fabric.specs.Networks.{AreTables, IsAround, IsThere, IsWired, composite_of, path_around}
 use Rattle.fb_types.proofs.ByPlace.{element_at, all_at}
 use Rattle.fb_fabric.proofs.Differing.{instances_once}
@@ -110,7 +110,7 @@ declared_inside lib layout app blocks p k (block.Composite t) (Some x) are at th
     wired_inside lib layout app blocks p k t x are at there kind is
 
 -- the kind of an instance by the number of its type
-row_kind : (lib : Library) (i : ℕ) (r : Row) (t : TypeNumber) → IsRow lib i r → r.kind ≡ t → kind_of_number lib t ≡ kind_at lib (path_of lib i)
+row_kind : (lib : Library) (i : ℕ) (r : InstanceRow) (t : TypeNumber) → IsRow lib i r → r.kind ≡ t → kind_of_number lib t ≡ kind_at lib (path_of lib i)
 row_kind lib i r t is e = ap (kind_of_number lib) (sym e) ∙ is.numbered ∙ sym is.is_kind
 
 block_of_number : (lib : Library) (k : ℕ) (kind : Kind) → kind_of_number lib (number.Declared k) ≡ Some kind → (b : BlockType) × (slice_get lib.blocks k ≡ Some b) × (kind_of b ≡ kind)
@@ -121,7 +121,7 @@ block_of_number lib k kind h =
     ] refl h
 
 pub inside_declared :
-    (lib : Library) (layout : Layout) (app : NetworkNumbers) (blocks : List (Option NetworkNumbers)) (i k : ℕ) (r : Row) (o : Option NetworkNumbers)
+    (lib : Library) (layout : Layout) (app : NetworkNumbers) (blocks : List (Option NetworkNumbers)) (i k : ℕ) (r : InstanceRow) (o : Option NetworkNumbers)
     → AreTables lib layout app blocks → IsRow lib i r → r.kind ≡ number.Declared k → slice_get blocks k ≡ Some o → HasInside lib (path_of lib i) o
 inside_declared lib layout app blocks i k r o are is e there =
     let numbered : kind_of_number lib (number.Declared k) ≡ Some is.kind = row_kind lib i r (number.Declared k) is e ∙ is.is_kind in
@@ -132,7 +132,7 @@ inside_declared lib layout app blocks i k r o are is e there =
 
 -- the place of the type is one of the tables'
 pub place_declared :
-    (lib : Library) (layout : Layout) (app : NetworkNumbers) (blocks : List (Option NetworkNumbers)) (i k : ℕ) (r : Row)
+    (lib : Library) (layout : Layout) (app : NetworkNumbers) (blocks : List (Option NetworkNumbers)) (i k : ℕ) (r : InstanceRow)
     → AreTables lib layout app blocks → IsRow lib i r → r.kind ≡ number.Declared k → k < length blocks
 place_declared lib layout app blocks i k r are is e =
     let numbered : kind_of_number lib (number.Declared k) ≡ Some is.kind = row_kind lib i r (number.Declared k) is e ∙ is.is_kind in
@@ -141,12 +141,12 @@ place_declared lib layout app blocks i k r are is e =
     omega (arith, h, are.are_blocks.counted)
 
 pub inside_event :
-    (lib : Library) (i : ℕ) (r : Row) (k : EventKind) → IsRow lib i r → r.kind ≡ number.Event k → network_at lib (path_of lib i) ≡ None
+    (lib : Library) (i : ℕ) (r : InstanceRow) (k : EventKind) → IsRow lib i r → r.kind ≡ number.Event k → network_at lib (path_of lib i) ≡ None
 inside_event lib i r k is e =
     network_by_kind lib i is.placed ∙ ap (option_and_then network_of) (sym (row_kind lib i r (number.Event k) is e))
 
 row_wired :
-    (lib : Library) (layout : Layout) (app : NetworkNumbers) (blocks : List (Option NetworkNumbers)) (i : ℕ) (r : Row) (t : TypeNumber) (net : Network)
+    (lib : Library) (layout : Layout) (app : NetworkNumbers) (blocks : List (Option NetworkNumbers)) (i : ℕ) (r : InstanceRow) (t : TypeNumber) (net : Network)
     → AreTables lib layout app blocks → IsRow lib i r → r.kind ≡ t → network_at lib (path_of lib i) ≡ Some net
     → (x : NetworkNumbers) × IsWired lib (path_of lib i) x
 row_wired lib layout app blocks i r (number.Event k) net are is e h =
@@ -161,7 +161,7 @@ row_wired lib layout app blocks i r (number.Declared k) net are is e h =
 -- the row of an instance
 pub row_there :
     (lib : Library) (layout : Layout) (app : NetworkNumbers) (blocks : List (Option NetworkNumbers)) (i : ℕ)
-    → AreTables lib layout app blocks → i < length (paths_of lib) → (r : Row) × IsRow lib i r
+    → AreTables lib layout app blocks → i < length (paths_of lib) → (r : InstanceRow) × IsRow lib i r
 row_there lib layout app blocks i are h =
     let r = element_at layout.rows i (let c = are.is_layout.counted in omega (arith, h, c)) in
     (r.0, are.is_layout.rows i r.0 r.1)
@@ -186,14 +186,14 @@ pub parent_within : (lib : Library) (i : ℕ) (o : Option ℕ) → i < length (p
 parent_within lib i None within h = tt
 parent_within lib i (Some j) within h = omega (arith, within, h.0)
 
-pub last_of_route : (lib : Library) (i : ℕ) (r : Row) → (is : IsRow lib i r) → last_of r.route ≡ Some is.placed.place
+pub last_of_route : (lib : Library) (i : ℕ) (r : InstanceRow) → (is : IsRow lib i r) → last_of r.route ≡ Some is.placed.place
 last_of_route lib i r is =
     let n = is.placed.instance.name in
     let p = parent (path_of lib i) in
     ap last_of is.route ∙ ap (λ (q : Path). last_of (route_to lib q)) is.placed.is_path ∙ last_pushed (route_to lib p) (place_at lib p n)
     ∙ ap (λ k. Some k) is.placed.is_place
 
-pub stands_there : (lib : Library) (i : ℕ) (r : Row) → (is : IsRow lib i r) → IsThere lib (parent (path_of lib i)) (last_of r.route) (path_of lib i)
+pub stands_there : (lib : Library) (i : ℕ) (r : InstanceRow) → (is : IsRow lib i r) → IsThere lib (parent (path_of lib i)) (last_of r.route) (path_of lib i)
 stands_there lib i r is =
     let s = is.placed in
     subst (λ (o : Option ℕ). IsThere lib (parent (path_of lib i)) o (path_of lib i)) (sym (last_of_route lib i r is))
@@ -239,12 +239,12 @@ last_is (x ∷ y ∷ ys) =
 
 -- the row that is read at an instance's number
 pub row_read :
-    (lib : Library) (layout : Layout) (app : NetworkNumbers) (blocks : List (Option NetworkNumbers)) (i : ℕ) (rows : List Row) (r : Row)
+    (lib : Library) (layout : Layout) (app : NetworkNumbers) (blocks : List (Option NetworkNumbers)) (i : ℕ) (rows : List InstanceRow) (r : InstanceRow)
     → AreTables lib layout app blocks → i < length (paths_of lib) → rows ≡ layout.rows → r ≡ get_or rows i r → IsRow lib i r
 row_read lib layout app blocks i rows r are h e read =
     let c = are.is_layout.counted in
-    let within : i < length rows = let h' : i < length layout.rows = omega (arith, h, c) in subst (λ (rows : List Row). i < length rows) (sym e) h' in
-    are.is_layout.rows i r (ap (λ (rows : List Row). slice_get rows i) (sym e) ∙ slice_get_read rows (length rows) i r refl within read)
+    let within : i < length rows = let h' : i < length layout.rows = omega (arith, h, c) in subst (λ (rows : List InstanceRow). i < length rows) (sym e) h' in
+    are.is_layout.rows i r (ap (λ (rows : List InstanceRow). slice_get rows i) (sym e) ∙ slice_get_read rows (length rows) i r refl within read)
 
 -- ---- What is found of a network
 
@@ -264,7 +264,7 @@ seen_inside lib p s o e has =
     ] h
 
 pub inside_found :
-    (lib : Library) (layout : Layout) (app : NetworkNumbers) (blocks items : List (Option NetworkNumbers)) (around : Option ℕ) (i k : ℕ) (r : Row)
+    (lib : Library) (layout : Layout) (app : NetworkNumbers) (blocks items : List (Option NetworkNumbers)) (around : Option ℕ) (i k : ℕ) (r : InstanceRow)
     (o : Option NetworkNumbers) (s : Option (Bor NetworkNumbers))
     → AreTables lib layout app blocks → IsRow lib i r → r.kind ≡ number.Declared k → around ≡ Some i → items ≡ blocks → o ≡ get_or items k o
     → option_copied s ≡ o → MatchOption s (network_at lib (path_around lib around) ≡ None) (λ w. IsWired lib (path_around lib around) w.now)

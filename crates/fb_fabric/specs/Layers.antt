@@ -11,7 +11,7 @@ use Rattle.fb_names.specs.declared.numbers.Resolved.{Resolved}
 use Rattle.fb_names.specs.declared.numbers.TypeNumber.{TypeNumber}
 use Rattle.fb_names.specs.declared.numbers.TypeNumber.TheVariants as number
 use Rattle.fb_fabric.specs.declared.layout.Outside.{Outside}
-use Rattle.fb_fabric.specs.declared.layout.Row.{Row}
+use Rattle.fb_fabric.specs.declared.layout.InstanceRow.{InstanceRow}
 
 -- the network of a composite type, with its numbers
 abbrev pub network_of_block : Option (Option NetworkNumbers) → BlockType → Option (Network × NetworkNumbers)
@@ -27,7 +27,7 @@ network_inside lib r (number.Declared t) = option_and_then (network_of_block (sl
 
 -- A composite round a network: its number and its row, whose components do not matter.
 abbrev pub Around : Type 0
-Around = Option (ℕ × Row)
+Around = Option (ℕ × InstanceRow)
 
 abbrev pub around : Option Outside → Around
 around o = option_map (λ c. (c.number, c.row.now)) o
@@ -40,28 +40,28 @@ abbrev pub route_under : Around → List ℕ
 route_under None = []
 route_under (Some c) = c.1.route
 
-abbrev pub row_under : Around → Instance → TypeNumber → (place : ℕ) → (components : List ℕ) → Row
+abbrev pub row_under : Around → Instance → TypeNumber → (place : ℕ) → (components : List ℕ) → InstanceRow
 row_under o i t place components =
     record { path = path_under o i.name; kind = t; parent = option_map (λ c. c.0) o; route = route_under o ++ place ∷ []; components = components }
 
 -- The instances of a network with all inside them: the rows, and the numbers of those in the network itself.
 pub record Layer : Type 0 where
-  pub rows : List Row
+  pub rows : List InstanceRow
   pub numbers : List ℕ
 
 abbrev pub no_layer : Layer
 no_layer = record { rows = []; numbers = [] }
 
-abbrev pub with_components : Row → List ℕ → Row
+abbrev pub with_components : InstanceRow → List ℕ → InstanceRow
 with_components r numbers = record { path = r.path; kind = r.kind; parent = r.parent; route = r.route; components = numbers }
 
 -- an instance, what is inside it, and then its next siblings
-abbrev pub layer_of : (number : ℕ) → Row → (inside next : Layer) → Layer
+abbrev pub layer_of : (number : ℕ) → InstanceRow → (inside next : Layer) → Layer
 layer_of k row inside next =
     record { rows = with_components row inside.numbers ∷ inside.rows ++ next.rows; numbers = k ∷ next.numbers }
 
 -- what is laid out inside an instance with a number and a row
-abbrev pub layer_inside : (Around → ℕ → Network → List TypeNumber → Layer) → ℕ → Row → Option (Network × NetworkNumbers) → Layer
+abbrev pub layer_inside : (Around → ℕ → Network → List TypeNumber → Layer) → ℕ → InstanceRow → Option (Network × NetworkNumbers) → Layer
 layer_inside inside k row None = no_layer
 layer_inside inside k row (Some n) = inside (Some (k, row)) (k + 1) n.0 n.1.types
 

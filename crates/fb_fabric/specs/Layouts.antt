@@ -9,7 +9,7 @@ use Rattle.fb_types.specs.declared.library.Library.{Library}
 use Rattle.fb_types.specs.declared.library.Instance.{Instance}
 use Rattle.fb_types.specs.declared.library.Network.{Network}
 use Rattle.fb_names.specs.Numbers.{kind_of_number}
-use Rattle.fb_fabric.specs.declared.layout.Row.{Row}
+use Rattle.fb_fabric.specs.declared.layout.InstanceRow.{InstanceRow}
 use Rattle.fb_fabric.specs.declared.layout.Layout.{Layout}
 
 -- the path of the instance with a number
@@ -49,7 +49,7 @@ pub record IsPlaced (lib : Library) (k : ℕ) : Type 0 where
   pub is_path : path_of lib k ≡ instance.name ∷ parent (path_of lib k)
   pub is_place : place_at lib (parent (path_of lib k)) instance.name ≡ place
 
-pub record IsRow (lib : Library) (k : ℕ) (r : Row) : Type 0 where
+pub record IsRow (lib : Library) (k : ℕ) (r : InstanceRow) : Type 0 where
   pub text : r.path ≡ path_text (path_of lib k)
   pub kind : Kind
   pub is_kind : kind_at lib (path_of lib k) ≡ Some kind
@@ -62,7 +62,7 @@ pub record IsRow (lib : Library) (k : ℕ) (r : Row) : Type 0 where
 -- Each instance has a row at the place of its number.
 pub record IsLayout (lib : Library) (x : Layout) : Type 0 where
   pub counted : length x.rows ≡ length (paths_of lib)
-  pub rows : (k : ℕ) (r : Row) → slice_get x.rows k ≡ Some r → IsRow lib k r
+  pub rows : (k : ℕ) (r : InstanceRow) → slice_get x.rows k ≡ Some r → IsRow lib k r
   pub top : AreNumbers lib [] lib.application.network.instances x.top
   -- paths differ
   pub numbers : (k : ℕ) → k < length (paths_of lib) → number_of (paths_of lib) (path_of lib k) ≡ k

@@ -19,7 +19,7 @@ const DEPTH: usize = 17;
 
 /// One instance.
 #[derive(Drop)]
-pub struct Row {
+pub struct InstanceRow {
     /// The instance names from the outermost, joined by full stops.
     pub path: Items<u8>,
     pub kind: TypeNumber,
@@ -35,7 +35,7 @@ pub struct Row {
 #[derive(Drop)]
 pub struct Layout {
     /// A row for each instance, at the place of its number.
-    pub rows: Items<Row>,
+    pub rows: Items<InstanceRow>,
     /// The numbers of the instances of the application itself, in the order of the text.
     pub top: Items<u32>,
 }
@@ -44,7 +44,7 @@ pub struct Layout {
 #[derive(Clone, Copy)]
 struct Outside<'a> {
     number: u32,
-    row: &'a Row,
+    row: &'a InstanceRow,
 }
 
 /// A network, and what it is inside of, or none for the application's.
@@ -58,7 +58,7 @@ struct Site<'a, 'b, 'c> {
 /// The instances of a network with all that is inside them.
 #[derive(Drop)]
 struct Layer {
-    rows: Vec<Row>,
+    rows: Vec<InstanceRow>,
     /// The numbers of the instances in the network itself.
     numbers: Items<u32>,
 }
@@ -75,7 +75,7 @@ impl Layer {
     }
 
     /// Adds an instance and what is inside it.
-    fn add(&mut self, number: u32, mut row: Row, inside: Layer) -> Result<(), AllocError>
+    fn add(&mut self, number: u32, mut row: InstanceRow, inside: Layer) -> Result<(), AllocError>
         ensures rows { OnOk result (self.new.rows.items ≡ self.old.rows.items ++ spec.with_components row inside.numbers ∷ inside.rows.items) }
         ensures numbers { OnOk result (self.new.numbers ≡ self.old.numbers ++ number ∷ []) }
     {
@@ -150,10 +150,10 @@ fn row_under(
     instance: &Instance,
     kind: TypeNumber,
     place: u32,
-) -> Result<Row, AllocError>
+) -> Result<InstanceRow, AllocError>
     ensures { IfOk result (λ r. r ≡ spec.row_under (spec.around outside.entry) instance.now kind place []) }
 {
-    Ok(Row {
+    Ok(InstanceRow {
         path: path_under(alloc, outside, instance)?,
         kind,
         parent: outside.map(|composite| composite.number),

@@ -9,7 +9,7 @@ ghost use Rattle.fb_types.specs.declared.library.Network.{Network};
 ghost use Rattle.fb_fabric.specs.Fabrics.{IsSource, IsTarget, port_of, variable_of};
 ghost use Rattle.fb_fabric.specs.Networks.{DataEnters, DataLeaves, EventEnters, EventLeaves, IsAround, IsFabric, IsThere, IsWired, path_around, source_along, targets_along};
 
-use crate::layout::{Layout, Row};
+use crate::layout::{InstanceRow, Layout};
 use crate::wiring::Wiring;
 use fb_names::numbers::{End, TypeNumber};
 use fb_types::items::Items;
@@ -28,7 +28,7 @@ pub(crate) struct Tables {
 }
 
 /// The row of an instance.
-pub(crate) fn row_at(tables: &Tables, instance: u32) -> &Row
+pub(crate) fn row_at(tables: &Tables, instance: u32) -> &InstanceRow
     requires fabric { IsFabric tables.now }
     requires within { instance < length (paths_of tables.now.library) }
     ensures { IsRow tables.now.library instance result.now }

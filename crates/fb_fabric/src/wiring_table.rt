@@ -14,11 +14,11 @@ use std::marker::Model;
 /// For each port of one component, or of the boundary, a list of ends. A port that was not reached yet has no ends,
 /// and takes no memory, since a component may have many ports of which few are connected.
 #[derive(Drop)]
-pub(crate) struct Row {
+pub(crate) struct PortEnds {
     ports: BTreeMap<usize, Items<End>>,
 }
 
-impl Model for Row {
+impl Model for PortEnds {
     ghost use Rattle.std.specs.Prelude.{List, ℕ};
     ghost use Rattle.fb_names.specs.declared.numbers.End.{End};
 
@@ -27,11 +27,11 @@ impl Model for Row {
     ghost view = { λ r. r.ports.entries };
 }
 
-impl Row {
-    fn new(alloc: Global) -> Row
+impl PortEnds {
+    fn new(alloc: Global) -> PortEnds
         ensures { result ≡ [] }
     {
-        Row {
+        PortEnds {
             ports: BTreeMap::new(alloc),
         }
     }
@@ -63,7 +63,7 @@ impl Row {
 
 /// One more end at a port of a component.
 fn push_at(
-    rows: &mut Vec<Row>,
+    rows: &mut Vec<PortEnds>,
     alloc: Global,
     component: usize,
     port: usize,
@@ -72,7 +72,7 @@ fn push_at(
     ensures { OnOk result ((c p : ℕ) → ends_of (row_of rows.new.items c) p ≡ cond (nat_eq component c && nat_eq port p) (ends_of (row_of rows.old.items c) p ++ end ∷ []) (ends_of (row_of rows.old.items c) p)) }
 {
     while rows.len() <= component {
-        rows.push(Row::new(alloc))?;
+        rows.push(PortEnds::new(alloc))?;
     }
     let row = &mut rows[component];
     row.push(alloc, port, end)?;
@@ -82,9 +82,9 @@ fn push_at(
 /// For each end, a list of ends. An end that was not reached yet has none.
 #[derive(Drop)]
 pub(crate) struct Table {
-    boundary: Row,
+    boundary: PortEnds,
     /// For each component, its ports.
-    components: Vec<Row>,
+    components: Vec<PortEnds>,
 }
 
 impl Table {
@@ -93,7 +93,7 @@ impl Table {
         ensures { (e : End) → ends_at result e ≡ [] }
     {
         Table {
-            boundary: Row::new(alloc),
+            boundary: PortEnds::new(alloc),
             components: Vec::new(alloc),
         }
     }

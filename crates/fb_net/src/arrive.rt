@@ -23,7 +23,7 @@ use crate::event_blocks::react_event;
 use crate::outbox::Outbox;
 use crate::samples::{sampled_values, shown_values};
 use fb_names::numbers::TypeNumber;
-use fb_st::meter::Meter;
+use fb_st::meter::StepMeter;
 use fb_system::system::System;
 use fb_tree::resource::Forest;
 use fb_types::event_kind::EventKind;
@@ -168,7 +168,7 @@ fn arrive_basic(
     block: &BasicType,
     key: &Key,
     at: Target,
-    meter: &mut Meter,
+    meter: &mut StepMeter,
 ) -> Result<(), Halt>
     requires place { MayArrive system.now key.now at forest.old outbox.old }
     requires input { at.is_output ≡ false }
@@ -207,7 +207,7 @@ pub(crate) fn arrive(
     system: &System,
     key: &Key,
     at: Target,
-    meter: &mut Meter,
+    meter: &mut StepMeter,
 ) -> Result<(), Halt>
     requires target { IsTarget (system_of system.now) at }
     requires here { InForest system.now forest.old at.instance }

@@ -17,7 +17,7 @@ use crate::emit::emit_all;
 use crate::event_blocks::expire_event;
 use crate::outbox::Outbox;
 use fb_names::numbers::TypeNumber;
-use fb_st::meter::Meter;
+use fb_st::meter::StepMeter;
 use fb_system::system::System;
 use fb_tree::resource::Forest;
 use fb_types::event_kind::EventKind;
@@ -36,7 +36,7 @@ fn take_stimulus(
     system: &System,
     key: &Key,
     row: u32,
-    meter: &mut Meter,
+    meter: &mut StepMeter,
 ) -> Result<(), Halt>
     requires { MayTake system.now key.now (Event.Stimulus row) forest.old outbox.old }
     ensures { WasTaken system.now key.now (Event.Stimulus row) forest.old outbox.old meter.old.left result forest.new meter.new.left outbox.new }
@@ -56,7 +56,7 @@ fn take_arrival(
     system: &System,
     key: &Key,
     message: &Message,
-    meter: &mut Meter,
+    meter: &mut StepMeter,
 ) -> Result<(), Halt>
     requires { MayTake system.now key.now (Event.Arrival message.now) forest.old outbox.old }
     ensures { WasTaken system.now key.now (Event.Arrival message.now) forest.old outbox.old meter.old.left result forest.new meter.new.left outbox.new }
@@ -122,7 +122,7 @@ pub(crate) fn take_event(
     system: &System,
     key: &Key,
     event: &Event,
-    meter: &mut Meter,
+    meter: &mut StepMeter,
 ) -> Result<(), Halt>
     requires { MayTake system.now key.now event.now forest.old outbox.old }
     ensures { WasTaken system.now key.now event.now forest.old outbox.old meter.old.left result forest.new meter.new.left outbox.new }

@@ -10,7 +10,6 @@ use crate::outcome::{Refusal, RunError};
 use fb_check::accept::accept;
 use fb_check::case::Case;
 use fb_check::error::CheckError;
-use fb_check::fault;
 use fb_check::judge::judge;
 use fb_inputs::deployment::read_deploy;
 use fb_inputs::error::InputError;
@@ -107,8 +106,8 @@ pub(crate) fn judge_inputs(alloc: Global, inputs: &Inputs<'_>) -> Result<(), Run
     };
     match judge(alloc, &case) {
         Ok(()) => Ok(()),
-        Err(fault::Refusal::Memory) => Err(RunError::Memory),
-        Err(fault::Refusal::Fault(fault)) => Err(RunError::Refused(Refusal::Check(fault))),
+        Err(CheckError::Memory) => Err(RunError::Memory),
+        Err(CheckError::Refused(fault)) => Err(RunError::Refused(Refusal::Check(fault))),
     }
 }
 

@@ -11,7 +11,7 @@ ghost use Rattle.fb_st.specs.Known.{AssignsKnown, AllKnown, ChoicesKnown, Branch
 use crate::assign::{Count, advance, has_label, has_passed, run_assignment, step_value};
 use crate::eval::{eval, holds};
 use crate::frame::Frame;
-use crate::meter::{Flow, Meter};
+use crate::meter::{Flow, StepMeter};
 use fb_types::reference::Reference;
 use fb_types::text::{Body, Branch, Choice, Expr, Stmt};
 use fb_types::value::{Reason, Value};
@@ -19,7 +19,7 @@ use fb_types::value::{Reason, Value};
 /// A run of the statements of an algorithm. RETURN gives `Returned`, which ends the algorithm as its last
 /// statement does. EXIT outside of loops, as no accepted text has it, gives `Left`. After a reason the frame
 /// holds what the statements before it left. A caller without an accepted text asks `knows` first.
-pub fn exec(body: &Body, frame: &mut Frame, meter: &mut Meter) -> Result<Flow, Reason>
+pub fn exec(body: &Body, frame: &mut Frame, meter: &mut StepMeter) -> Result<Flow, Reason>
     requires known { AllKnown (declared_in frame.old) (body_of body.now) }
     ensures run { RunsAll (types_in (declared_in frame.old)) (body_of body.now) (point frame.old meter.old) (end_of result) (point frame.new meter.new) }
     ensures declared { declared_in frame.new ≡ declared_in frame.old }
@@ -30,7 +30,7 @@ pub fn exec(body: &Body, frame: &mut Frame, meter: &mut Meter) -> Result<Flow, R
 
 /// A run of one statement.
 #[cycle(exec)]
-fn run(statement: &Stmt, frame: &mut Frame, meter: &mut Meter) -> Result<Flow, Reason>
+fn run(statement: &Stmt, frame: &mut Frame, meter: &mut StepMeter) -> Result<Flow, Reason>
     requires known { AssignsKnown (declared_in frame.old) (stmt_of statement.now) }
     ensures run { Runs (types_in (declared_in frame.old)) (stmt_of statement.now) (point frame.old meter.old) (end_of result) (point frame.new meter.new) }
     ensures declared { declared_in frame.new ≡ declared_in frame.old }
@@ -59,7 +59,7 @@ fn run(statement: &Stmt, frame: &mut Frame, meter: &mut Meter) -> Result<Flow, R
 
 /// A run of statements, one after the other.
 #[cycle(exec)]
-fn run_all(statements: &[Stmt], frame: &mut Frame, meter: &mut Meter) -> Result<Flow, Reason>
+fn run_all(statements: &[Stmt], frame: &mut Frame, meter: &mut StepMeter) -> Result<Flow, Reason>
     requires known { AllKnown (declared_in frame.old) (all_of statements.now) }
     ensures run { RunsAll (types_in (declared_in frame.old)) (all_of statements.now) (point frame.old meter.old) (end_of result) (point frame.new meter.new) }
     ensures declared { declared_in frame.new ≡ declared_in frame.old }
@@ -81,7 +81,7 @@ fn run_choice(
     choices: &[Choice],
     others: &[Stmt],
     frame: &mut Frame,
-    meter: &mut Meter,
+    meter: &mut StepMeter,
 ) -> Result<Flow, Reason>
     requires known { ChoicesKnown (declared_in frame.old) (choices_of choices.now) }
     requires others_known { AllKnown (declared_in frame.old) (all_of others.now) }
@@ -104,7 +104,7 @@ fn run_branch(
     others: &[Stmt],
     value: Value,
     frame: &mut Frame,
-    meter: &mut Meter,
+    meter: &mut StepMeter,
 ) -> Result<Flow, Reason>
     requires known { BranchesKnown (declared_in frame.old) (branches_of branches.now) }
     requires others_known { AllKnown (declared_in frame.old) (all_of others.now) }
@@ -122,7 +122,7 @@ fn run_branch(
 
 /// A turn of WHILE or REPEAT, which costs a step before its body.
 #[cycle(exec)]
-fn turn(body: &[Stmt], frame: &mut Frame, meter: &mut Meter) -> Result<Flow, Reason>
+fn turn(body: &[Stmt], frame: &mut Frame, meter: &mut StepMeter) -> Result<Flow, Reason>
     requires known { AllKnown (declared_in frame.old) (all_of body.now) }
     ensures run { Step (RunsAll (types_in (declared_in frame.old)) (all_of body.now)) (point frame.old meter.old) (end_of result) (point frame.new meter.new) }
     ensures declared { declared_in frame.new ≡ declared_in frame.old }
@@ -139,7 +139,7 @@ fn run_while(
     body: &[Stmt],
     condition: &Expr,
     frame: &mut Frame,
-    meter: &mut Meter,
+    meter: &mut StepMeter,
 ) -> Result<Flow, Reason>
     requires known { AllKnown (declared_in frame.old) (all_of body.now) }
     ensures run { Runs (types_in (declared_in frame.old)) (While (expr_of condition.now) (all_of body.now)) (before_step frame.old meter.old) (end_of result) (point frame.new meter.new) }
@@ -162,7 +162,7 @@ fn run_repeat(
     body: &[Stmt],
     condition: &Expr,
     frame: &mut Frame,
-    meter: &mut Meter,
+    meter: &mut StepMeter,
 ) -> Result<Flow, Reason>
     requires known { AllKnown (declared_in frame.old) (all_of body.now) }
     ensures run { Runs (types_in (declared_in frame.old)) (Repeat (all_of body.now) (expr_of condition.now)) (before_step frame.old meter.old) (end_of result) (point frame.new meter.new) }
@@ -182,6 +182,7 @@ fn run_repeat(
 }
 
 /// FOR: start, end and step are evaluated once, in this order, before the variable has its first value.
+// Not written into `run`: else the other statements keep registers for it.
 #[cycle(exec)]
 #[inline(never)]
 fn run_for(
@@ -191,7 +192,7 @@ fn run_for(
     end: &Expr,
     step: &Option<Expr>,
     frame: &mut Frame,
-    meter: &mut Meter,
+    meter: &mut StepMeter,
 ) -> Result<Flow, Reason>
     requires known { AllKnown (declared_in frame.old) (all_of body.now) }
     requires variable_known { is_declared (declared_in frame.old) variable.now ≡ true }
@@ -217,7 +218,7 @@ fn counted_turn(
     variable: &Reference,
     count: Count,
     frame: &mut Frame,
-    meter: &mut Meter,
+    meter: &mut StepMeter,
 ) -> Result<Flow, Reason>
     requires known { AllKnown (declared_in frame.old) (all_of body.now) }
     requires variable_known { is_declared (declared_in frame.old) variable.now ≡ true }
@@ -241,7 +242,7 @@ fn run_counts(
     variable: &Reference,
     count: Count,
     frame: &mut Frame,
-    meter: &mut Meter,
+    meter: &mut StepMeter,
 ) -> Result<Flow, Reason>
     requires known { AllKnown (declared_in frame.old) (all_of body.now) }
     requires variable_known { is_declared (declared_in frame.old) variable.now ≡ true }

@@ -17,11 +17,11 @@ pub enum Flow {
 
 /// The steps that a resource has left in the current tick.
 #[derive(Clone, Copy, Debug, PartialEq, Eq)]
-pub struct Meter {
+pub struct StepMeter {
     pub left: u64,
 }
 
-impl Meter {
+impl StepMeter {
     /// Begins a step. With none left the run stops.
     #[inline(always)]
     pub fn step(&mut self) -> Result<(), Reason>

@@ -1,5 +1,5 @@
 -- The seats of the application's instances, one instance at a time.
-use Rattle.std.proofs.Common.{◌≡◌, ℕ, ◌<◌, ◌≤◌, ◌+◌, zero, suc, Bool, true, false, cond, nat_eq, List, [], ◌∷◌, ◌++◌, map, length, take, get_or, Option, Some, None, refl, sym, ◌∙◌, ap, inl, inr, arith}
+use Rattle.std.proofs.Common.{◌≡◌, ℕ, ◌<◌, ◌≤◌, ◌+◌, zero, suc, Bool, true, false, cond, nat_eq, List, [], ◌∷◌, ◌++◌, map, length, length-append, take, get_or, Option, Some, None, refl, sym, ◌∙◌, ap, inl, inr, arith}
 use Rattle.std.specs.Prelude.{flat_map, option_map, slice_get, unwrap_or}
 use Rattle.std.specs.List.{filter}
 use Rattle.std.specs.BTreeMap.{BTreeMap, get, is_at}
@@ -55,7 +55,7 @@ seats_next holders n h s seats counts more at soFar is updates =
     let here : seat_among holders n ≡ counted holders h n = ap (with_holder_before holders n) at in
     let inside = slice_get_within holders n h at in
     record {
-      many = Rattle.std.proofs.Common.length-append seats (s ∷ []) ∙ ap (λ m. m + 1) soFar.many;
+      many = length-append seats (s ∷ []) ∙ ap (λ m. m + 1) soFar.many;
       seats = λ p lt.
           elim (cases_lt p n) [
             | inl less ↦
@@ -142,7 +142,7 @@ flat_long f [] each = omega arith
 flat_long f (x ∷ xs) each =
     let rest : length xs ≤ length (flat_map f xs) = flat_long f xs each in
     let one : 1 ≤ length (f x) = each x in
-    let long = Rattle.std.proofs.Common.length-append (f x) (flat_map f xs) in omega (arith, rest, one, long)
+    let long = length-append (f x) (flat_map f xs) in omega (arith, rest, one, long)
 
 -- as many holders as instances of the application, which are not more than all instances
 pub holders_few : (lib : Library) (plan : Plan) (holders : List ℕ) → holders ≡ holders_of lib plan → length (paths_of lib) ≤ 4096 → length holders ≤ 4096

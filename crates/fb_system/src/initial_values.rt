@@ -28,7 +28,7 @@ fn first_values(alloc: Global, variables: &[Variable]) -> Result<Vec<Value>, All
 /// # Errors
 ///
 /// Want of memory.
-pub fn input_values(
+pub(crate) fn input_values(
     alloc: Global,
     ports: &Ports,
     parameters: &[Parameter],
@@ -51,7 +51,7 @@ pub fn input_values(
 /// # Errors
 ///
 /// Want of memory.
-pub fn output_values(alloc: Global, ports: &Ports) -> Result<Items<Value>, AllocError>
+pub(crate) fn output_values(alloc: Global, ports: &Ports) -> Result<Items<Value>, AllocError>
     ensures { IfOk result (λ vs. vs ≡ map initial_of ports.now.outputs) }
 {
     let values = first_values(alloc, ports.outputs.as_slice())?;

@@ -28,7 +28,7 @@ pub struct Interfaces {
 
 impl Interfaces {
     /// What the events of the block type at a place of the declaration go WITH.
-    pub fn of_block(&self, block: usize) -> &WithPlaces
+    pub(crate) fn of_block(&self, block: usize) -> &WithPlaces
         requires { (library : Declaration) × AreInterfaces library self.now × (block < length library.blocks) }
         ensures { (library : Declaration) (t : Declared) → AreInterfaces library self.now → slice_get library.blocks block ≡ Some t → AreWithPlaces (ports_of (kind_of t)) result.now }
     {
@@ -36,7 +36,7 @@ impl Interfaces {
     }
 
     /// What the events of an event block go WITH.
-    pub fn of_event_block(&self, kind: EventKind) -> &WithPlaces
+    pub(crate) fn of_event_block(&self, kind: EventKind) -> &WithPlaces
         requires { (library : Declaration) × AreInterfaces library self.now }
         ensures { AreWithPlaces (ports_of_event_block kind) result.now }
     {

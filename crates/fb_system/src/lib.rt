@@ -11,7 +11,7 @@
 
 mod event_block_with_places;
 pub mod given;
-pub mod initial_values;
+mod initial_values;
 pub mod interfaces;
 pub mod links;
 pub mod rows;

@@ -23,7 +23,7 @@ use crate::post::post_all;
 use crate::queues::Queues;
 use fb_net::outbox::Outbox;
 use fb_net::tree::Tree;
-use fb_st::meter::Meter as Steps;
+use fb_st::meter::StepMeter;
 use fb_system::system::System;
 use fb_types::key::Key;
 use fb_types::run::{Event, Halt, TimerAsk};
@@ -68,7 +68,7 @@ fn take_in(
     ensures fewer { left.new ≤ left.old }
     ensures resource { tree.new.resource ≡ tree.old.resource }
 {
-    let mut steps = Steps { left: *left };
+    let mut steps = StepMeter { left: *left };
     let taken = tree.take(system, event, key, &mut steps, outbox);
     *left = steps.left;
     match taken {

@@ -65,7 +65,7 @@ impl Block {
     }
 
     /// The slots of the data inputs, and the published outputs, to be changed.
-    pub fn shell_mut(&mut self) -> &mut Shell
+    pub(crate) fn shell_mut(&mut self) -> &mut Shell
         ensures* writes_back { sem 𝓛 (Lends the_row shell_row self.entry result (with_shell self.old)) }
         ensures value { result.now ≡ shell_of self.old }
     {
@@ -89,7 +89,7 @@ impl Block {
     }
 
     /// The data inputs of an event block or a composite block, to be changed.
-    pub fn inputs_mut(&mut self) -> Option<&mut Items<Value>>
+    pub(crate) fn inputs_mut(&mut self) -> Option<&mut Items<Value>>
         ensures* writes_back { sem 𝓛 (LendsIf the_row (items_row value_row) self.entry result (with_inputs self.old) self.old) }
         ensures value { IfSome result (λ l. l.now ≡ inputs_of self.old) }
         ensures none { IfNone result ((vs : List Value) → with_inputs self.old vs ≡ self.old) }
@@ -102,7 +102,7 @@ impl Block {
     }
 
     /// What an event block remembers, to be changed. Other blocks have no such memory.
-    pub fn state_mut(&mut self) -> Option<&mut EventState>
+    pub(crate) fn state_mut(&mut self) -> Option<&mut EventState>
         ensures* writes_back { sem 𝓛 (LendsIf the_row state_row self.entry result (with_state self.old) self.old) }
         ensures none { IfNone result ((s : State) → with_state self.old s ≡ self.old) }
     {

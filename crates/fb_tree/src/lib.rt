@@ -6,15 +6,15 @@
 //!
 //! To be read in this order: `block` and `shell`, what a block holds; `resource`, what is asked and changed; `tree` and
 //! `values`, the block at a route; `laws`. Then `build`, how they are made before the first event;
-//! `opening_trees`, `opening_leaves` and `opening_charts`, the blocks; `opening_copies`.
+//! `opening_trees`, `opening_blocks` and `opening_charts`, the blocks; `opening_copies`.
 #![tactic(auto)]
 
 pub mod block;
 pub mod build;
 pub mod laws;
+mod opening_blocks;
 mod opening_charts;
 mod opening_copies;
-mod opening_leaves;
 mod opening_trees;
 pub mod resource;
 pub mod shell;

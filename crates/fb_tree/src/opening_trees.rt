@@ -4,8 +4,8 @@ ghost use Rattle.std.specs.Prelude.{IfOk, OnOk};
 ghost use Rattle.fb_tree.specs.Opening.{AreCharts, AreDeep, AreGrown};
 
 use crate::block::Block;
+use crate::opening_blocks::block_with;
 use crate::opening_charts::Charts;
-use crate::opening_leaves::block_with;
 use fb_system::system::System;
 use std::alloc::{AllocError, Global};
 

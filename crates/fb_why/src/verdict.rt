@@ -4,7 +4,8 @@ ghost use Rattle.std.specs.Prelude.{◌≡◌, IfOk};
 ghost use Rattle.fb_why.specs.Trials as spec;
 
 use fb_check::case::Case;
-use fb_check::fault::{Fault, Refusal};
+use fb_check::error::CheckError;
+use fb_check::fault::Fault;
 use fb_check::judge::judge;
 use fb_types::deploy::{Plan, Stimulus};
 use fb_types::library::Library;
@@ -26,8 +27,8 @@ pub fn least_fault(
     };
     match judge(alloc, &case) {
         Ok(()) => Ok(None),
-        Err(Refusal::Fault(fault)) => Ok(Some(fault)),
-        Err(Refusal::Memory) => Err(AllocError),
+        Err(CheckError::Refused(fault)) => Ok(Some(fault)),
+        Err(CheckError::Memory) => Err(AllocError),
     }
 }
 

@@ -2,7 +2,7 @@ use Rattle.std.proofs.Common.{◌≡◌, drop}
 use Rattle.fb_types.specs.Blocks.{variable_names}
 use Rattle.fb_st.specs.Frames.{declared_in, values_of}
 use Rattle.fb_tree.specs.Opening.{begun_all}
-use Rattle.fb_tree.proofs.opening_leaves.set_inputs.Given as goal
+use Rattle.fb_tree.proofs.opening_blocks.set_inputs.Given as goal
 
 abbrev pub invariant-loop-place : goal.invariant-loop-place
 invariant-loop-place l = record {

@@ -4,7 +4,7 @@ use Rattle.fb_types.specs.declared.library.Variable.{Variable}
 use Rattle.fb_st.specs.Frames.{values_of}
 use Rattle.fb_tree.specs.Opening.{begun_all}
 use Rattle.fb_tree.proofs.Begun.{inputs_declared, of_declaration, opens}
-use Rattle.fb_tree.proofs.opening_leaves.basic_of.Goals as goal
+use Rattle.fb_tree.proofs.opening_blocks.basic_of.Goals as goal
 
 pub open-requires-clause-declared : goal.open-requires-clause-declared
 open-requires-clause-declared c = of_declaration c.args.system.now c.args.instance c.args.block.now c.facts.ensures.accepted c.requires.kind

@@ -7,7 +7,7 @@ use Rattle.fb_types.specs.declared.library.BlockType.TheVariants as block
 use Rattle.fb_types.specs.declared.library.Library.{Library}
 use Rattle.fb_tree.proofs.Begun.{basic_begins, composite_begins, of_declaration, typed}
 use Rattle.fb_tree.proofs.Charts.{charts_grow, known_chart}
-use Rattle.fb_tree.proofs.opening_leaves.block_with.Goals as goal
+use Rattle.fb_tree.proofs.opening_blocks.block_with.Goals as goal
 
 pub unreachable-requires : goal.unreachable-requires
 unreachable-requires c =
