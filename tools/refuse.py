@@ -7,8 +7,8 @@ status for want of memory, 4 unless it is given, and then its output is a beginn
 of a line. Where one does not, this says so, and ends with status 1.
 
 So it shows what no proof says: that want of memory is answered, wherever it comes, and that a call which is to leave all as
-it was does so. It also shows that within a round no request comes after the first byte: where the lines of each round are
-known and memory is wanted, the output ends where a round ends.
+it was does so. It also shows that within a round, or within what one worker writes at once, no request comes after the first byte: where the
+lines of each round are known and memory is wanted, the output ends where a round ends.
 
 ./gate does this when it has run the program, for the runs in RUNS by --serial, one worker and two; without ./gate and without words
 it is done to the program as ./simulate built it. A test that the kit built is a program too: its name is the word, and its status
@@ -130,7 +130,16 @@ def composite():
     return Run("a composite", texts, ["--stim", "s.csv", "--horizon", "1"], 0, [it.trace.decode()])
 
 
-RUNS = [delayed(), stopped(), composite(), ring(), relay()]
+def cycle():
+    """A cycle of one tick, over so many ticks that one worker writes its lines in several pieces."""
+    ticks = 400
+    texts = {"d.iec": application("S : E_RESTART; C : E_CYCLE(DT := T#1ms); M : E_MERGE;", "S.COLD TO C.START; C.EO TO M.EI1;")}
+    lines = ["0 MAIN < S.COLD\n0 MAIN > C.START DT=1\n"]
+    lines += [f"{tick} MAIN < C.EO\n{tick} MAIN > M.EI1\n{tick} MAIN < M.EO\n" for tick in range(1, ticks)]
+    return Run("a cycle of many ticks", texts, ["--horizon", str(ticks)], 0, [*lines, f"end {ticks}\n"])
+
+
+RUNS = [delayed(), stopped(), composite(), ring(), relay(), cycle()]
 
 
 def ends_of(rounds):

@@ -1,4 +1,5 @@
 pub mod DeliverIs
+pub mod Joined
 pub mod OpenIs
 pub mod ReadyIs
 pub mod RunIs

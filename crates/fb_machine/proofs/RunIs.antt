@@ -1,15 +1,14 @@
 -- A run takes what the model takes, and comes to an end.
-use Rattle.std.proofs.Common.{◌≡◌, ℕ, zero, suc, ◌<◌, ◌≤◌, List, [], ◌∷◌, ◌++◌, map, refl, sym, ap, subst, ◌∙◌, append_assoc, append-nil, Option, Some, None, arith}
+use Rattle.std.proofs.Common.{◌≡◌, ℕ, zero, suc, ◌<◌, ◌≤◌, List, [], ◌∷◌, ◌++◌, map, refl, sym, ap, subst, ◌∙◌, append-nil, Option, Some, None, arith}
 use Rattle.std.specs.Prelude.{option_map, slice_get, slice_set, unwrap_or}
 use Rattle.std.proofs.lemmas.List.Elements.{All-nil, All-cons}
 use Rattle.fb_types.specs.Headline.{Inputs, system_of}
 use Rattle.fb_types.specs.Keys.{Precedes, without}
 use Rattle.fb_types.specs.Numbers.{line_of}
 use Rattle.fb_types.specs.States.{Config}
-use Rattle.fb_types.specs.Simulation.{Taken, TakesLeast, NothingAfter, AtHorizon, RestsAt, after, last, lines_of, ending_by, ending_of}
+use Rattle.fb_types.specs.Simulation.{Taken, TakesLeast, NothingAfter, AtHorizon, RestsAt, after, ending_by}
 use Rattle.fb_types.specs.declared.key.Key.{Key}
 use Rattle.fb_types.specs.declared.run.Line.{Line}
-use Rattle.fb_types.specs.declared.run.StopMark.{StopMark}
 use Rattle.fb_types.specs.declared.value.Reason.{Reason}
 use Rattle.fb_agenda.specs.Agendas.{Contents, waiting}
 use Rattle.fb_types.specs.declared.run.Event.{Event}
@@ -62,18 +61,6 @@ takes_least i limit c k e stop old left new is found least t = record {
   waits = is k ∙ ap (option_map (event_of i)) found;
   least = λ j pre. is j ∙ ap (option_map (event_of i)) (least j pre);
   takes = t.takes;
-}
-
-pub completes_more : (i : Inputs) (horizon limit : ℕ) (c : Config) (t : Taken) (before mid after' : List Line) (stop : Option StopMark)
-    → TakesLeast (system_of i) limit c t → t.effect.stop ≡ None → t.key.tick < horizon → map (line_of (system_of i)) mid ≡ map (line_of (system_of i)) before ++ t.effect.lines
-    → Completes i horizon limit (after c t) mid after' stop → Completes i horizon limit c before after' stop
-completes_more i horizon limit c t before mid after' stop takes going below lines rest = record {
-  taken = t ∷ rest.taken;
-  chain = (takes, subst (λ st. NothingAfter st rest.taken) (sym going) tt, rest.chain);
-  below = All-cons (λ u. u.key.tick < horizon) t rest.taken below rest.below;
-  rests = subst (λ st. RestsAt horizon (ending_by st t.key (ending_of horizon rest.taken)) (last (after c t) rest.taken).agenda) (sym going) rest.rests;
-  lines = rest.lines ∙ ap (λ z. z ++ lines_of rest.taken) lines ∙ append_assoc (map (line_of (system_of i)) before) t.effect.lines (lines_of rest.taken);
-  ending = rest.ending ∙ sym (ap (λ st. ending_by st t.key (ending_of horizon rest.taken)) going);
 }
 
 pub completes_stop : (i : Inputs) (horizon limit : ℕ) (c : Config) (t : Taken) (r : Reason) (before mid : List Line)

@@ -1,7 +1,7 @@
 //! The state of a run of all resources, and the taking of one event after another.
 
-ghost use Rattle.std.specs.Prelude.{◌≡◌, ◌^◌, ◌<◌, ◌≤◌, length, All, IfOk, IfSome, None, OnOk};
-ghost use Rattle.fb_types.specs.Headline.{system_of};
+ghost use Rattle.std.specs.Prelude.{◌≡◌, ◌^◌, ◌<◌, ◌≤◌, ℕ, [], length, All, IfOk, IfSome, None, OnOk};
+ghost use Rattle.fb_types.specs.Headline.{Inputs, system_of};
 ghost use Rattle.fb_types.specs.Keys.{without};
 ghost use Rattle.fb_types.specs.States.{Config, State};
 ghost use Rattle.fb_types.specs.States as model;
@@ -10,16 +10,18 @@ ghost use Rattle.fb_system.specs.Lines.{BelongsTo};
 ghost use Rattle.fb_laws.specs.Typed.{IsTypedEvent};
 ghost use Rattle.fb_machine.specs.Completions.{Completes};
 ghost use Rattle.fb_machine.specs.Machines.{IsAt, IsReady, IsTaken};
+ghost use Rattle.fb_machine.specs.Pauses.{IsSooner, Pauses};
 ghost use Rattle.fb_machine.specs.Runs.{IsSpent};
 
 use crate::deliver::deliver;
+use crate::pause::Pause;
 use fb_net::tree::Tree;
 use fb_system::system::System;
 use fb_take::meter::Meter;
 use fb_take::queues::Queues;
 use fb_take::take::take;
 use fb_types::key::Key;
-use fb_types::run::{Event, StopMark};
+use fb_types::run::{Event, Line, StopMark};
 use fb_types::value::Reason;
 use std::alloc::AllocError;
 
@@ -67,6 +69,58 @@ impl Machine {
         Ok(stop)
     }
 
+    /// Takes events below the horizon, least key first, until there are so many lines, or up to the first stop. It takes
+    /// one event at least where there is one, and puts the lines behind those that are there.
+    ///
+    /// # Errors
+    /// When memory runs out, or a link has carried 2^128 messages.
+    pub fn go_on(
+        &mut self,
+        system: &System,
+        horizon: u64,
+        limit: u64,
+        many: usize,
+    ) -> Result<Pause, AllocError>
+        requires ready { (tick : ℕ) × IsReady system.now limit tick self.old }
+        requires stands { (c : Config) × IsAt system.now c.state c.agenda self.old }
+        requires early { horizon ≤ 10 ^ 12 }
+        requires few { limit ≤ 10 ^ 7 }
+        ensures pauses { IfOk result (λ p. (c : Config) → IsAt system.now c.state c.agenda self.old → Pauses system.now horizon limit c self.old self.new p) }
+        ensures ready { OnOk result ((tick : ℕ) × IsReady system.now limit tick self.new) }
+        ensures sooner { IfOk result (IsSooner horizon limit self.old self.new) }
+    {
+        while let Some((key, event)) = self.queues.agenda.take_least(horizon) {
+            if let Some(reason) = self.take(system, limit, &key, &event)? {
+                return Ok(Pause::Stop(StopMark {
+                    tick: key.tick,
+                    resource: key.resource,
+                    reason,
+                }));
+            }
+            if self.queues.outbox.lines.len() >= many {
+                return Ok(Pause::Lines);
+            }
+        }
+        Ok(Pause::Horizon)
+    }
+
+    /// The lines that are there.
+    pub fn lines(&self) -> &[Line]
+        ensures { result.now ≡ self.now.queues.outbox.lines.items }
+    {
+        self.queues.outbox.lines.as_slice()
+    }
+
+    /// Lets the lines go, and nothing else. The room that they took is kept.
+    pub fn clear_lines(&mut self)
+        ensures none { self.new.queues.outbox.lines.items ≡ [] }
+        ensures at { (i : Inputs) (s : State) (a : model.Agenda) → IsAt i s a self.old → IsAt i s a self.new }
+        ensures ready { (i : Inputs) (limit tick : ℕ) → IsReady i limit tick self.old → IsReady i limit tick self.new }
+        ensures meters { self.new.meters ≡ self.old.meters }
+    {
+        self.queues.outbox.lines.clear();
+    }
+
     /// Takes all events below the horizon, least key first, or up to the first stop, which is told with its tick.
     ///
     /// # Errors
@@ -86,15 +140,12 @@ impl Machine {
         ensures stops { IfOk result (λ stop. IfSome stop (λ m. m.resource < length (system_of system.now).resource_names)) }
         ensures lines { OnOk result (All (BelongsTo (system_of system.now)) self.new.queues.outbox.lines.items) }
     {
-        while let Some((key, event)) = self.queues.agenda.take_least(horizon) {
-            if let Some(reason) = self.take(system, limit, &key, &event)? {
-                return Ok(Some(StopMark {
-                    tick: key.tick,
-                    resource: key.resource,
-                    reason,
-                }));
+        loop {
+            match self.go_on(system, horizon, limit, usize::MAX)? {
+                Pause::Lines => {}
+                Pause::Horizon => return Ok(None),
+                Pause::Stop(mark) => return Ok(Some(mark)),
             }
         }
-        Ok(None)
     }
 }

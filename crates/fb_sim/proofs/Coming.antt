@@ -14,6 +14,7 @@ use Rattle.fb_laws.specs.Sound.{AreGood}
 use Rattle.fb_laws.proofs.Accepting.{sound_of}
 use Rattle.fb_resource.proofs.Existence.{there_is}
 use Rattle.fb_types.proofs.SimulationLaws.{one-simulation}
+use Rattle.fb_machine.proofs.Joined.{lines_of-append}
 use Rattle.fb_trace.specs.Progress.{IsPartWritten, bounded}
 use Rattle.fb_sim.specs.Advances.{IsNext, stop_line}
 use Rattle.fb_sim.specs.Sessions.{Session}
@@ -26,7 +27,7 @@ use Rattle.fb_sim.specs.declared.state.Phase.TheVariants as going
 use Rattle.fb_sim.proofs.Texts.{lines_text-append, part-after, part-before}
 use Rattle.fb_sim.specs.Reports.{Came, Comes, GoesOn, HasCome, HasTold, Hears, feeds, hundredth, report_text, session}
 use Rattle.fb_sim.specs.declared.told.Tally.{Tally}
-use Rattle.fb_sim.proofs.Simulations.{horizon_is, later_begins, lines_of-append, stopped_later, stops}
+use Rattle.fb_sim.proofs.Simulations.{horizon_is, later_begins, stopped_later, stops}
 
 module _ (i : Inputs) (o : Options) where
   text_of : List Line → List ℕ

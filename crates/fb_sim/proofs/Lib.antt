@@ -3,6 +3,7 @@ mod Coming
 pub mod Edges
 mod Ending
 pub mod Fronts
+pub mod OneWorkerIs
 pub mod Outcomes
 pub mod Refused
 pub mod Rising

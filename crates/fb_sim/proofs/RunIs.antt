@@ -57,13 +57,13 @@ module _ (i : Inputs) (o : Options) (ls : List Line) where
   }
 
   -- the text of what came before and of what a round gave
-  joined : (ks ms : List Line) → text_of i o.form ks ++ text_of i o.form ms ≡ text_of i o.form (ks ++ ms)
+  pub joined : (ks ms : List Line) → text_of i o.form ks ++ text_of i o.form ms ≡ text_of i o.form (ks ++ ms)
   joined ks ms = sym (lines_text-append o.form (system_of i) ks ms)
 
-  both_got : (old mid new : Option (List ℕ)) (ks ms : List Line) → Appends old mid (text_of i o.form ks) → Appends mid new (text_of i o.form ms) → Appends old new (text_of i o.form (ks ++ ms))
+  pub both_got : (old mid new : Option (List ℕ)) (ks ms : List Line) → Appends old mid (text_of i o.form ks) → Appends mid new (text_of i o.form ms) → Appends old new (text_of i o.form (ks ++ ms))
   both_got old mid new ks ms a b = subst (λ (t : List ℕ). Appends old new t) (joined ks ms) (Appends-trans old mid new (text_of i o.form ks) (text_of i o.form ms) a b)
 
-  both_counted : (ks ms : List Line) (n m : ℕ) → n ≡ bounded (length (text_of i o.form ks)) → m ≡ bounded (length (text_of i o.form ms)) → bounded (n + m) ≡ bounded (length (text_of i o.form (ks ++ ms)))
+  pub both_counted : (ks ms : List Line) (n m : ℕ) → n ≡ bounded (length (text_of i o.form ks)) → m ≡ bounded (length (text_of i o.form ms)) → bounded (n + m) ≡ bounded (length (text_of i o.form (ks ++ ms)))
   both_counted ks ms n m a b =
       ap (λ z. bounded (z + m)) a ∙ ap (λ z. bounded (bounded (length (text_of i o.form ks)) + z)) b
       ∙ bounded-length (text_of i o.form ks) (text_of i o.form ms) ∙ ap (λ (t : List ℕ). bounded (length t)) (joined ks ms)
@@ -225,6 +225,15 @@ module _ (given : Given) (o : Options) (i : Inputs) (within : AreWithin o) (decl
   fails_on old new BadOption bad = absurd bad
   fails_on old new Failed bad = absurd bad
 
+  -- a writer that failed at the last line
+  pub fails_at : (n : ℕ) (old mid new : Option (List ℕ)) (end : Ending) (out : List Line) → AreAll i o.steps o.horizon out end → Appends old mid (text_of i o.form out)
+      → n ≡ bounded (length (text_of i o.form out)) → (e : RunError) → IsShort mid new (last_line (system_of i) end) n e → FailsRun given o old new e
+  fails_at n old mid new end out all got counted (Write w) s = subst (λ (z : ℕ). WritesPart given o old new z) (sym s.2) (fails_last old mid new out end n s.0 all got counted s.1)
+  fails_at n old mid new end out all got counted (Refused r) s = absurd s
+  fails_at n old mid new end out all got counted Memory s = absurd s
+  fails_at n old mid new end out all got counted BadOption s = absurd s
+  fails_at n old mid new end out all got counted Failed s = absurd s
+
   module _ (finish : Finish) (n : ℕ) (old mid new : Option (List ℕ)) (ran : RunsOn i o [] old mid (Ok (finish, n))) where
     at_end : (core : Core) → finish ≡ AtEnd core → RunsOn i o [] old mid (Ok (AtEnd core, n))
     at_end core is = subst (λ (f : Finish). RunsOn i o [] old mid (Ok (f, n))) is ran
@@ -239,17 +248,8 @@ module _ (given : Given) (o : Options) (i : Inputs) (within : AreWithin o) (decl
     pub stopped : (mark : StopMark) → finish ≡ AtMark mark → Appends mid new (last_line (system_of i) (AtStop mark.tick mark.resource mark.reason)) → Writes given o old new (AtStop mark.tick mark.resource mark.reason)
     stopped mark is last = let r = at_mark mark is in writes_all old mid new r.0 (AtStop mark.tick mark.resource mark.reason) r.1.1 r.2 last
 
-    -- a writer that failed at the last line
-    fails_at : (end : Ending) (out : List Line) → AreAll i o.steps o.horizon out end → Appends old mid (text_of i o.form out) → n ≡ bounded (length (text_of i o.form out))
-        → (e : RunError) → IsShort mid new (last_line (system_of i) end) n e → FailsRun given o old new e
-    fails_at end out all got counted (Write w) s = subst (λ (z : ℕ). WritesPart given o old new z) (sym s.2) (fails_last old mid new out end n s.0 all got counted s.1)
-    fails_at end out all got counted (Refused r) s = absurd s
-    fails_at end out all got counted Memory s = absurd s
-    fails_at end out all got counted BadOption s = absurd s
-    fails_at end out all got counted Failed s = absurd s
-
     pub ended_short : (core : Core) → finish ≡ AtEnd core → (e : RunError) → IsShort mid new (last_line (system_of i) (AtHorizon o.horizon)) n e → FailsRun given o old new e
-    ended_short core is e s = let r = at_end core is in fails_at (AtHorizon o.horizon) r.0 r.1.2 r.2 r.3 e s
+    ended_short core is e s = let r = at_end core is in fails_at n old mid new (AtHorizon o.horizon) r.0 r.1.2 r.2 r.3 e s
 
     pub stopped_short : (mark : StopMark) → finish ≡ AtMark mark → (e : RunError) → IsShort mid new (last_line (system_of i) (AtStop mark.tick mark.resource mark.reason)) n e → FailsRun given o old new e
-    stopped_short mark is e s = let r = at_mark mark is in fails_at (AtStop mark.tick mark.resource mark.reason) r.0 r.1.1 r.2 r.3 e s
+    stopped_short mark is e s = let r = at_mark mark is in fails_at n old mid new (AtStop mark.tick mark.resource mark.reason) r.0 r.1.1 r.2 r.3 e s

@@ -1,21 +1,15 @@
 -- A simulation to one tick, and that to a later one.
-use Rattle.std.proofs.Common.{◌≡◌, ℕ, ◌<◌, ◌≤◌, refl, sym, ap, ◌∙◌, subst, arith, ⊎_elim, List, [], ◌∷◌, ◌++◌, append_assoc, Option, Some, None}
+use Rattle.std.proofs.Common.{◌≡◌, ℕ, ◌<◌, ◌≤◌, refl, sym, ap, ◌∙◌, subst, arith, ⊎_elim, List, [], ◌∷◌, ◌++◌, Option, Some, None}
 use Rattle.fb_types.specs.Systems.{System}
-use Rattle.fb_types.specs.States.{Config, Event, Line}
+use Rattle.fb_types.specs.States.{Config, Event}
 use Rattle.fb_types.specs.Takes.{Effect, Takes}
-use Rattle.fb_types.specs.Simulation.{Stimulus, Taken, TakesLeast, after, NothingAfter, Chain, last, Ending, AtHorizon, AtStop, ending_by, ending_of, RestsAt, IsSimulation, lines_of, opening}
+use Rattle.fb_types.specs.Simulation.{Stimulus, Taken, TakesLeast, after, NothingAfter, Chain, last, Ending, AtHorizon, AtStop, ending_by, ending_of, RestsAt, IsSimulation, opening}
 use Rattle.fb_types.specs.Machines.{Each}
 use Rattle.fb_types.specs.declared.key.Key.{Key}
 use Rattle.fb_types.specs.declared.value.Reason.{Reason}
 use Rattle.fb_types.proofs.Lookups.{key_cases, none_some, option_cases}
 use Rattle.fb_types.proofs.SimulationLaws.{takes-one}
 use Rattle.fb_resource.proofs.Bridge.{all_each}
-
--- ---- Lines
-
-pub lines_of-append : (ts us : List Taken) → lines_of (ts ++ us) ≡ lines_of ts ++ lines_of us
-lines_of-append [] us = refl
-lines_of-append (t ∷ ts) us = ap (λ (ls : List Line). t.effect.lines ++ ls) (lines_of-append ts us) ∙ sym (append_assoc t.effect.lines (lines_of ts) (lines_of us))
 
 -- ---- A later tick
 
@@ -37,7 +31,7 @@ module _ (sys : System) (limit : ℕ) where
           λ i. taken_of (e i) (q i) (o i)
 
   -- Whatever is taken up to one tick is taken first up to a later one.
-  begins : (to horizon : ℕ) → to ≤ horizon → (ts us : List Taken) (c : Config) → Chain sys limit c ts → Chain sys limit c us
+  pub begins : (to horizon : ℕ) → to ≤ horizon → (ts us : List Taken) (c : Config) → Chain sys limit c ts → Chain sys limit c us
       → Each (λ (t : Taken). t.key.tick < to) ts → RestsAt horizon (ending_of horizon us) (last c us).agenda → (rest : List Taken) × (us ≡ ts ++ rest)
   begins to horizon early [] us c x y a s = (us, refl)
   begins to horizon early (t ∷ ts) [] c x y a s = let b = a.0 in absurd (none_some _ _ (s t.key (omega arith)) x.0.waits)

@@ -1,4 +1,5 @@
 pub mod Given
+pub mod OneWorker
 pub mod Serial
 pub mod Rounds
 pub mod Sessions

@@ -29,7 +29,7 @@ pub enum Finish {
 }
 
 /// The error of a round, where so many bytes were written before it.
-fn later(written: u128, error: RunError) -> RunError
+pub(crate) fn later(written: u128, error: RunError) -> RunError
     ensures { result ≡ behind written error }
 {
     match error {

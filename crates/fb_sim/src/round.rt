@@ -163,7 +163,7 @@ fn round_of(settled: Settled) -> Round
 }
 
 /// Writes lines, and tells how many bytes they have.
-fn hand_out<W: Write>(
+pub(crate) fn hand_out<W: Write>(
     out: &mut W,
     system: &System,
     form: Form,

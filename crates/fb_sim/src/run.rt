@@ -11,6 +11,7 @@ ghost use Rattle.fb_sim.specs.Serial.{AreWithin, Declares, Writes, ending_of};
 ghost use Rattle.fb_sim.specs.Rounds.{FailsRun, HasCome, IsShort};
 
 use crate::drive::{Finish, run_on};
+use crate::one_worker::run_by_one;
 use crate::options::{Inputs, Options};
 use crate::outcome::{Outcome, RunError};
 use crate::reading::open;
@@ -80,10 +81,11 @@ fn run_system<R: Threads + Wait + Sync, W: Write, P: Gate>(
 
 /// Runs the application of the inputs by workers, and writes its trace, which is that of a run on one thread.
 ///
-/// Each round runs every resource as far as no message can reach it any more, then exchanges the messages, and then
-/// writes the lines that have become final. No memory is asked for between the first byte of a round and its last.
-/// Where the round before had little to do, up to 256 turns of single resources go before, on the calling thread and
-/// past no gate. It waits for its workers, and for the gate where that waits.
+/// One worker always takes the least event of all, and writes the lines piece by piece, past no gate. Several go in
+/// rounds: each round runs every resource as far as no message can reach it any more, then exchanges the messages, and
+/// then writes the lines that have become final. Where the round before had little to do, up to 256 turns of single
+/// resources go before, on the calling thread and past no gate. No memory is asked for between the first byte of a piece
+/// or a round and its last. It waits for its workers, and for the gate where that waits.
 ///
 /// # Errors
 /// `BadOption` before all else; then `Refused`, after which nothing was written; `Memory`, after which a beginning of
@@ -103,5 +105,8 @@ pub fn run<R: Threads + Wait + Sync, W: Write, P: Gate>(
         return Err(RunError::BadOption);
     }
     let system = open(alloc, inputs)?;
+    if options.workers == 1 {
+        return run_by_one(alloc, &system, options, out);
+    }
     run_system(rt, alloc, &system, options, out, gate)
 }

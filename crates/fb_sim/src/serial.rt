@@ -39,7 +39,8 @@ fn end_of(horizon: u64, stop: Option<StopMark>) -> End
     }
 }
 
-fn outcome_of(end: End) -> Outcome
+/// What a run answers that ended so.
+pub(crate) fn outcome_of(end: End) -> Outcome
     ensures { ending_of result ≡ trace.ending_of end }
 {
     match end {
