@@ -13,7 +13,7 @@ use Rattle.fb_read.specs.Nodes.{condition_of, transition_of, algorithm_of}
 use Rattle.fb_read.specs.Tokens.{Tokens}
 use Rattle.fb_read.specs.Parser.{same_mark, sees, after, name, name_if, one, word, expect}
 use Rattle.fb_read.specs.Operators.{Stops, loosest}
-use Rattle.fb_read.specs.Charts.{action, actions, state, states, guard, condition, transition, transitions, algorithm, algorithms}
+use Rattle.fb_read.specs.Charts.{action, actions, state, states, guard, condition, transition, transitions, structured_text, algorithm, algorithms}
 use Rattle.fb_read.specs.Nesting.{fits_expression, fits_body}
 use Rattle.fb_read.specs.Fits.{fits_guard, fits_transition, fits_algorithm}
 use Rattle.fb_read.specs.Grammar.{IsMark, is_mark, is_name, is_whole, AreAll, none, and_more}
@@ -133,7 +133,7 @@ transitions-shorter l = section-shorter transition-shorter l
 -- ---- algorithms
 
 algorithm-complete : IsComplete algorithm IsAlgorithm Anything fits_algorithm
-unfolding algorithm name word expect same_mark
+unfolding algorithm structured_text name word expect same_mark
 algorithm-complete x ts rest (is_algorithm {n = n} {x = y} {e = e} is_mark is_name is_name is_name is_mark l) before =
     rw (body-complete y e rest l tt) (pass-picked (fits_body y) y rest _ (algorithm_of n y) rest refl)
 

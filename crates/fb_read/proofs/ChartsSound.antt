@@ -14,7 +14,7 @@ use Rattle.fb_read.specs.Tokens.{Tokens}
 use Rattle.fb_read.specs.Parser.{◌>>◌, pure, refuse, name, name_if, one, word, expect, after}
 use Rattle.fb_read.specs.Expressions.{expression}
 use Rattle.fb_read.specs.Statements.{body}
-use Rattle.fb_read.specs.Charts.{action, actions, state, states, guard, condition, transition, transitions, algorithm, algorithms}
+use Rattle.fb_read.specs.Charts.{action, actions, state, states, guard, condition, transition, transitions, structured_text, algorithm, algorithms}
 use Rattle.fb_read.specs.Grammar.{IsMark, IsName, is_name, AreAll}
 use Rattle.fb_read.specs.ChartsGrammar.{IsAction, of_algorithm, of_both, of_event, AreActions, no_actions, some_actions, IsState, is_state, AreStates, are_states, IsGuard, no_guard, some_guard, IsCondition, is_one, is_event, is_guarded, IsTransition, is_transition, AreTransitions, IsAlgorithm, is_algorithm}
 use Rattle.fb_read.proofs.Steps.{both_ok, made, eaten, expected, named, spelled, alone}
@@ -127,15 +127,15 @@ transitions-sound = section-sound transition IsTransition mark.EcTransitions mar
 -- ---- algorithms
 
 algorithm-sound : IsSound algorithm IsAlgorithm
-unfolding algorithm
+unfolding algorithm structured_text
 algorithm-sound ts x rest h =
     let a = both_ok (expect mark.Algorithm ts) _ (x, rest) h in
     let b = both_ok (name a.1) _ (x, rest) a.3 in
-    let c = both_ok (word (codes "IN") b.1) _ (x, rest) b.3 in
-    let d = both_ok (word (codes "ST") c.1) _ (x, rest) c.3 in
-    let e = both_ok (expect mark.Colon d.1) _ (x, rest) d.3 in
-    let f = both_ok (body e.1) _ (x, rest) e.3 in
-    let r = body-right e.1 f.0 f.1 f.2 in
+    let f = both_ok (structured_text b.1) _ (x, rest) b.3 in
+    let c = both_ok (word (codes "IN") b.1) _ (f.0, f.1) f.2 in
+    let d = both_ok (word (codes "ST") c.1) _ (f.0, f.1) c.3 in
+    let e = both_ok (expect mark.Colon d.1) _ (f.0, f.1) d.3 in
+    let r = body-right e.1 f.0 f.1 e.3 in
     made IsAlgorithm (algorithm_of b.0 f.0) x ts f.1 rest f.3
     (is_algorithm (expected mark.Algorithm ts a.1 a.2) (named a.1 b.0 b.1 b.2) (spelled (codes "IN") b.1 c.1 c.2) (spelled (codes "ST") c.1 d.1 d.2) (expected mark.Colon d.1 e.1 e.2) r.derived)
 

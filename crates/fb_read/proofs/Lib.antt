@@ -4,6 +4,8 @@ pub mod NumberLaws
 pub mod FrontLaws
 pub mod TokenLaws
 pub mod Turns
+pub mod Joins
+pub mod Adding
 pub mod Steps
 pub mod Chained
 pub mod Lists

@@ -2,6 +2,7 @@
 use Rattle.std.specs.Prelude.{◌&&◌, if◌then◌else◌, List, [], ◌∷◌, Option, Some, None, codes}
 use Rattle.std.specs.Option.{is_none}
 use Rattle.fb_types.specs.declared.text.Expr.{Expr}
+use Rattle.fb_types.specs.declared.text.Body.{Body}
 use Rattle.fb_types.specs.declared.library.Action.{Action}
 use Rattle.fb_types.specs.declared.library.State.{State}
 use Rattle.fb_types.specs.declared.library.Condition.{Condition}
@@ -73,14 +74,19 @@ transition = do
 unfoldable pub transitions : Parser (List Transition)
 transitions = section transition mark.EcTransitions mark.EndTransitions
 
+-- behind the name of an algorithm
+unfoldable pub structured_text : Parser Body
+structured_text = do
+  word (codes "IN")
+  word (codes "ST")
+  expect mark.Colon
+  body
+
 unfoldable pub algorithm : Parser Algorithm
 algorithm = do
   expect mark.Algorithm
   first ← name
-  word (codes "IN")
-  word (codes "ST")
-  expect mark.Colon
-  found ← body
+  found ← structured_text
   pure (algorithm_of first found)
 
 unfoldable pub algorithms : Parser (List Algorithm)

@@ -19,6 +19,12 @@ leaf x = record { expr = x; nesting = 1 }
 unfoldable pub around : ℕ → ℕ → Expr → Parser Nested
 around below depth x = λ ts. if nat_le depth below then Ok (record { expr = x; nesting = suc depth }, ts) else Err too_deep
 
+-- the expression of an operator, which comes next, behind its left operand
+unfoldable pub joined : ℕ → Parser Nested → Nested → BinaryOperator → Parser Nested
+joined below operand left op = λ ts. if nat_le left.nesting below then (do
+  right ← operand
+  around below (max left.nesting right.nesting) (e.Binary op left.expr right.expr)) (rest_of ts) else Err too_deep
+
 -- below: how deep the parts of the expression may nest; inner: their parser, by the level of their operators
 module _ (below : ℕ) (inner : ℕ → Parser Nested) where
   -- what is in parentheses

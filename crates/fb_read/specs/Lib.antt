@@ -8,6 +8,7 @@ pub mod Tokens
 pub mod Nodes
 pub mod Parser
 pub mod Beside
+pub mod Added
 pub mod Operators
 pub mod Nesting
 pub mod Expressions

@@ -3,9 +3,9 @@
 ghost use Rattle.std.specs.Prelude.{◌≡◌, ◌<◌, ◌≤◌, length, option_map, IfSome};
 ghost use Rattle.fb_read.specs.Blank as spec;
 
-/// What stands before the next byte.
+/// Where the next byte stands.
 #[derive(Clone, Copy)]
-pub enum Place {
+pub enum Position {
     Between,
     /// The star of `(*` comes.
     Opening,
@@ -31,45 +31,45 @@ fn is_blank(b: u8) -> bool
 }
 
 /// Where the byte leads to, or `None` where a token begins.
-fn step(place: Place, b: u8, next: u8) -> Option<Place>
-    ensures { result ≡ spec.step place b next }
+fn step(position: Position, b: u8, next: u8) -> Option<Position>
+    ensures { result ≡ spec.step position b next }
 {
-    match place {
-        Place::Between => {
+    match position {
+        Position::Between => {
             if is_blank(b) {
-                Some(Place::Between)
+                Some(Position::Between)
             } else if b == b'(' && next == b'*' {
-                Some(Place::Opening)
+                Some(Position::Opening)
             } else if b == b'/' && next == b'/' {
-                Some(Place::Line)
+                Some(Position::Line)
             } else {
                 None
             }
         }
-        Place::Opening => Some(Place::Inside),
-        Place::Inside => {
+        Position::Opening => Some(Position::Inside),
+        Position::Inside => {
             if b == b'*' && next == b')' {
-                Some(Place::Closing)
+                Some(Position::Closing)
             } else {
-                Some(Place::Inside)
+                Some(Position::Inside)
             }
         }
-        Place::Closing => Some(Place::Between),
-        Place::Line => {
+        Position::Closing => Some(Position::Between),
+        Position::Line => {
             if b == b'\n' {
-                Some(Place::Between)
+                Some(Position::Between)
             } else {
-                Some(Place::Line)
+                Some(Position::Line)
             }
         }
     }
 }
 
-fn may_end(place: Place) -> bool
-    ensures { result ≡ spec.may_end place }
+fn may_end(position: Position) -> bool
+    ensures { result ≡ spec.may_end position }
 {
-    match place {
-        Place::Between | Place::Line => true,
+    match position {
+        Position::Between | Position::Line => true,
         _ => false,
     }
 }
@@ -79,12 +79,12 @@ pub fn skip(bytes: &[u8]) -> Option<&[u8]>
     ensures value { option_map (λ s. s.now) result ≡ spec.skip spec.start bytes.now }
     ensures shorter { IfSome result (λ s. length s.now ≤ length bytes.now) }
 {
-    let mut place = Place::Between;
+    let mut position = Position::Between;
     for i in 0..bytes.len() {
-        match step(place, bytes[i], at(bytes, i + 1)) {
-            Some(next) => place = next,
+        match step(position, bytes[i], at(bytes, i + 1)) {
+            Some(next) => position = next,
             None => return Some(&bytes[i..]),
         }
     }
-    if may_end(place) { Some(&[]) } else { None }
+    if may_end(position) { Some(&[]) } else { None }
 }

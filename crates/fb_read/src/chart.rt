@@ -6,12 +6,12 @@ ghost use Rattle.fb_read.specs.Charts as spec;
 use crate::cursor::Cursor;
 use crate::expression::expression;
 use crate::fault::ParseFault;
-use crate::rule::{Rule, beside, ended, many_after, run_after, section, separated};
+use crate::rule::{Rule, added, beside, ended, many_after, run_after, section, separated};
 use crate::statement::body;
 use crate::token::Mark;
 use fb_types::items::Items;
 use fb_types::library::{Action, Algorithm, Condition, State, Transition};
-use fb_types::text::Expr;
+use fb_types::text::{Body, Expr};
 use std::alloc::Global;
 
 impl Rule for Action {
@@ -65,8 +65,7 @@ pub fn states(alloc: Global, cursor: &mut Cursor<'_>) -> Result<Items<State>, Pa
     ensures { Reads (spec.states cursor.old) result cursor.new }
 {
     cursor.expect(Mark::EcStates)?;
-    let mut found = Items::new(alloc);
-    found.push(State::read(alloc, cursor)?)?;
+    let found = added(Items::new(alloc), State::read(alloc, cursor))?;
     many_after(alloc, cursor, Mark::EndStates, found)
 }
 
@@ -126,6 +125,17 @@ pub fn transitions(alloc: Global, cursor: &mut Cursor<'_>) -> Result<Items<Trans
     section::<Transition>(alloc, cursor, Mark::EcTransitions, Mark::EndTransitions)
 }
 
+/// What stands behind the name of an algorithm: its language, and the statements.
+#[tactic(auto, unfolding(crate::specs::Charts::structured_text))]
+fn structured_text(alloc: Global, cursor: &mut Cursor<'_>) -> Result<Body, ParseFault>
+    ensures { Reads (spec.structured_text cursor.old) result cursor.new }
+{
+    cursor.word(b"IN")?;
+    cursor.word(b"ST")?;
+    cursor.expect(Mark::Colon)?;
+    body(alloc, cursor)
+}
+
 impl Rule for Algorithm {
     ghost parser = { spec.algorithm };
 
@@ -133,10 +143,7 @@ impl Rule for Algorithm {
     fn read(alloc: Global, cursor: &mut Cursor<'_>) -> Result<Algorithm, ParseFault> {
         cursor.expect(Mark::Algorithm)?;
         let name = cursor.name(alloc)?;
-        cursor.word(b"IN")?;
-        cursor.word(b"ST")?;
-        cursor.expect(Mark::Colon)?;
-        let body = body(alloc, cursor)?;
+        let body = structured_text(alloc, cursor)?;
         Ok(Algorithm { name, body })
     }
 }

@@ -1,13 +1,13 @@
 //! Expressions (IEC 61131-3, 7.3.2).
 
-ghost use Rattle.std.specs.Prelude.{◌≡◌, ◌≤◌, ◌<◌, IfOk};
+ghost use Rattle.std.specs.Prelude.{◌≡◌, ◌≤◌, ◌<◌, ◌-◌, IfOk};
 ghost use Rattle.fb_read.specs.Parser.{Reads};
 ghost use Rattle.fb_read.specs.Expressions as spec;
 ghost use Rattle.fb_read.specs.Nests.{Nests};
 
 use crate::cursor::Cursor;
 use crate::fault::ParseFault;
-use crate::rule::ended;
+use crate::rule::{beside, ended};
 use crate::token::Mark;
 use fb_types::boxed::Boxed;
 use fb_types::items::Items;
@@ -63,10 +63,18 @@ fn unary_of(alloc: Global, operator: UnaryOperator, x: Expr) -> Result<Expr, All
     Ok(Expr::Unary(operator, Boxed::new(alloc, x)?))
 }
 
+/// Two values on the heap. Of a type parameter, since `?` stands between them: see [`beside`].
+fn both_boxed<T: Drop>(alloc: Global, x: T, y: T) -> Result<(Boxed<T>, Boxed<T>), AllocError>
+    ensures { IfOk result (λ both. both ≡ (x, y)) }
+{
+    Ok((Boxed::new(alloc, x)?, Boxed::new(alloc, y)?))
+}
+
 fn binary_of(alloc: Global, operator: BinaryOperator, x: Expr, y: Expr) -> Result<Expr, AllocError>
     ensures { IfOk result (λ e. e ≡ Expr.Binary operator x y) }
 {
-    Ok(Expr::Binary(operator, Boxed::new(alloc, x)?, Boxed::new(alloc, y)?))
+    let (x, y) = both_boxed(alloc, x, y)?;
+    Ok(Expr::Binary(operator, x, y))
 }
 
 /// The rules that hold expressions take the reader of those as a parameter, so that each is proved by itself.
@@ -195,6 +203,30 @@ impl<F: Fn(Global, &mut Cursor<'_>, u32, u8) -> Result<Nested, ParseFault>> Rule
         }
     }
 
+    /// The expression of this operator, which comes next, behind its left operand.
+    #[tactic(auto, unfolding(crate::specs::Expressions::joined))]
+    fn joined(
+        &self,
+        cursor: &mut Cursor<'_>,
+        level: u8,
+        operator: BinaryOperator,
+        left: Nested,
+    ) -> Result<Nested, ParseFault>
+        requires some { 0 < level }
+        requires nests { Nests self.now.below (F.pre self.now.inner) (F.post self.now.inner) }
+        ensures { Reads (spec.joined self.now.below (spec.nested_expression self.now.below (level - 1)) left operator cursor.old) result cursor.new }
+    {
+        // The operator is one too many, whatever follows it.
+        if left.nesting > self.below {
+            return Err(ParseFault::Nesting);
+        }
+        cursor.take();
+        let (left, right) = beside(left, self.part(cursor, level - 1))?;
+        let depth = left.nesting.max(right.nesting);
+        let longer = binary_of(self.alloc, operator, left.expr, right.expr)?;
+        around(self.below, depth, longer, cursor)
+    }
+
     /// An expression of this level: operands of the level below it, and its operators between them. Each
     /// turn takes a token.
     fn level(&self, cursor: &mut Cursor<'_>, level: u8) -> Result<Nested, ParseFault>
@@ -209,15 +241,7 @@ impl<F: Fn(Global, &mut Cursor<'_>, u32, u8) -> Result<Nested, ParseFault>> Rule
             let Some(operator) = cursor.operator(level) else {
                 return Ok(left);
             };
-            // The operator is one too many, whatever follows it.
-            if left.nesting > self.below {
-                return Err(ParseFault::Nesting);
-            }
-            cursor.take();
-            let right = self.part(cursor, level - 1)?;
-            let depth = left.nesting.max(right.nesting);
-            let longer = binary_of(self.alloc, operator, left.expr, right.expr)?;
-            left = around(self.below, depth, longer, cursor)?;
+            left = self.joined(cursor, level, operator, left)?;
         }
         Ok(left)
     }

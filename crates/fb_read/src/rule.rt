@@ -3,6 +3,7 @@
 ghost use Rattle.std.specs.Prelude.{◌≡◌, Ok, IfOk};
 ghost use Rattle.fb_read.specs.Parser.{Parser, Reads};
 ghost use Rattle.fb_read.specs.Beside.{second_of};
+ghost use Rattle.fb_read.specs.Added.{Adds};
 ghost use Rattle.fb_read.specs.Parser as spec;
 
 use crate::cursor::Cursor;
@@ -29,6 +30,15 @@ pub fn beside<A: Drop, B: Drop>(found: A, read: Result<B, ParseFault>) -> Result
     ensures read { read ≡ second_of result }
 {
     Ok((found, read?))
+}
+
+/// The items that were found, and what was read behind them.
+pub fn added<T: Drop>(found: Items<T>, read: Result<T, ParseFault>) -> Result<Items<T>, ParseFault>
+    ensures { Adds found read result }
+{
+    let mut all = found;
+    all.push(read?)?;
+    Ok(all)
 }
 
 /// What was found, where this mark stands behind it.
@@ -63,7 +73,7 @@ pub fn many_after<T: Rule>(
         if cursor.eat(end) {
             return Ok(found);
         }
-        found.push(T::read(alloc, cursor)?)?;
+        found = added(found, T::read(alloc, cursor))?;
     }
     Err(ParseFault::Syntax)
 }
@@ -111,7 +121,7 @@ pub fn run_after<T: Rule>(
         if !cursor.sees(begin) {
             return Ok(found);
         }
-        found.push(T::read(alloc, cursor)?)?;
+        found = added(found, T::read(alloc, cursor))?;
     }
     Ok(found)
 }
@@ -122,7 +132,7 @@ pub fn separated<T: Rule>(alloc: Global, cursor: &mut Cursor<'_>) -> Result<Item
 {
     let mut found = Items::new(alloc);
     for _turn in 0..cursor.left() {
-        found.push(T::read(alloc, cursor)?)?;
+        found = added(found, T::read(alloc, cursor))?;
         if !cursor.eat(Mark::Comma) {
             return Ok(found);
         }

@@ -8,7 +8,7 @@ ghost use Rattle.fb_read.specs.StatementNests.{StatementNests};
 use crate::cursor::Cursor;
 use crate::expression::expression;
 use crate::fault::ParseFault;
-use crate::rule::{Rule, beside, ended, finished, separated};
+use crate::rule::{Rule, added, beside, ended, finished, separated};
 use crate::token::Mark;
 use fb_types::items::Items;
 use fb_types::reference::Reference;
@@ -107,6 +107,14 @@ pub struct Rules<F> {
 }
 
 impl<F: Fn(Global, &mut Cursor<'_>, u32) -> Result<Stmt, ParseFault>> Rules<F> {
+    /// A statement inside.
+    fn part(&self, cursor: &mut Cursor<'_>) -> Result<Stmt, ParseFault>
+        requires { StatementNests self.now.below (F.pre self.now.inner) (F.post self.now.inner) }
+        ensures { Reads (spec.nested_statement self.now.below cursor.old) result cursor.new }
+    {
+        (self.inner)(self.alloc, cursor, self.below)
+    }
+
     /// The statements up to what begins none. Each turn takes a token.
     fn block(&self, cursor: &mut Cursor<'_>) -> Result<Items<Stmt>, ParseFault>
         requires { StatementNests self.now.below (F.pre self.now.inner) (F.post self.now.inner) }
@@ -117,7 +125,7 @@ impl<F: Fn(Global, &mut Cursor<'_>, u32) -> Result<Stmt, ParseFault>> Rules<F> {
             if !cursor.begins_statement() {
                 return Ok(found);
             }
-            found.push((self.inner)(self.alloc, cursor, self.below)?)?;
+            found = added(found, self.part(cursor))?;
         }
         Ok(found)
     }
@@ -148,13 +156,12 @@ impl<F: Fn(Global, &mut Cursor<'_>, u32) -> Result<Stmt, ParseFault>> Rules<F> {
         requires { StatementNests self.now.below (F.pre self.now.inner) (F.post self.now.inner) }
         ensures { Reads (spec.choices (spec.nested_statement self.now.below) cursor.old) result cursor.new }
     {
-        let mut found = Items::new(self.alloc);
-        found.push(self.choice(cursor)?)?;
+        let mut found = added(Items::new(self.alloc), self.choice(cursor))?;
         for _turn in 0..cursor.left() {
             if !cursor.sees(Mark::Elsif) {
                 return Ok(found);
             }
-            found.push(self.elsif(cursor)?)?;
+            found = added(found, self.elsif(cursor))?;
         }
         Ok(found)
     }
@@ -176,13 +183,12 @@ impl<F: Fn(Global, &mut Cursor<'_>, u32) -> Result<Stmt, ParseFault>> Rules<F> {
         requires { StatementNests self.now.below (F.pre self.now.inner) (F.post self.now.inner) }
         ensures { Reads (spec.branches (spec.nested_statement self.now.below) cursor.old) result cursor.new }
     {
-        let mut found = Items::new(self.alloc);
-        found.push(self.branch(cursor)?)?;
+        let mut found = added(Items::new(self.alloc), self.branch(cursor))?;
         for _turn in 0..cursor.left() {
             if !cursor.begins_label() {
                 return Ok(found);
             }
-            found.push(self.branch(cursor)?)?;
+            found = added(found, self.branch(cursor))?;
         }
         Ok(found)
     }

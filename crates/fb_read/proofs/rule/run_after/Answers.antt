@@ -2,6 +2,7 @@ use Rattle.std.proofs.Common.{rules, arith}
 use Rattle.std.proofs.lemmas.Grind.{common_steps}
 use Rattle.fb_read.specs.Parser.{run_after, run_from}
 use Rattle.fb_read.proofs.Turns.{one_more, no_more}
+use Rattle.fb_read.proofs.Adding.{item_of, fault_of}
 use Rattle.fb_read.proofs.rule.run_after.Goals as goal
 
 pub loop-turn-init : goal.loop-turn-init
@@ -14,16 +15,20 @@ returns-then-not-sees g c =
     let e = one_more (λ n. run_from g.T.Rule.parser c.args.begin n c.loop-turn.found c.loop-turn.cursor) _ c.loop-turn._turn c.loop-turn-test.true c.loop-turn.invariant in
     first_of (search rules, grind (arith, common_steps))
 
-pub returns-in_err-read : goal.returns-in_err-read
+pub returns-in_err-found : goal.returns-in_err-found
 unfolding run_from
-returns-in_err-read g c =
+returns-in_err-found g c =
     let e = one_more (λ n. run_from g.T.Rule.parser c.args.begin n c.loop-turn.found c.loop-turn.cursor) _ c.loop-turn._turn c.loop-turn-test.true c.loop-turn.invariant in
+    let r = fault_of _ _ _ c.loop-turn.found _ c.read.ensures c.in_err-found.ensures in
     first_of (search rules, grind (arith, common_steps))
 
 pub loop-turn-preserved : goal.loop-turn-preserved
 unfolding run_from
 loop-turn-preserved g c =
     let e = one_more (λ n. run_from g.T.Rule.parser c.args.begin n c.loop-turn.found c.loop-turn.cursor) _ c.loop-turn._turn c.loop-turn-test.true c.loop-turn.invariant in
+    let i = item_of _ _ _ _ _ c.read.ensures c.in_ok-found.ensures in
+    let is = i.1 in
+    let more = i.2 in
     first_of (search rules, grind (arith, common_steps))
 
 pub returns : goal.returns

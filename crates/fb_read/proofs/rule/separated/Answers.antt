@@ -2,6 +2,7 @@ use Rattle.std.proofs.Common.{rules, arith}
 use Rattle.std.proofs.lemmas.Grind.{common_steps}
 use Rattle.fb_read.specs.Parser.{separated, separated_from}
 use Rattle.fb_read.proofs.Turns.{one_more, no_more}
+use Rattle.fb_read.proofs.Adding.{item_of, fault_of}
 use Rattle.fb_read.proofs.rule.separated.Goals as goal
 
 pub loop-turn-init : goal.loop-turn-init
@@ -12,18 +13,25 @@ pub returns-then-not-eat : goal.returns-then-not-eat
 unfolding separated_from
 returns-then-not-eat g c =
     let e = one_more (λ n. separated_from g.T.Rule.parser n c.loop-turn.found c.loop-turn.cursor) _ c.loop-turn._turn c.loop-turn-test.true c.loop-turn.invariant in
+    let i = item_of _ _ _ _ _ c.read.ensures c.in_ok-found.ensures in
+    let is = i.1 in
+    let more = i.2 in
     first_of (search rules, grind (arith, common_steps))
 
-pub returns-in_err-read : goal.returns-in_err-read
+pub returns-in_err-found : goal.returns-in_err-found
 unfolding separated_from
-returns-in_err-read g c =
+returns-in_err-found g c =
     let e = one_more (λ n. separated_from g.T.Rule.parser n c.loop-turn.found c.loop-turn.cursor) _ c.loop-turn._turn c.loop-turn-test.true c.loop-turn.invariant in
+    let r = fault_of _ _ _ c.loop-turn.found _ c.read.ensures c.in_err-found.ensures in
     first_of (search rules, grind (arith, common_steps))
 
 pub loop-turn-preserved : goal.loop-turn-preserved
 unfolding separated_from
 loop-turn-preserved g c =
     let e = one_more (λ n. separated_from g.T.Rule.parser n c.loop-turn.found c.loop-turn.cursor) _ c.loop-turn._turn c.loop-turn-test.true c.loop-turn.invariant in
+    let i = item_of _ _ _ _ _ c.read.ensures c.in_ok-found.ensures in
+    let is = i.1 in
+    let more = i.2 in
     first_of (search rules, grind (arith, common_steps))
 
 pub returns : goal.returns

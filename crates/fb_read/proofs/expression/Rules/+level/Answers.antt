@@ -1,10 +1,12 @@
-use Rattle.std.proofs.Common.{◌≡◌, ◌<◌, ◌-◌, ℕ, suc, length, ap, ◌∙◌, rules, arith}
+use Rattle.std.proofs.Common.{◌≡◌, ◌<◌, ◌-◌, ℕ, suc, length, ap, ◌∙◌, Some, rules, arith}
 use Rattle.std.proofs.lemmas.Grind.{common_steps}
 use Rattle.fb_read.specs.Tokens.{Tokens}
 use Rattle.fb_read.specs.Parser.{Parser, and_then}
 use Rattle.fb_read.specs.declared.expression.Nested.{Nested}
+use Rattle.fb_read.specs.Operators.{next_operator}
 use Rattle.fb_read.specs.Expressions.{nested_expression, level_at, climb}
 use Rattle.fb_read.proofs.Turns.{one_more, no_more, deeper}
+use Rattle.fb_read.proofs.Joins.{joined_more}
 use Rattle.fb_read.proofs.expression.Rules.+level.Goals as goal
 
 level_above : (below : ℕ) (inner : ℕ → Parser Nested) (n : ℕ) (ts : Tokens) → 0 < n
@@ -34,28 +36,16 @@ returns-in_default g t c =
     let e = one_more (λ n. climb c.args.self.now.below (nested_expression c.args.self.now.below) c.args.level (nested_expression c.args.self.now.below (c.args.level - 1)) n c.loop-turn.left c.loop-turn.cursor) _ c.loop-turn._turn c.loop-turn-test.true c.loop-turn.invariant in
     first_of (search rules, grind (arith, common_steps))
 
-pub returns-then-left-self : goal.returns-then-left-self
-unfolding climb
-returns-then-left-self g t c =
-    let e = one_more (λ n. climb c.args.self.now.below (nested_expression c.args.self.now.below) c.args.level (nested_expression c.args.self.now.below (c.args.level - 1)) n c.loop-turn.left c.loop-turn.cursor) _ c.loop-turn._turn c.loop-turn-test.true c.loop-turn.invariant in
-    first_of (search rules, grind (arith, common_steps))
-
-pub returns-in_err-right : goal.returns-in_err-right
-unfolding climb
-returns-in_err-right g t c =
-    let e = one_more (λ n. climb c.args.self.now.below (nested_expression c.args.self.now.below) c.args.level (nested_expression c.args.self.now.below (c.args.level - 1)) n c.loop-turn.left c.loop-turn.cursor) _ c.loop-turn._turn c.loop-turn-test.true c.loop-turn.invariant in
-    first_of (search rules, grind (arith, common_steps))
-
 pub returns-in_err-left-2 : goal.returns-in_err-left-2
-unfolding climb
 returns-in_err-left-2 g t c =
-    let e = one_more (λ n. climb c.args.self.now.below (nested_expression c.args.self.now.below) c.args.level (nested_expression c.args.self.now.below (c.args.level - 1)) n c.loop-turn.left c.loop-turn.cursor) _ c.loop-turn._turn c.loop-turn-test.true c.loop-turn.invariant in
+    let o : next_operator c.args.level c.loop-turn.cursor ≡ Some c.in-Some.operator = search rules in
+    let e = joined_more c.args.self.now.below (nested_expression c.args.self.now.below) c.args.level (nested_expression c.args.self.now.below (c.args.level - 1)) c.loop-turn.left c.in-Some.operator c.loop-turn.cursor _ c.loop-turn._turn c.loop-turn-test.true c.loop-turn.invariant o in
     first_of (search rules, grind (arith, common_steps))
 
 pub loop-turn-preserved : goal.loop-turn-preserved
-unfolding climb
 loop-turn-preserved g t c =
-    let e = one_more (λ n. climb c.args.self.now.below (nested_expression c.args.self.now.below) c.args.level (nested_expression c.args.self.now.below (c.args.level - 1)) n c.loop-turn.left c.loop-turn.cursor) _ c.loop-turn._turn c.loop-turn-test.true c.loop-turn.invariant in
+    let o : next_operator c.args.level c.loop-turn.cursor ≡ Some c.in-Some.operator = search rules in
+    let e = joined_more c.args.self.now.below (nested_expression c.args.self.now.below) c.args.level (nested_expression c.args.self.now.below (c.args.level - 1)) c.loop-turn.left c.in-Some.operator c.loop-turn.cursor _ c.loop-turn._turn c.loop-turn-test.true c.loop-turn.invariant o in
     first_of (search rules, grind (arith, common_steps))
 
 pub returns : goal.returns

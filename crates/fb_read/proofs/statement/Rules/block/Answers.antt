@@ -2,6 +2,7 @@ use Rattle.std.proofs.Common.{rules, arith}
 use Rattle.std.proofs.lemmas.Grind.{common_steps}
 use Rattle.fb_read.specs.Statements.{nested_statement, block, begins_statement, several, several_from}
 use Rattle.fb_read.proofs.Turns.{one_more, no_more}
+use Rattle.fb_read.proofs.Adding.{item_of, fault_of}
 use Rattle.fb_read.proofs.statement.Rules.block.Goals as goal
 
 pub loop-turn-init : goal.loop-turn-init
@@ -14,16 +15,20 @@ returns-then-not-begins_statement g c =
     let e = one_more (λ n. several_from begins_statement (nested_statement c.args.self.now.below) n c.loop-turn.found c.loop-turn.cursor) _ c.loop-turn._turn c.loop-turn-test.true c.loop-turn.invariant in
     first_of (search rules, grind (arith, common_steps))
 
-pub returns-in_err-inner : goal.returns-in_err-inner
+pub returns-in_err-found : goal.returns-in_err-found
 unfolding several_from
-returns-in_err-inner g c =
+returns-in_err-found g c =
     let e = one_more (λ n. several_from begins_statement (nested_statement c.args.self.now.below) n c.loop-turn.found c.loop-turn.cursor) _ c.loop-turn._turn c.loop-turn-test.true c.loop-turn.invariant in
+    let r = fault_of _ _ _ c.loop-turn.found _ c.part.ensures c.in_err-found.ensures in
     first_of (search rules, grind (arith, common_steps))
 
 pub loop-turn-preserved : goal.loop-turn-preserved
 unfolding several_from
 loop-turn-preserved g c =
     let e = one_more (λ n. several_from begins_statement (nested_statement c.args.self.now.below) n c.loop-turn.found c.loop-turn.cursor) _ c.loop-turn._turn c.loop-turn-test.true c.loop-turn.invariant in
+    let i = item_of _ _ _ _ _ c.part.ensures c.in_ok-found.ensures in
+    let is = i.1 in
+    let more = i.2 in
     first_of (search rules, grind (arith, common_steps))
 
 pub returns : goal.returns

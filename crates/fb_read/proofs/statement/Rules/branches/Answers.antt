@@ -1,16 +1,23 @@
-use Rattle.std.proofs.Common.{rules, arith}
+use Rattle.std.proofs.Common.{[], rules, arith}
 use Rattle.std.proofs.lemmas.Grind.{common_steps}
 use Rattle.fb_read.specs.Statements.{nested_statement, branches, branch, begins_label, several, several_from}
 use Rattle.fb_read.proofs.Turns.{one_more, no_more}
+use Rattle.fb_read.proofs.Adding.{item_of, fault_of}
 use Rattle.fb_read.proofs.statement.Rules.branches.Goals as goal
 
-pub returns-in_err-branch : goal.returns-in_err-branch
+pub returns-in_err-found : goal.returns-in_err-found
 unfolding branches
-returns-in_err-branch g c = first_of (search rules, grind (arith, common_steps))
+returns-in_err-found g c =
+    let r = fault_of _ _ _ [] _ c.branch-self.ensures c.in_err-found.ensures in
+    first_of (search rules, grind (arith, common_steps))
 
 pub loop-turn-init : goal.loop-turn-init
 unfolding branches several
-loop-turn-init g c = first_of (search rules, grind (arith, common_steps))
+loop-turn-init g c =
+    let i = item_of _ _ _ _ _ c.branch-self.ensures c.in_ok-found.ensures in
+    let is = i.1 in
+    let more = i.2 in
+    first_of (search rules, grind (arith, common_steps))
 
 pub returns-then-not-begins_label : goal.returns-then-not-begins_label
 unfolding several_from
@@ -18,16 +25,20 @@ returns-then-not-begins_label g c =
     let e = one_more (λ n. several_from begins_label (branch (nested_statement c.args.self.now.below)) n c.loop-turn.found c.loop-turn.cursor) _ c.loop-turn._turn c.loop-turn-test.true c.loop-turn.invariant in
     first_of (search rules, grind (arith, common_steps))
 
-pub returns-in_err-branch-2 : goal.returns-in_err-branch-2
+pub returns-in_err-found-2 : goal.returns-in_err-found-2
 unfolding several_from
-returns-in_err-branch-2 g c =
+returns-in_err-found-2 g c =
     let e = one_more (λ n. several_from begins_label (branch (nested_statement c.args.self.now.below)) n c.loop-turn.found c.loop-turn.cursor) _ c.loop-turn._turn c.loop-turn-test.true c.loop-turn.invariant in
+    let r = fault_of _ _ _ c.loop-turn.found _ c.branch-self-in-loop-turn.ensures c.in_err-found-2.ensures in
     first_of (search rules, grind (arith, common_steps))
 
 pub loop-turn-preserved : goal.loop-turn-preserved
 unfolding several_from
 loop-turn-preserved g c =
     let e = one_more (λ n. several_from begins_label (branch (nested_statement c.args.self.now.below)) n c.loop-turn.found c.loop-turn.cursor) _ c.loop-turn._turn c.loop-turn-test.true c.loop-turn.invariant in
+    let i = item_of _ _ _ _ _ c.branch-self-in-loop-turn.ensures c.in_ok-found-2.ensures in
+    let is = i.1 in
+    let more = i.2 in
     first_of (search rules, grind (arith, common_steps))
 
 pub returns : goal.returns

@@ -1,18 +1,25 @@
-use Rattle.std.proofs.Common.{rules, arith}
+use Rattle.std.proofs.Common.{[], rules, arith}
 use Rattle.std.proofs.lemmas.Grind.{common_steps}
 use Rattle.fb_read.specs.declared.token.Mark.TheVariants as mark
 use Rattle.fb_read.specs.Parser.{sees}
 use Rattle.fb_read.specs.Statements.{nested_statement, choices, elsif, several, several_from}
 use Rattle.fb_read.proofs.Turns.{one_more, no_more}
+use Rattle.fb_read.proofs.Adding.{item_of, fault_of}
 use Rattle.fb_read.proofs.statement.Rules.choices.Goals as goal
 
-pub returns-in_err-choice : goal.returns-in_err-choice
+pub returns-in_err-found : goal.returns-in_err-found
 unfolding choices
-returns-in_err-choice g c = first_of (search rules, grind (arith, common_steps))
+returns-in_err-found g c =
+    let r = fault_of _ _ _ [] _ c.choice.ensures c.in_err-found.ensures in
+    first_of (search rules, grind (arith, common_steps))
 
 pub loop-turn-init : goal.loop-turn-init
 unfolding choices several
-loop-turn-init g c = first_of (search rules, grind (arith, common_steps))
+loop-turn-init g c =
+    let i = item_of _ _ _ _ _ c.choice.ensures c.in_ok-found.ensures in
+    let is = i.1 in
+    let more = i.2 in
+    first_of (search rules, grind (arith, common_steps))
 
 pub returns-then-not-sees : goal.returns-then-not-sees
 unfolding several_from
@@ -20,16 +27,20 @@ returns-then-not-sees g c =
     let e = one_more (λ n. several_from (sees mark.Elsif) (elsif (nested_statement c.args.self.now.below)) n c.loop-turn.found c.loop-turn.cursor) _ c.loop-turn._turn c.loop-turn-test.true c.loop-turn.invariant in
     first_of (search rules, grind (arith, common_steps))
 
-pub returns-in_err-elsif : goal.returns-in_err-elsif
+pub returns-in_err-found-2 : goal.returns-in_err-found-2
 unfolding several_from
-returns-in_err-elsif g c =
+returns-in_err-found-2 g c =
     let e = one_more (λ n. several_from (sees mark.Elsif) (elsif (nested_statement c.args.self.now.below)) n c.loop-turn.found c.loop-turn.cursor) _ c.loop-turn._turn c.loop-turn-test.true c.loop-turn.invariant in
+    let r = fault_of _ _ _ c.loop-turn.found _ c.elsif.ensures c.in_err-found-2.ensures in
     first_of (search rules, grind (arith, common_steps))
 
 pub loop-turn-preserved : goal.loop-turn-preserved
 unfolding several_from
 loop-turn-preserved g c =
     let e = one_more (λ n. several_from (sees mark.Elsif) (elsif (nested_statement c.args.self.now.below)) n c.loop-turn.found c.loop-turn.cursor) _ c.loop-turn._turn c.loop-turn-test.true c.loop-turn.invariant in
+    let i = item_of _ _ _ _ _ c.elsif.ensures c.in_ok-found-2.ensures in
+    let is = i.1 in
+    let more = i.2 in
     first_of (search rules, grind (arith, common_steps))
 
 pub returns : goal.returns
