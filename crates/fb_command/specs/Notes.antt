@@ -2,8 +2,8 @@
 use Rattle.std.specs.Prelude.{◌≡◌, ◌≢◌, ℕ, List, ◌++◌, Bool, IsTrue, Option, Some, None, option_map, codes, string_bytes}
 use Rattle.fb_call.specs.declared.line.Call.{Call}
 use Rattle.fb_sim.specs.Given.{Given}
-use Rattle.fb_why.specs.Reasons.{Tells}
-use Rattle.fb_why.specs.declared.spot.Reason.{Reason}
+use Rattle.fb_why.specs.Findings.{Tells}
+use Rattle.fb_why.specs.declared.spot.Finding.{Finding}
 use Rattle.fb_command.specs.declared.failure.Failure.{Failure}
 use Rattle.fb_command.specs.declared.failure.Failure.TheVariants.{Refused}
 use Rattle.fb_command.specs.declared.failure.RefusalLine.TheVariants.{Numbered, Syntax}
@@ -53,7 +53,7 @@ number_of _ = None
 
 -- The note is the text of a place at which the refusal of this number applies.
 abbrev pub IsNoteOfNumber : Given → (number : ℕ) → List ℕ → Type 0
-IsNoteOfNumber given number note = (r : Reason) × (string_bytes r.text ≡ note) × Tells given.declaration given.deploy given.stimuli number r.place
+IsNoteOfNumber given number note = (r : Finding) × (string_bytes r.text ≡ note) × Tells given.declaration given.deploy given.stimuli number r.place
 
 -- The note is that of the number of the refusal.
 abbrev pub IsNote : Given → Failure → List ℕ → Type 0

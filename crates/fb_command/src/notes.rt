@@ -8,7 +8,7 @@ use crate::failure::{Failure, RefusalLine};
 use crate::source::SourceFault;
 use crate::texts::{Part, Texts, Unread};
 use fb_call::line::Call;
-use fb_why::reason::reason_of;
+use fb_why::finding::finding_of;
 use std::alloc::Global;
 
 /// The number of a fault of the grammar, whose line says where it is besides.
@@ -89,8 +89,8 @@ fn note_of_number(alloc: Global, number: u8, texts: &Texts) -> Option<String>
     ensures { IfSome result (λ note. IsNoteOfNumber (given_of texts.now) number (string_bytes note)) }
 {
     let declaration = texts.declaration.as_slice();
-    match reason_of(alloc, number, declaration, texts.deployment(), texts.rows()) {
-        Ok(Some(reason)) => Some(reason.text),
+    match finding_of(alloc, number, declaration, texts.deployment(), texts.rows()) {
+        Ok(Some(finding)) => Some(finding.text),
         Ok(None) | Err(_) => None,
     }
 }

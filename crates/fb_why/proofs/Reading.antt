@@ -6,15 +6,15 @@ use Rattle.fb_types.specs.declared.deploy.Stimulus.{Stimulus}
 use Rattle.fb_types.specs.declared.library.Library.{Library}
 use Rattle.fb_read.specs.Whole.{IsLibraryText}
 use Rattle.fb_why.specs.Causes.{IsCause}
-use Rattle.fb_why.specs.Reasons.{AppliesAt, AppliesNowhere, AreStimuli, ExceedsAt, ExceedsNowhere, HasNoExcess, HasNoFlaw, IsPlan, IsSilent, IsSilentOf, Tells, TellsExcess, TellsFlaw, TellsOf}
+use Rattle.fb_why.specs.Findings.{AppliesAt, AppliesNowhere, AreStimuli, ExceedsAt, ExceedsNowhere, HasNoExcess, HasNoFlaw, IsPlan, IsSilent, IsSilentOf, Tells, TellsExcess, TellsFlaw, TellsOf}
 use Rattle.fb_why.specs.declared.cause.Cause.{Cause}
 use Rattle.fb_why.specs.declared.cause.Excess.{Excess}
 use Rattle.fb_why.specs.declared.cause.Flaw.{Flaw}
-use Rattle.fb_why.specs.declared.spot.Reason.{Reason}
+use Rattle.fb_why.specs.declared.spot.Finding.{Finding}
 
 -- a declaration and a deployment
 pub flaw_told :
-    {E : Type 0} (flaw : Flaw) (text : List ℕ) (bytes : Option (List ℕ)) (library : Library) (plan : Plan) (made : Result (Option Reason) E) → IsLibraryText text library → IsPlan bytes plan
+    {E : Type 0} (flaw : Flaw) (text : List ℕ) (bytes : Option (List ℕ)) (library : Library) (plan : Plan) (made : Result (Option Finding) E) → IsLibraryText text library → IsPlan bytes plan
     → IfOk made (λ o. MatchOption o (AppliesNowhere flaw library plan) (λ r. AppliesAt flaw library plan r.place))
     → IfOk made (λ o. MatchOption o (HasNoFlaw flaw text bytes) (λ r. TellsFlaw flaw text bytes r.place))
 flaw_told flaw text bytes library plan (Err e) read planned holds = tt
@@ -23,7 +23,7 @@ flaw_told flaw text bytes library plan (Ok (Some r)) read planned holds = record
 
 -- and stimuli
 pub excess_told :
-    {E : Type 0} (excess : Excess) (text : List ℕ) (bytes given : Option (List ℕ)) (library : Library) (plan : Plan) (rows : List Stimulus) (made : Result (Option Reason) E)
+    {E : Type 0} (excess : Excess) (text : List ℕ) (bytes given : Option (List ℕ)) (library : Library) (plan : Plan) (rows : List Stimulus) (made : Result (Option Finding) E)
     → IsLibraryText text library → IsPlan bytes plan → AreStimuli given rows
     → IfOk made (λ o. MatchOption o (ExceedsNowhere excess library plan rows) (λ r. ExceedsAt excess library rows r.place))
     → IfOk made (λ o. MatchOption o (HasNoExcess excess text bytes given) (λ r. TellsExcess excess text bytes given r.place))
@@ -34,14 +34,14 @@ excess_told excess text bytes given library plan rows (Ok (Some r)) read planned
 
 -- a declaration that can't be read, and is not refused for want of memory
 pub unread_told :
-    {E : Type 0} (made : Result (Option Reason) E) (F N : Type 0) (T : Reason → Type 0) → IfOk made (λ o. (o ≡ None) × F) → (F → N) → IfOk made (λ o. MatchOption o N T)
+    {E : Type 0} (made : Result (Option Finding) E) (F N : Type 0) (T : Finding → Type 0) → IfOk made (λ o. (o ≡ None) × F) → (F → N) → IfOk made (λ o. MatchOption o N T)
 unread_told (Err e) F N T said so = tt
 unread_told (Ok None) F N T said so = so said.1
 unread_told (Ok (Some r)) F N T said so = absurd (let other : Some r ≡ None = said.0 in cc)
 
 -- and by the number
 pub numbered :
-    {E : Type 0} (cause : Cause) (n : ℕ) (text : List ℕ) (bytes given : Option (List ℕ)) (made : Result (Option Reason) E) → IsCause n cause
+    {E : Type 0} (cause : Cause) (n : ℕ) (text : List ℕ) (bytes given : Option (List ℕ)) (made : Result (Option Finding) E) → IsCause n cause
     → IfOk made (λ o. MatchOption o (IsSilentOf cause text bytes given) (λ r. TellsOf cause text bytes given r.place))
     → IfOk made (λ o. MatchOption o (IsSilent text bytes given n) (λ r. Tells text bytes given n r.place))
 numbered cause n text bytes given (Err e) is holds = tt
@@ -50,7 +50,7 @@ numbered cause n text bytes given (Ok (Some r)) is holds = (cause, is, holds)
 
 -- where it is known what is refused
 pub by_flaw :
-    {E : Type 0} (made : Result (Option Reason) E) (f g : Flaw) (library : Library) (plan : Plan) → f ≡ g
+    {E : Type 0} (made : Result (Option Finding) E) (f g : Flaw) (library : Library) (plan : Plan) → f ≡ g
     → IfOk made (λ o. MatchOption o (AppliesNowhere g library plan) (λ r. AppliesAt g library plan r.place))
     → IfOk made (λ o. MatchOption o (AppliesNowhere f library plan) (λ r. AppliesAt f library plan r.place))
 by_flaw made f g library plan is holds =

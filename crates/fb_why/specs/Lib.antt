@@ -1,5 +1,5 @@
 pub mod Explained
 pub mod Causes
-pub mod Reasons
+pub mod Findings
 pub mod Stimuli
 pub mod Trials

@@ -2,11 +2,11 @@
 
 ghost use Rattle.std.specs.Prelude.{IfOk, MatchOption};
 ghost use Rattle.fb_types.specs.declared.deploy.Plan.{Plan};
-ghost use Rattle.fb_why.specs.Reasons.{AppliesAt, AppliesNowhere};
+ghost use Rattle.fb_why.specs.Findings.{AppliesAt, AppliesNowhere};
 ghost use Rattle.fb_why.specs.declared.cause.Flaw.TheVariants as flaw;
 
 use crate::cause::Flaw;
-use crate::spot::{Reason, Spot};
+use crate::spot::{Finding, Spot};
 use fb_types::deploy::Plan;
 use fb_types::library::Library;
 use fb_why_kinds::misfits::misfit_place;
@@ -29,7 +29,11 @@ use fb_why_names::unserved::unserved_place;
 use std::alloc::{AllocError, Global};
 
 /// What is given twice.
-fn twice_reason(alloc: Global, library: &Library, plan: &Plan) -> Result<Option<Reason>, AllocError>
+fn twice_finding(
+    alloc: Global,
+    library: &Library,
+    plan: &Plan,
+) -> Result<Option<Finding>, AllocError>
     ensures { IfOk result (λ o. MatchOption o (AppliesNowhere flaw.Twice library.now plan.now) (λ r. AppliesAt flaw.Twice library.now plan.now r.place)) }
 {
     let Some(place) = twice_place(alloc, library, plan)? else {
@@ -37,15 +41,15 @@ fn twice_reason(alloc: Global, library: &Library, plan: &Plan) -> Result<Option<
     };
     let text = tell_twice(alloc, library, plan, place)?;
     let place = Spot::Twice(place);
-    Ok(Some(Reason { place, text }))
+    Ok(Some(Finding { place, text }))
 }
 
 /// Where a name stands for nothing.
-fn unknown_reason(
+fn unknown_finding(
     alloc: Global,
     library: &Library,
     plan: &Plan,
-) -> Result<Option<Reason>, AllocError>
+) -> Result<Option<Finding>, AllocError>
     ensures { IfOk result (λ o. MatchOption o (AppliesNowhere flaw.Unknown library.now plan.now) (λ r. AppliesAt flaw.Unknown library.now plan.now r.place)) }
 {
     let Some(place) = unknown_place(alloc, library, plan)? else {
@@ -53,11 +57,11 @@ fn unknown_reason(
     };
     let text = tell_unknown(alloc, library, plan, place)?;
     let place = Spot::Unknown(place);
-    Ok(Some(Reason { place, text }))
+    Ok(Some(Finding { place, text }))
 }
 
 /// Where an expression, a statement or a value is of a wrong kind.
-fn misfit_reason(alloc: Global, library: &Library) -> Result<Option<Reason>, AllocError>
+fn misfit_finding(alloc: Global, library: &Library) -> Result<Option<Finding>, AllocError>
     ensures { (plan : Plan) → IfOk result (λ o. MatchOption o (AppliesNowhere flaw.Misfit library.now plan) (λ r. AppliesAt flaw.Misfit library.now plan r.place)) }
 {
     let Some(place) = misfit_place(alloc, library)? else {
@@ -65,11 +69,11 @@ fn misfit_reason(alloc: Global, library: &Library) -> Result<Option<Reason>, All
     };
     let text = tell_misfit(alloc, library, place)?;
     let place = Spot::Misfit(place);
-    Ok(Some(Reason { place, text }))
+    Ok(Some(Finding { place, text }))
 }
 
 /// Where a data connection leads to a type that does not hold all values.
-fn misjoin_reason(alloc: Global, library: &Library) -> Result<Option<Reason>, AllocError>
+fn misjoin_finding(alloc: Global, library: &Library) -> Result<Option<Finding>, AllocError>
     ensures { (plan : Plan) → IfOk result (λ o. MatchOption o (AppliesNowhere flaw.Misjoin library.now plan) (λ r. AppliesAt flaw.Misjoin library.now plan r.place)) }
 {
     let Some(place) = misjoin_place(library) else {
@@ -77,11 +81,11 @@ fn misjoin_reason(alloc: Global, library: &Library) -> Result<Option<Reason>, Al
     };
     let text = tell_misjoin(alloc, library, place)?;
     let place = Spot::Misjoin(place);
-    Ok(Some(Reason { place, text }))
+    Ok(Some(Finding { place, text }))
 }
 
 /// Where two data connections lead to one port.
-fn joined_reason(alloc: Global, library: &Library) -> Result<Option<Reason>, AllocError>
+fn joined_finding(alloc: Global, library: &Library) -> Result<Option<Finding>, AllocError>
     ensures { (plan : Plan) → IfOk result (λ o. MatchOption o (AppliesNowhere flaw.Joined library.now plan) (λ r. AppliesAt flaw.Joined library.now plan r.place)) }
 {
     let Some(place) = joined_place(alloc, library)? else {
@@ -89,11 +93,11 @@ fn joined_reason(alloc: Global, library: &Library) -> Result<Option<Reason>, All
     };
     let text = tell_joined(alloc, library, place)?;
     let place = Spot::Joined(place);
-    Ok(Some(Reason { place, text }))
+    Ok(Some(Finding { place, text }))
 }
 
 /// Where composite types lie too deep in one another, or in a ring.
-fn too_high_reason(alloc: Global, library: &Library) -> Result<Option<Reason>, AllocError>
+fn too_high_finding(alloc: Global, library: &Library) -> Result<Option<Finding>, AllocError>
     ensures { (plan : Plan) → IfOk result (λ o. MatchOption o (AppliesNowhere flaw.TooHigh library.now plan) (λ r. AppliesAt flaw.TooHigh library.now plan r.place)) }
 {
     let Some(place) = too_high_place(alloc, library)? else {
@@ -101,15 +105,15 @@ fn too_high_reason(alloc: Global, library: &Library) -> Result<Option<Reason>, A
     };
     let text = tell_too_high(alloc, library, place)?;
     let place = Spot::TooHigh(place);
-    Ok(Some(Reason { place, text }))
+    Ok(Some(Finding { place, text }))
 }
 
 /// Where an instance is not mapped to one resource.
-fn unmapped_reason(
+fn unmapped_finding(
     alloc: Global,
     library: &Library,
     plan: &Plan,
-) -> Result<Option<Reason>, AllocError>
+) -> Result<Option<Finding>, AllocError>
     ensures { IfOk result (λ o. MatchOption o (AppliesNowhere flaw.Unmapped library.now plan.now) (λ r. AppliesAt flaw.Unmapped library.now plan.now r.place)) }
 {
     let Some(place) = unmapped_place(alloc, library, plan)? else {
@@ -117,15 +121,15 @@ fn unmapped_reason(
     };
     let text = tell_unmapped(alloc, library, plan, place)?;
     let place = Spot::Unmapped(place);
-    Ok(Some(Reason { place, text }))
+    Ok(Some(Finding { place, text }))
 }
 
 /// Where a connection between two resources has no link.
-fn unlinked_reason(
+fn unlinked_finding(
     alloc: Global,
     library: &Library,
     plan: &Plan,
-) -> Result<Option<Reason>, AllocError>
+) -> Result<Option<Finding>, AllocError>
     ensures { IfOk result (λ o. MatchOption o (AppliesNowhere flaw.Unlinked library.now plan.now) (λ r. AppliesAt flaw.Unlinked library.now plan.now r.place)) }
 {
     let Some(place) = unlinked_place(library, plan) else {
@@ -133,15 +137,15 @@ fn unlinked_reason(
     };
     let text = tell_unlinked(alloc, library, plan, place)?;
     let place = Spot::Unlinked(place);
-    Ok(Some(Reason { place, text }))
+    Ok(Some(Finding { place, text }))
 }
 
 /// Where a data connection between two resources goes with no event.
-fn unserved_reason(
+fn unserved_finding(
     alloc: Global,
     library: &Library,
     plan: &Plan,
-) -> Result<Option<Reason>, AllocError>
+) -> Result<Option<Finding>, AllocError>
     ensures { IfOk result (λ o. MatchOption o (AppliesNowhere flaw.Unserved library.now plan.now) (λ r. AppliesAt flaw.Unserved library.now plan.now r.place)) }
 {
     let Some(place) = unserved_place(library, plan) else {
@@ -149,27 +153,27 @@ fn unserved_reason(
     };
     let text = tell_unserved(alloc, library, plan, place)?;
     let place = Spot::Unserved(place);
-    Ok(Some(Reason { place, text }))
+    Ok(Some(Finding { place, text }))
 }
 
 /// Where the refusal applies to a declaration and a deployment.
-pub fn reason_in(
+pub fn finding_in(
     alloc: Global,
     flaw: Flaw,
     library: &Library,
     plan: &Plan,
-) -> Result<Option<Reason>, AllocError>
+) -> Result<Option<Finding>, AllocError>
     ensures { IfOk result (λ o. MatchOption o (AppliesNowhere flaw library.now plan.now) (λ r. AppliesAt flaw library.now plan.now r.place)) }
 {
     match flaw {
-        Flaw::Twice => twice_reason(alloc, library, plan),
-        Flaw::Unknown => unknown_reason(alloc, library, plan),
-        Flaw::Misfit => misfit_reason(alloc, library),
-        Flaw::Misjoin => misjoin_reason(alloc, library),
-        Flaw::Joined => joined_reason(alloc, library),
-        Flaw::TooHigh => too_high_reason(alloc, library),
-        Flaw::Unmapped => unmapped_reason(alloc, library, plan),
-        Flaw::Unlinked => unlinked_reason(alloc, library, plan),
-        Flaw::Unserved => unserved_reason(alloc, library, plan),
+        Flaw::Twice => twice_finding(alloc, library, plan),
+        Flaw::Unknown => unknown_finding(alloc, library, plan),
+        Flaw::Misfit => misfit_finding(alloc, library),
+        Flaw::Misjoin => misjoin_finding(alloc, library),
+        Flaw::Joined => joined_finding(alloc, library),
+        Flaw::TooHigh => too_high_finding(alloc, library),
+        Flaw::Unmapped => unmapped_finding(alloc, library, plan),
+        Flaw::Unlinked => unlinked_finding(alloc, library, plan),
+        Flaw::Unserved => unserved_finding(alloc, library, plan),
     }
 }

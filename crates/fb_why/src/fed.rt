@@ -1,12 +1,12 @@
 //! Where a refusal applies to inputs that are read, stimuli too.
 
 ghost use Rattle.std.specs.Prelude.{IfOk, MatchOption};
-ghost use Rattle.fb_why.specs.Reasons.{ExceedsAt, ExceedsNowhere};
+ghost use Rattle.fb_why.specs.Findings.{ExceedsAt, ExceedsNowhere};
 ghost use Rattle.fb_why.specs.declared.cause.Excess.TheVariants as excess;
 
 use crate::cause::Excess;
 use crate::limit::limit_place;
-use crate::spot::{Reason, Spot};
+use crate::spot::{Finding, Spot};
 use crate::stimulus::stimulus_place;
 use crate::tell::{tell_limit, tell_stimulus};
 use fb_types::deploy::{Plan, Stimulus};
@@ -14,12 +14,12 @@ use fb_types::library::Library;
 use std::alloc::{AllocError, Global};
 
 /// Where a stimulus does not fit its event input.
-fn stimulus_reason(
+fn stimulus_finding(
     alloc: Global,
     library: &Library,
     plan: &Plan,
     stimuli: &[Stimulus],
-) -> Result<Option<Reason>, AllocError>
+) -> Result<Option<Finding>, AllocError>
     ensures { IfOk result (λ o. MatchOption o (ExceedsNowhere excess.Stimulus library.now plan.now stimuli.now) (λ r. ExceedsAt excess.Stimulus library.now stimuli.now r.place)) }
 {
     let Some(place) = stimulus_place(alloc, library, plan, stimuli)? else {
@@ -27,16 +27,16 @@ fn stimulus_reason(
     };
     let text = tell_stimulus(alloc, library, stimuli, place)?;
     let place = Spot::Stimulus(place);
-    Ok(Some(Reason { place, text }))
+    Ok(Some(Finding { place, text }))
 }
 
 /// Which limit is passed.
-fn limit_reason(
+fn limit_finding(
     alloc: Global,
     library: &Library,
     plan: &Plan,
     stimuli: &[Stimulus],
-) -> Result<Option<Reason>, AllocError>
+) -> Result<Option<Finding>, AllocError>
     ensures { IfOk result (λ o. MatchOption o (ExceedsNowhere excess.Limit library.now plan.now stimuli.now) (λ r. ExceedsAt excess.Limit library.now stimuli.now r.place)) }
 {
     let Some(limit) = limit_place(alloc, library, plan, stimuli)? else {
@@ -44,21 +44,21 @@ fn limit_reason(
     };
     let text = tell_limit(alloc, limit)?;
     let place = Spot::Limit(limit);
-    Ok(Some(Reason { place, text }))
+    Ok(Some(Finding { place, text }))
 }
 
 /// Where the refusal applies to inputs.
-pub fn reason_with(
+pub fn finding_with(
     alloc: Global,
     excess: Excess,
     library: &Library,
     plan: &Plan,
     stimuli: &[Stimulus],
-) -> Result<Option<Reason>, AllocError>
+) -> Result<Option<Finding>, AllocError>
     ensures { IfOk result (λ o. MatchOption o (ExceedsNowhere excess library.now plan.now stimuli.now) (λ r. ExceedsAt excess library.now stimuli.now r.place)) }
 {
     match excess {
-        Excess::Stimulus => stimulus_reason(alloc, library, plan, stimuli),
-        Excess::Limit => limit_reason(alloc, library, plan, stimuli),
+        Excess::Stimulus => stimulus_finding(alloc, library, plan, stimuli),
+        Excess::Limit => limit_finding(alloc, library, plan, stimuli),
     }
 }

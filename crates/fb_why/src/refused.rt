@@ -3,9 +3,9 @@
 ghost use Rattle.std.specs.Prelude.{IfOk, IfSome, MatchOption, option_map};
 ghost use Rattle.fb_why_bytes.specs.Rows.{AreTaken};
 ghost use Rattle.fb_why_bytes.specs.Tables.{IsShaped};
-ghost use Rattle.fb_why.specs.Reasons.{AreTakenBoth, IsDeploymentSpot, IsStimuliSpot, TellsBytes, TellsDeployment, TellsStimuli, TellsText};
+ghost use Rattle.fb_why.specs.Findings.{AreTakenBoth, IsDeploymentSpot, IsStimuliSpot, TellsBytes, TellsDeployment, TellsStimuli, TellsText};
 
-use crate::spot::{Reason, Spot};
+use crate::spot::{Finding, Spot};
 use fb_read::read::read_library;
 use fb_why_bytes::deployment::deployment_place;
 use fb_why_bytes::discard::discard;
@@ -17,7 +17,7 @@ use fb_why_bytes::tell_text::tell_text;
 use std::alloc::{AllocError, Global};
 
 /// Where the text of a declaration is refused.
-pub fn text_reason(alloc: Global, declaration: &[u8]) -> Result<Option<Reason>, AllocError>
+pub fn text_finding(alloc: Global, declaration: &[u8]) -> Result<Option<Finding>, AllocError>
     ensures { IfOk result (λ o. IfSome o (λ r. TellsText declaration.now r.place)) }
 {
     let fault = match read_library(alloc, declaration) {
@@ -32,11 +32,11 @@ pub fn text_reason(alloc: Global, declaration: &[u8]) -> Result<Option<Reason>, 
     };
     let text = tell_text(alloc, declaration, &fault, place)?;
     let place = Spot::Text(place);
-    Ok(Some(Reason { place, text }))
+    Ok(Some(Finding { place, text }))
 }
 
 /// Where the bytes of a deployment are refused.
-fn deployment_reason(alloc: Global, bytes: &[u8]) -> Result<Option<Reason>, AllocError>
+fn deployment_finding(alloc: Global, bytes: &[u8]) -> Result<Option<Finding>, AllocError>
     ensures { IfOk result (λ o. MatchOption o (IsShaped bytes.now) (λ r. IsDeploymentSpot bytes.now r.place)) }
 {
     let Some(place) = deployment_place(alloc, bytes)? else {
@@ -44,11 +44,11 @@ fn deployment_reason(alloc: Global, bytes: &[u8]) -> Result<Option<Reason>, Allo
     };
     let text = tell_deployment(alloc, bytes, place)?;
     let place = Spot::Deployment(place);
-    Ok(Some(Reason { place, text }))
+    Ok(Some(Finding { place, text }))
 }
 
 /// Where the bytes of stimuli are refused.
-fn stimuli_reason(alloc: Global, bytes: &[u8]) -> Result<Option<Reason>, AllocError>
+fn stimuli_finding(alloc: Global, bytes: &[u8]) -> Result<Option<Finding>, AllocError>
     ensures { IfOk result (λ o. MatchOption o (AreTaken bytes.now) (λ r. IsStimuliSpot bytes.now r.place)) }
 {
     let Some(place) = stimuli_place(alloc, bytes)? else {
@@ -56,40 +56,43 @@ fn stimuli_reason(alloc: Global, bytes: &[u8]) -> Result<Option<Reason>, AllocEr
     };
     let text = tell_stimuli(alloc, bytes, place)?;
     let place = Spot::Stimuli(place);
-    Ok(Some(Reason { place, text }))
+    Ok(Some(Finding { place, text }))
 }
 
 /// Where the bytes of a deployment that may be given are refused.
-fn deployment_reason_if(alloc: Global, deploy: Option<&[u8]>) -> Result<Option<Reason>, AllocError>
+fn deployment_finding_if(
+    alloc: Global,
+    deploy: Option<&[u8]>,
+) -> Result<Option<Finding>, AllocError>
     ensures { let plan = option_map (λ b. b.now) deploy.entry in IfOk result (λ o. MatchOption o (IfSome plan IsShaped) (λ r. TellsDeployment plan r.place)) }
 {
     match deploy {
-        Some(bytes) => deployment_reason(alloc, bytes),
+        Some(bytes) => deployment_finding(alloc, bytes),
         None => Ok(None),
     }
 }
 
 /// Where the bytes of stimuli that may be given are refused.
-fn stimuli_reason_if(alloc: Global, stimuli: Option<&[u8]>) -> Result<Option<Reason>, AllocError>
+fn stimuli_finding_if(alloc: Global, stimuli: Option<&[u8]>) -> Result<Option<Finding>, AllocError>
     ensures { let rows = option_map (λ b. b.now) stimuli.entry in IfOk result (λ o. MatchOption o (IfSome rows AreTaken) (λ r. TellsStimuli rows r.place)) }
 {
     match stimuli {
-        Some(bytes) => stimuli_reason(alloc, bytes),
+        Some(bytes) => stimuli_finding(alloc, bytes),
         None => Ok(None),
     }
 }
 
 /// Where the bytes of a deployment are refused, or those of stimuli.
-pub fn bytes_reason(
+pub fn bytes_finding(
     alloc: Global,
     deploy: Option<&[u8]>,
     stimuli: Option<&[u8]>,
-) -> Result<Option<Reason>, AllocError>
+) -> Result<Option<Finding>, AllocError>
     ensures { let plan = option_map (λ b. b.now) deploy.entry in let rows = option_map (λ b. b.now) stimuli.entry in
         IfOk result (λ o. MatchOption o (AreTakenBoth plan rows) (λ r. TellsBytes plan rows r.place)) }
 {
-    match deployment_reason_if(alloc, deploy)? {
-        Some(reason) => Ok(Some(reason)),
-        None => stimuli_reason_if(alloc, stimuli),
+    match deployment_finding_if(alloc, deploy)? {
+        Some(finding) => Ok(Some(finding)),
+        None => stimuli_finding_if(alloc, stimuli),
     }
 }

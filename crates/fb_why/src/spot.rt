@@ -3,10 +3,10 @@
 use crate::place::{Limit, StimulusPlace};
 use fb_why_bytes::place::{DeployPlace, StimuliPlace};
 use fb_why_bytes::text_place::TextPlace;
-use fb_why_kinds::place::{Misfit, Misjoin, Place};
+use fb_why_kinds::place::{Misfit, Misjoin, UnknownName};
 use fb_why_names::heights::Descent;
 use fb_why_names::sources::Joined;
-use fb_why_names::twice::Given;
+use fb_why_names::twice::GivenTwice;
 use fb_why_names::unlinked::Unlinked;
 use fb_why_names::unmapped::Unmapped;
 
@@ -20,9 +20,9 @@ pub enum Spot {
     /// A place in the stimuli (E13 to E15).
     Stimuli(StimuliPlace),
     /// What is given twice (E20).
-    Twice(Given),
+    Twice(GivenTwice),
     /// A name that stands for nothing (E21).
-    Unknown(Place),
+    Unknown(UnknownName),
     /// An expression, a statement or a value of a wrong kind (E22).
     Misfit(Misfit),
     /// A data connection that leads to a type that does not hold all values (E23).
@@ -45,7 +45,7 @@ pub enum Spot {
 
 /// Where a refusal applies.
 #[derive(Drop)]
-pub struct Reason {
+pub struct Finding {
     pub place: Spot,
     /// The place, and what was wanted there, in words.
     pub text: String,

@@ -7,26 +7,26 @@ use Rattle.toml.specs.declared.value.Value.{Value}
 use Rattle.fb_inputs.specs.declared.document.Pair.{Pair}
 use Rattle.fb_why_bytes.specs.Keys.{elements_at, value_at}
 use Rattle.fb_why_bytes.specs.Numbers.{IsAmongLinks, IsLinkPlace, IsNumbersFault, IsTablePlace, pair_of, pairs_of, table_in}
-use Rattle.fb_why_bytes.specs.declared.numbers.Entry.{Entry}
+use Rattle.fb_why_bytes.specs.declared.numbers.WrittenEntry.{WrittenEntry}
 use Rattle.fb_why_bytes.specs.declared.place.DeployPlace.{DeployPlace}
 use Rattle.fb_why_bytes.specs.declared.place.DeployPlace.TheVariants as place
-use Rattle.fb_why_bytes.specs.declared.place.Key.TheVariants as key
+use Rattle.fb_why_bytes.specs.declared.place.DeployKey.TheVariants as key
 use Rattle.fb_why_bytes.proofs.TableValues.{elements, view_at}
 
-pub pairs_push : (t : List Entry) (e : Entry) → pairs_of (t ++ e ∷ []) ≡ pairs_of t ++ pair_of e ∷ []
+pub pairs_push : (t : List WrittenEntry) (e : WrittenEntry) → pairs_of (t ++ e ∷ []) ≡ pairs_of t ++ pair_of e ∷ []
 pairs_push [] e = refl
 pairs_push (x ∷ t) e = ap (λ (ps : List Pair). pair_of x ∷ ps) (pairs_push t e)
 
 -- ---- Places
 
-pub table_told : (link : ℕ) (d : Data) (keys : Members) (t xs : List Entry) (o : Option DeployPlace) → Some keys ≡ as_table d → table_in keys ≡ Some (pairs_of t) → xs ≡ t
+pub table_told : (link : ℕ) (d : Data) (keys : Members) (t xs : List WrittenEntry) (o : Option DeployPlace) → Some keys ≡ as_table d → table_in keys ≡ Some (pairs_of t) → xs ≡ t
     → IfSome o (IsTablePlace link xs) → IfSome o (IsLinkPlace link d)
 table_told link d keys t xs None table entries same h = h
-table_told link d keys t xs (Some p) table entries same h = (keys, xs, sym table, entries ∙ ap (λ (ys : List Entry). Some (pairs_of ys)) (sym same), h)
+table_told link d keys t xs (Some p) table entries same h = (keys, xs, sym table, entries ∙ ap (λ (ys : List WrittenEntry). Some (pairs_of ys)) (sym same), h)
 
-pub entries_are : (o : Option (Vec Entry Global)) (t : Vec Entry Global) (p : Option (List Pair)) → option_map (λ (v : Vec Entry Global). pairs_of v.items) o ≡ p → o ≡ Some t
+pub entries_are : (o : Option (Vec WrittenEntry Global)) (t : Vec WrittenEntry Global) (p : Option (List Pair)) → option_map (λ (v : Vec WrittenEntry Global). pairs_of v.items) o ≡ p → o ≡ Some t
     → p ≡ Some (pairs_of t.items)
-entries_are o t p seen is = sym seen ∙ ap (option_map (λ (v : Vec Entry Global). pairs_of v.items)) is
+entries_are o t p seen is = sym seen ∙ ap (option_map (λ (v : Vec WrittenEntry Global). pairs_of v.items)) is
 
 among : (keys : Members) (d : Data) (vs xs : List Value) (p : DeployPlace) → Some d ≡ value_at keys key.Link → Some (items_view vs) ≡ as_array d → xs ≡ vs → IsAmongLinks xs p
     → (ds : List Data) × (link : ℕ) × (d : Data) × (elements_at keys key.Link ≡ Some ds) × (slice_get ds link ≡ Some d) × IsLinkPlace link d p

@@ -18,8 +18,8 @@ use Rattle.fb_why_bytes.specs.RowTexts.{row_text}
 use Rattle.fb_why_bytes.specs.RowVerdicts.{IsFine, IsNumberFault, IsRefusedFor, IsShapeFault, IsShortVerdict, IsVerdict}
 use Rattle.fb_why_bytes.specs.declared.place.RowFault.{RowFault}
 use Rattle.fb_why_bytes.specs.declared.place.RowFault.TheVariants as fault
-use Rattle.fb_why_bytes.specs.declared.row_verdict.Verdict.{Verdict}
-use Rattle.fb_why_bytes.specs.declared.row_verdict.Verdict.TheVariants as verdict
+use Rattle.fb_why_bytes.specs.declared.row_verdict.RowVerdict.{RowVerdict}
+use Rattle.fb_why_bytes.specs.declared.row_verdict.RowVerdict.TheVariants as verdict
 use Rattle.fb_why_bytes.proofs.RowTexts.{one-refused, one-taken, row-judged}
 use Rattle.fb_why_bytes.proofs.RowJudgements.{crowded, first_word, late, no_draft, no_number, refused_anywhere, taken_below, whole_settings}
 use Rattle.fb_why_bytes.proofs.WordLists.{shown}
@@ -36,7 +36,7 @@ answers P Q (Err e) gives h = h
 short_row : (t e v z : Text) → z ≡ row_text t e v → length z ≤ most_bytes → stimuli_of z ≡ (stimulus 0 (t ∷ e ∷ v ∷ []) >>= λ s. Ok (s ∷ []))
 short_row t e v z made short = ap stimuli_of made ∙ row-judged t e v (subst (λ (y : Text). length y ≤ most_bytes) made short)
 
-pub row_verdict : (t e v z : Text) (w : Verdict) → z ≡ row_text t e v → IsShortVerdict z w → IsVerdict (t ∷ e ∷ v ∷ []) w
+pub row_verdict : (t e v z : Text) (w : RowVerdict) → z ≡ row_text t e v → IsShortVerdict z w → IsVerdict (t ∷ e ∷ v ∷ []) w
 row_verdict t e v z verdict.Taken made h = one-taken (stimulus 0 (t ∷ e ∷ v ∷ [])) h.1.0 (sym (short_row t e v z made h.0) ∙ h.1.1)
 row_verdict t e v z verdict.Shape made h = one-refused (stimulus 0 (t ∷ e ∷ v ∷ [])) bad_row (sym (short_row t e v z made h.0) ∙ h.1)
 row_verdict t e v z verdict.Number made h = one-refused (stimulus 0 (t ∷ e ∷ v ∷ [])) bad_number (sym (short_row t e v z made h.0) ∙ h.1)

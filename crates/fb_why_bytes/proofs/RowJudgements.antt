@@ -19,8 +19,8 @@ use Rattle.fb_inputs.specs.Stimuli.{stimulus, three, most_rows}
 use Rattle.fb_inputs.proofs.Parts.{parted_at}
 use Rattle.fb_why_bytes.specs.RowParts.{is_event, is_tick, is_word, is_valued, has_value, IsSingle}
 use Rattle.fb_why_bytes.specs.RowVerdicts.{IsVerdict, has_numbers, has_shape, is_taken}
-use Rattle.fb_why_bytes.specs.declared.row_verdict.Verdict.{Verdict}
-use Rattle.fb_why_bytes.specs.declared.row_verdict.Verdict.TheVariants as verdict
+use Rattle.fb_why_bytes.specs.declared.row_verdict.RowVerdict.{RowVerdict}
+use Rattle.fb_why_bytes.specs.declared.row_verdict.RowVerdict.TheVariants as verdict
 
 -- ---- A row of three fields, by its parts
 
@@ -328,7 +328,7 @@ word-judged w single = by_parts 0 early_tick plain_event w ∙ ap (by_draft 0 (S
 
 -- ---- The reader's word on one part
 
-pub event_said : (e : Text) (v : Verdict) → IsVerdict (early_tick ∷ e ∷ [] ∷ []) v → has_shape v ≡ is_event e
+pub event_said : (e : Text) (v : RowVerdict) → IsVerdict (early_tick ∷ e ∷ [] ∷ []) v → has_shape v ≡ is_event e
 event_said e verdict.Taken h = by (event e) (sym (event-judged e) ∙ h.1)
   where
     by : (o : Option (Text × Text)) → by_draft 0 (Some 0) (of_event o) ≡ Ok h.0 → true ≡ is_some o
@@ -362,7 +362,7 @@ no_settings = refl
 by_no_settings : (t : ℕ) → by_tick 0 (plain_draft []) (Some t) ≡ limited 0 (plain_draft []) t [] (nat_le t (10 ^ 12))
 by_no_settings t = ap (λ (o : Option (List Setting)). by_settings 0 (plain_draft []) t o) no_settings
 
-pub tick_said : (t : Text) (v : Verdict) → IsVerdict (t ∷ plain_event ∷ [] ∷ []) v → has_numbers v ≡ is_tick t
+pub tick_said : (t : Text) (v : RowVerdict) → IsVerdict (t ∷ plain_event ∷ [] ∷ []) v → has_numbers v ≡ is_tick t
 tick_said t verdict.Taken h = by (natural t) (sym (tick-judged t) ∙ h.1)
   where
     by : (o : Option ℕ) → by_tick 0 (plain_draft []) o ≡ Ok h.0 → true ≡ is_some o
@@ -413,7 +413,7 @@ word_some : (o : Option Word) (n : ℕ) → word_outcome o ≡ Err n → (n ≡ 
 word_some None n g differ = absurd (differ (sym (ap number_in g)))
 word_some (Some x) n g differ = refl
 
-pub word_said : (w : Text) (v : Verdict) → IsSingle w → IsVerdict (early_tick ∷ plain_event ∷ w ∷ []) v → has_shape v ≡ is_word w
+pub word_said : (w : Text) (v : RowVerdict) → IsSingle w → IsVerdict (early_tick ∷ plain_event ∷ w ∷ []) v → has_shape v ≡ is_word w
 word_said w verdict.Taken single h = by (word w) (sym (word_is w single) ∙ h.1)
   where
     by : (o : Option Word) → word_outcome o ≡ Ok h.0 → true ≡ is_some o
@@ -435,7 +435,7 @@ word_unvalued (Some x) n g = of x.value g
     of None g = refl
     of (Some v) g = absurd (taken_not _ n g)
 
-pub value_said : (w : Text) (v : Verdict) → IsSingle w → IsVerdict (early_tick ∷ plain_event ∷ w ∷ []) v → is_taken v ≡ is_valued w
+pub value_said : (w : Text) (v : RowVerdict) → IsSingle w → IsVerdict (early_tick ∷ plain_event ∷ w ∷ []) v → is_taken v ≡ is_valued w
 value_said w verdict.Taken single h = by (word w) (sym (word_is w single) ∙ h.1)
   where
     of : (x : Word) (v : Option Value) → of_value x v ≡ Ok h.0 → true ≡ is_some v

@@ -18,7 +18,7 @@ use Rattle.fb_why_bytes.specs.Numbers.{IsNumbersFault}
 use Rattle.fb_why_bytes.specs.Tables.{IsDocumentFault, IsFaultAt, IsShaped, is_empty_list}
 use Rattle.fb_why_bytes.specs.declared.place.DeployPlace.{DeployPlace}
 use Rattle.fb_why_bytes.specs.declared.place.DeployPlace.TheVariants as place
-use Rattle.fb_why_bytes.specs.declared.place.Key.{Key}
+use Rattle.fb_why_bytes.specs.declared.place.DeployKey.{DeployKey}
 
 -- ---- Keys that are right make a table that is right
 
@@ -96,7 +96,7 @@ each_length {A} {B} f (x ∷ xs) ys h = by (f x) (each f xs) refl h (λ zs g. ea
     by (Some y) None is h more = absurd (cc)
     by (Some y) (Some zs) is h more = let same : ys ≡ y ∷ zs = cc in ap length same ∙ ap suc (more zs is)
 
-pub some_found : {A : Type 0} (f : Data → Option A) (keys : Members) (k : Key) → is_empty_list (elements_at keys k) ≡ false → is_empty_found (value_at keys k >>= array_of f) ≡ false
+pub some_found : {A : Type 0} (f : Data → Option A) (keys : Members) (k : DeployKey) → is_empty_list (elements_at keys k) ≡ false → is_empty_found (value_at keys k >>= array_of f) ≡ false
 some_found {A} f keys k h = by (value_at keys k) h
   where
     at_length : (n m : ℕ) → n ≡ m → (m == 0) ≡ false → (n == 0) ≡ false

@@ -15,9 +15,9 @@ use Rattle.fb_why_bytes.specs.Keys.{elements_at, is_either, is_element, text_of,
 use Rattle.fb_why_bytes.specs.Numbers as numbers
 use Rattle.fb_why_bytes.specs.Numbers.{count_at, count_in, whole_pair}
 use Rattle.fb_why_bytes.specs.Tables.{FailsAt, IsEntriesFault, IsFaultAmong, IsInArray, IsLinkFault, IsWrongElement, is_empty_list}
-use Rattle.fb_why_bytes.specs.declared.numbers.Entry.{Entry}
-use Rattle.fb_why_bytes.specs.declared.place.Key.{Key}
-use Rattle.fb_why_bytes.specs.declared.place.Key.TheVariants as key
+use Rattle.fb_why_bytes.specs.declared.numbers.WrittenEntry.{WrittenEntry}
+use Rattle.fb_why_bytes.specs.declared.place.DeployKey.{DeployKey}
+use Rattle.fb_why_bytes.specs.declared.place.DeployKey.TheVariants as key
 use Rattle.fb_why_bytes.specs.declared.place.TableFault.{TableFault}
 use Rattle.fb_why_bytes.specs.declared.place.TableFault.TheVariants as fault
 
@@ -50,7 +50,7 @@ pub list_view : (vs : List Value) → list_of (items_view vs) ≡ map view vs
 list_view [] = refl
 list_view (v ∷ vs) = ap (λ (ds : List Data). view v ∷ ds) (list_view vs)
 
-pub elements : (keys : Members) (k : Key) (d : Data) (vs : List Value) → Some d ≡ value_at keys k → Some (items_view vs) ≡ as_array d → elements_at keys k ≡ Some (map view vs)
+pub elements : (keys : Members) (k : DeployKey) (d : Data) (vs : List Value) → Some d ≡ value_at keys k → Some (items_view vs) ≡ as_array d → elements_at keys k ≡ Some (map view vs)
 elements keys k d vs at array =
     ap (λ (o : Option Data). option_and_then (λ d. option_and_then (λ ds. Some (list_of ds)) (as_array d)) o) (sym at)
     ∙ ap (λ (o : Option Items). option_and_then (λ ds. Some (list_of ds)) o) (sym array)
@@ -65,13 +65,13 @@ fails_in : (test : Data → Bool) (vs xs : List Value) (i : ℕ) → xs ≡ vs �
 fails_in test vs xs i same h = (h.0, ap (λ (ys : List Value). slice_get ys i) (sym same) ∙ h.1, h.2)
 
 pub wrong_element :
-    (keys : Members) (k : Key) (d : Data) (vs xs : List Value) (i : ℕ) → Some d ≡ value_at keys k → Some (items_view vs) ≡ as_array d → xs ≡ vs → FailsAt (is_element k) xs i → IsWrongElement keys k i
+    (keys : Members) (k : DeployKey) (d : Data) (vs xs : List Value) (i : ℕ) → Some d ≡ value_at keys k → Some (items_view vs) ≡ as_array d → xs ≡ vs → FailsAt (is_element k) xs i → IsWrongElement keys k i
 wrong_element keys k d vs xs i at array same h =
     let fails = fails_in (is_element k) vs xs i same h in
     (map view vs, view fails.0, elements keys k d vs at array, view_at vs i fails.0 fails.1, fails.2)
 
 pub in_array :
-    (P : Members → TableFault → Type 0) (keys : Members) (k : Key) (d : Data) (vs xs : List Value) (i : ℕ) (why : TableFault) → Some d ≡ value_at keys k → Some (items_view vs) ≡ as_array d
+    (P : Members → TableFault → Type 0) (keys : Members) (k : DeployKey) (d : Data) (vs xs : List Value) (i : ℕ) (why : TableFault) → Some d ≡ value_at keys k → Some (items_view vs) ≡ as_array d
     → xs ≡ vs → IsFaultAmong P xs (i, why) → IsInArray P keys k i why
 in_array P keys k d vs xs i why at array same h =
     (map view vs, view h.0, elements keys k d vs at array, view_at vs i h.0 (ap (λ (ys : List Value). slice_get ys i) (sym same) ∙ h.1), h.2)
@@ -80,18 +80,18 @@ pub array_is_met : {A : Type 0} (f : Data → Option A) (d : Data) (vs xs : List
     → is_some (array_of f d) ≡ true
 array_is_met f d vs xs array same all = array_met f d vs array (ap (list_all (λ (v : Value). is_some (f (view v)))) (sym same) ∙ all)
 
-pub read_is_met : {A : Type 0} (f : Data → Option A) (keys : Members) (k : Key) (d : Data) → Some d ≡ value_at keys k → is_some (array_of f d) ≡ true
+pub read_is_met : {A : Type 0} (f : Data → Option A) (keys : Members) (k : DeployKey) (d : Data) → Some d ≡ value_at keys k → is_some (array_of f d) ≡ true
     → is_some (read_at (array_of f) (text_of k) keys) ≡ true
 read_is_met {A} f keys k d at met = ap (λ (o : Option Data). is_some {T = List A} (o >>= array_of f)) (sym at) ∙ met
 
-pub optional_is_met : {A : Type 0} (f : Data → Option A) (keys : Members) (k : Key) (d : Data) → Some d ≡ value_at keys k → is_some (array_of f d) ≡ true
+pub optional_is_met : {A : Type 0} (f : Data → Option A) (keys : Members) (k : DeployKey) (d : Data) → Some d ≡ value_at keys k → is_some (array_of f d) ≡ true
     → is_some (optional_array f (value_at keys k)) ≡ true
 optional_is_met f keys k d at met = ap (λ (o : Option Data). is_some (optional_array f o)) (sym at) ∙ met
 
-pub counted : (keys : Members) (k : Key) (d : Data) (vs xs : List Value) → Some d ≡ value_at keys k → Some (items_view vs) ≡ as_array d → xs ≡ vs → length xs ≡ count_at keys k
+pub counted : (keys : Members) (k : DeployKey) (d : Data) (vs xs : List Value) → Some d ≡ value_at keys k → Some (items_view vs) ≡ as_array d → xs ≡ vs → length xs ≡ count_at keys k
 counted keys k d vs xs at array same = ap length same ∙ sym (length-map vs view) ∙ sym (ap count_in (elements keys k d vs at array))
 
-pub emptied : (keys : Members) (k : Key) (d : Data) (vs xs : List Value) → Some d ≡ value_at keys k → Some (items_view vs) ≡ as_array d → xs ≡ vs
+pub emptied : (keys : Members) (k : DeployKey) (d : Data) (vs xs : List Value) → Some d ≡ value_at keys k → Some (items_view vs) ≡ as_array d → xs ≡ vs
     → (length xs == 0) ≡ is_empty_list (elements_at keys k)
 emptied keys k d vs xs at array same =
     ap (λ (n : ℕ). n == 0) (ap length same ∙ sym (length-map vs view)) ∙ sym (ap is_empty_list (elements keys k d vs at array))
@@ -120,7 +120,7 @@ two_values d vs (x ∷ y ∷ []) a b array same low high first second =
     ap (λ (v : Value). whole_pair (as_integer (view v)) (as_integer (view b))) first ∙ ap (λ (v : Value). whole_pair (as_integer (view x)) (as_integer (view v))) second
     ∙ two_whole (view x) (view y) ∙ ap (λ (ws : List Value). of_array (Some (items_view ws))) same ∙ ap of_array array
 
-pub some_pair : (o : Option Entry) (p : Option Pair) → option_map numbers.pair_of o ≡ p → is_some o ≡ is_some p
+pub some_pair : (o : Option WrittenEntry) (p : Option Pair) → option_map numbers.pair_of o ≡ p → is_some o ≡ is_some p
 some_pair None p h = ap is_some h
 some_pair (Some e) p h = ap is_some h
 

@@ -7,16 +7,16 @@ use Rattle.fb_inputs.specs.declared.document.Pair.{Pair}
 use Rattle.fb_inputs.specs.Documents.{array_of, constant, pair}
 use Rattle.fb_inputs.specs.Deployments.{is_after, is_latency, is_zero}
 use Rattle.fb_why_bytes.specs.Keys.{elements_at, value_at}
-use Rattle.fb_why_bytes.specs.declared.numbers.Entry.{Entry}
+use Rattle.fb_why_bytes.specs.declared.numbers.WrittenEntry.{WrittenEntry}
 use Rattle.fb_why_bytes.specs.declared.place.DeployPlace.{DeployPlace}
 use Rattle.fb_why_bytes.specs.declared.place.DeployPlace.TheVariants as place
-use Rattle.fb_why_bytes.specs.declared.place.Key.{Key}
-use Rattle.fb_why_bytes.specs.declared.place.Key.TheVariants as key
+use Rattle.fb_why_bytes.specs.declared.place.DeployKey.{DeployKey}
+use Rattle.fb_why_bytes.specs.declared.place.DeployKey.TheVariants as key
 
-abbrev pub pair_of : Entry → Pair
+abbrev pub pair_of : WrittenEntry → Pair
 pair_of e = record { start = e.start; ticks = e.ticks }
 
-abbrev pub pairs_of : List Entry → List Pair
+abbrev pub pairs_of : List WrittenEntry → List Pair
 pairs_of t = map pair_of t
 
 -- an entry of two whole numbers
@@ -36,28 +36,28 @@ abbrev pub table_in : Members → Option (List Pair)
 table_in keys = either_table (value_at keys key.Latency) (value_at keys key.Latencies)
 
 -- The link with these keys has this table of latencies.
-abbrev pub HasEntries : Members → List Entry → Type 0
+abbrev pub HasEntries : Members → List WrittenEntry → Type 0
 HasEntries keys t = table_in keys ≡ Some (pairs_of t)
 
 -- The latency of the entry is out of range.
-abbrev pub IsLatencyWrong : List Entry → ℕ → Type 0
-IsLatencyWrong t k = (e : Entry) × (slice_get t k ≡ Some e) × (is_latency e.ticks ≡ false)
+abbrev pub IsLatencyWrong : List WrittenEntry → ℕ → Type 0
+IsLatencyWrong t k = (e : WrittenEntry) × (slice_get t k ≡ Some e) × (is_latency e.ticks ≡ false)
 
 -- whether an entry comes behind the one before it
-abbrev pub is_behind : Option Entry → Entry → Bool
+abbrev pub is_behind : Option WrittenEntry → WrittenEntry → Bool
 is_behind None e = true
 is_behind (Some before) e = is_after (unsigned_abs before.start) e.start
 
-abbrev pub is_in_order : List Entry → ℕ → Option Entry → Bool
+abbrev pub is_in_order : List WrittenEntry → ℕ → Option WrittenEntry → Bool
 is_in_order t k None = true
 is_in_order t k (Some e) = if k == 0 then is_zero e.start else is_behind (slice_get t (k - 1)) e
 
 -- whether the entry at a place, if there is one, is the first one and at tick 0, or behind the one before it
-abbrev pub follows : List Entry → ℕ → Bool
+abbrev pub follows : List WrittenEntry → ℕ → Bool
 follows t k = is_in_order t k (slice_get t k)
 
 -- This is wrong with the table of a link.
-abbrev pub IsTablePlace : ℕ → List Entry → DeployPlace → Type 0
+abbrev pub IsTablePlace : ℕ → List WrittenEntry → DeployPlace → Type 0
 IsTablePlace link t (place.Latency k e) = (k ≡ link) × IsLatencyWrong t e
 IsTablePlace link t (place.NoEntry k) = (k ≡ link) × (length t ≡ 0)
 IsTablePlace link t (place.Entry k e) = (k ≡ link) × (follows t e ≡ false)
@@ -66,7 +66,7 @@ IsTablePlace link t _ = ⊥
 
 -- The value is a link, with whose table this is wrong.
 abbrev pub IsLinkPlace : ℕ → Data → DeployPlace → Type 0
-IsLinkPlace link d p = (keys : Members) × (t : List Entry) × (as_table d ≡ Some keys) × HasEntries keys t × IsTablePlace link t p
+IsLinkPlace link d p = (keys : Members) × (t : List WrittenEntry) × (as_table d ≡ Some keys) × HasEntries keys t × IsTablePlace link t p
 
 -- One of the values is such a link.
 abbrev pub IsAmongLinks : List Value → DeployPlace → Type 0
@@ -77,7 +77,7 @@ count_in None = 0
 count_in (Some ds) = length ds
 
 -- how many elements the array at a key has
-abbrev pub count_at : Members → Key → ℕ
+abbrev pub count_at : Members → DeployKey → ℕ
 count_at keys k = count_in (elements_at keys k)
 
 -- This is wrong with the numbers of a document.

@@ -10,40 +10,40 @@ use Rattle.fb_why_bytes.specs.Rows.{IsRowFault, number_of_row}
 use Rattle.fb_why_bytes.specs.RowParts.{is_valued}
 use Rattle.fb_why_bytes.specs.declared.place.RowFault.{RowFault}
 use Rattle.fb_why_bytes.specs.declared.place.RowFault.TheVariants as fault
-use Rattle.fb_why_bytes.specs.declared.row_verdict.Verdict.{Verdict}
-use Rattle.fb_why_bytes.specs.declared.row_verdict.Verdict.TheVariants as verdict
+use Rattle.fb_why_bytes.specs.declared.row_verdict.RowVerdict.{RowVerdict}
+use Rattle.fb_why_bytes.specs.declared.row_verdict.RowVerdict.TheVariants as verdict
 
 -- The row is one of stimuli. So many rows come before it.
 abbrev pub IsFine : ℕ → Row → Type 0
 IsFine before row = (s : Stimulus) × (stimulus before row ≡ Ok s)
 
-abbrev pub IsVerdict : Row → Verdict → Type 0
+abbrev pub IsVerdict : Row → RowVerdict → Type 0
 IsVerdict row verdict.Taken = IsFine 0 row
 IsVerdict row verdict.Shape = stimulus 0 row ≡ Err bad_row
 IsVerdict row verdict.Number = stimulus 0 row ≡ Err bad_number
 IsVerdict row verdict.Limit = stimulus 0 row ≡ Err over_limit
 
 -- nothing is said against the shape, against the numbers, or at all
-abbrev pub has_shape : Verdict → Bool
+abbrev pub has_shape : RowVerdict → Bool
 has_shape verdict.Shape = false
 has_shape _ = true
 
-abbrev pub has_numbers : Verdict → Bool
+abbrev pub has_numbers : RowVerdict → Bool
 has_numbers verdict.Number = false
 has_numbers _ = true
 
-abbrev pub is_taken : Verdict → Bool
+abbrev pub is_taken : RowVerdict → Bool
 is_taken verdict.Taken = true
 is_taken _ = false
 
 -- what is said of a text of stimuli, which is not too long
-abbrev pub IsTextVerdict : Text → Verdict → Type 0
+abbrev pub IsTextVerdict : Text → RowVerdict → Type 0
 IsTextVerdict text verdict.Taken = (all : List Stimulus) × (stimuli_of text ≡ Ok all)
 IsTextVerdict text verdict.Shape = stimuli_of text ≡ Err bad_row
 IsTextVerdict text verdict.Number = stimuli_of text ≡ Err bad_number
 IsTextVerdict text verdict.Limit = stimuli_of text ≡ Err over_limit
 
-abbrev pub IsShortVerdict : Text → Verdict → Type 0
+abbrev pub IsShortVerdict : Text → RowVerdict → Type 0
 IsShortVerdict text v = (length text ≤ most_bytes) × IsTextVerdict text v
 
 -- The row is refused for what is wrong with it.

@@ -12,30 +12,30 @@ use Rattle.fb_why_bytes.specs.Names.{alike_names}
 use Rattle.fb_why_bytes.specs.Numbers.{IsNumbersFault}
 use Rattle.fb_why_bytes.specs.declared.place.DeployPlace.{DeployPlace}
 use Rattle.fb_why_bytes.specs.declared.place.DeployPlace.TheVariants as place
-use Rattle.fb_why_bytes.specs.declared.place.Key.{Key}
-use Rattle.fb_why_bytes.specs.declared.place.Key.TheVariants as key
+use Rattle.fb_why_bytes.specs.declared.place.DeployKey.{DeployKey}
+use Rattle.fb_why_bytes.specs.declared.place.DeployKey.TheVariants as key
 use Rattle.fb_why_bytes.specs.declared.place.TablePlace.{TablePlace}
 use Rattle.fb_why_bytes.specs.declared.place.TablePlace.TheVariants as table
 use Rattle.fb_why_bytes.specs.declared.place.TableFault.{TableFault}
 use Rattle.fb_why_bytes.specs.declared.place.TableFault.TheVariants as fault
 
 -- A value at the key is none of its kind.
-abbrev pub IsWrong : Members → Key → Type 0
+abbrev pub IsWrong : Members → DeployKey → Type 0
 IsWrong keys k = (d : Data) × (value_at keys k ≡ Some d) × (is_of_kind k d ≡ false)
 
 -- An element of the array at the key is none of its kind.
-abbrev pub IsWrongElement : Members → Key → ℕ → Type 0
+abbrev pub IsWrongElement : Members → DeployKey → ℕ → Type 0
 IsWrongElement keys k i = (ds : List Data) × (d : Data) × (elements_at keys k ≡ Some ds) × (slice_get ds i ≡ Some d) × (is_element k d ≡ false)
 
 -- This is wrong with a key that is wanted.
-abbrev pub IsAtKey : Members → Key → TableFault → Type 0
+abbrev pub IsAtKey : Members → DeployKey → TableFault → Type 0
 IsAtKey keys k (fault.Missing j) = (j ≡ k) × (has_key keys k ≡ false)
 IsAtKey keys k (fault.Wrong j) = (j ≡ k) × IsWrong keys k
 IsAtKey keys k _ = ⊥
 
 -- ---- Resources
 
-abbrev pub is_resource_key : Key → Bool
+abbrev pub is_resource_key : DeployKey → Bool
 is_resource_key key.Device = true
 is_resource_key key.Name = true
 is_resource_key key.Instances = true
@@ -52,7 +52,7 @@ IsResourceFault keys _ = ⊥
 
 -- ---- Links
 
-abbrev pub is_link_key : Key → Bool
+abbrev pub is_link_key : DeployKey → Bool
 is_link_key key.From = true
 is_link_key key.To = true
 is_link_key key.Latency = true
@@ -107,7 +107,7 @@ IsTableFault P d fault.NoTable = as_table d ≡ None
 IsTableFault P d why = (keys : Members) × (as_table d ≡ Some keys) × P keys why
 
 -- This is wrong with the table at this place of those at a key.
-abbrev pub IsInArray : (Members → TableFault → Type 0) → Members → Key → ℕ → TableFault → Type 0
+abbrev pub IsInArray : (Members → TableFault → Type 0) → Members → DeployKey → ℕ → TableFault → Type 0
 IsInArray P keys k i why = (ds : List Data) × (d : Data) × (elements_at keys k ≡ Some ds) × (slice_get ds i ≡ Some d) × IsTableFault P d why
 
 -- This is wrong with a table of a document.

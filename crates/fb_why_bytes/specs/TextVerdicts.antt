@@ -4,15 +4,15 @@ use Rattle.fb_types.specs.declared.library.Library.{Library}
 use Rattle.fb_read.specs.Blank.{Text}
 use Rattle.fb_read.specs.Front.{bad_byte, bad_token}
 use Rattle.fb_read.specs.Whole.{IsDerived, IsLibraryText, HasTokenFault, HasTokens, most_bytes}
-use Rattle.fb_why_bytes.specs.declared.text_verdict.Verdict.{Verdict}
-use Rattle.fb_why_bytes.specs.declared.text_verdict.Verdict.TheVariants as verdict
+use Rattle.fb_why_bytes.specs.declared.text_verdict.TextVerdict.{TextVerdict}
+use Rattle.fb_why_bytes.specs.declared.text_verdict.TextVerdict.TheVariants as verdict
 
 -- the text has tokens, and no library has it
 pub record IsNoLibrary (Has : Text → Library → Type 0) (text : Text) : Type 0 where
   pub tokens : HasTokens text
   pub none : (library : Library) → Has text library → ⊥
 
-abbrev pub IsVerdict : Text → Verdict → Type 0
+abbrev pub IsVerdict : Text → TextVerdict → Type 0
 IsVerdict text verdict.Library = HasTokens text
 IsVerdict text verdict.Byte = HasTokenFault bad_byte text
 IsVerdict text verdict.Token = HasTokenFault bad_token text

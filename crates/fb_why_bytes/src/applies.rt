@@ -10,7 +10,7 @@ ghost use Rattle.fb_why_bytes.specs.Places.{IsPlace};
 ghost use Rattle.fb_why_bytes.specs.TextVerdicts.{IsNoLibrary};
 
 use crate::text_place::TextPlace;
-use crate::text_verdict::{Verdict, verdict_on};
+use crate::text_verdict::{TextVerdict, verdict_on};
 use fb_read::error::ReadError;
 use std::alloc::{AllocError, Global};
 
@@ -21,7 +21,7 @@ pub const MOST_BYTES: usize = 1_048_576;
 fn is_plain(b: u8) -> bool
     ensures { result ≡ spec.is_plain b }
 {
-    b == b'\t' || b == b'\n' || b == b'\r' || (b' '..=b'~').contains(&b)
+    b == b'\t' || b == b'\n' || b == b'\r' || (b' ' <= b && b <= b'~')
 }
 
 /// Whether all that stands before an offset is tokens.
@@ -30,9 +30,9 @@ fn has_tokens(alloc: Global, text: &[u8], end: usize) -> Result<bool, AllocError
     ensures { IfOk result (λ b. IsTrue b → HasTokens (take end text.now)) }
 {
     match verdict_on(alloc, &text[..end])? {
-        Verdict::Library => Ok(true),
-        Verdict::Syntax { .. } => Ok(true),
-        Verdict::Nesting => Ok(true),
+        TextVerdict::Library => Ok(true),
+        TextVerdict::Syntax { .. } => Ok(true),
+        TextVerdict::Nesting => Ok(true),
         _ => Ok(false),
     }
 }
@@ -49,7 +49,7 @@ fn is_byte(alloc: Global, text: &[u8], place: TextPlace) -> Result<bool, AllocEr
         return Ok(false);
     }
     match verdict_on(alloc, &text[..place.end])? {
-        Verdict::Byte => Ok(true),
+        TextVerdict::Byte => Ok(true),
         _ => Ok(false),
     }
 }
@@ -59,7 +59,7 @@ fn is_faulty(alloc: Global, text: &[u8]) -> Result<bool, AllocError>
     ensures { IfOk result (λ b. IsTrue b → HasTokenFault bad_token text.now) }
 {
     match verdict_on(alloc, text)? {
-        Verdict::Token => Ok(true),
+        TextVerdict::Token => Ok(true),
         _ => Ok(false),
     }
 }
@@ -83,7 +83,7 @@ fn is_underivable(alloc: Global, text: &[u8]) -> Result<bool, AllocError>
     ensures { IfOk result (λ b. IsTrue b → IsNoLibrary IsDerived text.now) }
 {
     match verdict_on(alloc, text)? {
-        Verdict::Syntax { .. } => Ok(true),
+        TextVerdict::Syntax { .. } => Ok(true),
         _ => Ok(false),
     }
 }
@@ -93,7 +93,7 @@ fn is_syntax_fault(alloc: Global, text: &[u8], line: u32) -> Result<bool, AllocE
     ensures { IfOk result (λ b. IsTrue b → IsNoLibrary IsDerived text.now) }
 {
     match verdict_on(alloc, text)? {
-        Verdict::Syntax { line: found } => Ok(found == line),
+        TextVerdict::Syntax { line: found } => Ok(found == line),
         _ => Ok(false),
     }
 }
@@ -117,7 +117,7 @@ fn is_too_deep(alloc: Global, text: &[u8]) -> Result<bool, AllocError>
     ensures { IfOk result (λ b. IsTrue b → IsNoLibrary IsLibraryText text.now) }
 {
     match verdict_on(alloc, text)? {
-        Verdict::Nesting => Ok(true),
+        TextVerdict::Nesting => Ok(true),
         _ => Ok(false),
     }
 }

@@ -1,7 +1,7 @@
 //! Which tokens could stand at the place of a syntax fault.
 
 use crate::text_place::line_feeds;
-use crate::text_verdict::{Verdict, verdict_on};
+use crate::text_verdict::{TextVerdict, verdict_on};
 use std::alloc::{AllocError, Global};
 
 /// How long a text may be to be tried with every token, in bytes: each try reads all of it.
@@ -9,21 +9,21 @@ const MOST_TRIED: usize = 65_536;
 
 /// A sort of tokens, and one of it.
 #[derive(Clone, Copy)]
-struct Sort {
+struct TokenSort {
     name: &'static str,
     token: &'static str,
 }
 
-static SORTS: [Sort; 3] = [
-    Sort {
+static SORTS: [TokenSort; 3] = [
+    TokenSort {
         name: "name",
         token: "X",
     },
-    Sort {
+    TokenSort {
         name: "whole",
         token: "1",
     },
-    Sort {
+    TokenSort {
         name: "time",
         token: "T#1s",
     },
@@ -122,8 +122,8 @@ fn may_stand(alloc: Global, before: &[u8], token: &str) -> Result<bool, AllocErr
     text.extend_from_slice(token.as_bytes())?;
     text.push(b'\n')?;
     match verdict_on(alloc, text.as_slice())? {
-        Verdict::Library => Ok(true),
-        Verdict::Syntax { line } => Ok(line as usize > line_feeds(text.as_slice())),
+        TextVerdict::Library => Ok(true),
+        TextVerdict::Syntax { line } => Ok(line as usize > line_feeds(text.as_slice())),
         _ => Ok(false),
     }
 }
@@ -131,28 +131,38 @@ fn may_stand(alloc: Global, before: &[u8], token: &str) -> Result<bool, AllocErr
 /// The tokens with which a text may go on, parted by blanks. Of a long text none is told.
 pub fn expected(alloc: Global, before: &[u8]) -> Result<String, AllocError> {
     let mut all = String::new(alloc);
-    if before.len() > MOST_TRIED {
-        return Ok(all);
+    if before.len() <= MOST_TRIED {
+        add_expected(alloc, &mut all, before)?;
     }
+    Ok(all)
+}
+
+fn add_expected(alloc: Global, all: &mut String, before: &[u8]) -> Result<(), AllocError> {
     for sort in &SORTS {
         if may_stand(alloc, before, sort.token)? {
-            add(&mut all, sort.name)?;
+            add(all, sort.name)?;
         }
     }
     // Where any name may stand, so may these.
     if !all.as_str().starts_with("name") {
-        for word in ["IN", "ST"] {
-            if may_stand(alloc, before, word)? {
-                add(&mut all, word)?;
-            }
-        }
+        add_words(alloc, all, before, &["IN", "ST"])?;
     }
-    for word in &WORDS {
+    add_words(alloc, all, before, &WORDS)
+}
+
+/// Adds those of some words with which the text may go on.
+fn add_words(
+    alloc: Global,
+    all: &mut String,
+    before: &[u8],
+    words: &[&str],
+) -> Result<(), AllocError> {
+    for word in words {
         if may_stand(alloc, before, word)? {
-            add(&mut all, word)?;
+            add(all, word)?;
         }
     }
-    Ok(all)
+    Ok(())
 }
 
 fn add(all: &mut String, word: &str) -> Result<(), AllocError> {

@@ -6,7 +6,7 @@ ghost use Rattle.fb_why_bytes.specs.Faults.{TellsFault};
 use crate::applies::{MOST_BYTES, applies};
 use crate::scan::{Stretch, stretches};
 use crate::text_place::{TextPlace, line_feeds, place_at};
-use crate::text_verdict::{Verdict, verdict_on};
+use crate::text_verdict::{TextVerdict, verdict_on};
 use fb_read::error::ReadError;
 use std::alloc::{AllocError, Global};
 
@@ -16,7 +16,7 @@ fn breaks_syntax(alloc: Global, text: &[u8]) -> Result<bool, AllocError> {
     let mut ended = Vec::from_slice(alloc, text)?;
     ended.push(b'\n')?;
     match verdict_on(alloc, ended.as_slice())? {
-        Verdict::Syntax { line } => Ok(line as usize <= line_feeds(text) + 1),
+        TextVerdict::Syntax { line } => Ok(line as usize <= line_feeds(text) + 1),
         _ => Ok(false),
     }
 }
@@ -27,9 +27,9 @@ fn shows(alloc: Global, text: &[u8], fault: &ReadError) -> Result<bool, AllocErr
         return breaks_syntax(alloc, text);
     }
     match (verdict_on(alloc, text)?, fault) {
-        (Verdict::Byte, ReadError::Byte) => Ok(true),
-        (Verdict::Token, ReadError::Token) => Ok(true),
-        (Verdict::Nesting, ReadError::Nesting) => Ok(true),
+        (TextVerdict::Byte, ReadError::Byte) => Ok(true),
+        (TextVerdict::Token, ReadError::Token) => Ok(true),
+        (TextVerdict::Nesting, ReadError::Nesting) => Ok(true),
         _ => Ok(false),
     }
 }

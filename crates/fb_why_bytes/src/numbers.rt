@@ -8,7 +8,7 @@ ghost use Rattle.fb_inputs.specs.Documents.{pair};
 ghost use Rattle.fb_inputs.specs.Lists.{each};
 ghost use Rattle.fb_why_bytes.specs.Numbers as spec;
 
-use crate::place::{DeployPlace, Key};
+use crate::place::{DeployKey, DeployPlace};
 use crate::table::value_at;
 use std::alloc::{AllocError, Global};
 use toml::{Table, Value};
@@ -27,7 +27,7 @@ const MOST_START: i64 = 1_000_000_000_000;
 
 /// From this tick on, so many ticks.
 #[derive(Clone, Copy)]
-pub struct Entry {
+pub struct WrittenEntry {
     pub start: i64,
     pub ticks: i64,
 }
@@ -44,7 +44,7 @@ pub enum Stage {
 }
 
 /// An entry of two whole numbers.
-fn whole_pair(start: Option<i64>, ticks: Option<i64>) -> Option<Entry>
+fn whole_pair(start: Option<i64>, ticks: Option<i64>) -> Option<WrittenEntry>
     ensures { option_map spec.pair_of result ≡ spec.whole_pair start ticks }
 {
     let Some(start) = start else {
@@ -53,11 +53,11 @@ fn whole_pair(start: Option<i64>, ticks: Option<i64>) -> Option<Entry>
     let Some(ticks) = ticks else {
         return None;
     };
-    Some(Entry { start, ticks })
+    Some(WrittenEntry { start, ticks })
 }
 
 /// A pair of whole numbers.
-pub fn entry_of(value: &Value) -> Option<Entry>
+pub fn entry_of(value: &Value) -> Option<WrittenEntry>
     ensures { option_map spec.pair_of result ≡ pair (view value.now) }
 {
     let Some(values) = value.as_array() else {
@@ -70,7 +70,7 @@ pub fn entry_of(value: &Value) -> Option<Entry>
 }
 
 /// The entries of a table of latencies.
-fn entries_of(alloc: Global, values: &[Value]) -> Result<Option<Vec<Entry>>, AllocError>
+fn entries_of(alloc: Global, values: &[Value]) -> Result<Option<Vec<WrittenEntry>>, AllocError>
     ensures { IfOk result (λ o. option_map (λ t. spec.pairs_of t.items) o ≡ each pair (map view values.now)) }
 {
     let mut found = Vec::new(alloc);
@@ -84,18 +84,18 @@ fn entries_of(alloc: Global, values: &[Value]) -> Result<Option<Vec<Entry>>, All
 }
 
 /// One latency from tick 0 on.
-fn constant(alloc: Global, value: &Value) -> Result<Option<Vec<Entry>>, AllocError>
+fn constant(alloc: Global, value: &Value) -> Result<Option<Vec<WrittenEntry>>, AllocError>
     ensures { IfOk result (λ o. option_map (λ t. spec.pairs_of t.items) o ≡ documents.constant (view value.now)) }
 {
     let Some(ticks) = value.as_integer() else {
         return Ok(None);
     };
-    let table = Vec::from_slice(alloc, &[Entry { start: 0, ticks }])?;
+    let table = Vec::from_slice(alloc, &[WrittenEntry { start: 0, ticks }])?;
     Ok(Some(table))
 }
 
 /// A table of latencies.
-fn entries_at(alloc: Global, value: &Value) -> Result<Option<Vec<Entry>>, AllocError>
+fn entries_at(alloc: Global, value: &Value) -> Result<Option<Vec<WrittenEntry>>, AllocError>
     ensures { IfOk result (λ o. option_map (λ t. spec.pairs_of t.items) o ≡ documents.array_of pair (view value.now)) }
 {
     match value.as_array() {
@@ -105,15 +105,15 @@ fn entries_at(alloc: Global, value: &Value) -> Result<Option<Vec<Entry>>, AllocE
 }
 
 /// The one latency or the table of them that a link has.
-fn latencies_of(alloc: Global, keys: &Table) -> Result<Option<Vec<Entry>>, AllocError>
+fn latencies_of(alloc: Global, keys: &Table) -> Result<Option<Vec<WrittenEntry>>, AllocError>
     ensures { IfOk result (λ o. option_map (λ t. spec.pairs_of t.items) o ≡ spec.table_in (table_view keys.now)) }
 {
-    match value_at(keys, Key::Latency) {
-        Some(ticks) => match value_at(keys, Key::Latencies) {
+    match value_at(keys, DeployKey::Latency) {
+        Some(ticks) => match value_at(keys, DeployKey::Latencies) {
             Some(_) => Ok(None),
             None => constant(alloc, ticks),
         },
-        None => match value_at(keys, Key::Latencies) {
+        None => match value_at(keys, DeployKey::Latencies) {
             Some(table) => entries_at(alloc, table),
             None => Ok(None),
         },
@@ -133,7 +133,7 @@ fn is_after(last: u64, start: i64) -> bool
 }
 
 /// The first entry whose latency is out of range.
-fn wrong_latency(table: &[Entry]) -> Option<usize>
+fn wrong_latency(table: &[WrittenEntry]) -> Option<usize>
     ensures { IfSome result (spec.IsLatencyWrong table.now) }
 {
     for (place, entry) in table.iter().enumerate() {
@@ -145,7 +145,7 @@ fn wrong_latency(table: &[Entry]) -> Option<usize>
 }
 
 /// Whether an entry comes behind the one before it, if there is one.
-fn is_behind(before: Option<&Entry>, entry: &Entry) -> bool
+fn is_behind(before: Option<&WrittenEntry>, entry: &WrittenEntry) -> bool
     ensures { result ≡ spec.is_behind (option_map (λ e. e.now) before.entry) entry.now }
 {
     match before {
@@ -155,7 +155,7 @@ fn is_behind(before: Option<&Entry>, entry: &Entry) -> bool
 }
 
 /// Whether the entry at a place, if there is one, is the first one and at tick 0, or behind the one before it.
-fn follows(table: &[Entry], place: usize) -> bool
+fn follows(table: &[WrittenEntry], place: usize) -> bool
     ensures { result ≡ spec.follows table.now place }
 {
     let Some(entry) = table.get(place) else {
@@ -168,7 +168,7 @@ fn follows(table: &[Entry], place: usize) -> bool
 }
 
 /// The first entry that does not follow the one before it.
-fn wrong_start(table: &[Entry]) -> Option<usize>
+fn wrong_start(table: &[WrittenEntry]) -> Option<usize>
     ensures { IfSome result (λ k. spec.follows table.now k ≡ false) }
 {
     for place in 0..table.len() {
@@ -180,7 +180,7 @@ fn wrong_start(table: &[Entry]) -> Option<usize>
 }
 
 /// What is wrong with the table of a link, of what is judged now.
-fn table_place(stage: Stage, link: usize, table: &[Entry]) -> Option<DeployPlace>
+fn table_place(stage: Stage, link: usize, table: &[WrittenEntry]) -> Option<DeployPlace>
     ensures { IfSome result (spec.IsTablePlace link table.now) }
 {
     match stage {
@@ -242,7 +242,7 @@ fn links_place(
 }
 
 /// How many elements the array at a key has.
-fn count_at(keys: &Table, key: Key) -> usize
+fn count_at(keys: &Table, key: DeployKey) -> usize
     ensures { result ≡ spec.count_at (table_view keys.now) key }
 {
     let Some(value) = value_at(keys, key) else {
@@ -262,7 +262,7 @@ fn place_among_links(
 ) -> Result<Option<DeployPlace>, AllocError>
     ensures { IfOk result (λ o. IfSome o (spec.IsNumbersFault (table_view keys.now))) }
 {
-    let Some(value) = value_at(keys, Key::Link) else {
+    let Some(value) = value_at(keys, DeployKey::Link) else {
         return Ok(None);
     };
     match value.as_array() {
@@ -283,10 +283,10 @@ pub fn numbers_place(alloc: Global, keys: &Table) -> Result<Option<DeployPlace>,
     if start.is_some() {
         return Ok(start);
     }
-    if count_at(keys, Key::Resource) > MOST_RESOURCES {
+    if count_at(keys, DeployKey::Resource) > MOST_RESOURCES {
         return Ok(Some(DeployPlace::Resources));
     }
-    if count_at(keys, Key::Link) > MOST_LINKS {
+    if count_at(keys, DeployKey::Link) > MOST_LINKS {
         return Ok(Some(DeployPlace::Links));
     }
     place_among_links(alloc, Stage::Counts, keys)

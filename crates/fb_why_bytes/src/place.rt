@@ -61,7 +61,7 @@ pub enum TablePlace {
 
 /// A key of a deployment.
 #[derive(Clone, Copy)]
-pub enum Key {
+pub enum DeployKey {
     Resource,
     Link,
     Device,
@@ -79,11 +79,11 @@ pub enum TableFault {
     /// What stands there is no table.
     NoTable,
     /// A key is missing: of `latency` and `latencies`, both.
-    Missing(Key),
+    Missing(DeployKey),
     /// A key has no value of its kind.
-    Wrong(Key),
+    Wrong(DeployKey),
     /// An element of the array at a key, counted from 0, is none of its kind.
-    Element(Key, usize),
+    Element(DeployKey, usize),
     /// There is no resource.
     Empty,
     /// There are both `latency` and `latencies`.

@@ -8,7 +8,7 @@ ghost use Rattle.fb_why_bytes.specs.RowParts as spec;
 ghost use Rattle.fb_why_bytes.specs.RowVerdicts.{IsFine, IsRefusedFor, IsShapeFault, IsNumberFault};
 
 use crate::place::RowFault;
-use crate::row_verdict::{Verdict, has_numbers, has_shape, is_taken, judge_row};
+use crate::row_verdict::{RowVerdict, has_numbers, has_shape, is_taken, judge_row};
 use crate::words::words_of;
 use std::alloc::{AllocError, Global};
 
@@ -135,9 +135,9 @@ pub fn row_fault(
 {
     let verdict = judge_row(alloc, tick, event, values)?;
     match verdict {
-        Verdict::Taken => Ok(crowded(before)),
-        Verdict::Shape => shape_fault(alloc, event, values),
-        Verdict::Number => number_fault(alloc, tick, values),
-        Verdict::Limit => Ok(Some(RowFault::Late)),
+        RowVerdict::Taken => Ok(crowded(before)),
+        RowVerdict::Shape => shape_fault(alloc, event, values),
+        RowVerdict::Number => number_fault(alloc, tick, values),
+        RowVerdict::Limit => Ok(Some(RowFault::Late)),
     }
 }

@@ -13,7 +13,7 @@ pub const MOST_BYTES: usize = 16_777_216;
 
 /// What is said of a row.
 #[derive(Clone, Copy)]
-pub enum Verdict {
+pub enum RowVerdict {
     Taken,
     /// It has the wrong shape.
     Shape,
@@ -24,28 +24,28 @@ pub enum Verdict {
 }
 
 /// Whether nothing is said against the shape.
-pub fn has_shape(verdict: Verdict) -> bool
+pub fn has_shape(verdict: RowVerdict) -> bool
     ensures { result ≡ spec.has_shape verdict }
 {
-    !matches!(verdict, Verdict::Shape)
+    !matches!(verdict, RowVerdict::Shape)
 }
 
 /// Whether nothing is said against the numbers.
-pub fn has_numbers(verdict: Verdict) -> bool
+pub fn has_numbers(verdict: RowVerdict) -> bool
     ensures { result ≡ spec.has_numbers verdict }
 {
-    !matches!(verdict, Verdict::Number)
+    !matches!(verdict, RowVerdict::Number)
 }
 
 /// Whether nothing is said against the row.
-pub fn is_taken(verdict: Verdict) -> bool
+pub fn is_taken(verdict: RowVerdict) -> bool
     ensures { result ≡ spec.is_taken verdict }
 {
-    matches!(verdict, Verdict::Taken)
+    matches!(verdict, RowVerdict::Taken)
 }
 
 /// What the reader says of a text. One that is too long is not judged, as without memory for it.
-fn judge_text(alloc: Global, text: &[u8]) -> Result<Verdict, AllocError>
+fn judge_text(alloc: Global, text: &[u8]) -> Result<RowVerdict, AllocError>
     ensures { IfOk result (spec.IsShortVerdict text.now) }
 {
     if text.len() > MOST_BYTES {
@@ -54,12 +54,12 @@ fn judge_text(alloc: Global, text: &[u8]) -> Result<Verdict, AllocError>
     match read_stimuli(alloc, text) {
         Ok(stimuli) => {
             drop(stimuli);
-            Ok(Verdict::Taken)
+            Ok(RowVerdict::Taken)
         }
         Err(error) => match error {
-            InputError::Row => Ok(Verdict::Shape),
-            InputError::Number => Ok(Verdict::Number),
-            InputError::Limit => Ok(Verdict::Limit),
+            InputError::Row => Ok(RowVerdict::Shape),
+            InputError::Number => Ok(RowVerdict::Number),
+            InputError::Limit => Ok(RowVerdict::Limit),
             _ => Err(AllocError),
         },
     }
@@ -72,7 +72,7 @@ pub fn judge_row(
     tick: &[u8],
     event: &[u8],
     values: &[u8],
-) -> Result<Verdict, AllocError>
+) -> Result<RowVerdict, AllocError>
     ensures { IfOk result (spec.IsVerdict (tick.now ∷ event.now ∷ values.now ∷ [])) }
 {
     let text = row_text(alloc, tick, event, values)?;

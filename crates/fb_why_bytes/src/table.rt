@@ -10,29 +10,29 @@ ghost use Rattle.fb_why_bytes.specs.Tables as spec;
 
 use crate::names::{are_one_name, is_name};
 use crate::numbers::entry_of;
-use crate::place::{Key, TableFault, TablePlace};
+use crate::place::{DeployKey, TableFault, TablePlace};
 use std::alloc::{AllocError, Global};
 use toml::{Table, Value};
 
 /// How a key is written.
-pub fn key_text(key: Key) -> &'static str
+pub fn key_text(key: DeployKey) -> &'static str
     ensures { result.now ≡ wanted.text_of key }
 {
     match key {
-        Key::Resource => "resource",
-        Key::Link => "link",
-        Key::Device => "device",
-        Key::Name => "name",
-        Key::Instances => "instances",
-        Key::From => "from",
-        Key::To => "to",
-        Key::Latency => "latency",
-        Key::Latencies => "latencies",
+        DeployKey::Resource => "resource",
+        DeployKey::Link => "link",
+        DeployKey::Device => "device",
+        DeployKey::Name => "name",
+        DeployKey::Instances => "instances",
+        DeployKey::From => "from",
+        DeployKey::To => "to",
+        DeployKey::Latency => "latency",
+        DeployKey::Latencies => "latencies",
     }
 }
 
 /// The value at a key.
-pub fn value_at<'a>(keys: &'a Table, key: Key) -> Option<&'a Value>
+pub fn value_at<'a>(keys: &'a Table, key: DeployKey) -> Option<&'a Value>
     ensures { option_map (λ v. view v.now) result ≡ wanted.value_at (table_view keys.now) key }
 {
     keys.get(key_text(key))
@@ -56,7 +56,7 @@ fn is_name_value(alloc: Global, value: &Value) -> Result<bool, AllocError>
 }
 
 /// What is wrong with the name at a key that wants one.
-fn name_fault(alloc: Global, keys: &Table, key: Key) -> Result<Option<TableFault>, AllocError>
+fn name_fault(alloc: Global, keys: &Table, key: DeployKey) -> Result<Option<TableFault>, AllocError>
     requires { (d : Data) → wanted.is_of_kind key d ≡ is_some (inputs.name_of d) }
     ensures { IfOk result (λ o. MatchOption o (is_some (inputs.read_at inputs.name_of (wanted.text_of key) (table_view keys.now)) ≡ true) (spec.IsAtKey (table_view keys.now) key)) }
 {
@@ -106,15 +106,15 @@ fn no_pair(values: &[Value]) -> Option<usize>
 fn instances_fault(alloc: Global, keys: &Table) -> Result<Option<TableFault>, AllocError>
     ensures { IfOk result (λ o. MatchOption o (is_some (inputs.read_at (inputs.array_of inputs.name_of) (codes "instances") (table_view keys.now)) ≡ true) (spec.IsResourceFault (table_view keys.now))) }
 {
-    let Some(value) = value_at(keys, Key::Instances) else {
-        return Ok(Some(TableFault::Missing(Key::Instances)));
+    let Some(value) = value_at(keys, DeployKey::Instances) else {
+        return Ok(Some(TableFault::Missing(DeployKey::Instances)));
     };
     let Some(values) = value.as_array() else {
-        return Ok(Some(TableFault::Wrong(Key::Instances)));
+        return Ok(Some(TableFault::Wrong(DeployKey::Instances)));
     };
     let found = no_name(alloc, values.as_slice())?;
     match found {
-        Some(place) => Ok(Some(TableFault::Element(Key::Instances, place))),
+        Some(place) => Ok(Some(TableFault::Element(DeployKey::Instances, place))),
         None => Ok(None),
     }
 }
@@ -123,10 +123,10 @@ fn instances_fault(alloc: Global, keys: &Table) -> Result<Option<TableFault>, Al
 fn resource_keys_fault(alloc: Global, keys: &Table) -> Result<Option<TableFault>, AllocError>
     ensures { IfOk result (λ o. MatchOption o (is_some (inputs.resource (table (table_view keys.now))) ≡ true) (spec.IsResourceFault (table_view keys.now))) }
 {
-    if let Some(fault) = name_fault(alloc, keys, Key::Device)? {
+    if let Some(fault) = name_fault(alloc, keys, DeployKey::Device)? {
         return Ok(Some(fault));
     }
-    if let Some(fault) = name_fault(alloc, keys, Key::Name)? {
+    if let Some(fault) = name_fault(alloc, keys, DeployKey::Name)? {
         return Ok(Some(fault));
     }
     if let Some(fault) = instances_fault(alloc, keys)? {
@@ -143,31 +143,31 @@ fn entries_fault(value: &Value) -> Option<TableFault>
     ensures { MatchOption result (is_some (inputs.array_of inputs.pair (view value.now)) ≡ true) (spec.IsEntriesFault (view value.now)) }
 {
     let Some(values) = value.as_array() else {
-        return Some(TableFault::Wrong(Key::Latencies));
+        return Some(TableFault::Wrong(DeployKey::Latencies));
     };
     match no_pair(values.as_slice()) {
-        Some(place) => Some(TableFault::Element(Key::Latencies, place)),
+        Some(place) => Some(TableFault::Element(DeployKey::Latencies, place)),
         None => None,
     }
 }
 
 /// What is wrong with the one or more latencies of a link.
 fn latency_fault(keys: &Table) -> Option<TableFault>
-    ensures { MatchOption result (is_some (inputs.table_of (wanted.value_at (table_view keys.now) Key.Latency) (wanted.value_at (table_view keys.now) Key.Latencies)) ≡ true) (spec.IsLinkFault (table_view keys.now)) }
+    ensures { MatchOption result (is_some (inputs.table_of (wanted.value_at (table_view keys.now) DeployKey.Latency) (wanted.value_at (table_view keys.now) DeployKey.Latencies)) ≡ true) (spec.IsLinkFault (table_view keys.now)) }
 {
-    match value_at(keys, Key::Latency) {
+    match value_at(keys, DeployKey::Latency) {
         Some(ticks) => {
-            if value_at(keys, Key::Latencies).is_some() {
+            if value_at(keys, DeployKey::Latencies).is_some() {
                 Some(TableFault::Both)
             } else if ticks.as_integer().is_some() {
                 None
             } else {
-                Some(TableFault::Wrong(Key::Latency))
+                Some(TableFault::Wrong(DeployKey::Latency))
             }
         }
-        None => match value_at(keys, Key::Latencies) {
+        None => match value_at(keys, DeployKey::Latencies) {
             Some(entries) => entries_fault(entries),
-            None => Some(TableFault::Missing(Key::Latency)),
+            None => Some(TableFault::Missing(DeployKey::Latency)),
         },
     }
 }
@@ -176,7 +176,10 @@ fn latency_fault(keys: &Table) -> Option<TableFault>
 fn leads_to_itself(alloc: Global, keys: &Table) -> Result<bool, AllocError>
     ensures { IfOk result (λ b. b ≡ spec.is_loop (table_view keys.now)) }
 {
-    let (Some(start), Some(end)) = (value_at(keys, Key::From), value_at(keys, Key::To)) else {
+    let (Some(start), Some(end)) = (
+        value_at(keys, DeployKey::From),
+        value_at(keys, DeployKey::To),
+    ) else {
         return Ok(false);
     };
     match (start.as_str(), end.as_str()) {
@@ -189,10 +192,10 @@ fn leads_to_itself(alloc: Global, keys: &Table) -> Result<bool, AllocError>
 fn link_keys_fault(alloc: Global, keys: &Table) -> Result<Option<TableFault>, AllocError>
     ensures { IfOk result (λ o. MatchOption o (is_some (inputs.link (table (table_view keys.now))) ≡ true) (spec.IsLinkFault (table_view keys.now))) }
 {
-    if let Some(fault) = name_fault(alloc, keys, Key::From)? {
+    if let Some(fault) = name_fault(alloc, keys, DeployKey::From)? {
         return Ok(Some(fault));
     }
-    if let Some(fault) = name_fault(alloc, keys, Key::To)? {
+    if let Some(fault) = name_fault(alloc, keys, DeployKey::To)? {
         return Ok(Some(fault));
     }
     if let Some(fault) = latency_fault(keys) {
@@ -258,11 +261,11 @@ fn links_fault(alloc: Global, values: &[Value]) -> Result<Option<(usize, TableFa
 fn resources_at(alloc: Global, keys: &Table) -> Result<Option<(TablePlace, TableFault)>, AllocError>
     ensures { IfOk result (λ o. MatchOption o (is_some (inputs.read_at (inputs.array_of inputs.resource) (codes "resource") (table_view keys.now)) ≡ true) (λ r. spec.IsShapeFault (table_view keys.now) r.0 r.1)) }
 {
-    let Some(value) = value_at(keys, Key::Resource) else {
-        return Ok(Some((TablePlace::Top, TableFault::Missing(Key::Resource))));
+    let Some(value) = value_at(keys, DeployKey::Resource) else {
+        return Ok(Some((TablePlace::Top, TableFault::Missing(DeployKey::Resource))));
     };
     let Some(values) = value.as_array() else {
-        return Ok(Some((TablePlace::Top, TableFault::Wrong(Key::Resource))));
+        return Ok(Some((TablePlace::Top, TableFault::Wrong(DeployKey::Resource))));
     };
     let found = resources_fault(alloc, values.as_slice())?;
     match found {
@@ -275,11 +278,11 @@ fn resources_at(alloc: Global, keys: &Table) -> Result<Option<(TablePlace, Table
 fn links_at(alloc: Global, keys: &Table) -> Result<Option<(TablePlace, TableFault)>, AllocError>
     ensures { IfOk result (λ o. MatchOption o (is_some (inputs.optional_array inputs.link (get_member (codes "link") (table_view keys.now))) ≡ true) (λ r. spec.IsShapeFault (table_view keys.now) r.0 r.1)) }
 {
-    let Some(value) = value_at(keys, Key::Link) else {
+    let Some(value) = value_at(keys, DeployKey::Link) else {
         return Ok(None);
     };
     let Some(values) = value.as_array() else {
-        return Ok(Some((TablePlace::Top, TableFault::Wrong(Key::Link))));
+        return Ok(Some((TablePlace::Top, TableFault::Wrong(DeployKey::Link))));
     };
     let found = links_fault(alloc, values.as_slice())?;
     match found {
@@ -292,7 +295,7 @@ fn links_at(alloc: Global, keys: &Table) -> Result<Option<(TablePlace, TableFaul
 fn has_known_keys(keys: &Table) -> bool
     ensures { result ≡ spec.has_known_keys (table_view keys.now) }
 {
-    let known = if value_at(keys, Key::Link).is_some() {
+    let known = if value_at(keys, DeployKey::Link).is_some() {
         2
     } else {
         1
@@ -310,7 +313,7 @@ fn is_empty(values: &[Value]) -> bool
 fn has_no_resource(keys: &Table) -> bool
     ensures { result ≡ spec.has_no_resource (table_view keys.now) }
 {
-    let Some(value) = value_at(keys, Key::Resource) else {
+    let Some(value) = value_at(keys, DeployKey::Resource) else {
         return false;
     };
     match value.as_array() {

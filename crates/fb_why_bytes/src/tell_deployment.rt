@@ -1,6 +1,6 @@
 //! The texts that tell where a deployment is refused.
 
-use crate::place::{DeployPlace, Key, TableFault, TablePlace};
+use crate::place::{DeployKey, DeployPlace, TableFault, TablePlace};
 use crate::table::{key_text, value_at};
 use crate::text::{push_number, push_place, push_quoted};
 use std::alloc::{AllocError, Global};
@@ -26,22 +26,17 @@ fn push_deployment(
     text.push_str("deployment: ")?;
     match place {
         DeployPlace::Bytes => text.push_str("there are more than 1,048,576 bytes"),
-        DeployPlace::Document(at) => push_position(alloc, text, bytes, at),
+        DeployPlace::Document(at) => push_position(text, bytes, at),
         DeployPlace::Shape { table, fault } => {
-            push_table(alloc, text, table)?;
+            push_table(text, table)?;
             push_fault(alloc, text, bytes, table, fault)
         }
-        _ => push_numbers(alloc, text, place),
+        _ => push_numbers(text, place),
     }
 }
 
 /// The line and the column of a byte, both counted from 1. A column counts characters.
-fn push_position(
-    alloc: Global,
-    text: &mut String,
-    bytes: &[u8],
-    at: usize,
-) -> Result<(), AllocError> {
+fn push_position(text: &mut String, bytes: &[u8], at: usize) -> Result<(), AllocError> {
     let mut line = 1usize;
     let mut column = 1usize;
     for byte in bytes.iter().take(at) {
@@ -53,25 +48,25 @@ fn push_position(
         }
     }
     text.push_str("line ")?;
-    push_number(alloc, text, line)?;
+    push_number(text, line)?;
     text.push_str(", column ")?;
-    push_number(alloc, text, column)?;
+    push_number(text, column)?;
     text.push_str(": this is no TOML")
 }
 
-fn push_table(alloc: Global, text: &mut String, table: TablePlace) -> Result<(), AllocError> {
+fn push_table(text: &mut String, table: TablePlace) -> Result<(), AllocError> {
     match table {
         TablePlace::Top => Ok(()),
         TablePlace::Resource(place) => {
-            push_place(alloc, text, place)?;
+            push_place(text, place)?;
             text.push_str(" resource: ")
         }
-        TablePlace::Link(place) => push_link(alloc, text, place),
+        TablePlace::Link(place) => push_link(text, place),
     }
 }
 
-fn push_link(alloc: Global, text: &mut String, link: usize) -> Result<(), AllocError> {
-    push_place(alloc, text, link)?;
+fn push_link(text: &mut String, link: usize) -> Result<(), AllocError> {
+    push_place(text, link)?;
     text.push_str(" link: ")
 }
 
@@ -85,7 +80,7 @@ fn push_fault(
 ) -> Result<(), AllocError> {
     match fault {
         TableFault::NoTable => text.push_str("it is no table"),
-        TableFault::Missing(Key::Latency) => {
+        TableFault::Missing(DeployKey::Latency) => {
             text.push_str("there is neither latency nor latencies")
         }
         TableFault::Missing(key) => {
@@ -99,9 +94,9 @@ fn push_fault(
         TableFault::Element(key, place) => {
             text.push_str(key_text(key))?;
             text.push_str(": the ")?;
-            push_place(alloc, text, place)?;
+            push_place(text, place)?;
             text.push_str(match key {
-                Key::Instances => " element is not a name",
+                DeployKey::Instances => " element is not a name",
                 _ => " entry is not two whole numbers",
             })
         }
@@ -113,21 +108,26 @@ fn push_fault(
 }
 
 /// What the value at a key is not.
-fn kind_of(key: Key) -> &'static str {
+fn kind_of(key: DeployKey) -> &'static str {
     match key {
-        Key::Resource | Key::Link => " is not an array of tables",
-        Key::Device | Key::Name | Key::From | Key::To => " is not a name",
-        Key::Instances | Key::Latencies => " is not an array",
-        Key::Latency => " is not a whole number",
+        DeployKey::Resource | DeployKey::Link => " is not an array of tables",
+        DeployKey::Device | DeployKey::Name | DeployKey::From | DeployKey::To => " is not a name",
+        DeployKey::Instances | DeployKey::Latencies => " is not an array",
+        DeployKey::Latency => " is not a whole number",
     }
 }
 
 /// The keys that a table may have.
-fn known_keys(table: TablePlace) -> &'static [Key] {
+fn known_keys(table: TablePlace) -> &'static [DeployKey] {
     match table {
-        TablePlace::Top => &[Key::Resource, Key::Link],
-        TablePlace::Resource(_) => &[Key::Device, Key::Name, Key::Instances],
-        TablePlace::Link(_) => &[Key::From, Key::To, Key::Latency, Key::Latencies],
+        TablePlace::Top => &[DeployKey::Resource, DeployKey::Link],
+        TablePlace::Resource(_) => &[DeployKey::Device, DeployKey::Name, DeployKey::Instances],
+        TablePlace::Link(_) => &[
+            DeployKey::From,
+            DeployKey::To,
+            DeployKey::Latency,
+            DeployKey::Latencies,
+        ],
     }
 }
 
@@ -166,8 +166,8 @@ fn push_unknown(text: &mut String, keys: &Table, table: TablePlace) -> Result<()
 fn table_at(keys: &Table, table: TablePlace) -> Option<&Table> {
     match table {
         TablePlace::Top => Some(keys),
-        TablePlace::Resource(place) => element_at(value_at(keys, Key::Resource)?, place),
-        TablePlace::Link(place) => element_at(value_at(keys, Key::Link)?, place),
+        TablePlace::Resource(place) => element_at(value_at(keys, DeployKey::Resource)?, place),
+        TablePlace::Link(place) => element_at(value_at(keys, DeployKey::Link)?, place),
     }
 }
 
@@ -176,26 +176,26 @@ fn element_at(value: &Value, place: usize) -> Option<&Table> {
 }
 
 /// What is wrong with the numbers of a deployment.
-fn push_numbers(alloc: Global, text: &mut String, place: DeployPlace) -> Result<(), AllocError> {
+fn push_numbers(text: &mut String, place: DeployPlace) -> Result<(), AllocError> {
     match place {
         DeployPlace::Latency { link, entry } => {
-            push_link(alloc, text, link)?;
+            push_link(text, link)?;
             text.push_str("the latency of the ")?;
-            push_place(alloc, text, entry)?;
+            push_place(text, entry)?;
             text.push_str(" entry is not within 1 to 1,000,000")
         }
         DeployPlace::NoEntry { link } => {
-            push_link(alloc, text, link)?;
+            push_link(text, link)?;
             text.push_str("latencies has no entry")
         }
         DeployPlace::Entry { link, entry: 0 } => {
-            push_link(alloc, text, link)?;
+            push_link(text, link)?;
             text.push_str("the 1st entry is not at tick 0")
         }
         DeployPlace::Entry { link, entry } => {
-            push_link(alloc, text, link)?;
+            push_link(text, link)?;
             text.push_str("the tick of the ")?;
-            push_place(alloc, text, entry)?;
+            push_place(text, entry)?;
             text.push_str(
                 " entry is not behind that of the entry before it, or is over 1,000,000,000,000",
             )
@@ -203,7 +203,7 @@ fn push_numbers(alloc: Global, text: &mut String, place: DeployPlace) -> Result<
         DeployPlace::Resources => text.push_str("there are more than 256 resources"),
         DeployPlace::Links => text.push_str("there are more than 1,024 links"),
         DeployPlace::Entries { link } => {
-            push_link(alloc, text, link)?;
+            push_link(text, link)?;
             text.push_str("there are more than 64 entries")
         }
         _ => Ok(()),

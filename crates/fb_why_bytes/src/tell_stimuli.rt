@@ -28,7 +28,7 @@ fn push_stimuli(
         StimuliPlace::Bytes => text.push_str("there are more than 16,777,216 bytes"),
         StimuliPlace::Heading => text.push_str("the first record is not tick,event,values"),
         StimuliPlace::Row { row, fault } => {
-            push_place(alloc, text, row)?;
+            push_place(text, row)?;
             text.push_str(" row behind the heading: ")?;
             push_row(alloc, text, bytes, row, fault)
         }
@@ -66,7 +66,7 @@ fn push_fault(
 ) -> Result<(), AllocError> {
     match fault {
         RowFault::Fields => {
-            push_number(alloc, text, row.len())?;
+            push_number(text, row.len())?;
             text.push_str(" fields, and not 3")
         }
         RowFault::Event => push_field(text, "the event ", row.get(1), " is not INSTANCE.EVENT"),

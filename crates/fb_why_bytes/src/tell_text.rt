@@ -16,77 +16,115 @@ pub fn tell_text(
     fault: &ReadError,
     place: TextPlace,
 ) -> Result<String, AllocError> {
+    let mut told = String::new(alloc);
+    push_fault(alloc, &mut told, text, fault, place)?;
+    Ok(told)
+}
+
+fn push_fault(
+    alloc: Global,
+    told: &mut String,
+    text: &[u8],
+    fault: &ReadError,
+    place: TextPlace,
+) -> Result<(), AllocError> {
     let TextPlace {
         start,
+        end,
         line,
         column,
-        ..
     } = place;
-    let here = token_text(alloc, text, place)?;
+    write!(told, "line {line}, column {column}: ")?;
     let before = text.get(..start).unwrap_or(text);
-    let matter = matter_of(alloc, fault, before, here.as_str())?;
-    format!(in alloc; "line {line}, column {column}: {matter}")
+    let here = token(text.get(start..end).unwrap_or(&[]));
+    push_matter(alloc, told, fault, before, here)
+}
+
+/// What is told of what stands at a place: of an open comment its beginning.
+fn token(here: &[u8]) -> &[u8] {
+    match here {
+        [b'(', b'*', ..] => b"(*",
+        _ => here,
+    }
 }
 
 /// What is the matter with what stands there, behind the beginning of the text.
-fn matter_of(
+fn push_matter(
     alloc: Global,
+    told: &mut String,
     fault: &ReadError,
     before: &[u8],
-    here: &str,
-) -> Result<String, AllocError> {
+    here: &[u8],
+) -> Result<(), AllocError> {
     match fault {
-        ReadError::Memory => String::from_str(alloc, "out of memory"),
-        ReadError::Byte => format!(in alloc; "{here} may stand in comments alone"),
-        ReadError::Token if here == "(*" => {
-            String::from_str(alloc, "the comment that begins here is not closed")
-        }
-        ReadError::Token => format!(in alloc; "{here} is no token"),
-        ReadError::Syntax { .. } => syntax_matter(alloc, before, here),
-        ReadError::TooLong => format!(in alloc; "a text has at most {MOST_BYTES} bytes"),
-        ReadError::Nesting => format!(in alloc; "with {here} more than 64 are nested"),
+        ReadError::Memory => told.push_str("out of memory"),
+        ReadError::Byte => push_about(told, "", here, " may stand in comments alone"),
+        ReadError::Token => push_no_token(told, here),
+        ReadError::Syntax { .. } => push_syntax(alloc, told, before, here),
+        ReadError::TooLong => write!(told, "a text has at most {MOST_BYTES} bytes"),
+        ReadError::Nesting => push_about(told, "with ", here, " more than 64 are nested"),
     }
+}
+
+fn push_no_token(told: &mut String, here: &[u8]) -> Result<(), AllocError> {
+    match here {
+        [b'(', b'*', ..] => told.push_str("the comment that begins here is not closed"),
+        _ => push_about(told, "", here, " is no token"),
+    }
+}
+
+/// Adds what stands there, between words.
+fn push_about(
+    told: &mut String,
+    before: &str,
+    here: &[u8],
+    behind: &str,
+) -> Result<(), AllocError> {
+    told.push_str(before)?;
+    push_shown(told, here)?;
+    told.push_str(behind)
 }
 
 /// What was wanted behind the beginning of a text, in place of what stands there.
-fn syntax_matter(alloc: Global, before: &[u8], here: &str) -> Result<String, AllocError> {
-    let found = if here.is_empty() {
-        "the end of the text"
+fn push_syntax(
+    alloc: Global,
+    told: &mut String,
+    before: &[u8],
+    here: &[u8],
+) -> Result<(), AllocError> {
+    told.push_str("found ")?;
+    if here.is_empty() {
+        told.push_str("the end of the text")?;
     } else {
-        here
-    };
+        push_shown(told, here)?;
+    }
     let wanted = expected(alloc, before)?;
+    push_wanted(told, wanted.as_str())
+}
+
+/// Adds the tokens that were wanted, if any is known.
+fn push_wanted(told: &mut String, wanted: &str) -> Result<(), AllocError> {
     if wanted.is_empty() {
-        format!(in alloc; "found {found}")
-    } else if wanted.as_str().contains(" ") {
-        format!(in alloc; "found {found}, expected one of {wanted}")
+        return Ok(());
+    }
+    told.push_str(if wanted.contains(" ") {
+        ", expected one of "
     } else {
-        format!(in alloc; "found {found}, expected {wanted}")
-    }
+        ", expected "
+    })?;
+    told.push_str(wanted)
 }
 
-/// What stands at the place, shortened. Of an open comment its beginning is told.
-fn token_text(alloc: Global, text: &[u8], place: TextPlace) -> Result<String, AllocError> {
-    let here = text.get(place.start..place.end).unwrap_or(&[]);
-    if let [b'(', b'*', ..] = here {
-        return String::from_str(alloc, "(*");
-    }
-    shown(alloc, here)
-}
-
-/// Bytes as a text: what is not printable by its number.
-fn shown(alloc: Global, bytes: &[u8]) -> Result<String, AllocError> {
-    let mut all = String::new(alloc);
+/// Adds bytes as a text, not too many of them: what is not printable by its number.
+fn push_shown(told: &mut String, bytes: &[u8]) -> Result<(), AllocError> {
     for byte in bytes.iter().take(MOST_TOLD) {
-        if (b' '..=b'~').contains(byte) {
-            all.push(char::from(*byte))?;
-        } else {
-            let byte = format!(in alloc; "byte {byte}")?;
-            all.push_str(byte.as_str())?;
+        match *byte {
+            b' '..=b'~' => told.push(char::from(*byte))?,
+            _ => write!(told, "byte {byte}")?,
         }
     }
     if bytes.len() > MOST_TOLD {
-        all.push_str("..")?;
+        told.push_str("..")?;
     }
-    Ok(all)
+    Ok(())
 }

@@ -1,6 +1,6 @@
 //! Texts that are put together.
 
-use std::alloc::{AllocError, Global};
+use std::alloc::AllocError;
 
 /// The greatest number of bytes of which one is told as they stand.
 const MOST_TOLD: usize = 60;
@@ -17,15 +17,14 @@ fn ending(place: usize) -> &'static str {
 }
 
 /// Adds a number.
-pub fn push_number(alloc: Global, text: &mut String, number: usize) -> Result<(), AllocError> {
-    let digits = format!(in alloc; "{number}")?;
-    text.push_str(digits.as_str())
+pub fn push_number(text: &mut String, number: usize) -> Result<(), AllocError> {
+    write!(text, "{number}")
 }
 
 /// Adds a place that is counted from 0, as in 1st for 0.
-pub fn push_place(alloc: Global, text: &mut String, place: usize) -> Result<(), AllocError> {
+pub fn push_place(text: &mut String, place: usize) -> Result<(), AllocError> {
     let counted = place.saturating_add(1);
-    push_number(alloc, text, counted)?;
+    push_number(text, counted)?;
     text.push_str(ending(counted))
 }
 

@@ -10,7 +10,7 @@ use std::alloc::{AllocError, Global};
 
 /// Whether a text is read, or how it is refused.
 #[derive(Clone, Copy)]
-pub enum Verdict {
+pub enum TextVerdict {
     Library,
     Byte,
     Token,
@@ -21,21 +21,21 @@ pub enum Verdict {
 
 /// How a text is read.
 #[tactic(auto, using(crate::proofs::TextReadings::library_tokens))]
-pub fn verdict_on(alloc: Global, text: &[u8]) -> Result<Verdict, AllocError>
+pub fn verdict_on(alloc: Global, text: &[u8]) -> Result<TextVerdict, AllocError>
     ensures { IfOk result (IsVerdict text.now) }
 {
     match read_library(alloc, text) {
         Ok(library) => {
             discard(library);
-            Ok(Verdict::Library)
+            Ok(TextVerdict::Library)
         }
         Err(fault) => match fault {
             ReadError::Memory => Err(AllocError),
-            ReadError::Byte => Ok(Verdict::Byte),
-            ReadError::Token => Ok(Verdict::Token),
-            ReadError::Syntax { line } => Ok(Verdict::Syntax { line }),
-            ReadError::TooLong => Ok(Verdict::TooLong),
-            ReadError::Nesting => Ok(Verdict::Nesting),
+            ReadError::Byte => Ok(TextVerdict::Byte),
+            ReadError::Token => Ok(TextVerdict::Token),
+            ReadError::Syntax { line } => Ok(TextVerdict::Syntax { line }),
+            ReadError::TooLong => Ok(TextVerdict::TooLong),
+            ReadError::Nesting => Ok(TextVerdict::Nesting),
         },
     }
 }

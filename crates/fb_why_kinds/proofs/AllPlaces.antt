@@ -14,12 +14,12 @@ use Rattle.fb_kinds.specs.Checks.{is_known_block}
 use Rattle.fb_kinds.proofs.Checks.{known_answer}
 use Rattle.fb_names.specs.Unknown.{NetworkUnknown, DeploymentUnknown}
 use Rattle.fb_names.proofs.Resolving.{all_known}
-use Rattle.fb_why_kinds.specs.declared.place.Place.{Place}
-use Rattle.fb_why_kinds.specs.declared.place.Place.TheVariants.{InstanceType, Parameter, End, With, Transition, Action, Guard, Body, Mapped, LinkEnd}
+use Rattle.fb_why_kinds.specs.declared.place.UnknownName.{UnknownName}
+use Rattle.fb_why_kinds.specs.declared.place.UnknownName.TheVariants.{InstanceType, Parameter, End, With, Transition, Action, Guard, Body, Mapped, LinkEnd}
 use Rattle.fb_why_kinds.specs.Unknown.{IsUnknownIn, IsUnknownAt, IsBlockKnown}
 
 -- a place in the declaration is one of all
-pub in_declaration : (lib : Library) (plan : Plan) (p : Place) → IsUnknownIn lib p → IsUnknownAt lib plan p
+pub in_declaration : (lib : Library) (plan : Plan) (p : UnknownName) → IsUnknownIn lib p → IsUnknownAt lib plan p
 in_declaration lib plan (InstanceType s i) h = h
 in_declaration lib plan (Parameter s i p) h = h
 in_declaration lib plan (End s f k side) h = h
@@ -63,7 +63,7 @@ name_known lib plan application blocks deployment =
 
 -- what the search through the deployment answers, where nothing was found before
 pub whole_answer :
-    (lib its : Library) (plan : Plan) (r : Option Place) → its ≡ lib → ¬ (NetworkUnknown its (None, lib.application.network)) → All (IsBlockKnown its) its.blocks
+    (lib its : Library) (plan : Plan) (r : Option UnknownName) → its ≡ lib → ¬ (NetworkUnknown its (None, lib.application.network)) → All (IsBlockKnown its) its.blocks
     → MatchOption r (¬ (DeploymentUnknown lib plan)) (IsUnknownAt lib plan) → MatchOption r (¬ (NameUnknown lib plan)) (IsUnknownAt lib plan)
 whole_answer lib its plan r same application blocks answer =
     let of_application : ¬ (NetworkUnknown lib (None, lib.application.network)) =

@@ -24,7 +24,7 @@ use Rattle.fb_kinds.proofs.Checks.{chart_right_met, wrong_answer}
 use Rattle.fb_why_kinds.specs.declared.place.Misfit.{Misfit}
 use Rattle.fb_why_kinds.specs.declared.place.Misfit.TheVariants as misfit
 use Rattle.fb_why_kinds.specs.declared.place.Misjoin.{Misjoin}
-use Rattle.fb_why_kinds.specs.declared.place.Part.{Part}
+use Rattle.fb_why_kinds.specs.declared.place.StatementPart.{StatementPart}
 use Rattle.fb_why_kinds.specs.declared.place.Site.{Site}
 use Rattle.fb_why_kinds.specs.declared.place.Site.TheVariants.{Application, Inside}
 use Rattle.fb_why_kinds.specs.declared.place.Variables.{Variables}
@@ -124,7 +124,7 @@ guard_applies lib b k m =
     chart_wrong lib b t m.at
     (chart_right_met t ∙ and_left (list_all (is_guard_right t) t.transitions) (list_all (algorithm_right t) t.algorithms) guards)
 
-statement_applies : (lib : Library) (b a k : ℕ) (o : Part) → IsStatementMisfit lib b a k o → KindWrong lib
+statement_applies : (lib : Library) (b a k : ℕ) (o : StatementPart) → IsStatementMisfit lib b a k o → KindWrong lib
 statement_applies lib b a k o m =
     let t = m.in_type in
     let ss = each_in_body false (body_of m.algorithm.body) in

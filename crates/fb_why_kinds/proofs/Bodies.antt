@@ -11,7 +11,7 @@ use Rattle.fb_types.specs.declared.library.BasicType.{BasicType}
 use Rattle.fb_types.specs.declared.text.Choice.{Choice, fold_out-Choice, out-Choice}
 use Rattle.fb_kinds.specs.Checks.{algorithm_right, in_place}
 use Rattle.fb_kinds.specs.Trees.{all_of, choice_of, choices_of}
-use Rattle.fb_why_kinds.specs.declared.place.Part.{Part}
+use Rattle.fb_why_kinds.specs.declared.place.StatementPart.{StatementPart}
 use Rattle.fb_why_kinds.specs.declared.statements.Standing as code
 use Rattle.fb_why_kinds.specs.Statements.{Standing, WrongAmong, all_standing, standing_of, choice_right, conditions_right, each_in_body, each_in_branches, each_in_choices, each_inside, own_right, stands_right}
 
@@ -119,7 +119,7 @@ standing_at (y ∷ ys) zero x h e = ap (λ (z : code.Standing). Some (standing_o
 standing_at (y ∷ ys) (suc k) x h e = standing_at ys k x (omega (arith, h)) e
 
 pub statement_answer :
-    (t : BasicType) (a : Algorithm) (ss : List Standing) (r : Option (ℕ × Part)) → ss ≡ each_in_body false (body_of a.body)
+    (t : BasicType) (a : Algorithm) (ss : List Standing) (r : Option (ℕ × StatementPart)) → ss ≡ each_in_body false (body_of a.body)
     → MatchOption r (all_right t ss ≡ true) (WrongAmong t ss) → MatchOption r (algorithm_right t a ≡ true) (WrongAmong t (each_in_body false (body_of a.body)))
 statement_answer t a ss r all answer =
     elim r as (λ r. MatchOption r (all_right t ss ≡ true) (WrongAmong t ss) → MatchOption r (algorithm_right t a ≡ true) (WrongAmong t (each_in_body false (body_of a.body)))) [

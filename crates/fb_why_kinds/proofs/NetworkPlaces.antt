@@ -1,13 +1,12 @@
 -- Networks in which a name stands for nothing, and networks in which each stands for something.
-use Rattle.std.proofs.Common.{◌≡◌, ◌&&◌, ◌||◌, ℕ, zero, suc, Bool, true, false, List, [], ◌∷◌, ◌++◌, map, Some, None, Option, Contains, MatchOption, refl, sym, ◌∙◌, ap, subst, inl, inr}
+use Rattle.std.proofs.Common.{◌≡◌, ◌&&◌, ◌||◌, ℕ, zero, suc, Bool, true, false, List, [], ◌∷◌, map, Some, None, Option, Contains, MatchOption, refl, sym, ◌∙◌, ap, subst, inl, inr}
 use Rattle.std.specs.Prelude.{flat_map, slice_get, option_map, option_and_then}
 use Rattle.std.specs.List.{find, list_all, list_any}
 use Rattle.std.proofs.lemmas.Bool.{true≢false}
-use Rattle.std.proofs.lemmas.List.Folds.{list_any-append}
 use Rattle.std.proofs.lemmas.Option.{same_Some}
 use Rattle.std.proofs.lemmas.List.Elements.{Contains-append_cases}
 use Rattle.fb_types.specs.Names.{Name, same_name}
-use Rattle.fb_types.specs.Blocks.{Kind, among, ports_of, variable_names}
+use Rattle.fb_types.specs.Blocks.{Kind, among, ports_of}
 use Rattle.fb_types.specs.Flat.{instance_in, kind_of_instance}
 use Rattle.fb_types.specs.Repeated.{Placed, block_type_names}
 use Rattle.fb_types.specs.Unknown.{Wanted, all_of, types_wanted, parameters_wanted, data_ins, is_end}
@@ -18,14 +17,13 @@ use Rattle.fb_types.specs.declared.library.Network.{Network}
 use Rattle.fb_types.specs.declared.library.Parameter.{Parameter}
 use Rattle.fb_types.specs.declared.library.PortName.{PortName}
 use Rattle.fb_types.specs.declared.library.Ports.{Ports}
-use Rattle.fb_types.specs.declared.library.Variable.{Variable}
 use Rattle.fb_types.proofs.NameLaws.{any_from_contains, find-named}
 use Rattle.fb_kinds.specs.Checks.{is_met, all_met}
 use Rattle.fb_types.proofs.ListTests.{list_all-map, list_all-flat_map}
 use Rattle.fb_names.specs.Unknown.{NetworkUnknown}
 use Rattle.fb_names.proofs.NetworkUnknown.{met, met_wanted, list_all-all_of}
-use Rattle.fb_why_kinds.specs.declared.place.Flow.{Flow}
-use Rattle.fb_why_kinds.specs.declared.place.Flow.TheVariants.{Events, Data}
+use Rattle.fb_why_kinds.specs.declared.place.FlowKind.{FlowKind}
+use Rattle.fb_why_kinds.specs.declared.place.FlowKind.TheVariants.{Events, Data}
 use Rattle.fb_why_kinds.specs.declared.place.Side.{Side}
 use Rattle.fb_why_kinds.specs.declared.place.Site.{Site}
 use Rattle.fb_why_kinds.specs.Sites.{network_at, instance_at, connections_of}
@@ -46,14 +44,6 @@ unmet_is w h c = true≢false (sym (any_from_contains w.0 w.1 c) ∙ h)
 pub any_map : {A : Type 0} (f : A → Name) (n : Name) (xs : List A) → list_any (λ x. same_name n (f x)) xs ≡ among (map f xs) n
 any_map f n [] = refl
 any_map f n (x ∷ xs) = ap (λ b. same_name n (f x) || b) (any_map f n xs)
-
--- a name among the variables of three lists
-pub variables_any :
-    (n : Name) (a b c : List Variable) → ((list_any (λ v. same_name n v.name) a || list_any (λ v. same_name n v.name) b) || list_any (λ v. same_name n v.name) c)
-    ≡ among (variable_names (a ++ b ++ c)) n
-variables_any n a b c =
-    let is : Variable → Bool = λ v. same_name n v.name in
-    (λ i. sym (list_any-append is a b) i || list_any is c) ∙ sym (list_any-append is (a ++ b) c) ∙ any_map (λ (v : Variable). v.name) n (a ++ b ++ c)
 
 -- where nothing is answered
 pub none_answer : {A : Type 0} (o : Option A) (N : Type 0) (P : A → Type 0) → o ≡ None → N → MatchOption o N P
@@ -166,7 +156,7 @@ parameter_place lib s n k p i at found h =
     (h.0, ap (option_and_then (λ (x : Instance). parameter_wanted lib x p)) (instance_is lib s n k i at found) ∙ h.1, h.2)
 
 pub end_place :
-    (lib : Library) (s : Site) (n : Placed) (f : Flow) (k : ℕ) (side : Side) (c : Connection) → network_at lib s ≡ Some n
+    (lib : Library) (s : Site) (n : Placed) (f : FlowKind) (k : ℕ) (side : Side) (c : Connection) → network_at lib s ≡ Some n
     → slice_get (connections_of f n.1) k ≡ Some c → is_side_known lib n f side c ≡ false → IsUnknownEnd lib s f k side
 end_place lib s n f k side c at found h = record { network = n; stands = c; at = at; found = found; unknown = h }
 

@@ -5,8 +5,8 @@ use Rattle.fb_types.specs.Kinds.{Place, is_condition, is_sort, is_whole, same_so
 use Rattle.fb_types.specs.Names.{Name}
 use Rattle.fb_types.specs.Syntax.{Expr, Stmt, Empty, Exit, Return, Assign, If, Case, For, While, Repeat, no_stmt, Choices, no_choice, then_choices}
 use Rattle.fb_types.specs.declared.sort.Sort.TheVariants.{WholeNumber}
-use Rattle.fb_why_kinds.specs.declared.place.Part.{Part}
-use Rattle.fb_why_kinds.specs.declared.place.Part.TheVariants as part
+use Rattle.fb_why_kinds.specs.declared.place.StatementPart.{StatementPart}
+use Rattle.fb_why_kinds.specs.declared.place.StatementPart.TheVariants as part
 use Rattle.fb_why_kinds.specs.Statements.{choice_right, conditions_right, own_right, part_right}
 
 first : (a b : Bool) → (a && b) ≡ true → a ≡ true
@@ -37,7 +37,7 @@ parts_of_for p n a b c h =
     let one = and_parts free number two.0 in
     record { assigned = one.0; control = one.1; start = two.1; end = three.1; step = four.1 }
 
-part_passes : (p : Place) (s : Stmt) (o : Part) → own_right p s ≡ true → part_right p s o ≡ true
+part_passes : (p : Place) (s : Stmt) (o : StatementPart) → own_right p s ≡ true → part_right p s o ≡ true
 part_passes p Empty part.Exit h = refl
 part_passes p Empty part.Assigned h = refl
 part_passes p Empty part.Value h = refl
@@ -129,7 +129,7 @@ part_passes p (Repeat body c) part.End h = refl
 part_passes p (Repeat body c) part.Step h = refl
 part_passes p (Repeat body c) part.Condition h = h
 
-pub part_fails : (p : Place) (s : Stmt) (o : Part) → part_right p s o ≡ false → own_right p s ≡ false
+pub part_fails : (p : Place) (s : Stmt) (o : StatementPart) → part_right p s o ≡ false → own_right p s ≡ false
 part_fails p s o h =
     elim (own_right p s) as (λ b. own_right p s ≡ b → b ≡ false) [
       | true ↦ λ e. absurd (true≢false (sym (part_passes p s o e) ∙ h))

@@ -18,7 +18,7 @@ use Rattle.fb_types.specs.declared.library.Variable.{Variable}
 use Rattle.fb_kinds.specs.Checks.{in_place, is_guard_right, is_right_block}
 use Rattle.fb_why_kinds.specs.declared.place.Misfit.{Misfit}
 use Rattle.fb_why_kinds.specs.declared.place.Misfit.TheVariants as misfit
-use Rattle.fb_why_kinds.specs.declared.place.Part.{Part}
+use Rattle.fb_why_kinds.specs.declared.place.StatementPart.{StatementPart}
 use Rattle.fb_why_kinds.specs.declared.place.Site.{Site}
 use Rattle.fb_why_kinds.specs.declared.place.Variables.{Variables}
 use Rattle.fb_why_kinds.specs.Sites.{basic_at, each_inside, network_at, variables_at}
@@ -88,7 +88,7 @@ pub record IsGuardMisfit (lib : Library) (b k : ℕ) : Type 0 where
   pub wrong : is_guard_right in_type stands ≡ false
 
 -- A part of the statement is wrong.
-pub record IsStatementMisfit (lib : Library) (b a k : ℕ) (part : Part) : Type 0 where
+pub record IsStatementMisfit (lib : Library) (b a k : ℕ) (part : StatementPart) : Type 0 where
   pub in_type : BasicType
   pub algorithm : Algorithm
   pub stands : Standing

@@ -14,18 +14,18 @@ use Rattle.fb_types.specs.declared.library.Library.{Library}
 use Rattle.fb_types.specs.declared.library.Network.{Network}
 use Rattle.fb_types.specs.declared.library.Ports.{Ports}
 use Rattle.fb_types.specs.declared.library.Variable.{Variable}
-use Rattle.fb_why_kinds.specs.declared.lookup.Sort.TheVariants.{EventInput, EventOutput, Input, Output}
-use Rattle.fb_why_kinds.specs.declared.lookup.Sort.{Sort}
-use Rattle.fb_why_kinds.specs.declared.networks.Scope.{Scope}
-use Rattle.fb_why_kinds.specs.declared.place.Flow.TheVariants.{Events, Data}
-use Rattle.fb_why_kinds.specs.declared.place.Flow.{Flow}
+use Rattle.fb_why_kinds.specs.declared.lookup.PortSort.TheVariants.{EventInput, EventOutput, Input, Output}
+use Rattle.fb_why_kinds.specs.declared.lookup.PortSort.{PortSort}
+use Rattle.fb_why_kinds.specs.declared.networks.PlacedNetwork.{PlacedNetwork}
+use Rattle.fb_why_kinds.specs.declared.place.FlowKind.TheVariants.{Events, Data}
+use Rattle.fb_why_kinds.specs.declared.place.FlowKind.{FlowKind}
 use Rattle.fb_why_kinds.specs.declared.place.Site.TheVariants.{Application, Inside}
 use Rattle.fb_why_kinds.specs.declared.place.Site.{Site}
 use Rattle.fb_why_kinds.specs.declared.place.Variables.TheVariants.{Inputs, Outputs, Internals}
 use Rattle.fb_why_kinds.specs.declared.place.Variables.{Variables}
 
 -- the names of the ports of a sort
-abbrev pub names_of_sort : Sort → Ports → List Name
+abbrev pub names_of_sort : PortSort → Ports → List Name
 names_of_sort EventInput = event_ins
 names_of_sort EventOutput = event_outs
 names_of_sort Input = data_ins
@@ -42,12 +42,12 @@ network_at lib (Inside k) = option_and_then network_inside (slice_get lib.blocks
 abbrev pub instance_at : Library → Site → ℕ → Option Instance
 instance_at lib s i = option_and_then (λ n. slice_get n.1.instances i) (network_at lib s)
 
-abbrev pub connections_of : Flow → Network → List Connection
+abbrev pub connections_of : FlowKind → Network → List Connection
 connections_of Events net = net.event_connections
 connections_of Data net = net.data_connections
 
 -- the network that the code looks through, with the composite type around it
-abbrev pub placed : Scope → Placed
+abbrev pub placed : PlacedNetwork → Placed
 placed s = (option_map (λ c. c.now) s.composite, s.network.now)
 
 -- whether the network inside a block type passes a test

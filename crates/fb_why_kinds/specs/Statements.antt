@@ -5,8 +5,8 @@ use Rattle.fb_types.specs.Kinds.{Place, is_sort, sort_of, sort_of_type, same_sor
 use Rattle.fb_types.specs.declared.library.BasicType.{BasicType}
 use Rattle.fb_types.specs.declared.sort.Sort.TheVariants.{WholeNumber}
 use Rattle.fb_kinds.specs.Checks.{in_place}
-use Rattle.fb_why_kinds.specs.declared.place.Part.{Part}
-use Rattle.fb_why_kinds.specs.declared.place.Part.TheVariants as part
+use Rattle.fb_why_kinds.specs.declared.place.StatementPart.{StatementPart}
+use Rattle.fb_why_kinds.specs.declared.place.StatementPart.TheVariants as part
 use Rattle.fb_why_kinds.specs.declared.statements.Standing as code
 
 -- A statement, and whether it stands in a loop.
@@ -63,7 +63,7 @@ own_right p (While c body) = is_condition p c
 own_right p (Repeat body c) = is_condition p c
 
 -- one part of it: what a statement does not have is right
-abbrev pub part_right : Place → Stmt → Part → Bool
+abbrev pub part_right : Place → Stmt → StatementPart → Bool
 part_right p Exit part.Exit = p.in_loop
 part_right p (Assign n e) part.Assigned = not (p.fixed n)
 part_right p (Assign n e) part.Value = is_sort (sort_of_type (p.types n)) (sort_of p.types e)
@@ -82,7 +82,7 @@ abbrev pub stands_right : BasicType → Standing → Bool
 stands_right t s = own_right (in_place t s.0) s.1
 
 -- A part of one of the statements is wrong.
-abbrev pub WrongAmong : BasicType → List Standing → ℕ × Part → Type 0
+abbrev pub WrongAmong : BasicType → List Standing → ℕ × StatementPart → Type 0
 WrongAmong t ss r = (s : Standing) × (slice_get ss r.0 ≡ Some s) × (part_right (in_place t s.0) s.1 r.1 ≡ false)
 
 -- ---- As the code has them

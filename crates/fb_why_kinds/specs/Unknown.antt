@@ -21,11 +21,11 @@ use Rattle.fb_types.specs.declared.deploy.Resource.{Resource}
 use Rattle.fb_kinds.specs.Checks.{is_met, all_met, guard_mentions, is_known_block}
 use Rattle.fb_names.specs.Unknown.{NetworkUnknown}
 use Rattle.fb_names.specs.Types.{ports_of_block}
-use Rattle.fb_why_kinds.specs.declared.place.Flow.{Flow}
-use Rattle.fb_why_kinds.specs.declared.place.Flow.TheVariants.{Events, Data}
-use Rattle.fb_why_kinds.specs.declared.place.Place.{Place}
-use Rattle.fb_why_kinds.specs.declared.place.Place.TheVariants.{InstanceType, Parameter, End, With, Guard, Mapped, LinkEnd}
-use Rattle.fb_why_kinds.specs.declared.place.Place.TheVariants as place
+use Rattle.fb_why_kinds.specs.declared.place.FlowKind.{FlowKind}
+use Rattle.fb_why_kinds.specs.declared.place.FlowKind.TheVariants.{Events, Data}
+use Rattle.fb_why_kinds.specs.declared.place.UnknownName.{UnknownName}
+use Rattle.fb_why_kinds.specs.declared.place.UnknownName.TheVariants.{InstanceType, Parameter, End, With, Guard, Mapped, LinkEnd}
+use Rattle.fb_why_kinds.specs.declared.place.UnknownName.TheVariants as place
 use Rattle.fb_why_kinds.specs.declared.place.ActionPart.{ActionPart}
 use Rattle.fb_why_kinds.specs.declared.place.ActionPart.TheVariants.{Algorithm}
 use Rattle.fb_why_kinds.specs.declared.place.ActionPart.TheVariants as actions
@@ -63,23 +63,23 @@ UnmetParameter lib i p = Unmet (parameter_wanted lib i p)
 -- ---- Ends of connections
 
 -- at components, a connection leads from ports of the one sort to ports of the other; at the boundary it is the other way round
-abbrev pub outputs_of : Flow → Ports → List Name
+abbrev pub outputs_of : FlowKind → Ports → List Name
 outputs_of Events = event_outs
 outputs_of Data = data_outs
 
-abbrev pub inputs_of : Flow → Ports → List Name
+abbrev pub inputs_of : FlowKind → Ports → List Name
 inputs_of Events = event_ins
 inputs_of Data = data_ins
 
-abbrev pub is_side_known : Library → Placed → Flow → Side → Connection → Bool
+abbrev pub is_side_known : Library → Placed → FlowKind → Side → Connection → Bool
 is_side_known lib n f From c = is_end lib n (outputs_of f) (inputs_of f) c.from
 is_side_known lib n f To c = is_end lib n (inputs_of f) (outputs_of f) c.to
 
-abbrev pub are_ends_known : Library → Placed → Flow → Connection → Bool
+abbrev pub are_ends_known : Library → Placed → FlowKind → Connection → Bool
 are_ends_known lib n f c = is_side_known lib n f From c && is_side_known lib n f To c
 
 -- The connection is there, and its end stands for no port of the right direction.
-pub record IsUnknownEnd (lib : Library) (s : Site) (f : Flow) (k : ℕ) (side : Side) : Type 0 where
+pub record IsUnknownEnd (lib : Library) (s : Site) (f : FlowKind) (k : ℕ) (side : Side) : Type 0 where
   pub network : Placed
   pub stands : Connection
   pub at : network_at lib s ≡ Some network
@@ -133,7 +133,7 @@ body_at a t = option_map (λ a. mentions_body (body_of a.body)) (slice_get t.alg
 -- ---- Places in a declaration
 
 -- Something is unknown at this place of the declaration.
-abbrev pub IsUnknownIn : Library → Place → Type 0
+abbrev pub IsUnknownIn : Library → UnknownName → Type 0
 IsUnknownIn lib (InstanceType s i) = Unmet (option_map (type_wanted lib) (instance_at lib s i))
 IsUnknownIn lib (Parameter s i p) = Unmet (option_and_then (λ x. parameter_wanted lib x p) (instance_at lib s i))
 IsUnknownIn lib (End s f k side) = IsUnknownEnd lib s f k side
@@ -179,7 +179,7 @@ abbrev pub are_sides_met : List Resource → Link → Bool
 are_sides_met rs l = is_resource rs l.from && is_resource rs l.to
 
 -- Something is unknown at this place.
-abbrev pub IsUnknownAt : Library → Plan → Place → Type 0
+abbrev pub IsUnknownAt : Library → Plan → UnknownName → Type 0
 IsUnknownAt lib plan (Mapped r i) = Unmet (mapped_wanted lib plan r i)
 IsUnknownAt lib plan (LinkEnd k side) = Unmet (link_wanted plan k side)
 IsUnknownAt lib plan p = IsUnknownIn lib p

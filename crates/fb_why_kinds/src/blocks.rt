@@ -13,30 +13,30 @@ ghost use Rattle.fb_why_kinds.specs.Sites.{basic_at};
 ghost use Rattle.fb_why_kinds.specs.Unknown.{IsBlockKnown, IsUnknownIn, UnknownAmong};
 
 use crate::charts::{unknown_in_states, unknown_in_transitions, unknown_with};
-use crate::lookup::{Sort, Types};
+use crate::lookup::{BlockTypes, PortSort};
 use crate::mentions::{Mention, is_mention_known, push_body, push_expression};
-use crate::networks::{Scope, unknown_in_network};
-use crate::place::{Direction, Place, Site};
+use crate::networks::{PlacedNetwork, unknown_in_network};
+use crate::place::{Direction, Site, UnknownName};
 use fb_types::library::{Algorithm, BasicType, BlockType, Library, Transition};
 use std::alloc::{AllocError, Global};
 
 /// Where a WITH list of a block type has a name that is no variable.
-fn unknown_in_withs(library: &Library, block: usize, declared: &BlockType) -> Option<Place>
+fn unknown_in_withs(library: &Library, block: usize, declared: &BlockType) -> Option<UnknownName>
     requires { slice_get library.now.blocks block ≡ Some declared.now }
     ensures { MatchOption result (all_met (withs_wanted (ports_of_block declared.now)) ≡ true) (IsUnknownIn library.now) }
 {
     let ports = declared.ports();
-    let inputs = unknown_with(ports, Sort::Input, ports.event_inputs.as_slice());
+    let inputs = unknown_with(ports, PortSort::Input, ports.event_inputs.as_slice());
     if let Some((event, variable)) = inputs {
-        return Some(Place::With {
+        return Some(UnknownName::With {
             block,
             direction: Direction::Input,
             event,
             variable,
         });
     }
-    let (event, variable) = unknown_with(ports, Sort::Output, ports.event_outputs.as_slice())?;
-    Some(Place::With {
+    let (event, variable) = unknown_with(ports, PortSort::Output, ports.event_outputs.as_slice())?;
+    Some(UnknownName::With {
         block,
         direction: Direction::Output,
         event,
@@ -45,19 +45,19 @@ fn unknown_in_withs(library: &Library, block: usize, declared: &BlockType) -> Op
 }
 
 /// Where a chart has a name that stands for nothing.
-fn unknown_in_chart(library: &Library, block: usize, basic: &BasicType) -> Option<Place>
+fn unknown_in_chart(library: &Library, block: usize, basic: &BasicType) -> Option<UnknownName>
     requires { basic_at library.now block ≡ Some basic.now }
     ensures { MatchOption result (all_met (chart_wanted basic.now) ≡ true) (IsUnknownIn library.now) }
 {
     if let Some((transition, part)) = unknown_in_transitions(basic, basic.transitions.as_slice()) {
-        return Some(Place::Transition {
+        return Some(UnknownName::Transition {
             block,
             transition,
             part,
         });
     }
     let (state, (action, part)) = unknown_in_states(basic, basic.states.as_slice())?;
-    Some(Place::Action {
+    Some(UnknownName::Action {
         block,
         state,
         action,
@@ -144,7 +144,7 @@ fn unknown_in_texts(
     library: &Library,
     block: usize,
     basic: &BasicType,
-) -> Result<Option<Place>, AllocError>
+) -> Result<Option<UnknownName>, AllocError>
     requires { basic_at library.now block ≡ Some basic.now }
     ensures { IfOk result (λ o. MatchOption o (all_known basic.now (mentioned basic.now) ≡ true) (IsUnknownIn library.now)) }
 {
@@ -153,14 +153,14 @@ fn unknown_in_texts(
         basic,
         basic.algorithms.as_slice(),
     )? {
-        return Ok(Some(Place::Body {
+        return Ok(Some(UnknownName::Body {
             block,
             algorithm,
             mention,
         }));
     }
     match unknown_in_guards(alloc, basic, basic.transitions.as_slice())? {
-        Some((transition, mention)) => Ok(Some(Place::Guard {
+        Some((transition, mention)) => Ok(Some(UnknownName::Guard {
             block,
             transition,
             mention,
@@ -172,10 +172,10 @@ fn unknown_in_texts(
 /// Where a name of a block type stands for nothing, if there is such a place.
 fn unknown_in_block(
     alloc: Global,
-    types: &Types,
+    types: &BlockTypes,
     block: usize,
     declared: &BlockType,
-) -> Result<Option<Place>, AllocError>
+) -> Result<Option<UnknownName>, AllocError>
     requires { slice_get types.now.library.now.blocks block ≡ Some declared.now }
     ensures { IfOk result (λ o. MatchOption o (IsBlockKnown types.now.library.now declared.now) (IsUnknownIn types.now.library.now)) }
 {
@@ -188,7 +188,7 @@ fn unknown_in_block(
             None => unknown_in_texts(alloc, types.library, block, basic),
         },
         BlockType::Composite(composite) => {
-            let scope = Scope {
+            let scope = PlacedNetwork {
                 composite: Some(composite),
                 network: &composite.network,
             };
@@ -200,9 +200,9 @@ fn unknown_in_block(
 /// Where a name of the block types stands for nothing, if there is such a place.
 fn unknown_in_some(
     alloc: Global,
-    types: &Types,
+    types: &BlockTypes,
     blocks: &[BlockType],
-) -> Result<Option<Place>, AllocError>
+) -> Result<Option<UnknownName>, AllocError>
     requires { blocks.now ≡ types.now.library.now.blocks }
     ensures { IfOk result (λ o. MatchOption o (All (IsBlockKnown types.now.library.now) blocks.now) (IsUnknownIn types.now.library.now)) }
 {
@@ -215,7 +215,10 @@ fn unknown_in_some(
 }
 
 /// The same of all block types.
-pub fn unknown_in_blocks(alloc: Global, types: &Types) -> Result<Option<Place>, AllocError>
+pub fn unknown_in_blocks(
+    alloc: Global,
+    types: &BlockTypes,
+) -> Result<Option<UnknownName>, AllocError>
     ensures { IfOk result (λ o. MatchOption o (All (IsBlockKnown types.now.library.now) types.now.library.now.blocks) (IsUnknownIn types.now.library.now)) }
 {
     unknown_in_some(alloc, types, types.library.blocks.as_slice())

@@ -1,25 +1,26 @@
 //! Names in WITH lists and in charts that stand for nothing (E21).
 
 ghost use Rattle.std.specs.Prelude.{◌≡◌, MatchOption, Some, true, false, slice_get};
-ghost use Rattle.std.specs.List.{list_all, list_any};
+ghost use Rattle.std.specs.List.{list_all};
 ghost use Rattle.fb_types.specs.Blocks.{among};
 ghost use Rattle.fb_types.specs.Repeated.{algorithm_names, state_names};
 ghost use Rattle.fb_types.specs.declared.library.Action.{Action};
 ghost use Rattle.fb_types.specs.declared.library.EventPort.{EventPort};
 ghost use Rattle.fb_types.specs.declared.library.State.{State};
 ghost use Rattle.fb_types.specs.declared.library.Transition.{Transition};
-ghost use Rattle.fb_types.specs.Names.{Name, same_name};
+ghost use Rattle.fb_types.specs.Names.{Name};
 ghost use Rattle.fb_kinds.specs.Checks.{action_met, actions_met, transition_met};
 ghost use Rattle.fb_why_kinds.specs.Sites.{names_of_sort};
 ghost use Rattle.fb_why_kinds.specs.Unknown.{Unmet, action_wanted, transition_wanted};
 
-use crate::lookup::{Sort, has_port};
+use crate::called::is_called;
+use crate::lookup::{PortSort, has_port};
 use crate::place::{ActionPart, TransitionPart};
-use fb_types::library::{Action, Algorithm, BasicType, EventPort, Ports, State, Transition};
+use fb_types::library::{Action, BasicType, EventPort, Ports, State, Transition};
 use fb_types::name::Name;
 
 /// The first name that is no variable of the sort.
-fn unknown_variable(ports: &Ports, sort: Sort, names: &[Name]) -> Option<usize>
+fn unknown_variable(ports: &Ports, sort: PortSort, names: &[Name]) -> Option<usize>
     ensures { MatchOption result (list_all (among (names_of_sort sort ports.now)) names.now ≡ true) (λ k. (n : Name) × (slice_get names.now k ≡ Some n) × (among (names_of_sort sort ports.now) n ≡ false)) }
 {
     for (place, name) in names.iter().enumerate() {
@@ -31,7 +32,7 @@ fn unknown_variable(ports: &Ports, sort: Sort, names: &[Name]) -> Option<usize>
 }
 
 /// The first event with such a name in its WITH list, and the place of the name there.
-pub fn unknown_with(ports: &Ports, sort: Sort, events: &[EventPort]) -> Option<(usize, usize)>
+pub fn unknown_with(ports: &Ports, sort: PortSort, events: &[EventPort]) -> Option<(usize, usize)>
     ensures { MatchOption result (list_all (λ e. list_all (among (names_of_sort sort ports.now)) e.with) events.now ≡ true) (λ r. (e : EventPort) × (slice_get events.now r.0 ≡ Some e) × ((n : Name) × (slice_get e.with r.1 ≡ Some n) × (among (names_of_sort sort ports.now) n ≡ false))) }
 {
     for (place, event) in events.iter().enumerate() {
@@ -42,28 +43,16 @@ pub fn unknown_with(ports: &Ports, sort: Sort, events: &[EventPort]) -> Option<(
     None
 }
 
-fn has_state(states: &[State], name: &Name) -> bool
-    ensures { result ≡ list_any (λ s. same_name name.now s.name) states.now }
-{
-    states.iter().any(|state| name.is(&state.name))
-}
-
 fn is_state(basic: &BasicType, name: &Name) -> bool
     ensures { result ≡ among (state_names basic.now) name.now }
 {
-    has_state(basic.states.as_slice(), name)
-}
-
-fn has_algorithm(algorithms: &[Algorithm], name: &Name) -> bool
-    ensures { result ≡ list_any (λ a. same_name name.now a.name) algorithms.now }
-{
-    algorithms.iter().any(|algorithm| name.is(&algorithm.name))
+    is_called(basic.states.as_slice(), name)
 }
 
 fn is_algorithm(basic: &BasicType, name: &Name) -> bool
     ensures { result ≡ among (algorithm_names basic.now) name.now }
 {
-    has_algorithm(basic.algorithms.as_slice(), name)
+    is_called(basic.algorithms.as_slice(), name)
 }
 
 /// The first name of a transition that stands for nothing.
@@ -77,7 +66,7 @@ fn unknown_part(basic: &BasicType, transition: &Transition) -> Option<Transition
         return Some(TransitionPart::To);
     }
     match &transition.condition.event {
-        Some(event) if !has_port(&basic.ports, Sort::EventInput, event) => {
+        Some(event) if !has_port(&basic.ports, PortSort::EventInput, event) => {
             Some(TransitionPart::Event)
         }
         _ => None,
@@ -109,7 +98,7 @@ fn unknown_action(basic: &BasicType, action: &Action) -> Option<ActionPart>
         }
     }
     match &action.output {
-        Some(output) if !has_port(&basic.ports, Sort::EventOutput, output) => {
+        Some(output) if !has_port(&basic.ports, PortSort::EventOutput, output) => {
             Some(ActionPart::Output)
         }
         _ => None,

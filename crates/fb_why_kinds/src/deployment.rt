@@ -1,36 +1,25 @@
 //! Names in a deployment that stand for nothing (E21): mapped instances and the ends of links.
 
 ghost use Rattle.std.specs.Prelude.{◌≡◌, MatchOption, Some, true, false, slice_get};
-ghost use Rattle.std.specs.List.{list_all, list_any};
-ghost use Rattle.fb_types.specs.Names.{Name, same_name};
+ghost use Rattle.std.specs.List.{list_all};
+ghost use Rattle.fb_types.specs.Names.{Name};
 ghost use Rattle.fb_types.specs.declared.deploy.Link.{Link};
 ghost use Rattle.fb_types.specs.declared.deploy.Resource.{Resource};
 ghost use Rattle.fb_names.specs.Unknown.{DeploymentUnknown};
 ghost use Rattle.fb_why_kinds.specs.Unknown.{IsUnknownAt, are_sides_met, are_mapped, is_instance, is_resource, side_of};
 
-use crate::place::{Place, Side};
+use crate::called::is_called;
+use crate::place::{Side, UnknownName};
 use fb_types::deploy::{Link, Plan, Resource};
 use fb_types::library::{Instance, Library};
 use fb_types::name::Name;
-
-fn has_instance(instances: &[Instance], name: &Name) -> bool
-    ensures { result ≡ list_any (λ i. same_name name.now i.name) instances.now }
-{
-    instances.iter().any(|instance| name.is(&instance.name))
-}
-
-fn has_resource(resources: &[Resource], name: &Name) -> bool
-    ensures { result ≡ list_any (λ r. same_name name.now r.name) resources.now }
-{
-    resources.iter().any(|resource| name.is(&resource.name))
-}
 
 /// The first name that is no instance.
 fn unknown_name(instances: &[Instance], names: &[Name]) -> Option<usize>
     ensures { MatchOption result (list_all (is_instance instances.now) names.now ≡ true) (λ k. (n : Name) × (slice_get names.now k ≡ Some n) × (is_instance instances.now n ≡ false)) }
 {
     for (place, name) in names.iter().enumerate() {
-        if !has_instance(instances, name) {
+        if !is_called(instances, name) {
             return Some(place);
         }
     }
@@ -53,10 +42,10 @@ fn unknown_mapped(instances: &[Instance], resources: &[Resource]) -> Option<(usi
 fn unknown_side(resources: &[Resource], link: &Link) -> Option<Side>
     ensures { MatchOption result (are_sides_met resources.now link.now ≡ true) (λ side. is_resource resources.now (side_of side link.now) ≡ false) }
 {
-    if !has_resource(resources, &link.from) {
+    if !is_called(resources, &link.from) {
         return Some(Side::From);
     }
-    if !has_resource(resources, &link.to) {
+    if !is_called(resources, &link.to) {
         return Some(Side::To);
     }
     None
@@ -75,14 +64,14 @@ fn unknown_link(resources: &[Resource], links: &[Link]) -> Option<(usize, Side)>
 }
 
 /// Where a name of a deployment stands for nothing, if there is such a place.
-pub fn unknown_in_deployment(library: &Library, plan: &Plan) -> Option<Place>
+pub fn unknown_in_deployment(library: &Library, plan: &Plan) -> Option<UnknownName>
     ensures { MatchOption result (¬ (DeploymentUnknown library.now plan.now)) (IsUnknownAt library.now plan.now) }
 {
     let instances = library.application.network.instances.as_slice();
     let resources = plan.resources.as_slice();
     if let Some((resource, instance)) = unknown_mapped(instances, resources) {
-        return Some(Place::Mapped { resource, instance });
+        return Some(UnknownName::Mapped { resource, instance });
     }
     let (link, side) = unknown_link(resources, plan.links.as_slice())?;
-    Some(Place::LinkEnd { link, side })
+    Some(UnknownName::LinkEnd { link, side })
 }

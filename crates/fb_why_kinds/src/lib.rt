@@ -7,12 +7,13 @@
 //! where there is no such place. By `laws::places_apply` the number applies where a place of the last two is told. Of the texts
 //! nothing is promised.
 //!
-//! To be read in this order: `place`; `lookup`, `networks`, `blocks`, `charts`, `mentions` and `deployment`, where names are looked
+//! To be read in this order: `place`; `called`, `lookup`, `networks`, `blocks`, `charts`, `mentions` and `deployment`, where names are looked
 //! for; `unknown`. Then `types`, what names stand for; `misjoins`; `sorts`, kinds of expressions; `statements`, `parameters` and
 //! `misfits`; `laws`. Last `words`, `tell_sites`, `tell_unknown` and `tell_kinds`, a place as a text.
 #![tactic(auto)]
 
 mod blocks;
+mod called;
 mod charts;
 mod deployment;
 pub mod laws;

@@ -2,23 +2,22 @@
 
 ghost use Rattle.std.specs.Prelude.{◌≡◌, IfOk, option_map};
 ghost use Rattle.std.specs.Option.{option_copied};
-ghost use Rattle.std.specs.List.{list_any};
-ghost use Rattle.fb_types.specs.Names.{same_name};
 ghost use Rattle.fb_types.specs.Blocks.{among, ports_of};
 ghost use Rattle.fb_types.specs.EventPorts.{ArePortsOfKinds};
 ghost use Rattle.fb_types.specs.Flat as spec;
 ghost use Rattle.fb_types.specs.Repeated.{block_type_names};
 ghost use Rattle.fb_why_kinds.specs.Sites.{names_of_sort};
 
+use crate::called::is_called;
 use fb_types::event_ports::{all_ports, kind_named};
 use fb_types::items::Items;
-use fb_types::library::{EventPort, Library, Ports, block_named, has_variable};
+use fb_types::library::{Library, Ports, block_named};
 use fb_types::name::Name;
 use std::alloc::{AllocError, Global};
 
 /// A sort of ports, each with a direction.
 #[derive(Clone, Copy)]
-pub enum Sort {
+pub enum PortSort {
     EventInput,
     EventOutput,
     Input,
@@ -27,35 +26,29 @@ pub enum Sort {
 
 /// The block types of a declaration, and the ports of the event blocks in the order of their kinds.
 #[derive(Drop)]
-pub struct Types<'a> {
+pub struct BlockTypes<'a> {
     pub library: &'a Library,
     event_ports: Items<Ports>,
     ghost of_kinds: { ArePortsOfKinds event_ports },
 }
 
-fn has_event(events: &[EventPort], name: &Name) -> bool
-    ensures { result ≡ list_any (λ e. same_name name.now e.name) events.now }
-{
-    events.iter().any(|event| name.is(&event.name))
-}
-
 /// Whether an interface has a port of the sort by the name.
-pub fn has_port(ports: &Ports, sort: Sort, name: &Name) -> bool
+pub fn has_port(ports: &Ports, sort: PortSort, name: &Name) -> bool
     ensures { result ≡ among (names_of_sort sort ports.now) name.now }
 {
     match sort {
-        Sort::EventInput => has_event(ports.event_inputs.as_slice(), name),
-        Sort::EventOutput => has_event(ports.event_outputs.as_slice(), name),
-        Sort::Input => has_variable(ports.inputs.as_slice(), name),
-        Sort::Output => has_variable(ports.outputs.as_slice(), name),
+        PortSort::EventInput => is_called(ports.event_inputs.as_slice(), name),
+        PortSort::EventOutput => is_called(ports.event_outputs.as_slice(), name),
+        PortSort::Input => is_called(ports.inputs.as_slice(), name),
+        PortSort::Output => is_called(ports.outputs.as_slice(), name),
     }
 }
 
-impl<'a> Types<'a> {
-    pub fn new(alloc: Global, library: &'a Library) -> Result<Types<'a>, AllocError>
+impl<'a> BlockTypes<'a> {
+    pub fn new(alloc: Global, library: &'a Library) -> Result<BlockTypes<'a>, AllocError>
         ensures { IfOk result (λ t. t.library.now ≡ library.now) }
     {
-        Ok(Types {
+        Ok(BlockTypes {
             library,
             event_ports: all_ports(alloc)?,
         })

@@ -1,16 +1,15 @@
 //! Variables and functions that guards and algorithms name and that stand for nothing (E21).
 
-ghost use Rattle.std.specs.Prelude.{◌≡◌, ◌∷◌, ◌++◌, ◌||◌, [], IfOk};
+ghost use Rattle.std.specs.Prelude.{◌≡◌, ◌∷◌, ◌++◌, [], IfOk};
 ghost use Rattle.fb_types.specs.Blocks.{among, variable_names, variables_of};
-ghost use Rattle.fb_types.specs.Names.{same_name};
-ghost use Rattle.std.specs.List.{list_any};
 ghost use Rattle.fb_types.specs.Syntax.{body_of, expr_of, stmt_of};
 ghost use Rattle.fb_types.specs.Unknown.{is_known, mentions, mentions_all, mentions_body, mentions_branches, mentions_choices, mentions_in};
 ghost use Rattle.fb_kinds.specs.Trees.{all_of, arguments_of, branches_of, choices_of};
 ghost use Rattle.fb_why_kinds.specs.Mentions.{meant, meant_all, mentions_of_control, mentions_of_step};
 
+use crate::types::type_among;
 use fb_types::function::Function;
-use fb_types::library::{BasicType, Ports, Variable, has_variable};
+use fb_types::library::BasicType;
 use fb_types::name::Name;
 use fb_types::reference::Reference;
 use fb_types::text::{Body, Branch, Choice, Expr, Stmt};
@@ -164,15 +163,7 @@ fn push_branches<'a>(all: &mut Vec<Mention<'a>>, branches: &'a [Branch]) -> Resu
 fn is_variable(basic: &BasicType, name: &Name) -> bool
     ensures { result ≡ among (variable_names (variables_of basic.now)) name.now }
 {
-    is_variable_among(&basic.ports, basic.internals.as_slice(), name)
-}
-
-fn is_variable_among(ports: &Ports, internals: &[Variable], name: &Name) -> bool
-    ensures { result ≡ ((list_any (λ v. same_name name.now v.name) ports.now.inputs || list_any (λ v. same_name name.now v.name) ports.now.outputs) || list_any (λ v. same_name name.now v.name) internals.now) }
-{
-    has_variable(ports.inputs.as_slice(), name)
-        || has_variable(ports.outputs.as_slice(), name)
-        || has_variable(internals, name)
+    type_among(&basic.ports, basic.internals.as_slice(), name).is_some()
 }
 
 /// Whether a variable is one of the type, or a function is known.

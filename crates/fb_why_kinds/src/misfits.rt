@@ -15,7 +15,7 @@ ghost use Rattle.fb_why_kinds.specs.Sites.{basic_at};
 ghost use Rattle.fb_why_kinds.specs.Statements.{WrongAmong, each_in_body};
 
 use crate::parameters::misfit_in_network;
-use crate::place::{Misfit, Part, Site, Variables};
+use crate::place::{Misfit, Site, StatementPart, Variables};
 use crate::statements::{is_condition, wrong_statement};
 use fb_types::library::{Algorithm, BasicType, BlockType, Library, Transition, Variable};
 use std::alloc::{AllocError, Global};
@@ -84,7 +84,7 @@ fn wrong_body(
     alloc: Global,
     basic: &BasicType,
     algorithms: &[Algorithm],
-) -> Result<Option<(usize, (usize, Part))>, AllocError>
+) -> Result<Option<(usize, (usize, StatementPart))>, AllocError>
     ensures { IfOk result (λ o. MatchOption o (list_all (algorithm_right basic.now) algorithms.now ≡ true) (λ r. (a : Algorithm) × (slice_get algorithms.now r.0 ≡ Some a) × WrongAmong basic.now (each_in_body false (body_of a.body)) r.1)) }
 {
     for (place, algorithm) in algorithms.iter().enumerate() {

@@ -9,7 +9,7 @@ ghost use Rattle.fb_types.specs.declared.library.Connection.{Connection};
 ghost use Rattle.fb_why_kinds.specs.Sites.{placed};
 ghost use Rattle.fb_why_kinds.specs.Misjoins.{IsMisjoinedAt, IsMisjoinedInside, MisjoinedIn, are_joined, are_joined_inside, is_joined};
 
-use crate::networks::Scope;
+use crate::networks::PlacedNetwork;
 use crate::place::{Misjoin, Site};
 use crate::types::{port_type, type_named};
 use fb_joins::values::is_within;
@@ -17,7 +17,7 @@ use fb_types::library::{BlockType, Connection, Library, PortName, instance_named
 use fb_types::value::Ty;
 
 /// The type of the variable at an end of a data connection.
-pub fn type_at_end(library: &Library, scope: &Scope, end: &PortName) -> Option<Ty>
+pub fn type_at_end(library: &Library, scope: &PlacedNetwork, end: &PortName) -> Option<Ty>
     ensures { result ≡ joined.type_at_end library.now (placed scope.now) end.now }
 {
     match &end.component {
@@ -34,7 +34,7 @@ pub fn type_at_end(library: &Library, scope: &Scope, end: &PortName) -> Option<T
 }
 
 /// Whether the type at the end of a connection holds all values of the one at its beginning, where both are types.
-fn is_joined(library: &Library, scope: &Scope, connection: &Connection) -> bool
+fn is_joined(library: &Library, scope: &PlacedNetwork, connection: &Connection) -> bool
     ensures { result ≡ is_joined library.now (placed scope.now) connection.now }
 {
     let from = type_at_end(library, scope, &connection.from);
@@ -46,7 +46,11 @@ fn is_joined(library: &Library, scope: &Scope, connection: &Connection) -> bool
 }
 
 /// The first of some data connections that leads out of a range.
-fn first_misjoined(library: &Library, scope: &Scope, connections: &[Connection]) -> Option<usize>
+fn first_misjoined(
+    library: &Library,
+    scope: &PlacedNetwork,
+    connections: &[Connection],
+) -> Option<usize>
     ensures { MatchOption result (list_all (is_joined library.now (placed scope.now)) connections.now ≡ true) (λ k. (c : Connection) × (slice_get connections.now k ≡ Some c) × (is_joined library.now (placed scope.now) c ≡ false)) }
 {
     for (place, connection) in connections.iter().enumerate() {
@@ -58,7 +62,7 @@ fn first_misjoined(library: &Library, scope: &Scope, connections: &[Connection])
 }
 
 /// The first data connection of a network that does.
-fn misjoined_in(library: &Library, scope: &Scope) -> Option<usize>
+fn misjoined_in(library: &Library, scope: &PlacedNetwork) -> Option<usize>
     ensures { MatchOption result (are_joined library.now (placed scope.now) ≡ true) (MisjoinedIn library.now (placed scope.now)) }
 {
     first_misjoined(library, scope, scope.network.data_connections.as_slice())
@@ -71,7 +75,7 @@ fn misjoined_inside(library: &Library, block: &BlockType) -> Option<usize>
     match block {
         BlockType::Basic(_) => None,
         BlockType::Composite(composite) => {
-            let scope = Scope {
+            let scope = PlacedNetwork {
                 composite: Some(composite),
                 network: &composite.network,
             };
@@ -96,7 +100,7 @@ fn misjoined_in_some(library: &Library, blocks: &[BlockType]) -> Option<(usize, 
 pub fn misjoin_place(library: &Library) -> Option<Misjoin>
     ensures { MatchOption result (¬ (OutOfRange library.now)) (IsMisjoinedAt library.now) }
 {
-    let scope = Scope {
+    let scope = PlacedNetwork {
         composite: None,
         network: &library.application.network,
     };

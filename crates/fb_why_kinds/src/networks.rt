@@ -11,24 +11,24 @@ ghost use Rattle.fb_types.specs.declared.library.Instance.{Instance};
 ghost use Rattle.fb_types.specs.declared.library.Parameter.{Parameter};
 ghost use Rattle.fb_names.specs.Unknown.{NetworkUnknown};
 ghost use Rattle.fb_why_kinds.specs.Sites.{connections_of, names_of_sort, network_at, placed};
-ghost use Rattle.fb_why_kinds.specs.declared.place.Place.TheVariants.{End};
+ghost use Rattle.fb_why_kinds.specs.declared.place.UnknownName.TheVariants.{End};
 ghost use Rattle.fb_why_kinds.specs.Unknown.{IsUnknownIn, UnmetParameter, are_ends_known, are_parameters_met, inputs_of, is_side_known, is_type_met, outputs_of};
 
-use crate::lookup::{Sort, Types, has_port};
-use crate::place::{Flow, Place, Side, Site};
+use crate::lookup::{BlockTypes, PortSort, has_port};
+use crate::place::{FlowKind, Side, Site, UnknownName};
 use fb_types::library::{
     CompositeType, Connection, Instance, Network, Parameter, PortName, Ports, instance_named,
 };
 
 /// A network, with the composite type that it is inside of, or none for the application's.
 #[derive(Clone, Copy)]
-pub struct Scope<'a> {
+pub struct PlacedNetwork<'a> {
     pub composite: Option<&'a CompositeType>,
     pub network: &'a Network,
 }
 
 /// The first instance whose type is unknown.
-fn unknown_type(types: &Types, instances: &[Instance]) -> Option<usize>
+fn unknown_type(types: &BlockTypes, instances: &[Instance]) -> Option<usize>
     ensures { MatchOption result (list_all (is_type_met types.now.library.now) instances.now ≡ true) (λ k. (i : Instance) × (slice_get instances.now k ≡ Some i) × (is_type_met types.now.library.now i ≡ false)) }
 {
     for (place, instance) in instances.iter().enumerate() {
@@ -44,7 +44,7 @@ fn unknown_input(ports: &Ports, parameters: &[Parameter]) -> Option<usize>
     ensures { MatchOption result (list_all (λ x. among (data_ins ports.now) x.name) parameters.now ≡ true) (λ k. (x : Parameter) × (slice_get parameters.now k ≡ Some x) × (among (data_ins ports.now) x.name ≡ false)) }
 {
     for (place, parameter) in parameters.iter().enumerate() {
-        if !has_port(ports, Sort::Input, &parameter.name) {
+        if !has_port(ports, PortSort::Input, &parameter.name) {
             return Some(place);
         }
     }
@@ -52,7 +52,7 @@ fn unknown_input(ports: &Ports, parameters: &[Parameter]) -> Option<usize>
 }
 
 /// The first parameter of an instance that is no data input of its type. Where the type is unknown there is none.
-fn unknown_parameter(types: &Types, instance: &Instance) -> Option<usize>
+fn unknown_parameter(types: &BlockTypes, instance: &Instance) -> Option<usize>
     ensures { MatchOption result (are_parameters_met types.now.library.now instance.now ≡ true) (UnmetParameter types.now.library.now instance.now) }
 {
     let ports = types.ports_named(&instance.block_type)?;
@@ -60,7 +60,7 @@ fn unknown_parameter(types: &Types, instance: &Instance) -> Option<usize>
 }
 
 /// The first instance with such a parameter, and the parameter.
-fn unknown_parameters(types: &Types, instances: &[Instance]) -> Option<(usize, usize)>
+fn unknown_parameters(types: &BlockTypes, instances: &[Instance]) -> Option<(usize, usize)>
     ensures { MatchOption result (list_all (are_parameters_met types.now.library.now) instances.now ≡ true) (λ r. (i : Instance) × (slice_get instances.now r.0 ≡ Some i) × UnmetParameter types.now.library.now i r.1) }
 {
     for (place, instance) in instances.iter().enumerate() {
@@ -72,7 +72,13 @@ fn unknown_parameters(types: &Types, instances: &[Instance]) -> Option<(usize, u
 }
 
 /// Whether an end is among the ports of the one sort at a component, or of the other at the boundary.
-fn is_end(types: &Types, scope: &Scope, component: Sort, boundary: Sort, end: &PortName) -> bool
+fn is_end(
+    types: &BlockTypes,
+    scope: &PlacedNetwork,
+    component: PortSort,
+    boundary: PortSort,
+    end: &PortName,
+) -> bool
     ensures { result ≡ spec.is_end types.now.library.now (placed scope.now) (names_of_sort component) (names_of_sort boundary) end.now }
 {
     match &end.component {
@@ -91,30 +97,30 @@ fn is_end(types: &Types, scope: &Scope, component: Sort, boundary: Sort, end: &P
 }
 
 /// The sort of the ports of components from which a connection leads.
-fn output_of(flow: Flow) -> Sort
+fn output_of(flow: FlowKind) -> PortSort
     ensures { names_of_sort result ≡ outputs_of flow }
 {
     match flow {
-        Flow::Events => Sort::EventOutput,
-        Flow::Data => Sort::Output,
+        FlowKind::Events => PortSort::EventOutput,
+        FlowKind::Data => PortSort::Output,
     }
 }
 
 /// The sort of the ports of components to which a connection leads.
-fn input_of(flow: Flow) -> Sort
+fn input_of(flow: FlowKind) -> PortSort
     ensures { names_of_sort result ≡ inputs_of flow }
 {
     match flow {
-        Flow::Events => Sort::EventInput,
-        Flow::Data => Sort::Input,
+        FlowKind::Events => PortSort::EventInput,
+        FlowKind::Data => PortSort::Input,
     }
 }
 
 /// Whether an end of a connection is a port of the right direction.
 fn is_side_known(
-    types: &Types,
-    scope: &Scope,
-    flow: Flow,
+    types: &BlockTypes,
+    scope: &PlacedNetwork,
+    flow: FlowKind,
     side: Side,
     connection: &Connection,
 ) -> bool
@@ -128,7 +134,12 @@ fn is_side_known(
 }
 
 /// The end of a connection that is unknown, the first one where both are.
-fn unknown_side(types: &Types, scope: &Scope, flow: Flow, connection: &Connection) -> Option<Side>
+fn unknown_side(
+    types: &BlockTypes,
+    scope: &PlacedNetwork,
+    flow: FlowKind,
+    connection: &Connection,
+) -> Option<Side>
     ensures { MatchOption result (are_ends_known types.now.library.now (placed scope.now) flow connection.now ≡ true) (λ side. is_side_known types.now.library.now (placed scope.now) flow side connection.now ≡ false) }
 {
     if !is_side_known(types, scope, flow, Side::From, connection) {
@@ -142,9 +153,9 @@ fn unknown_side(types: &Types, scope: &Scope, flow: Flow, connection: &Connectio
 
 /// The first connection with an end that is unknown, and that end.
 fn unknown_end(
-    types: &Types,
-    scope: &Scope,
-    flow: Flow,
+    types: &BlockTypes,
+    scope: &PlacedNetwork,
+    flow: FlowKind,
     connections: &[Connection],
 ) -> Option<(usize, Side)>
     ensures { MatchOption result (list_all (are_ends_known types.now.library.now (placed scope.now) flow) connections.now ≡ true) (λ r. (c : Connection) × (slice_get connections.now r.0 ≡ Some c) × (is_side_known types.now.library.now (placed scope.now) flow r.1 c ≡ false)) }
@@ -157,10 +168,10 @@ fn unknown_end(
     None
 }
 
-fn end(site: Site, flow: Flow, connection: usize, side: Side) -> Place
+fn end(site: Site, flow: FlowKind, connection: usize, side: Side) -> UnknownName
     ensures { result ≡ End site flow connection side }
 {
-    Place::End {
+    UnknownName::End {
         site,
         flow,
         connection,
@@ -169,27 +180,31 @@ fn end(site: Site, flow: Flow, connection: usize, side: Side) -> Place
 }
 
 /// Where a name of a network stands for nothing, if there is such a place.
-pub fn unknown_in_network(types: &Types, site: Site, scope: &Scope) -> Option<Place>
+pub fn unknown_in_network(
+    types: &BlockTypes,
+    site: Site,
+    scope: &PlacedNetwork,
+) -> Option<UnknownName>
     requires { network_at types.now.library.now site ≡ Some (placed scope.now) }
     ensures { MatchOption result (¬ (NetworkUnknown types.now.library.now (placed scope.now))) (IsUnknownIn types.now.library.now) }
 {
     let network = scope.network;
     let instances = network.instances.as_slice();
     if let Some(instance) = unknown_type(types, instances) {
-        return Some(Place::InstanceType { site, instance });
+        return Some(UnknownName::InstanceType { site, instance });
     }
     if let Some((instance, parameter)) = unknown_parameters(types, instances) {
-        return Some(Place::Parameter {
+        return Some(UnknownName::Parameter {
             site,
             instance,
             parameter,
         });
     }
     let events = network.event_connections.as_slice();
-    if let Some((connection, side)) = unknown_end(types, scope, Flow::Events, events) {
-        return Some(end(site, Flow::Events, connection, side));
+    if let Some((connection, side)) = unknown_end(types, scope, FlowKind::Events, events) {
+        return Some(end(site, FlowKind::Events, connection, side));
     }
     let data = network.data_connections.as_slice();
-    let (connection, side) = unknown_end(types, scope, Flow::Data, data)?;
-    Some(end(site, Flow::Data, connection, side))
+    let (connection, side) = unknown_end(types, scope, FlowKind::Data, data)?;
+    Some(end(site, FlowKind::Data, connection, side))
 }

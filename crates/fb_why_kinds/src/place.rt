@@ -12,7 +12,7 @@ pub enum Site {
 
 /// What a connection carries.
 #[derive(Clone, Copy)]
-pub enum Flow {
+pub enum FlowKind {
     Events,
     Data,
 }
@@ -48,7 +48,7 @@ pub enum ActionPart {
 
 /// A place of a declaration or a deployment at which a name stands for nothing. What stands in a list is counted from 0, in the order of the text.
 #[derive(Clone, Copy)]
-pub enum Place {
+pub enum UnknownName {
     /// The type of an instance of a network.
     InstanceType {
         site: Site,
@@ -63,7 +63,7 @@ pub enum Place {
     /// An end of a connection, among those that carry the same.
     End {
         site: Site,
-        flow: Flow,
+        flow: FlowKind,
         connection: usize,
         side: Side,
     },
@@ -121,7 +121,7 @@ pub enum Variables {
 
 /// What is asked of a statement by itself, apart from the statements inside of it.
 #[derive(Clone, Copy)]
-pub enum Part {
+pub enum StatementPart {
     /// That EXIT stands in a loop.
     Exit,
     /// That the variable that is assigned, or that controls a FOR, is no input.
@@ -169,7 +169,7 @@ pub enum Misfit {
         block: usize,
         algorithm: usize,
         statement: usize,
-        part: Part,
+        part: StatementPart,
     },
 }
 

@@ -8,7 +8,7 @@ ghost use Rattle.fb_kinds.specs.Checks.{algorithm_right, in_place};
 ghost use Rattle.fb_kinds.specs.Trees.{all_of, branches_of, choices_of};
 ghost use Rattle.fb_why_kinds.specs.Statements.{WrongAmong, all_standing, choice_right, conditions_right, each_in_body, each_in_branches, each_in_choices, each_inside, own_right, part_right, stands_right, standing_of};
 
-use crate::place::Part;
+use crate::place::StatementPart;
 use crate::sorts::is_sort;
 use crate::types::{is_input, type_of};
 use fb_kinds::sorts::{are_same, sort_of_type};
@@ -140,15 +140,19 @@ fn wrong_choice(basic: &BasicType, choices: &[Choice]) -> Option<usize>
 }
 
 /// What is wrong of an assignment.
-fn wrong_in_assignment(basic: &BasicType, variable: &Reference, expr: &Expr) -> Option<Part>
+fn wrong_in_assignment(
+    basic: &BasicType,
+    variable: &Reference,
+    expr: &Expr,
+) -> Option<StatementPart>
     ensures { MatchOption result (own_right (place_in basic.now) (Assign variable.now (expr_of expr.now)) ≡ true) (λ part. part_right (place_in basic.now) (Assign variable.now (expr_of expr.now)) part ≡ false) }
 {
     if is_input(basic, variable.name()) {
-        return Some(Part::Assigned);
+        return Some(StatementPart::Assigned);
     }
     let sort = sort_of_type(type_of(basic, variable.name()));
     if !is_sort(sort, expr, basic) {
-        return Some(Part::Value);
+        return Some(StatementPart::Value);
     }
     None
 }
@@ -160,30 +164,30 @@ fn wrong_in_for(
     start: &Expr,
     end: &Expr,
     step: &Option<Expr>,
-) -> Option<Part>
+) -> Option<StatementPart>
     ensures { MatchOption result (own_right (place_in basic.now) (For variable.now (expr_of start.now) (expr_of end.now) (step_of step.now) no_stmt) ≡ true) (λ part. part_right (place_in basic.now) (For variable.now (expr_of start.now) (expr_of end.now) (step_of step.now) no_stmt) part ≡ false) }
 {
     if is_input(basic, variable.name()) {
-        return Some(Part::Assigned);
+        return Some(StatementPart::Assigned);
     }
     let sort = sort_of_type(type_of(basic, variable.name()));
     if !are_same(Sort::WholeNumber, sort) {
-        return Some(Part::Control);
+        return Some(StatementPart::Control);
     }
     if !is_whole(basic, start) {
-        return Some(Part::Start);
+        return Some(StatementPart::Start);
     }
     if !is_whole(basic, end) {
-        return Some(Part::End);
+        return Some(StatementPart::End);
     }
     if !is_step_whole(basic, step) {
-        return Some(Part::Step);
+        return Some(StatementPart::Step);
     }
     None
 }
 
 /// The first part of a statement that is wrong, apart from the statements inside of it.
-fn wrong_part(basic: &BasicType, standing: &Standing) -> Option<Part>
+fn wrong_part(basic: &BasicType, standing: &Standing) -> Option<StatementPart>
     ensures { MatchOption result (stands_right basic.now (standing_of standing.now) ≡ true) (λ part. part_right (in_place basic.now standing.now.in_loop) (stmt_of standing.now.statement.now) part ≡ false) }
 {
     match standing.statement {
@@ -192,16 +196,19 @@ fn wrong_part(basic: &BasicType, standing: &Standing) -> Option<Part>
             if standing.in_loop {
                 None
             } else {
-                Some(Part::Exit)
+                Some(StatementPart::Exit)
             }
         }
         Stmt::Assign(variable, expr) => wrong_in_assignment(basic, variable, expr),
-        Stmt::If(choices, _) => Some(Part::Choice(wrong_choice(basic, choices.as_slice())?)),
+        Stmt::If(choices, _) => Some(StatementPart::Choice(wrong_choice(
+            basic,
+            choices.as_slice(),
+        )?)),
         Stmt::Case(selector, _, _) => {
             if is_whole(basic, selector) {
                 None
             } else {
-                Some(Part::Selector)
+                Some(StatementPart::Selector)
             }
         }
         Stmt::For(variable, start, end, step, _) => wrong_in_for(basic, variable, start, end, step),
@@ -209,14 +216,14 @@ fn wrong_part(basic: &BasicType, standing: &Standing) -> Option<Part>
             if is_condition(basic, condition) {
                 None
             } else {
-                Some(Part::Condition)
+                Some(StatementPart::Condition)
             }
         }
     }
 }
 
 /// The first of some statements of which a part is wrong, and that part.
-fn first_wrong(basic: &BasicType, statements: &[Standing]) -> Option<(usize, Part)>
+fn first_wrong(basic: &BasicType, statements: &[Standing]) -> Option<(usize, StatementPart)>
     ensures { MatchOption result (list_all (stands_right basic.now) (all_standing statements.now) ≡ true) (WrongAmong basic.now (all_standing statements.now)) }
 {
     for (place, statement) in statements.iter().enumerate() {
@@ -232,7 +239,7 @@ pub fn wrong_statement(
     alloc: Global,
     basic: &BasicType,
     algorithm: &Algorithm,
-) -> Result<Option<(usize, Part)>, AllocError>
+) -> Result<Option<(usize, StatementPart)>, AllocError>
     ensures { IfOk result (λ o. MatchOption o (algorithm_right basic.now algorithm.now ≡ true) (WrongAmong basic.now (each_in_body false (body_of algorithm.now.body)))) }
 {
     let statements = all_statements(alloc, &algorithm.body)?;

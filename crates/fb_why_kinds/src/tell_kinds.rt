@@ -2,11 +2,11 @@
 
 use crate::misfits::internals_of;
 use crate::misjoins::type_at_end;
-use crate::networks::Scope;
-use crate::place::{Misfit, Misjoin, Part, Site, Variables};
+use crate::networks::PlacedNetwork;
+use crate::place::{Misfit, Misjoin, Site, StatementPart, Variables};
 use crate::sorts::sort_of;
 use crate::statements::{Standing, all_statements};
-use crate::tell_sites::{push_block, push_instance, push_site, scope_of};
+use crate::tell_sites::{push_basic, push_block, push_instance, push_site, scope_of};
 use crate::types::{type_named, type_of};
 use crate::words::{Text, type_words};
 use fb_kinds::sorts::sort_of_type;
@@ -58,31 +58,13 @@ fn push_misfit(
             push_site(text, library, site)?;
             push_parameter(text, library, site, (instance, parameter))
         }
-        Misfit::Guard { block, .. } | Misfit::Statement { block, .. } => {
-            push_block(text, library, block)?;
-            match library.blocks.get(block) {
-                Some(BlockType::Basic(basic)) => push_in_chart(alloc, text, basic, place),
-                _ => Ok(()),
-            }
-        }
-    }
-}
-
-fn push_in_chart(
-    alloc: Global,
-    text: &mut Text,
-    basic: &BasicType,
-    place: Misfit,
-) -> Result<(), AllocError> {
-    match place {
-        Misfit::Guard { transition, .. } => push_guard(text, basic, transition),
+        Misfit::Guard { block, transition } => push_guard(text, library, block, transition),
         Misfit::Statement {
+            block,
             algorithm,
             statement,
             part,
-            ..
-        } => push_statement(alloc, text, basic, algorithm, (statement, part)),
-        _ => Ok(()),
+        } => push_statement(alloc, text, library, (block, algorithm), (statement, part)),
     }
 }
 
@@ -160,7 +142,15 @@ fn push_set(
     }
 }
 
-fn push_guard(text: &mut Text, basic: &BasicType, transition: usize) -> Result<(), AllocError> {
+fn push_guard(
+    text: &mut Text,
+    library: &Library,
+    block: usize,
+    transition: usize,
+) -> Result<(), AllocError> {
+    let Some(basic) = push_basic(text, library, block)? else {
+        return Ok(());
+    };
     let Some(transition) = basic.transitions.get(transition) else {
         return Ok(());
     };
@@ -202,10 +192,13 @@ fn push_kind(
 fn push_statement(
     alloc: Global,
     text: &mut Text,
-    basic: &BasicType,
-    algorithm: usize,
-    found: (usize, Part),
+    library: &Library,
+    (block, algorithm): (usize, usize),
+    found: (usize, StatementPart),
 ) -> Result<(), AllocError> {
+    let Some(basic) = push_basic(text, library, block)? else {
+        return Ok(());
+    };
     let Some(algorithm) = basic.algorithms.get(algorithm) else {
         return Ok(());
     };
@@ -218,7 +211,7 @@ fn push_found(
     text: &mut Text,
     basic: &BasicType,
     statements: &[Standing],
-    (place, part): (usize, Part),
+    (place, part): (usize, StatementPart),
 ) -> Result<(), AllocError> {
     match statements.get(place) {
         Some(standing) => {
@@ -234,30 +227,28 @@ fn push_part(
     text: &mut Text,
     basic: &BasicType,
     statement: &Stmt,
-    part: Part,
+    part: StatementPart,
 ) -> Result<(), AllocError> {
-    match (statement, part) {
-        (Stmt::Exit, _) => text.words("EXIT: a loop around it is wanted"),
-        (Stmt::Assign(variable, expr), _) => push_assignment(text, basic, variable, expr, part),
-        (Stmt::If(choices, _), Part::Choice(place)) => {
-            push_choice(text, basic, choices.as_slice(), place)
-        }
-        (Stmt::Case(selector, _, _), _) => {
+    match statement {
+        Stmt::Empty | Stmt::Return => Ok(()),
+        Stmt::Exit => text.words("EXIT: a loop around it is wanted"),
+        Stmt::Assign(variable, expr) => push_assignment(text, basic, variable, expr, part),
+        Stmt::If(choices, _) => push_choice(text, basic, choices.as_slice(), part),
+        Stmt::Case(selector, _, _) => {
             push_kind(text, basic, "CASE ..", (Sort::WholeNumber, selector))
         }
-        (Stmt::While(condition, _), _) => {
+        Stmt::While(condition, _) => {
             push_kind(text, basic, "WHILE ..", (Sort::TruthValue, condition))
         }
-        (Stmt::Repeat(_, condition), _) => push_kind(
+        Stmt::Repeat(_, condition) => push_kind(
             text,
             basic,
             "REPEAT, UNTIL ..",
             (Sort::TruthValue, condition),
         ),
-        (Stmt::For(variable, start, end, step, _), _) => {
+        Stmt::For(variable, start, end, step, _) => {
             push_for(text, basic, variable, (start, end, step), part)
         }
-        _ => Ok(()),
     }
 }
 
@@ -273,9 +264,9 @@ fn push_assignment(
     basic: &BasicType,
     variable: &Reference,
     expr: &Expr,
-    part: Part,
+    part: StatementPart,
 ) -> Result<(), AllocError> {
-    if let Part::Assigned = part {
+    if let StatementPart::Assigned = part {
         return push_assigned(text, "", variable);
     }
     text.name(variable.name())?;
@@ -287,16 +278,21 @@ fn push_choice(
     text: &mut Text,
     basic: &BasicType,
     choices: &[Choice],
-    place: usize,
+    part: StatementPart,
 ) -> Result<(), AllocError> {
+    let StatementPart::Choice(place) = part else {
+        return Ok(());
+    };
     let Some(choice) = choices.get(place) else {
         return Ok(());
     };
-    if place == 0 {
-        return push_kind(text, basic, "IF ..", (Sort::TruthValue, &choice.condition));
-    }
-    text.numbered("IF .., ELSIF number ", place as i128)?;
-    push_kind(text, basic, "", (Sort::TruthValue, &choice.condition))
+    let words = if place == 0 {
+        "IF .."
+    } else {
+        text.numbered("IF .., ELSIF number ", place as i128)?;
+        ""
+    };
+    push_kind(text, basic, words, (Sort::TruthValue, &choice.condition))
 }
 
 fn push_for(
@@ -304,16 +300,19 @@ fn push_for(
     basic: &BasicType,
     variable: &Reference,
     (start, end, step): (&Expr, &Expr, &Option<Expr>),
-    part: Part,
+    part: StatementPart,
 ) -> Result<(), AllocError> {
-    if let Part::Assigned = part {
+    if let StatementPart::Assigned = part {
         return push_assigned(text, "FOR ", variable);
     }
     text.named("FOR ", variable.name())?;
-    match (part, step) {
-        (Part::Start, _) => push_kind(text, basic, " := ..", (Sort::WholeNumber, start)),
-        (Part::End, _) => push_kind(text, basic, " TO ..", (Sort::WholeNumber, end)),
-        (Part::Step, Some(step)) => push_kind(text, basic, " BY ..", (Sort::WholeNumber, step)),
+    match part {
+        StatementPart::Start => push_kind(text, basic, " := ..", (Sort::WholeNumber, start)),
+        StatementPart::End => push_kind(text, basic, " TO ..", (Sort::WholeNumber, end)),
+        StatementPart::Step => match step {
+            Some(step) => push_kind(text, basic, " BY ..", (Sort::WholeNumber, step)),
+            None => Ok(()),
+        },
         _ => text.words(": a number is wanted, and it is a truth value"),
     }
 }
@@ -332,7 +331,7 @@ fn push_misjoin(text: &mut Text, library: &Library, place: Misjoin) -> Result<()
 fn push_connection(
     text: &mut Text,
     library: &Library,
-    scope: &Scope,
+    scope: &PlacedNetwork,
     connection: &Connection,
 ) -> Result<(), AllocError> {
     text.connection(": data connection ", connection)?;

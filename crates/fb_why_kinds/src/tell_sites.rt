@@ -1,9 +1,9 @@
 //! Words for networks, block types and instances, and where they are found.
 
-use crate::networks::Scope;
+use crate::networks::PlacedNetwork;
 use crate::place::Site;
 use crate::words::Text;
-use fb_types::library::{BlockType, Instance, Library};
+use fb_types::library::{BasicType, BlockType, Instance, Library};
 use std::alloc::AllocError;
 
 /// Words for a block type.
@@ -11,6 +11,19 @@ pub fn push_block(text: &mut Text, library: &Library, block: usize) -> Result<()
     match library.blocks.get(block) {
         Some(block) => text.named("block type ", block.type_name()),
         None => Ok(()),
+    }
+}
+
+/// Words for a block type, which is returned if it is a basic one.
+pub fn push_basic<'a>(
+    text: &mut Text,
+    library: &'a Library,
+    block: usize,
+) -> Result<Option<&'a BasicType>, AllocError> {
+    push_block(text, library, block)?;
+    match library.blocks.get(block) {
+        Some(BlockType::Basic(basic)) => Ok(Some(basic)),
+        _ => Ok(None),
     }
 }
 
@@ -23,15 +36,15 @@ pub fn push_site(text: &mut Text, library: &Library, site: Site) -> Result<(), A
 }
 
 /// The network of a site, with the composite type around it.
-pub fn scope_of(library: &Library, site: Site) -> Option<Scope> {
+pub fn scope_of(library: &Library, site: Site) -> Option<PlacedNetwork> {
     match site {
-        Site::Application => Some(Scope {
+        Site::Application => Some(PlacedNetwork {
             composite: None,
             network: &library.application.network,
         }),
         Site::Inside(block) => match library.blocks.get(block)? {
             BlockType::Basic(_) => None,
-            BlockType::Composite(composite) => Some(Scope {
+            BlockType::Composite(composite) => Some(PlacedNetwork {
                 composite: Some(composite),
                 network: &composite.network,
             }),

@@ -1,14 +1,14 @@
 //! The text that tells where a name stands for nothing: where it is, and what was wanted there.
 
-use crate::lookup::{Sort, Types};
+use crate::lookup::{BlockTypes, PortSort};
 use crate::mentions::{Mention, push_body, push_expression};
-use crate::networks::Scope;
-use crate::place::{ActionPart, Direction, Flow, Place, Side, Site, TransitionPart};
-use crate::tell_sites::{push_block, push_instance, push_site, scope_of};
-use crate::words::{Text, algorithm_names, port_names, state_names};
+use crate::networks::PlacedNetwork;
+use crate::place::{ActionPart, Direction, FlowKind, Side, Site, TransitionPart, UnknownName};
+use crate::tell_sites::{push_basic, push_block, push_instance, push_site, scope_of};
+use crate::words::Text;
 use fb_types::deploy::Plan;
 use fb_types::library::{
-    Action, BasicType, BlockType, CompositeType, Instance, Library, Transition, instance_named,
+    Action, BasicType, CompositeType, Instance, Library, Transition, instance_named,
 };
 use fb_types::name::Name;
 use std::alloc::{AllocError, Global};
@@ -18,7 +18,7 @@ use std::alloc::{AllocError, Global};
 struct Inputs<'a> {
     library: &'a Library,
     plan: &'a Plan,
-    types: &'a Types<'a>,
+    types: &'a BlockTypes<'a>,
 }
 
 /// The line that tells the place: where it is, what stands there, and what was wanted.
@@ -26,9 +26,9 @@ pub fn tell_unknown(
     alloc: Global,
     library: &Library,
     plan: &Plan,
-    place: Place,
+    place: UnknownName,
 ) -> Result<String, AllocError> {
-    let types = Types::new(alloc, library)?;
+    let types = BlockTypes::new(alloc, library)?;
     let inputs = Inputs {
         library,
         plan,
@@ -38,7 +38,7 @@ pub fn tell_unknown(
 }
 
 /// The text of the place. What it reads it borrows, and what it writes to has one owner above all that may fail.
-fn told(alloc: Global, inputs: &Inputs, place: Place) -> Result<String, AllocError> {
+fn told(alloc: Global, inputs: &Inputs, place: UnknownName) -> Result<String, AllocError> {
     let mut text = Text::new(alloc);
     tell_place(alloc, &mut text, inputs, place)?;
     Ok(text.into_string())
@@ -48,24 +48,24 @@ fn tell_place(
     alloc: Global,
     text: &mut Text,
     inputs: &Inputs,
-    place: Place,
+    place: UnknownName,
 ) -> Result<(), AllocError> {
     match place {
-        Place::InstanceType { site, instance } => tell_type(text, inputs, site, instance),
-        Place::Parameter {
+        UnknownName::InstanceType { site, instance } => tell_type(text, inputs, site, instance),
+        UnknownName::Parameter {
             site,
             instance,
             parameter,
-        } => tell_parameter(alloc, text, inputs, site, (instance, parameter)),
-        Place::End {
+        } => tell_parameter(text, inputs, site, (instance, parameter)),
+        UnknownName::End {
             site,
             flow,
             connection,
             side,
-        } => tell_end(alloc, text, inputs, site, (flow, connection, side)),
-        Place::Mapped { resource, instance } => tell_mapped(text, inputs, resource, instance),
-        Place::LinkEnd { link, side } => tell_link(text, inputs, link, side),
-        _ => tell_in_block(alloc, text, inputs, place),
+        } => tell_end(text, inputs, site, (flow, connection, side)),
+        UnknownName::Mapped { resource, instance } => tell_mapped(text, inputs, resource, instance),
+        UnknownName::LinkEnd { link, side } => tell_link(text, inputs, link, side),
+        _ => tell_in_block(alloc, text, inputs.library, place),
     }
 }
 
@@ -88,7 +88,6 @@ fn tell_type(
 }
 
 fn tell_parameter(
-    alloc: Global,
     text: &mut Text,
     inputs: &Inputs,
     site: Site,
@@ -105,37 +104,40 @@ fn tell_parameter(
     text.named(", parameter ", &parameter.name)?;
     match inputs.types.ports_named(&instance.block_type) {
         Some(ports) => {
-            let names = port_names(alloc, ports, Sort::Input)?;
-            text.lacks(&instance.block_type, Sort::Input, &parameter.name, &names)
+            text.lacks(
+                &instance.block_type,
+                PortSort::Input,
+                &parameter.name,
+                ports,
+            )
         }
         None => Ok(()),
     }
 }
 
 /// The sorts of ports that an end may be: at a component, and at the boundary.
-fn sorts_of(flow: Flow, side: Side) -> (Sort, Sort) {
+fn sorts_of(flow: FlowKind, side: Side) -> (PortSort, PortSort) {
     match (flow, side) {
-        (Flow::Events, Side::From) => (Sort::EventOutput, Sort::EventInput),
-        (Flow::Events, Side::To) => (Sort::EventInput, Sort::EventOutput),
-        (Flow::Data, Side::From) => (Sort::Output, Sort::Input),
-        (Flow::Data, Side::To) => (Sort::Input, Sort::Output),
+        (FlowKind::Events, Side::From) => (PortSort::EventOutput, PortSort::EventInput),
+        (FlowKind::Events, Side::To) => (PortSort::EventInput, PortSort::EventOutput),
+        (FlowKind::Data, Side::From) => (PortSort::Output, PortSort::Input),
+        (FlowKind::Data, Side::To) => (PortSort::Input, PortSort::Output),
     }
 }
 
 fn tell_end(
-    alloc: Global,
     text: &mut Text,
     inputs: &Inputs,
     site: Site,
-    (flow, connection, side): (Flow, usize, Side),
+    (flow, connection, side): (FlowKind, usize, Side),
 ) -> Result<(), AllocError> {
     push_site(text, inputs.library, site)?;
-    let Some(Scope { composite, network }) = scope_of(inputs.library, site) else {
+    let Some(PlacedNetwork { composite, network }) = scope_of(inputs.library, site) else {
         return Ok(());
     };
     let (words, connections) = match flow {
-        Flow::Events => (": event connection ", &network.event_connections),
-        Flow::Data => (": data connection ", &network.data_connections),
+        FlowKind::Events => (": event connection ", &network.event_connections),
+        FlowKind::Data => (": data connection ", &network.data_connections),
     };
     let Some(connection) = connections.get(connection) else {
         return Ok(());
@@ -150,27 +152,23 @@ fn tell_end(
         Some(component) => {
             let instances = network.instances.as_slice();
             match instance_named(instances, component) {
-                Some(instance) => tell_port(alloc, text, inputs, instance, (sort, &end.port)),
+                Some(instance) => tell_port(text, inputs, instance, (sort, &end.port)),
                 None => text.named(": there is no instance ", component),
             }
         }
-        None => tell_boundary(alloc, text, composite, boundary, &end.port),
+        None => tell_boundary(text, composite, boundary, &end.port),
     }
 }
 
 /// What the composite type around a network lacks, or that there is none.
 fn tell_boundary(
-    alloc: Global,
     text: &mut Text,
     composite: Option<&CompositeType>,
-    sort: Sort,
+    sort: PortSort,
     wanted: &Name,
 ) -> Result<(), AllocError> {
     match composite {
-        Some(composite) => {
-            let names = port_names(alloc, &composite.ports, sort)?;
-            text.lacks(&composite.name, sort, wanted, &names)
-        }
+        Some(composite) => { text.lacks(&composite.name, sort, wanted, &composite.ports) }
         None => {
             text.named(": ", wanted)?;
             text.words(" has no instance before it, and an application has no ports")
@@ -180,17 +178,13 @@ fn tell_boundary(
 
 /// What the type of an instance lacks.
 fn tell_port(
-    alloc: Global,
     text: &mut Text,
     inputs: &Inputs,
     instance: &Instance,
-    (sort, wanted): (Sort, &Name),
+    (sort, wanted): (PortSort, &Name),
 ) -> Result<(), AllocError> {
     match inputs.types.ports_named(&instance.block_type) {
-        Some(ports) => {
-            let names = port_names(alloc, ports, sort)?;
-            text.lacks(&instance.block_type, sort, wanted, &names)
-        }
+        Some(ports) => { text.lacks(&instance.block_type, sort, wanted, ports) }
         None => text.named(": there is no block type ", &instance.block_type),
     }
 }
@@ -226,50 +220,60 @@ fn tell_link(text: &mut Text, inputs: &Inputs, link: usize, side: Side) -> Resul
     text.named(": there is no resource ", wanted)
 }
 
+/// The same of places in a block type.
 fn tell_in_block(
     alloc: Global,
     text: &mut Text,
-    inputs: &Inputs,
-    place: Place,
+    library: &Library,
+    place: UnknownName,
 ) -> Result<(), AllocError> {
     match place {
-        Place::With {
+        UnknownName::With {
             block,
             direction,
             event,
             variable,
-        } => {
-            push_block(text, inputs.library, block)?;
-            match inputs.library.blocks.get(block) {
-                Some(block) => tell_with(alloc, text, block, direction, (event, variable)),
-                None => Ok(()),
-            }
-        }
-        Place::Transition { block, .. }
-        | Place::Action { block, .. }
-        | Place::Guard { block, .. }
-        | Place::Body { block, .. } => {
-            push_block(text, inputs.library, block)?;
-            match inputs.library.blocks.get(block) {
-                Some(BlockType::Basic(basic)) => tell_in_basic(alloc, text, basic, place),
-                _ => Ok(()),
-            }
-        }
+        } => tell_with(text, library, block, direction, (event, variable)),
+        UnknownName::Transition {
+            block,
+            transition,
+            part,
+        } => tell_transition(text, library, block, transition, part),
+        UnknownName::Action {
+            block,
+            state,
+            action,
+            part,
+        } => tell_action(text, library, block, (state, action), part),
+        UnknownName::Guard {
+            block,
+            transition,
+            mention,
+        } => tell_guard(alloc, text, library, block, (transition, mention)),
+        UnknownName::Body {
+            block,
+            algorithm,
+            mention,
+        } => tell_body(alloc, text, library, block, (algorithm, mention)),
         _ => Ok(()),
     }
 }
 
 fn tell_with(
-    alloc: Global,
     text: &mut Text,
-    block: &BlockType,
+    library: &Library,
+    block: usize,
     direction: Direction,
     (event, variable): (usize, usize),
 ) -> Result<(), AllocError> {
+    push_block(text, library, block)?;
+    let Some(block) = library.blocks.get(block) else {
+        return Ok(());
+    };
     let ports = block.ports();
     let (words, sort, events) = match direction {
-        Direction::Input => (": event input ", Sort::Input, &ports.event_inputs),
-        Direction::Output => (": event output ", Sort::Output, &ports.event_outputs),
+        Direction::Input => (": event input ", PortSort::Input, &ports.event_inputs),
+        Direction::Output => (": event output ", PortSort::Output, &ports.event_outputs),
     };
     let Some(event) = events.get(event) else {
         return Ok(());
@@ -279,74 +283,26 @@ fn tell_with(
         return Ok(());
     };
     text.named(" WITH ", variable)?;
-    let names = port_names(alloc, ports, sort)?;
-    text.lacks(block.type_name(), sort, variable, &names)
+    text.lacks(block.type_name(), sort, variable, ports)
 }
 
-fn tell_in_basic(
+fn tell_body(
     alloc: Global,
     text: &mut Text,
-    basic: &BasicType,
-    place: Place,
+    library: &Library,
+    block: usize,
+    (algorithm, mention): (usize, usize),
 ) -> Result<(), AllocError> {
-    match place {
-        Place::Transition {
-            transition,
-            part,
-            ..
-        } => match basic.transitions.get(transition) {
-            Some(transition) => tell_transition(alloc, text, basic, transition, part),
-            None => Ok(()),
-        },
-        Place::Action {
-            state,
-            action,
-            part,
-            ..
-        } => match basic.states.get(state) {
-            Some(state) => {
-                text.named(": state ", &state.name)?;
-                match state.actions.get(action) {
-                    Some(action) => tell_action(alloc, text, basic, action, part),
-                    None => Ok(()),
-                }
-            }
-            None => Ok(()),
-        },
-        _ => tell_in_text(alloc, text, basic, place),
-    }
-}
-
-fn tell_in_text(
-    alloc: Global,
-    text: &mut Text,
-    basic: &BasicType,
-    place: Place,
-) -> Result<(), AllocError> {
-    match place {
-        Place::Guard {
-            transition,
-            mention,
-            ..
-        } => match basic.transitions.get(transition) {
-            Some(transition) => tell_guard(alloc, text, basic, transition, mention),
-            None => Ok(()),
-        },
-        Place::Body {
-            algorithm,
-            mention,
-            ..
-        } => match basic.algorithms.get(algorithm) {
-            Some(algorithm) => {
-                text.named(": algorithm ", &algorithm.name)?;
-                let mut mentions = Vec::new(alloc);
-                push_body(&mut mentions, &algorithm.body)?;
-                tell_mention(text, basic, mentions.as_slice(), mention)
-            }
-            None => Ok(()),
-        },
-        _ => Ok(()),
-    }
+    let Some(basic) = push_basic(text, library, block)? else {
+        return Ok(());
+    };
+    let Some(algorithm) = basic.algorithms.get(algorithm) else {
+        return Ok(());
+    };
+    text.named(": algorithm ", &algorithm.name)?;
+    let mut mentions = Vec::new(alloc);
+    push_body(&mut mentions, &algorithm.body)?;
+    tell_mention(text, basic, mentions.as_slice(), mention)
 }
 
 fn push_transition(text: &mut Text, transition: &Transition) -> Result<(), AllocError> {
@@ -355,62 +311,87 @@ fn push_transition(text: &mut Text, transition: &Transition) -> Result<(), Alloc
 }
 
 fn tell_transition(
-    alloc: Global,
     text: &mut Text,
-    basic: &BasicType,
-    transition: &Transition,
+    library: &Library,
+    block: usize,
+    transition: usize,
     part: TransitionPart,
 ) -> Result<(), AllocError> {
-    push_transition(text, transition)?;
-    let state = match part {
-        TransitionPart::From => &transition.from,
-        TransitionPart::To => &transition.to,
-        TransitionPart::Event => {
-            let names = port_names(alloc, &basic.ports, Sort::EventInput)?;
-            return match &transition.condition.event {
-                Some(event) => text.lacks(&basic.name, Sort::EventInput, event, &names),
-                None => Ok(()),
-            };
-        }
+    let Some(basic) = push_basic(text, library, block)? else {
+        return Ok(());
     };
+    let Some(transition) = basic.transitions.get(transition) else {
+        return Ok(());
+    };
+    push_transition(text, transition)?;
+    match part {
+        TransitionPart::From => tell_state(text, basic, &transition.from),
+        TransitionPart::To => tell_state(text, basic, &transition.to),
+        TransitionPart::Event => match &transition.condition.event {
+            Some(event) => text.lacks(&basic.name, PortSort::EventInput, event, &basic.ports),
+            None => Ok(()),
+        },
+    }
+}
+
+fn tell_state(text: &mut Text, basic: &BasicType, wanted: &Name) -> Result<(), AllocError> {
     text.named(": ", &basic.name)?;
-    text.named(" has no state ", state)?;
-    text.list(&state_names(alloc, basic.states.as_slice())?)
+    text.named(" has no state ", wanted)?;
+    text.names(basic.states.as_slice())
 }
 
 fn tell_action(
-    alloc: Global,
+    text: &mut Text,
+    library: &Library,
+    block: usize,
+    (state, action): (usize, usize),
+    part: ActionPart,
+) -> Result<(), AllocError> {
+    let Some(basic) = push_basic(text, library, block)? else {
+        return Ok(());
+    };
+    let Some(state) = basic.states.get(state) else {
+        return Ok(());
+    };
+    text.named(": state ", &state.name)?;
+    match state.actions.get(action) {
+        Some(action) => tell_action_part(text, basic, action, part),
+        None => Ok(()),
+    }
+}
+
+fn tell_action_part(
     text: &mut Text,
     basic: &BasicType,
     action: &Action,
     part: ActionPart,
 ) -> Result<(), AllocError> {
-    match part {
-        ActionPart::Algorithm => match &action.algorithm {
-            Some(algorithm) => {
-                text.named(": ", &basic.name)?;
-                text.named(" has no algorithm ", algorithm)?;
-                text.list(&algorithm_names(alloc, basic.algorithms.as_slice())?)
-            }
-            None => Ok(()),
-        },
-        ActionPart::Output => match &action.output {
-            Some(output) => {
-                let names = port_names(alloc, &basic.ports, Sort::EventOutput)?;
-                text.lacks(&basic.name, Sort::EventOutput, output, &names)
-            }
-            None => Ok(()),
-        },
+    match (part, &action.algorithm, &action.output) {
+        (ActionPart::Algorithm, Some(algorithm), _) => {
+            text.named(": ", &basic.name)?;
+            text.named(" has no algorithm ", algorithm)?;
+            text.names(basic.algorithms.as_slice())
+        }
+        (ActionPart::Output, _, Some(output)) => {
+            text.lacks(&basic.name, PortSort::EventOutput, output, &basic.ports)
+        }
+        _ => Ok(()),
     }
 }
 
 fn tell_guard(
     alloc: Global,
     text: &mut Text,
-    basic: &BasicType,
-    transition: &Transition,
-    mention: usize,
+    library: &Library,
+    block: usize,
+    (transition, mention): (usize, usize),
 ) -> Result<(), AllocError> {
+    let Some(basic) = push_basic(text, library, block)? else {
+        return Ok(());
+    };
+    let Some(transition) = basic.transitions.get(transition) else {
+        return Ok(());
+    };
     push_transition(text, transition)?;
     let Some(guard) = &transition.condition.guard else {
         return Ok(());

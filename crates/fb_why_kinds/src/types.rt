@@ -1,9 +1,6 @@
 //! What the names of block types, instances and variables stand for, looked for from name to name.
 
 ghost use Rattle.std.specs.Prelude.{◌≡◌, [], ◌∷◌, ◌++◌, option_map};
-ghost use Rattle.std.specs.Option.{option_copied};
-ghost use Rattle.std.specs.List.{find};
-ghost use Rattle.fb_types.specs.Names.{same_name};
 ghost use Rattle.fb_types.specs.Blocks as blocks;
 ghost use Rattle.fb_types.specs.Flat as flat;
 ghost use Rattle.fb_kinds.specs.Roles as roles;
@@ -35,18 +32,16 @@ pub fn type_named<'a>(library: &'a Library, name: &Name) -> Option<Kind<'a>>
     }
 }
 
-fn variable_named<'a>(variables: &'a [Variable], name: &Name) -> Option<&'a Variable>
-    ensures { option_copied result ≡ find (λ v. same_name v.name name.now) variables.now }
-{
-    variables.iter().find(|variable| variable.name.is(name))
-}
-
 /// The type of the variable that has the name.
 pub fn variable_type(variables: &[Variable], name: &Name) -> Option<Ty>
     ensures { result ≡ roles.type_named variables.now name.now }
 {
-    let variable = variable_named(variables, name)?;
-    Some(variable.ty)
+    for variable in variables {
+        if variable.name.is(name) {
+            return Some(variable.ty);
+        }
+    }
+    None
 }
 
 /// The type of the data input or output that has the name.
@@ -59,7 +54,8 @@ pub fn port_type(ports: &Ports, name: &Name) -> Option<Ty>
     }
 }
 
-fn type_among(ports: &Ports, internals: &[Variable], name: &Name) -> Option<Ty>
+/// The same of all variables of a basic type.
+pub fn type_among(ports: &Ports, internals: &[Variable], name: &Name) -> Option<Ty>
     ensures { result ≡ roles.type_named (joinable ports.now ++ internals.now) name.now }
 {
     match port_type(ports, name) {

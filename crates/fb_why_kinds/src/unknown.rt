@@ -6,9 +6,9 @@ ghost use Rattle.fb_why_kinds.specs.Unknown.{IsUnknownAt};
 
 use crate::blocks::unknown_in_blocks;
 use crate::deployment::unknown_in_deployment;
-use crate::lookup::Types;
-use crate::networks::{Scope, unknown_in_network};
-use crate::place::{Place, Site};
+use crate::lookup::BlockTypes;
+use crate::networks::{PlacedNetwork, unknown_in_network};
+use crate::place::{Site, UnknownName};
 use fb_types::deploy::Plan;
 use fb_types::library::Library;
 use std::alloc::{AllocError, Global};
@@ -18,12 +18,12 @@ fn unknown_with(
     alloc: Global,
     library: &Library,
     plan: &Plan,
-    types: &Types,
-) -> Result<Option<Place>, AllocError>
+    types: &BlockTypes,
+) -> Result<Option<UnknownName>, AllocError>
     requires { types.now.library.now ≡ library.now }
     ensures { IfOk result (λ o. MatchOption o (¬ (NameUnknown library.now plan.now)) (IsUnknownAt library.now plan.now)) }
 {
-    let scope = Scope {
+    let scope = PlacedNetwork {
         composite: None,
         network: &library.application.network,
     };
@@ -41,9 +41,9 @@ pub fn unknown_place(
     alloc: Global,
     library: &Library,
     plan: &Plan,
-) -> Result<Option<Place>, AllocError>
+) -> Result<Option<UnknownName>, AllocError>
     ensures { IfOk result (λ o. MatchOption o (¬ (NameUnknown library.now plan.now)) (IsUnknownAt library.now plan.now)) }
 {
-    let types = Types::new(alloc, library)?;
+    let types = BlockTypes::new(alloc, library)?;
     unknown_with(alloc, library, plan, &types)
 }

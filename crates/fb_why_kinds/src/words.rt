@@ -1,7 +1,8 @@
 //! Texts that are put together of words, names and numbers.
 
-use crate::lookup::Sort;
-use fb_types::library::{Algorithm, Connection, EventPort, PortName, Ports, State, Variable};
+use crate::called::Called;
+use crate::lookup::PortSort;
+use fb_types::library::{Connection, PortName, Ports};
 use fb_types::name::Name;
 use fb_types::value::{Ty, Value};
 use std::alloc::{AllocError, Global};
@@ -74,34 +75,39 @@ impl Text {
     }
 
     /// What there is in place of what was wanted.
-    pub fn list(&mut self, names: &[&Name]) -> Result<(), AllocError> {
+    pub(crate) fn names<T: Called>(&mut self, items: &[T]) -> Result<(), AllocError> {
         self.words(" (it has ")?;
-        for (place, name) in names.iter().enumerate() {
-            self.named(if place == 0 { "" } else { ", " }, name)?;
+        for (place, item) in items.iter().enumerate() {
+            self.named(if place == 0 { "" } else { ", " }, item.name())?;
         }
-        self.words(if names.is_empty() { "none)" } else { ")" })
+        self.words(if items.is_empty() { "none)" } else { ")" })
     }
 
     /// What has no port of the sort by the name, and which ports it has.
     pub fn lacks(
         &mut self,
         owner: &Name,
-        sort: Sort,
+        sort: PortSort,
         wanted: &Name,
-        names: &[&Name],
+        ports: &Ports,
     ) -> Result<(), AllocError> {
         self.named(": ", owner)?;
         self.named(words_for(sort), wanted)?;
-        self.list(names)
+        match sort {
+            PortSort::EventInput => self.names(ports.event_inputs.as_slice()),
+            PortSort::EventOutput => self.names(ports.event_outputs.as_slice()),
+            PortSort::Input => self.names(ports.inputs.as_slice()),
+            PortSort::Output => self.names(ports.outputs.as_slice()),
+        }
     }
 }
 
-fn words_for(sort: Sort) -> &'static str {
+fn words_for(sort: PortSort) -> &'static str {
     match sort {
-        Sort::EventInput => " has no event input ",
-        Sort::EventOutput => " has no event output ",
-        Sort::Input => " has no data input ",
-        Sort::Output => " has no data output ",
+        PortSort::EventInput => " has no event input ",
+        PortSort::EventOutput => " has no event output ",
+        PortSort::Input => " has no data input ",
+        PortSort::Output => " has no data output ",
     }
 }
 
@@ -119,46 +125,4 @@ pub fn type_words(ty: Ty) -> &'static str {
         Ty::Time => "TIME",
         Ty::Bool => "BOOL",
     }
-}
-
-/// The names of the ports of a sort.
-pub fn port_names(alloc: Global, ports: &Ports, sort: Sort) -> Result<Vec<&Name>, AllocError> {
-    match sort {
-        Sort::EventInput => event_names(alloc, ports.event_inputs.as_slice()),
-        Sort::EventOutput => event_names(alloc, ports.event_outputs.as_slice()),
-        Sort::Input => variable_names(alloc, ports.inputs.as_slice()),
-        Sort::Output => variable_names(alloc, ports.outputs.as_slice()),
-    }
-}
-
-fn event_names(alloc: Global, events: &[EventPort]) -> Result<Vec<&Name>, AllocError> {
-    let mut names = Vec::new(alloc);
-    for event in events {
-        names.push(&event.name)?;
-    }
-    Ok(names)
-}
-
-fn variable_names(alloc: Global, variables: &[Variable]) -> Result<Vec<&Name>, AllocError> {
-    let mut names = Vec::new(alloc);
-    for variable in variables {
-        names.push(&variable.name)?;
-    }
-    Ok(names)
-}
-
-pub fn state_names(alloc: Global, states: &[State]) -> Result<Vec<&Name>, AllocError> {
-    let mut names = Vec::new(alloc);
-    for state in states {
-        names.push(&state.name)?;
-    }
-    Ok(names)
-}
-
-pub fn algorithm_names(alloc: Global, algorithms: &[Algorithm]) -> Result<Vec<&Name>, AllocError> {
-    let mut names = Vec::new(alloc);
-    for algorithm in algorithms {
-        names.push(&algorithm.name)?;
-    }
-    Ok(names)
 }

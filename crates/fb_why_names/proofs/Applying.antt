@@ -30,7 +30,7 @@ use Rattle.fb_why_names.specs.Sources.{IsJoinedInside, targets}
 use Rattle.fb_why_names.specs.Twice.{IsEventBlock, IsTwiceInBlock, IsTwiceInNetwork, IsTwiceInPorts, parameter_names}
 use Rattle.fb_why_names.specs.declared.heights.Descent.TheVariants.{Circle, Height}
 use Rattle.fb_why_names.specs.declared.sources.Joined.TheVariants as joined
-use Rattle.fb_why_names.specs.declared.twice.Given.TheVariants as given
+use Rattle.fb_why_names.specs.declared.twice.GivenTwice.TheVariants as given
 use Rattle.fb_why_names.specs.declared.twice.InBlock.{InBlock}
 use Rattle.fb_why_names.specs.declared.twice.InBlock.TheVariants as part
 use Rattle.fb_why_names.specs.declared.twice.InNetwork.{InNetwork}

@@ -13,12 +13,12 @@ use Rattle.fb_why_names.specs.Unmapped.{IsUnmappedAt}
 use Rattle.fb_why_names.specs.Unserved.{IsUnservedAt}
 use Rattle.fb_why_names.specs.declared.heights.Descent.{Descent}
 use Rattle.fb_why_names.specs.declared.sources.Joined.{Joined}
-use Rattle.fb_why_names.specs.declared.twice.Given.{Given}
+use Rattle.fb_why_names.specs.declared.twice.GivenTwice.{GivenTwice}
 use Rattle.fb_why_names.specs.declared.unlinked.Unlinked.{Unlinked}
 use Rattle.fb_why_names.specs.declared.unmapped.Unmapped.{Unmapped}
 
 abbrev pub TwiceApplies : Type 0
-TwiceApplies = (lib : Library) (plan : Plan) (p : Given) → IsTwiceAt lib plan p → NameTwice lib plan
+TwiceApplies = (lib : Library) (plan : Plan) (p : GivenTwice) → IsTwiceAt lib plan p → NameTwice lib plan
 
 abbrev pub JoinedApplies : Type 0
 JoinedApplies = (lib : Library) (p : Joined) → IsJoinedAt lib p → TwoSources lib

@@ -19,8 +19,8 @@ use Rattle.fb_why_names.specs.declared.twice.InNetwork.{InNetwork}
 use Rattle.fb_why_names.specs.declared.twice.InNetwork.TheVariants as network
 use Rattle.fb_why_names.specs.declared.twice.InBlock.{InBlock}
 use Rattle.fb_why_names.specs.declared.twice.InBlock.TheVariants.{Port, WithInput, WithOutput, State, Algorithm, Inside}
-use Rattle.fb_why_names.specs.declared.twice.Given.{Given}
-use Rattle.fb_why_names.specs.declared.twice.Given.TheVariants as given
+use Rattle.fb_why_names.specs.declared.twice.GivenTwice.{GivenTwice}
+use Rattle.fb_why_names.specs.declared.twice.GivenTwice.TheVariants as given
 
 -- ---- Networks
 
@@ -70,7 +70,7 @@ abbrev pub IsEventBlock : List BlockType → (place : ℕ) → Type 0
 IsEventBlock ts k = (t : BlockType) × (slice_get ts k ≡ Some t) × (is_own_name t ≡ false)
 
 -- Something is given twice there.
-abbrev pub IsTwiceAt : Library → Plan → Given → Type 0
+abbrev pub IsTwiceAt : Library → Plan → GivenTwice → Type 0
 IsTwiceAt lib plan (given.EventBlock k) = IsEventBlock lib.blocks k
 IsTwiceAt lib plan (given.Type r) = IsPair (map type_name lib.blocks) r
 IsTwiceAt lib plan (given.Block k b) = IsTwiceInSome lib.blocks k b

@@ -2,7 +2,7 @@
 
 use crate::called::Called;
 use crate::pair::Pair;
-use crate::twice::{Given, InBlock, InNetwork};
+use crate::twice::{GivenTwice, InBlock, InNetwork};
 use crate::words::Text;
 use fb_types::deploy::Plan;
 use fb_types::library::{BlockType, EventPort, Instance, Library, Network};
@@ -16,7 +16,7 @@ pub fn tell_twice(
     alloc: Global,
     library: &Library,
     plan: &Plan,
-    given: Given,
+    given: GivenTwice,
 ) -> Result<String, AllocError> {
     let mut text = Text::new(alloc);
     push_given(&mut text, library, plan, given)?;
@@ -27,18 +27,23 @@ fn push_given(
     text: &mut Text,
     library: &Library,
     plan: &Plan,
-    given: Given,
+    given: GivenTwice,
 ) -> Result<(), AllocError> {
     match given {
-        Given::EventBlock(place) => push_event_block(text, library, place),
-        Given::Type(pair) => push_again(text, "block type ", library.blocks.as_slice(), pair),
-        Given::Block(place, found) => push_block(text, library, place, found),
-        Given::Application(found) => {
+        GivenTwice::EventBlock(place) => push_event_block(text, library, place),
+        GivenTwice::Type(pair) => push_again(text, "block type ", library.blocks.as_slice(), pair),
+        GivenTwice::Block(place, found) => push_block(text, library, place, found),
+        GivenTwice::Application(found) => {
             text.named("application ", &library.application.name)?;
             push_in_network(text, &library.application.network, found)
         }
-        Given::Resource(pair) => push_again(text, "resource ", plan.resources.as_slice(), pair),
-        Given::Link(pair) => push_link(text, plan, pair),
+        GivenTwice::Resource(pair) => push_again(
+            text,
+            "resource ",
+            plan.resources.as_slice(),
+            pair,
+        ),
+        GivenTwice::Link(pair) => push_link(text, plan, pair),
     }
 }
 

@@ -53,7 +53,7 @@ pub enum InBlock {
 
 /// What a declaration or a deployment gives twice. Places in lists are counted from 0.
 #[derive(Clone, Copy)]
-pub enum Given {
+pub enum GivenTwice {
     /// The name of an event block, to the block type at this place.
     EventBlock(usize),
     /// The name of a block type.
@@ -231,27 +231,27 @@ pub fn twice_place(
     alloc: Global,
     library: &Library,
     plan: &Plan,
-) -> Result<Option<Given>, AllocError>
+) -> Result<Option<GivenTwice>, AllocError>
     ensures { IfOk result (λ o. MatchOption o (¬ (NameTwice library.now plan.now)) (IsTwiceAt library.now plan.now)) }
 {
     let blocks = library.blocks.as_slice();
     if let Some(block) = event_block(blocks) {
-        return Ok(Some(Given::EventBlock(block)));
+        return Ok(Some(GivenTwice::EventBlock(block)));
     }
     if let Some(pair) = called_pair(alloc, blocks)? {
-        return Ok(Some(Given::Type(pair)));
+        return Ok(Some(GivenTwice::Type(pair)));
     }
     if let Some((block, found)) = twice_in_blocks(alloc, blocks)? {
-        return Ok(Some(Given::Block(block, found)));
+        return Ok(Some(GivenTwice::Block(block, found)));
     }
     if let Some(found) = twice_in_network(alloc, &library.application.network)? {
-        return Ok(Some(Given::Application(found)));
+        return Ok(Some(GivenTwice::Application(found)));
     }
     if let Some(pair) = called_pair(alloc, plan.resources.as_slice())? {
-        return Ok(Some(Given::Resource(pair)));
+        return Ok(Some(GivenTwice::Resource(pair)));
     }
     match link_pair(alloc, plan.links.as_slice())? {
-        Some(pair) => Ok(Some(Given::Link(pair))),
+        Some(pair) => Ok(Some(GivenTwice::Link(pair))),
         None => Ok(None),
     }
 }

@@ -6,7 +6,7 @@ use Rattle.toml.specs.View.{table_view, view}
 use Rattle.toml.specs.declared.value.Value.{Value}
 use Rattle.fb_inputs.specs.Documents.{name_of}
 use Rattle.fb_why_bytes.specs.Tables.{FailsAt}
-use Rattle.fb_why_bytes.specs.declared.place.Key.TheVariants as key
+use Rattle.fb_why_bytes.specs.declared.place.DeployKey.TheVariants as key
 use Rattle.fb_types.proofs.Options.{match_none, match_some}
 use Rattle.fb_why_bytes.proofs.TableValues.{array_is_met, read_is_met, wrong_element}
 use Rattle.fb_why_bytes.proofs.table.instances_fault.Goals as goal

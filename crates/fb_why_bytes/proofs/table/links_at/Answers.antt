@@ -5,7 +5,7 @@ use Rattle.toml.specs.View.{table_view, view}
 use Rattle.toml.specs.declared.value.Value.{Value}
 use Rattle.fb_inputs.specs.Documents.{link}
 use Rattle.fb_why_bytes.specs.Tables.{IsFaultAmong, IsLinkFault}
-use Rattle.fb_why_bytes.specs.declared.place.Key.TheVariants as key
+use Rattle.fb_why_bytes.specs.declared.place.DeployKey.TheVariants as key
 use Rattle.fb_types.proofs.Options.{match_none, match_some}
 use Rattle.fb_why_bytes.proofs.TableValues.{array_is_met, in_array, optional_is_met}
 use Rattle.fb_why_bytes.proofs.table.links_at.Goals as goal

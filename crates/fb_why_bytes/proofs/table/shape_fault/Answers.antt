@@ -4,7 +4,7 @@ use Rattle.toml.specs.Data.{get_member}
 use Rattle.toml.specs.View.{table_view}
 use Rattle.fb_inputs.specs.Documents.{array_of, link, optional_array, read_at, resource}
 use Rattle.fb_why_bytes.specs.Tables.{IsShapeFault}
-use Rattle.fb_why_bytes.specs.declared.place.Key.TheVariants as key
+use Rattle.fb_why_bytes.specs.declared.place.DeployKey.TheVariants as key
 use Rattle.fb_why_bytes.specs.declared.place.TableFault.{TableFault}
 use Rattle.fb_why_bytes.specs.declared.place.TablePlace.{TablePlace}
 use Rattle.fb_types.proofs.Options.{match_none}

@@ -7,5 +7,5 @@ use Rattle.fb_why_kinds.proofs.charts.is_algorithm.Goals as goal
 
 pub returns : goal.returns
 returns c =
-    c.has_algorithm.ensures ∙ ap (list_any (λ (a : Algorithm). same_name c.args.name.now a.name)) c.as_slice.ensures
+    c.is_called.ensures ∙ ap (list_any (λ (a : Algorithm). same_name c.args.name.now a.name)) c.as_slice.ensures
     ∙ any_map (λ (a : Algorithm). a.name) c.args.name.now c.args.basic.now.algorithms

@@ -7,5 +7,5 @@ use Rattle.fb_why_kinds.proofs.charts.is_state.Goals as goal
 
 pub returns : goal.returns
 returns c =
-    c.has_state.ensures ∙ ap (list_any (λ (s : State). same_name c.args.name.now s.name)) c.as_slice.ensures
+    c.is_called.ensures ∙ ap (list_any (λ (s : State). same_name c.args.name.now s.name)) c.as_slice.ensures
     ∙ any_map (λ (s : State). s.name) c.args.name.now c.args.basic.now.states

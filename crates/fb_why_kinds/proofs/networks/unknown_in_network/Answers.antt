@@ -2,7 +2,7 @@ use Rattle.std.proofs.Common.{List, sym, ◌∙◌, ap}
 use Rattle.std.specs.Prelude.{slice_get}
 use Rattle.std.specs.List.{list_all}
 use Rattle.fb_types.specs.declared.library.Instance.{Instance}
-use Rattle.fb_why_kinds.specs.declared.place.Flow.TheVariants.{Events, Data}
+use Rattle.fb_why_kinds.specs.declared.place.FlowKind.TheVariants.{Events, Data}
 use Rattle.fb_why_kinds.specs.Sites.{placed}
 use Rattle.fb_why_kinds.specs.Unknown.{is_type_met, are_parameters_met, are_ends_known}
 use Rattle.fb_why_kinds.proofs.NetworkPlaces.{none_answer, type_place, network_known}

@@ -1,15 +1,15 @@
-//! The reason of a refusal: what was read is read once more, and looked through for a place at which the refusal
+//! What is found of a refusal: what was read is read once more, and looked through for a place at which the refusal
 //! applies.
 
 ghost use Rattle.std.specs.Prelude.{◌≡◌, ℕ, List, Option, None, IfOk, MatchOption, option_map};
 ghost use Rattle.fb_read.specs.Whole.{IsLibraryText, IsMemory};
-ghost use Rattle.fb_why.specs.Reasons.{AreNoStimuli, AreStimuli, HasNoExcess, HasNoFlaw, IsNoPlan, IsPlan, IsSilent, IsSilentOf, Tells, TellsExcess, TellsFlaw, TellsOf};
+ghost use Rattle.fb_why.specs.Findings.{AreNoStimuli, AreStimuli, HasNoExcess, HasNoFlaw, IsNoPlan, IsPlan, IsSilent, IsSilentOf, Tells, TellsExcess, TellsFlaw, TellsOf};
 
 use crate::cause::{Cause, Excess, Flaw, cause_of};
-use crate::declared::reason_in;
-use crate::fed::reason_with;
-use crate::refused::{bytes_reason, text_reason};
-use crate::spot::Reason;
+use crate::declared::finding_in;
+use crate::fed::finding_with;
+use crate::refused::{bytes_finding, text_finding};
+use crate::spot::Finding;
 use fb_inputs::deployment::read_deploy;
 use fb_inputs::error::InputError;
 use fb_inputs::stimuli::read_stimuli;
@@ -21,7 +21,7 @@ use fb_why_bytes::discard::discard;
 use std::alloc::{AllocError, Global};
 
 /// What is told of a declaration that can't be read: nothing, where that is not for want of memory.
-fn untold(fault: ReadError) -> Result<Option<Reason>, AllocError>
+fn untold(fault: ReadError) -> Result<Option<Finding>, AllocError>
     ensures { IfOk result (λ o. (o ≡ None) × ¬ (IsMemory fault)) }
 {
     match fault {
@@ -59,126 +59,126 @@ fn stimuli_of(alloc: Global, stimuli: Option<&[u8]>) -> Result<Option<Vec<Stimul
 }
 
 /// Where the refusal applies to a library and to what the bytes of a deployment stand for.
-fn flaw_reason_in(
+fn flaw_finding_in(
     alloc: Global,
     flaw: Flaw,
     library: &Library,
     deploy: Option<&[u8]>,
-) -> Result<Option<Reason>, AllocError>
+) -> Result<Option<Finding>, AllocError>
     ensures { let plan = option_map (λ b. b.now) deploy.entry in (declaration : List ℕ) → IsLibraryText declaration library.now →
         IfOk result (λ o. MatchOption o (HasNoFlaw flaw declaration plan) (λ r. TellsFlaw flaw declaration plan r.place)) }
 {
     let Some(deploy) = deploy_of(alloc, deploy)? else {
         return Ok(None);
     };
-    reason_in(alloc, flaw, library, deploy.plan())
+    finding_in(alloc, flaw, library, deploy.plan())
 }
 
 /// Where the refusal applies to what the bytes of a declaration and a deployment stand for.
-fn flaw_reason(
+fn flaw_finding(
     alloc: Global,
     flaw: Flaw,
     declaration: &[u8],
     deploy: Option<&[u8]>,
-) -> Result<Option<Reason>, AllocError>
+) -> Result<Option<Finding>, AllocError>
     ensures { let plan = option_map (λ b. b.now) deploy.entry in IfOk result (λ o. MatchOption o (HasNoFlaw flaw declaration.now plan) (λ r. TellsFlaw flaw declaration.now plan r.place)) }
 {
     match read_library(alloc, declaration) {
         Ok(library) => {
-            let reason = flaw_reason_in(alloc, flaw, &library, deploy);
+            let finding = flaw_finding_in(alloc, flaw, &library, deploy);
             discard(library);
-            reason
+            finding
         }
         Err(fault) => untold(fault),
     }
 }
 
 /// Where the refusal applies to a library, a plan and what the bytes of stimuli stand for.
-fn excess_reason_with(
+fn excess_finding_with(
     alloc: Global,
     excess: Excess,
     library: &Library,
     plan: &Plan,
     stimuli: Option<&[u8]>,
-) -> Result<Option<Reason>, AllocError>
+) -> Result<Option<Finding>, AllocError>
     ensures { let rows = option_map (λ b. b.now) stimuli.entry in (declaration : List ℕ) (deploy : Option (List ℕ)) → IsLibraryText declaration library.now → IsPlan deploy plan.now →
         IfOk result (λ o. MatchOption o (HasNoExcess excess declaration deploy rows) (λ r. TellsExcess excess declaration deploy rows r.place)) }
 {
     let Some(stimuli) = stimuli_of(alloc, stimuli)? else {
         return Ok(None);
     };
-    reason_with(alloc, excess, library, plan, stimuli.as_slice())
+    finding_with(alloc, excess, library, plan, stimuli.as_slice())
 }
 
 /// Where the refusal applies to a library and to what the bytes of a deployment and of stimuli stand for.
-fn excess_reason_in(
+fn excess_finding_in(
     alloc: Global,
     excess: Excess,
     library: &Library,
     deploy: Option<&[u8]>,
     stimuli: Option<&[u8]>,
-) -> Result<Option<Reason>, AllocError>
+) -> Result<Option<Finding>, AllocError>
     ensures { let plan = option_map (λ b. b.now) deploy.entry in let rows = option_map (λ b. b.now) stimuli.entry in (declaration : List ℕ) → IsLibraryText declaration library.now →
         IfOk result (λ o. MatchOption o (HasNoExcess excess declaration plan rows) (λ r. TellsExcess excess declaration plan rows r.place)) }
 {
     let Some(deploy) = deploy_of(alloc, deploy)? else {
         return Ok(None);
     };
-    excess_reason_with(alloc, excess, library, deploy.plan(), stimuli)
+    excess_finding_with(alloc, excess, library, deploy.plan(), stimuli)
 }
 
 /// Where the refusal applies to what all bytes stand for.
-fn excess_reason(
+fn excess_finding(
     alloc: Global,
     excess: Excess,
     declaration: &[u8],
     deploy: Option<&[u8]>,
     stimuli: Option<&[u8]>,
-) -> Result<Option<Reason>, AllocError>
+) -> Result<Option<Finding>, AllocError>
     ensures { let plan = option_map (λ b. b.now) deploy.entry in let rows = option_map (λ b. b.now) stimuli.entry in
         IfOk result (λ o. MatchOption o (HasNoExcess excess declaration.now plan rows) (λ r. TellsExcess excess declaration.now plan rows r.place)) }
 {
     match read_library(alloc, declaration) {
         Ok(library) => {
-            let reason = excess_reason_in(alloc, excess, &library, deploy, stimuli);
+            let finding = excess_finding_in(alloc, excess, &library, deploy, stimuli);
             discard(library);
-            reason
+            finding
         }
         Err(fault) => untold(fault),
     }
 }
 
 /// Where the refusal applies.
-fn reason_by(
+fn finding_by(
     alloc: Global,
     cause: Cause,
     declaration: &[u8],
     deploy: Option<&[u8]>,
     stimuli: Option<&[u8]>,
-) -> Result<Option<Reason>, AllocError>
+) -> Result<Option<Finding>, AllocError>
     ensures { let plan = option_map (λ b. b.now) deploy.entry in let rows = option_map (λ b. b.now) stimuli.entry in
         IfOk result (λ o. MatchOption o (IsSilentOf cause declaration.now plan rows) (λ r. TellsOf cause declaration.now plan rows r.place)) }
 {
     match cause {
-        Cause::Text => text_reason(alloc, declaration),
-        Cause::Bytes => bytes_reason(alloc, deploy, stimuli),
-        Cause::Flaw(flaw) => flaw_reason(alloc, flaw, declaration, deploy),
-        Cause::Excess(excess) => excess_reason(alloc, excess, declaration, deploy, stimuli),
+        Cause::Text => text_finding(alloc, declaration),
+        Cause::Bytes => bytes_finding(alloc, deploy, stimuli),
+        Cause::Flaw(flaw) => flaw_finding(alloc, flaw, declaration, deploy),
+        Cause::Excess(excess) => excess_finding(alloc, excess, declaration, deploy, stimuli),
         Cause::Other => Ok(None),
     }
 }
 
 /// Where the refusal of this number applies to the bytes of a declaration, a deployment and stimuli, of which the last
 /// two may be missing.
-pub fn reason_of(
+pub fn finding_of(
     alloc: Global,
     number: u8,
     declaration: &[u8],
     deploy: Option<&[u8]>,
     stimuli: Option<&[u8]>,
-) -> Result<Option<Reason>, AllocError>
+) -> Result<Option<Finding>, AllocError>
     ensures { let plan = option_map (λ b. b.now) deploy.entry in let rows = option_map (λ b. b.now) stimuli.entry in
         IfOk result (λ o. MatchOption o (IsSilent declaration.now plan rows number) (λ r. Tells declaration.now plan rows number r.place)) }
 {
-    reason_by(alloc, cause_of(number), declaration, deploy, stimuli)
+    finding_by(alloc, cause_of(number), declaration, deploy, stimuli)
 }

@@ -1,18 +1,18 @@
 use Rattle.std.proofs.Common.{Bor, List, ℕ, inl, inr}
 use Rattle.std.specs.Prelude.{option_map}
 use Rattle.fb_read.specs.Whole.{IsMemory}
-use Rattle.fb_why.specs.Reasons.{HasNoExcess, TellsExcess}
-use Rattle.fb_why.specs.declared.spot.Reason.{Reason}
+use Rattle.fb_why.specs.Findings.{HasNoExcess, TellsExcess}
+use Rattle.fb_why.specs.declared.spot.Finding.{Finding}
 use Rattle.fb_why.proofs.Reading.{unread_told}
-use Rattle.fb_why.proofs.reason.excess_reason.Goals as goal
+use Rattle.fb_why.proofs.finding.excess_finding.Goals as goal
 
 pub returns-in-Ok : goal.returns-in-Ok
-returns-in-Ok c = c.excess_reason_in-reason.ensures c.args.declaration.now c.in-Ok.ensures.declared
+returns-in-Ok c = c.excess_finding_in-finding.ensures c.args.declaration.now c.in-Ok.ensures.declared
 
 pub returns-in-Err : goal.returns-in-Err
 returns-in-Err c =
     let text = c.args.declaration.now in
     let bytes = option_map (λ (b : Bor (List ℕ)). b.now) c.args.deploy in
     let given = option_map (λ (b : Bor (List ℕ)). b.now) c.args.stimuli in
-    unread_told c.untold.result (¬ (IsMemory c.in-Err.fault)) (HasNoExcess c.args.excess text bytes given) (λ (r : Reason). TellsExcess c.args.excess text bytes given r.place)
+    unread_told c.untold.result (¬ (IsMemory c.in-Err.fault)) (HasNoExcess c.args.excess text bytes given) (λ (r : Finding). TellsExcess c.args.excess text bytes given r.place)
     c.untold.ensures (λ m. inr (inl (c.in-Err.ensures.none m)))

@@ -4,7 +4,7 @@ use Rattle.std.specs.Option.{option_copied}
 use Rattle.fb_types.specs.Blocks.{event_block_named}
 use Rattle.fb_types.specs.declared.library.Ports.{Ports}
 use Rattle.fb_why_kinds.proofs.TypePorts.{event_ports_are, declared_ports_are}
-use Rattle.fb_why_kinds.proofs.lookup.Types.ports_named.Goals as goal
+use Rattle.fb_why_kinds.proofs.lookup.BlockTypes.ports_named.Goals as goal
 
 pub returns-in-Some : goal.returns-in-Some
 returns-in-Some c =
