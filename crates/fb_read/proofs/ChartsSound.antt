@@ -13,7 +13,6 @@ use Rattle.fb_read.specs.Nodes.{action_of, state_of, condition_of, transition_of
 use Rattle.fb_read.specs.Tokens.{Tokens}
 use Rattle.fb_read.specs.Parser.{◌>>◌, pure, refuse, name, name_if, one, word, expect, after}
 use Rattle.fb_read.specs.Expressions.{expression}
-use Rattle.fb_read.specs.Statements.{body}
 use Rattle.fb_read.specs.Charts.{action, actions, state, states, guard, condition, transition, transitions, structured_text, algorithm, algorithms}
 use Rattle.fb_read.specs.Grammar.{IsMark, IsName, is_name, AreAll}
 use Rattle.fb_read.specs.ChartsGrammar.{IsAction, of_algorithm, of_both, of_event, AreActions, no_actions, some_actions, IsState, is_state, AreStates, are_states, IsGuard, no_guard, some_guard, IsCondition, is_one, is_event, is_guarded, IsTransition, is_transition, AreTransitions, IsAlgorithm, is_algorithm}

@@ -1,5 +1,5 @@
 -- An operator and its right operand, behind a left one.
-use Rattle.std.proofs.Common.{◌≡◌, ◌<◌, ℕ, suc, ◌+◌, ◌-◌, max, leb, Bool, true, false, if◌then◌else◌, Option, Some, None, Ok, Err, refl, ap, ◌∙◌}
+use Rattle.std.proofs.Common.{◌≡◌, ◌<◌, ℕ, suc, ◌+◌, ◌-◌, max, leb, Bool, true, false, if◌then◌else◌, Some, Ok, Err, refl, ap, ◌∙◌}
 use Rattle.fb_types.specs.declared.text.BinaryOperator.{BinaryOperator}
 use Rattle.fb_types.specs.declared.text.Expr.TheVariants as e
 use Rattle.fb_read.specs.Tokens.{Tokens}

@@ -13,12 +13,12 @@ use Rattle.fb_types.specs.declared.run.Line.{Line}
 use Rattle.fb_trace.specs.End.{EndsIn, ending_of}
 use Rattle.fb_trace.specs.declared.last.End.{End}
 use Rattle.fb_trace.specs.declared.last.End.TheVariants.{Horizon, Stop}
-use Rattle.fb_dump.specs.Scopes.{head_text}
-use Rattle.fb_dump.specs.Dumps.{dump_text, end_text, last_tick, ticks_text}
-use Rattle.fb_dump.specs.Writing.{HasTold, IsDump}
-use Rattle.fb_dump.specs.declared.dump.Dump.{Dump}
-use Rattle.fb_lines.specs.Lines.{IsLast, IsLineOf}
-use Rattle.fb_wave.specs.Copying.{IsAfter, IsCopied, IsCut, IsFinished, IsFlushed, IsTaken, IsUnfinished}
+use Rattle.fb_wave.specs.Scopes.{head_text}
+use Rattle.fb_wave.specs.Dumps.{dump_text, end_text, last_tick, ticks_text}
+use Rattle.fb_wave.specs.Writing.{HasTold, IsDump}
+use Rattle.fb_wave.specs.declared.dump.Dump.{Dump}
+use Rattle.fb_wave.specs.Lines.{IsLast, IsLineOf}
+use Rattle.fb_wave.specs.Copying.{IsAfter, IsCopied, IsFrontSent, IsFinished, IsFlushed, IsTaken, IsUnfinished}
 use Rattle.fb_wave.specs.Waves.{EndsAfter, IsBegun, IsWave, RiseFrom, WritesFront}
 use Rattle.fb_wave.specs.declared.copy.Progress.{Progress}
 
@@ -168,7 +168,7 @@ front_copied sys form x next input left old new is =
 -- a line more was told, and of what waited then no more than a front was sent
 pub front_taken :
     (sys : System) (form : Form) (x y : Progress) (line : List ℕ) (input left old mid got : Option (List ℕ)) → IsCopied sys form x line input left old mid
-    → IsTaken sys form line x y → IsCut mid got y.page.text.items → WritesFront sys old got
+    → IsTaken sys form line x y → IsFrontSent mid got y.page.text.items → WritesFront sys old got
 front_taken sys form x y line input left old mid got is taken cut =
     let l = taken.line in
     let told : HasTold sys (is.lines ++ l ∷ []) (is.sent ++ y.page.text.items) y.dump = taken.told is.lines is.sent is.told in
@@ -187,7 +187,7 @@ front_taken sys form x y line input left old mid got is taken cut =
           (subst (λ (t : List ℕ). HasTold sys (is.lines ++ l ∷ []) t y.dump) sends told);
     }
 
-cut_flushed : (old new : Option (List ℕ)) (before after : List ℕ) → IsFlushed old new before after → IsCut old new before
+cut_flushed : (old new : Option (List ℕ)) (before after : List ℕ) → IsFlushed old new before after → IsFrontSent old new before
 cut_flushed old new before after is = record { sent = is.sent; rest = after; got = is.got; parts = is.parts }
 
 -- a line more was told, some of the text was sent, and no line could be read
@@ -224,7 +224,7 @@ unfinished_none sys x old =
 pub unfinished_part :
     (sys : System) (x : Progress) (end : End) (text : List ℕ) (old new : Option (List ℕ))
     → ((ls : List Line) (front : List ℕ) → HasTold sys ls (front ++ x.page.text.items) x.dump → front ++ text ≡ dump_text sys ls (ending_of end))
-    → IsCut old new text → IsUnfinished sys x old new
+    → IsFrontSent old new text → IsUnfinished sys x old new
 unfinished_part sys x end text old new whole cut =
     record {
       sent = cut.sent;

@@ -1,1 +1,17 @@
+pub mod Heading
+pub mod Marking
+pub mod Numbering
+pub mod Pairing
+pub mod Placing
+pub mod Telling
+pub mod Declaring
+pub mod Listing
+pub mod Noting
+pub mod Spelled
+pub mod Turning
+pub mod Bounds
+pub mod Gluing
+pub mod Cutting
+pub mod Numerals
+pub mod Valued
 pub mod Copied

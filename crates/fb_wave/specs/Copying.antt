@@ -9,9 +9,9 @@ use Rattle.fb_types.specs.declared.run.Line.{Line}
 use Rattle.fb_trace.specs.End.{ending_of}
 use Rattle.fb_trace.specs.declared.last.End.{End}
 use Rattle.fb_trace.specs.declared.last.End.TheVariants.{Horizon, Stop}
-use Rattle.fb_dump.specs.Dumps.{dump_text, last_tick}
-use Rattle.fb_dump.specs.Writing.{HasTold, IsDump}
-use Rattle.fb_lines.specs.Lines.{IsTextOf}
+use Rattle.fb_wave.specs.Dumps.{dump_text, last_tick}
+use Rattle.fb_wave.specs.Writing.{HasTold, IsDump}
+use Rattle.fb_wave.specs.Lines.{IsTextOf}
 use Rattle.fb_wave.specs.Waves.{AreLinesOf, IsBegun}
 use Rattle.fb_wave.specs.declared.copy.Progress.{Progress}
 
@@ -27,7 +27,7 @@ pub record IsFlushed (old new : Option (List ℕ)) (before after : List ℕ) : T
   pub parts : before ≡ sent ++ after
 
 -- Of the text that waited no more than a front was sent to the writer.
-pub record IsCut (old new : Option (List ℕ)) (before : List ℕ) : Type 0 where
+pub record IsFrontSent (old new : Option (List ℕ)) (before : List ℕ) : Type 0 where
   pub sent : List ℕ
   pub rest : List ℕ
   pub got : Appends old new sent

@@ -1,2 +1,14 @@
+pub mod Told
+pub mod Dumps
+pub mod Writing
+pub mod Levels
+pub mod Changes
+pub mod Signals
+pub mod Scopes
+pub mod Ports
+pub mod Tables
+pub mod Lines
+pub mod Words
+pub mod Reading
 pub mod Waves
 pub mod Copying

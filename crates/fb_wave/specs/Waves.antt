@@ -7,8 +7,8 @@ use Rattle.fb_types.specs.Numbers.{line_of}
 use Rattle.fb_types.specs.Text.{trace_text}
 use Rattle.fb_types.specs.declared.run.Form.{Form}
 use Rattle.fb_types.specs.declared.run.Line.{Line}
-use Rattle.fb_dump.specs.Dumps.{dump_text, last_tick}
-use Rattle.fb_lines.specs.Lines.{IsLineOf}
+use Rattle.fb_wave.specs.Dumps.{dump_text, last_tick}
+use Rattle.fb_wave.specs.Lines.{IsLineOf}
 
 -- ---- Traces
 

@@ -3,18 +3,18 @@
 ghost use Rattle.std.specs.Prelude.{◌≡◌, [], ◌++◌, IfErr, IfOk, IfSome, OnOk, IsTrue};
 ghost use Rattle.std.specs.Io.KnownBytes.{Consumes, IsAtEnd};
 ghost use Rattle.fb_types.specs.Headline.{system_of};
-ghost use Rattle.fb_lines.specs.Lines.{IsLast};
-ghost use Rattle.fb_lines.specs.Tables.{IsTable};
-ghost use Rattle.fb_dump.specs.Writing.{HasTold, IsDump};
+ghost use Rattle.fb_wave.specs.Lines.{IsLast};
+ghost use Rattle.fb_wave.specs.Tables.{IsTable};
+ghost use Rattle.fb_wave.specs.Writing.{HasTold, IsDump};
 ghost use Rattle.fb_wave.specs.Copying.{IsAfter, IsFinished, IsTaken, IsUnfinished};
 ghost use Rattle.fb_wave.specs.Waves.{IsWave, WritesFront};
 
+use crate::dump::Dump;
 use crate::error::WaveError;
-use crate::page::Page;
-use fb_dump::dump::Dump;
-use fb_lines::last::read_last;
-use fb_lines::line::read_line;
-use fb_lines::table::{Guess, Table};
+use crate::last::read_last;
+use crate::line::read_line;
+use crate::page::DumpPage;
+use crate::table::{Guess, PortTable};
 use fb_system::system::System;
 use fb_trace::last::End;
 use fb_types::run::Form;
@@ -67,7 +67,7 @@ fn is_over<R: BufRead>(input: &mut R, line: &mut Vec<u8>) -> Result<bool, WaveEr
 #[derive(Drop)]
 pub(crate) struct Progress {
     pub(crate) dump: Dump,
-    pub(crate) page: Page,
+    pub(crate) page: DumpPage,
     pub(crate) guess: Guess,
     /// The tick of the last line, or 0 before the first.
     pub(crate) tick: u64,
@@ -78,7 +78,7 @@ impl Progress {
     fn take(
         &mut self,
         alloc: Global,
-        table: &Table,
+        table: &PortTable,
         form: Form,
         line: &[u8],
     ) -> Result<bool, AllocError>
@@ -127,7 +127,7 @@ impl Progress {
     pub(crate) fn copy<R: BufRead, W: Write>(
         &mut self,
         alloc: Global,
-        table: &Table,
+        table: &PortTable,
         input: &mut R,
         out: &mut W,
     ) -> Result<(), WaveError>

@@ -1,9 +1,33 @@
-//! Waveforms: reads a trace and writes it as a value change dump (IEEE 1364-2005, 18).
+//! Waveforms: reads the trace of a system and writes it as a value change dump (IEEE 1364-2005, 18).
 //!
-//! To be read in this order: `wave`, the entry; `copy`; `page`; `error`.
+//! What is promised above: where a text was shown, it is the trace of some lines of the system with an end behind them, in one of
+//! the two forms, and the writer got exactly the dump that the definitions have of these, as a function of the whole list. Where it
+//! is refused or fails, the writer got the first bytes of a dump.
+//!
+//! To be read in this order: `wave`, the entry, with `error`; `copy`, which goes line by line, and `page`, where text waits. Then
+//! how lines are read: `words`, what parts a line; `number` and `values`, what words stand for; `ports`, the event ports of a
+//! system; `table`, finds them by what lines have of them; `line`; `last`. Then how they are told: `levels` and `change`, what
+//! signals show and how changes are told; `scopes`, `declared` and `begun`, what stands before them; `digits`; `firsts` and `head`;
+//! `dump`.
 #![tactic(auto)]
 
+mod begun;
+mod change;
 mod copy;
+mod declared;
+mod digits;
+mod dump;
 pub mod error;
+mod firsts;
+mod head;
+mod last;
+mod levels;
+mod line;
+mod number;
 mod page;
+mod ports;
+mod scopes;
+mod table;
+mod values;
 pub mod wave;
+mod words;

@@ -2,7 +2,7 @@
 
 ghost use Rattle.std.specs.Prelude.{◌≡◌, ◌≤◌, [], IfErr, OnOk, take, length};
 ghost use Rattle.std.specs.Io.KnownBytes.{Appends};
-ghost use Rattle.fb_wave.specs.Copying.{IsCut, IsFlushed};
+ghost use Rattle.fb_wave.specs.Copying.{IsFrontSent, IsFlushed};
 
 use crate::error::WaveError;
 use fb_trace::front::write_front;
@@ -14,17 +14,17 @@ const MANY: usize = 65_536;
 
 /// Whole lines that wait to be written, and how many bytes were written before them.
 #[derive(Drop)]
-pub(crate) struct Page {
+pub(crate) struct DumpPage {
     pub(crate) text: Vec<u8>,
     written: u128,
 }
 
-impl Page {
+impl DumpPage {
     /// An empty page, before which nothing was written.
-    pub(crate) fn new(alloc: Global) -> Page
+    pub(crate) fn new(alloc: Global) -> DumpPage
         ensures { result.text.items ≡ [] }
     {
-        Page {
+        DumpPage {
             text: Vec::new(alloc),
             written: 0,
         }
@@ -34,7 +34,7 @@ impl Page {
     pub(crate) fn flush<W: Write>(&mut self, out: &mut W) -> Result<(), WaveError>
         ensures whole { OnOk result (Appends (W.contents out.old) (W.contents out.new) self.old.text.items) }
         ensures empty { OnOk result (self.new.text.items ≡ []) }
-        ensures part { IfErr result (λ _. IsCut (W.contents out.old) (W.contents out.new) self.old.text.items) }
+        ensures part { IfErr result (λ _. IsFrontSent (W.contents out.old) (W.contents out.new) self.old.text.items) }
     {
         let taken = write_front(out, self.text.as_slice());
         self.written = self.written.saturating_add(taken as u128);
@@ -48,7 +48,7 @@ impl Page {
     /// Writes all that waits, where it is much.
     pub(crate) fn flush_much<W: Write>(&mut self, out: &mut W) -> Result<(), WaveError>
         ensures whole { OnOk result (IsFlushed (W.contents out.old) (W.contents out.new) self.old.text.items self.new.text.items) }
-        ensures part { IfErr result (λ _. IsCut (W.contents out.old) (W.contents out.new) self.old.text.items) }
+        ensures part { IfErr result (λ _. IsFrontSent (W.contents out.old) (W.contents out.new) self.old.text.items) }
     {
         if self.text.len() < MANY {
             return Ok(());

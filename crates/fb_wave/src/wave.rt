@@ -5,11 +5,11 @@ ghost use Rattle.fb_types.specs.Headline.{system_of};
 ghost use Rattle.fb_wave.specs.Waves.{IsWave, WritesFront};
 
 use crate::copy::Progress;
+use crate::dump::Dump;
 use crate::error::WaveError;
-use crate::page::Page;
-use fb_dump::dump::Dump;
-use fb_lines::ports::ports_of;
-use fb_lines::table::{Guess, Table, texts_of};
+use crate::page::DumpPage;
+use crate::ports::ports_of;
+use crate::table::{Guess, PortTable, texts_of};
 use fb_system::system::System;
 use std::alloc::Global;
 use std::io::{BufRead, Write};
@@ -35,11 +35,11 @@ pub fn write_wave<R: BufRead, W: Write>(
 {
     let ports = ports_of(alloc, system)?;
     let texts = texts_of(alloc, system, ports.as_slice())?;
-    let Some(table) = Table::of(alloc, system, ports.as_slice(), texts.as_slice())? else {
+    let Some(table) = PortTable::of(alloc, system, ports.as_slice(), texts.as_slice())? else {
         return Err(WaveError::Names);
     };
     let guess = Guess::new(alloc, &table)?;
-    let mut page = Page::new(alloc);
+    let mut page = DumpPage::new(alloc);
     let dump = Dump::begin(alloc, system, &mut page.text)?;
     let mut progress = Progress {
         dump,

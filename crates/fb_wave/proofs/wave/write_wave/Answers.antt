@@ -1,15 +1,15 @@
 use Rattle.std.proofs.Common.{◌≡◌, [], Option, Some, sym, subst}
 use Rattle.std.specs.Prelude.{IfErr, IfSome, OnOk}
 use Rattle.fb_types.specs.Headline.{Inputs, system_of}
-use Rattle.fb_dump.specs.Writing.{HasTold, IsDump}
-use Rattle.fb_lines.specs.Tables.{IsTable}
-use Rattle.fb_lines.specs.declared.table.Table.{Table}
+use Rattle.fb_wave.specs.Writing.{HasTold, IsDump}
+use Rattle.fb_wave.specs.Tables.{IsTable}
+use Rattle.fb_wave.specs.declared.table.PortTable.{PortTable}
 use Rattle.fb_wave.specs.Waves.{IsWave, WritesFront}
 use Rattle.fb_wave.proofs.Copied.{front_none, if_err}
 use Rattle.fb_wave.proofs.wave.write_wave.Goals as goal
 
-of_table : (o : Option Table) (t : Table) (s : Inputs) → o ≡ Some t → IfSome o (λ t. IsTable t × (t.system.now ≡ s)) → t.system.now ≡ s
-of_table o t s is are = (subst (λ (o : Option Table). IfSome o (λ t. IsTable t × (t.system.now ≡ s))) is are).1
+of_table : (o : Option PortTable) (t : PortTable) (s : Inputs) → o ≡ Some t → IfSome o (λ t. IsTable t × (t.system.now ≡ s)) → t.system.now ≡ s
+of_table o t s is are = (subst (λ (o : Option PortTable). IfSome o (λ t. IsTable t × (t.system.now ≡ s))) is are).1
 
 pub copy-requires-clause-dump : goal.copy-requires-clause-dump
 copy-requires-clause-dump g c =

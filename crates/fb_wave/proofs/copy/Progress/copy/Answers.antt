@@ -1,6 +1,6 @@
 use Rattle.std.proofs.Common.{ℕ, List, refl, subst}
 use Rattle.fb_types.specs.Headline.{system_of}
-use Rattle.fb_lines.specs.Lines.{IsLast}
+use Rattle.fb_wave.specs.Lines.{IsLast}
 use Rattle.fb_wave.specs.Copying.{IsTaken}
 use Rattle.fb_wave.proofs.Copied.{copied_all, copied_none, copied_one, front_copied, front_flushed, front_none, front_taken, front_unfinished, if_err}
 use Rattle.fb_wave.proofs.copy.Progress.copy.Goals as goal

@@ -2,7 +2,7 @@ use Rattle.std.proofs.Common.{Option, refl, subst}
 use Rattle.std.specs.Prelude.{IfSome}
 use Rattle.fb_types.specs.Headline.{system_of}
 use Rattle.fb_types.specs.declared.run.Line.{Line}
-use Rattle.fb_lines.specs.Lines.{IsTextOf}
+use Rattle.fb_wave.specs.Lines.{IsTextOf}
 use Rattle.fb_wave.proofs.copy.Progress.take.Goals as goal
 
 pub returns : goal.returns

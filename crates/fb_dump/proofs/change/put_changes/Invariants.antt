@@ -1,5 +1,0 @@
-use Rattle.fb_dump.proofs.Turning.{IsTurned}
-use Rattle.fb_dump.proofs.change.put_changes.Given as goal
-
-abbrev pub invariant-loop-place : goal.invariant-loop-place
-invariant-loop-place l = IsTurned l.initial.text.items l.text.items l.initial.levels l.levels l.place

@@ -1,8 +1,0 @@
-use Rattle.fb_dump.proofs.Spelled.{Spells}
-use Rattle.fb_dump.proofs.digits.write_digits.Given as goal
-
-abbrev pub invariant-loop-start : goal.invariant-loop-start
-invariant-loop-start l = Spells l.base l.number l.rest l.start l.places
-
-abbrev pub decreases-loop-start : goal.decreases-loop-start
-decreases-loop-start l = l.start

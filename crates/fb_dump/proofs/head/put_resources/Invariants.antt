@@ -1,9 +1,0 @@
-use Rattle.std.proofs.Common.{◌≡◌, ◌++◌, drop}
-use Rattle.fb_types.specs.Headline.{system_of}
-use Rattle.fb_dump.specs.Scopes.{resources_declared}
-use Rattle.fb_dump.proofs.head.put_resources.Given as goal
-
-abbrev pub invariant-loop-resource : goal.invariant-loop-resource
-invariant-loop-resource l =
-    l.text.items ++ resources_declared (system_of l.system) l.resource (drop l.resource (system_of l.system).resource_names)
-    ≡ l.initial.text.items ++ resources_declared (system_of l.system) 0 (system_of l.system).resource_names

@@ -1,5 +1,0 @@
-pub mod Bounds
-pub mod Gluing
-pub mod Cutting
-pub mod Numerals
-pub mod Valued

@@ -1,5 +1,0 @@
-use Rattle.fb_lines.proofs.Numerals.{Reads}
-use Rattle.fb_lines.proofs.number.natural.Given as goal
-
-abbrev pub invariant-loop-place : goal.invariant-loop-place
-invariant-loop-place l = Reads l.value l.place l.text

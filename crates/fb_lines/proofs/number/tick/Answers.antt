@@ -1,5 +1,0 @@
-use Rattle.fb_lines.proofs.Numerals.{too_wide}
-use Rattle.fb_lines.proofs.number.tick.Goals as goal
-
-pub returns-in_err-narrow : goal.returns-in_err-narrow
-returns-in_err-narrow c = rw c.from_residual-in_err-narrow.ensures (too_wide c.args.text.now c.in_ok-parts.parts.1.now c.in_ok-parts.parts.0 c.in_ok-parts.ensures c.in_err-narrow.ensures)

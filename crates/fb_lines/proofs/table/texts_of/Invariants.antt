@@ -1,7 +1,0 @@
-use Rattle.std.proofs.Common.{◌≡◌, map, take}
-use Rattle.fb_types.specs.Headline.{system_of}
-use Rattle.fb_lines.specs.Ports.{port_text}
-use Rattle.fb_lines.proofs.table.texts_of.Given as goal
-
-abbrev pub invariant-loop-port : goal.invariant-loop-port
-invariant-loop-port l = l.texts.items ≡ map (port_text (system_of l.system)) (take l.port-index l.ports)

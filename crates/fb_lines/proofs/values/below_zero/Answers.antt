@@ -1,5 +1,0 @@
-use Rattle.fb_lines.proofs.Valued.{zero_digits}
-use Rattle.fb_lines.proofs.values.below_zero.Goals as goal
-
-pub returns-in-0 : goal.returns-in-0
-returns-in-0 c = zero_digits c.args.digits.now c.in_ok-number.number c.in_ok-number.ensures c.in-0.is

@@ -1,5 +1,0 @@
-use Rattle.fb_lines.proofs.Valued.{signed_whole}
-use Rattle.fb_lines.proofs.values.whole.Goals as goal
-
-pub returns-in-Some : goal.returns-in-Some
-returns-in-Some c = signed_whole c.below_zero.result c.args.text.now c.in-Some.digits.now c.in-Some.ensures c.below_zero.ensures

@@ -1,6 +1,0 @@
-use Rattle.std.proofs.Common.{◌≡◌, true, take}
-use Rattle.fb_lines.specs.Words.{is_word}
-use Rattle.fb_lines.proofs.words.cut.Given as goal
-
-abbrev pub invariant-loop-place : goal.invariant-loop-place
-invariant-loop-place l = is_word (take l.place l.text) ≡ true

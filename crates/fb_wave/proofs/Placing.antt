@@ -1,0 +1,55 @@
+-- The places of the variables of a line, by their names.
+use Rattle.std.proofs.Common.{◌≡◌, ℕ, zero, suc, ◌+◌, ◌<◌, List, [], ◌∷◌, length, map, refl, sym, ap, ◌∙◌, arith}
+use Rattle.std.specs.Prelude.{All, Option, Some, option_map, slice_get, unwrap_or}
+use Rattle.std.proofs.lemmas.List.Elements.{All-head, All-tail}
+use Rattle.std.proofs.lemmas.Option.{slice_get-map}
+use Rattle.fb_types.specs.Blocks.{variable_names}
+use Rattle.fb_types.specs.Headline.{AreAccepted, Inputs, system_of}
+use Rattle.fb_types.specs.Flat.{instance_at}
+use Rattle.fb_types.specs.Names.{Name, Path}
+use Rattle.fb_types.specs.Numbers.{path_at}
+use Rattle.fb_types.specs.Repeated.{Twice}
+use Rattle.fb_types.specs.declared.library.Instance.{Instance}
+use Rattle.fb_types.specs.declared.library.Variable.{Variable}
+use Rattle.fb_types.proofs.Positions.{position_of_once}
+use Rattle.fb_system.specs.Stands.{ArePlaces, variable_at}
+use Rattle.fb_tree.proofs.Known.{stood}
+use Rattle.fb_wave.specs.Told.{place_of}
+
+name_of : Variable → Name
+name_of v = v.name
+
+some_there : (vs : List Variable) (k : ℕ) → k < length vs → (x : Variable) × (slice_get vs k ≡ Some x)
+some_there [] k h = absurd (omega arith)
+some_there (v ∷ vs) zero h = (v, refl)
+some_there (v ∷ vs) (suc k) h = some_there vs k (omega arith)
+
+-- the place of a variable is that at which its name stands
+place_is : (vs : List Variable) (k : ℕ) → ¬ (Twice (variable_names vs)) → k < length vs → place_of vs (variable_at vs k) ≡ k
+unfolding name_of some_there
+place_is vs k once within =
+    let at = some_there vs k within in
+    let named : variable_at vs k ≡ at.0.name = ap (λ (o : Option Name). unwrap_or o []) (slice_get-map name_of vs k ∙ ap (option_map name_of) at.1) in
+    ap (place_of vs) named ∙ ap (λ (o : Option ℕ). unwrap_or o 0) (position_of_once name_of vs k at.0 once at.1)
+
+pub places_told :
+    (vs : List Variable) (first : ℕ) (ks : List ℕ) → ¬ (Twice (variable_names vs)) → All (λ k. k < length vs) ks
+    → map (λ n. first + place_of vs n) (map (variable_at vs) ks) ≡ map (λ k. first + k) ks
+places_told vs first [] once all = refl
+places_told vs first (k ∷ ks) once all =
+    ap (λ (j : ℕ). (first + j) ∷ map (λ n. first + place_of vs n) (map (variable_at vs) ks)) (place_is vs k once (All-head (λ k. k < length vs) k ks all))
+    ∙ ap (λ (js : List ℕ). (first + k) ∷ js) (places_told vs first ks once (All-tail (λ k. k < length vs) k ks all))
+
+pub names_told :
+    (vs : List Variable) (first : ℕ) (names : List Name) (ks : List ℕ) → ¬ (Twice (variable_names vs)) → ArePlaces vs names ks
+    → map (λ k. first + k) ks ≡ map (λ n. first + place_of vs n) names
+names_told vs first names ks once are =
+    sym (ap (map (λ (n : Name). first + place_of vs n)) (sym are.named) ∙ places_told vs first ks once are.within)
+
+-- no path is empty
+pub path_some : (i : Inputs) → AreAccepted i → (k : ℕ) → k < length (system_of i).paths → 0 < length (path_at (system_of i) k)
+path_some i accepted k h = let s = stood i k accepted h in of (path_at (system_of i) k) s.instance s.is_instance
+  where
+    of : (p : Path) (x : Instance) → instance_at i.library p ≡ Some x → 0 < length p
+    of [] x e = absurd (cc)
+    of (n ∷ p) x e = omega arith

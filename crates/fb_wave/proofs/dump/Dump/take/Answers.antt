@@ -1,0 +1,37 @@
+use Rattle.std.proofs.Common.{ℕ, ◌+◌, List, [], ◌∷◌, ◌++◌, map, subst, ◌∙◌, arith}
+use Rattle.fb_types.specs.Headline.{system_of}
+use Rattle.fb_types.specs.declared.value.Value.{Value}
+use Rattle.fb_wave.specs.Levels.{AreLevels}
+use Rattle.fb_wave.specs.Signals.{sizes_of}
+use Rattle.fb_wave.specs.Told.{fires_of, pairs, tells_of, touches_of}
+use Rattle.fb_wave.proofs.Marking.{line_once, marks_told}
+use Rattle.fb_wave.proofs.Telling.{tells_more}
+use Rattle.fb_wave.proofs.dump.Dump.take.Goals as goal
+
+pub returns-clause-told : goal.returns-clause-told
+returns-clause-told c ls sent t =
+    let sys = system_of c.args.system.now in
+    let l = c.args.line.now in
+    let m = c.marks_of-marks.result in
+    let n = sizes_of sys sys.paths in
+    let fires : List ℕ = fires_of sys ls in
+    let u = c.in_ok-turn.ensures.turned sys ls sent t in
+    let more : List Value → List (ℕ × Value) = λ vs. pairs (map (λ k. m.first + k) m.places.now) vs in
+    let at : List Value → Type 0 =
+    λ vs. AreLevels n (fires ++ m.event ∷ []) (tells_of sys ls ++ more vs) ((touches_of sys u.now ++ m.event ∷ []) ++ map (λ (p : ℕ × Value). p.0) (more vs)) c.tell.new.levels
+    in
+    tells_more sys ls (sent ++ c.turn.new.text.items) l c.turn.new.levels c.tell.new.levels u
+    (marks_told sys l m n fires (touches_of sys u.now) (tells_of sys ls) c.tell.new.levels
+    (line_once c.args.system.now l c.facts.ensures.accepted) c.marks_of-marks.ensures
+    (subst at c.as_slice-values.ensures (c.in_ok-tell.ensures.levels n fires (tells_of sys ls) (touches_of sys u.now) u.levels)))
+
+pub returns-clause-numbers : goal.returns-clause-numbers
+returns-clause-numbers c =
+    record {
+      firsts_are = c.requires.dump.firsts_are;
+      fit = record { counted = c.in_ok-tell.ensures.counted ∙ c.in_ok-turn.ensures.counted ∙ c.requires.dump.fit.counted; within = c.in_ok-tell.ensures.within };
+    }
+
+pub tell-requires-clause-places : goal.tell-requires-clause-places
+tell-requires-clause-places c =
+    λ k d h. let w = c.marks_of-marks.ensures.within k d h in omega (arith, w, c.in_ok-turn.ensures.counted, c.requires.dump.fit.counted)

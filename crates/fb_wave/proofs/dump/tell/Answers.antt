@@ -1,0 +1,9 @@
+use Rattle.std.proofs.Common.{[], ◌∷◌, ◌++◌, arith}
+use Rattle.fb_wave.proofs.dump.tell.Goals as goal
+
+pub tell_all-requires-clause-places : goal.tell_all-requires-clause-places
+tell_all-requires-clause-places c = λ k d h. let w = c.requires.places k d h in omega (arith, w, c.in_ok-fire.ensures.counted)
+
+pub returns-clause-levels : goal.returns-clause-levels
+returns-clause-levels c n fires tells touches are =
+    c.in_ok-tell_all.ensures.levels n (fires ++ c.args.event ∷ []) tells (touches ++ c.args.event ∷ []) (c.in_ok-fire.ensures.levels n fires tells touches are)

@@ -1,0 +1,10 @@
+use Rattle.std.proofs.Common.{◌≡◌, ◌++◌, drop}
+use Rattle.fb_types.specs.Headline.{system_of}
+use Rattle.fb_wave.specs.Scopes.{instances_begun}
+use Rattle.fb_wave.specs.Signals.{first_signal}
+use Rattle.fb_wave.proofs.head.put_begun.Given as goal
+
+abbrev pub invariant-loop-place : goal.invariant-loop-place
+invariant-loop-place l =
+    l.text.items ++ instances_begun (system_of l.system) (first_signal (system_of l.system) l.place) (drop l.place (system_of l.system).paths)
+    ≡ l.initial.text.items ++ instances_begun (system_of l.system) 0 (system_of l.system).paths

@@ -1,0 +1,10 @@
+use Rattle.std.proofs.Common.{◌≡◌, ◌++◌, drop}
+use Rattle.fb_types.specs.Headline.{system_of}
+use Rattle.fb_wave.specs.Scopes.{instances_declared}
+use Rattle.fb_wave.specs.Signals.{first_signal}
+use Rattle.fb_wave.proofs.head.put_instances.Given as goal
+
+abbrev pub invariant-loop-place : goal.invariant-loop-place
+invariant-loop-place l =
+    l.text.items ++ instances_declared (system_of l.system) l.resource l.depth (first_signal (system_of l.system) l.place) (drop l.place (system_of l.system).paths)
+    ≡ l.initial.text.items ++ instances_declared (system_of l.system) l.resource 0 0 (system_of l.system).paths

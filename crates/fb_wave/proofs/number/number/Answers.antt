@@ -1,0 +1,8 @@
+use Rattle.fb_wave.proofs.Numerals.{unnumbered, unblanked}
+use Rattle.fb_wave.proofs.number.number.Goals as goal
+
+pub returns-in_err-natural : goal.returns-in_err-natural
+returns-in_err-natural c = rw c.from_residual-in_err-natural.ensures (unnumbered c.args.text.now _ _ c.in_ok-parts.ensures c.in_err-natural.ensures)
+
+pub returns-in_err-behind : goal.returns-in_err-behind
+returns-in_err-behind c = rw c.from_residual-in_err-behind.ensures (unblanked c.args.text.now _ _ c.in_ok-parts.ensures c.in_err-behind.ensures)

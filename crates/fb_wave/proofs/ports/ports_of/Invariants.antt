@@ -1,0 +1,7 @@
+use Rattle.std.specs.Prelude.{All}
+use Rattle.fb_types.specs.Headline.{system_of}
+use Rattle.fb_wave.specs.Ports.{IsPortOf}
+use Rattle.fb_wave.proofs.ports.ports_of.Given as goal
+
+abbrev pub invariant-loop-place : goal.invariant-loop-place
+invariant-loop-place l = All (IsPortOf (system_of l.system)) l.all.items

@@ -1,0 +1,6 @@
+use Rattle.std.proofs.Common.{◌≡◌, take}
+use Rattle.fb_names.specs.Places.{names_in}
+use Rattle.fb_wave.proofs.table.names_of.Given as goal
+
+abbrev pub invariant-loop-text : goal.invariant-loop-text
+invariant-loop-text l = names_in l.names.items ≡ take l.text-index l.texts

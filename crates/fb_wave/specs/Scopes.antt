@@ -1,0 +1,127 @@
+-- The head of a value change dump: the scopes, the signals in them, and what these begin with (IEEE 1364-2005, 18.2).
+use Rattle.std.specs.Prelude.{ℕ, suc, zero, ◌+◌, ◌-◌, ◌==◌, List, [], ◌∷◌, ◌++◌, length, Bool, if◌then◌else◌, decimal, codes}
+use Rattle.std.specs.List.{list_any}
+use Rattle.fb_types.specs.Names.{Name, Path}
+use Rattle.fb_types.specs.Blocks.{among}
+use Rattle.fb_types.specs.Systems.{System}
+use Rattle.fb_types.specs.Numbers.{ports_at}
+use Rattle.fb_types.specs.declared.library.EventPort.{EventPort}
+use Rattle.fb_types.specs.declared.library.Ports.{Ports}
+use Rattle.fb_types.specs.declared.library.Variable.{Variable}
+use Rattle.fb_types.specs.declared.value.Ty.{Ty}
+use Rattle.fb_types.specs.declared.value.Ty.TheVariants.{Bool as Boolean}
+use Rattle.fb_wave.specs.Changes.{line, event_code, count_code, variable_code}
+use Rattle.fb_wave.specs.Signals.{size_of}
+
+-- ---- Declarations of signals
+
+abbrev pub declares : (kind code name : List ℕ) → List ℕ
+declares kind code name = line (codes "$var " ++ kind ++ codes " " ++ code ++ codes " " ++ name ++ codes " $end")
+
+-- An event port is an event, and beside it a count. No name of a declaration has letters in lower case.
+abbrev pub event_declared : ℕ → Name → List ℕ
+event_declared s n =
+    declares (codes "event 1") (event_code s) n ++ declares (codes "reg 64") (count_code s) (n ++ codes "_count")
+
+-- a truth value is a wire
+abbrev pub variable_kind : Ty → List ℕ
+variable_kind Boolean = codes "wire 1"
+variable_kind _ = codes "reg 64"
+
+abbrev pub variable_declared : ℕ → Name → Ty → List ℕ
+variable_declared s n ty = declares (variable_kind ty) (variable_code s) n
+
+-- events, the first with this number
+abbrev pub events_declared : ℕ → List EventPort → List ℕ
+events_declared s [] = []
+events_declared s (e ∷ es) = event_declared s e.name ++ events_declared (s + 1) es
+
+-- a variable that lines carry is one WITH an event
+abbrev pub is_carried : List EventPort → Variable → Bool
+is_carried es v = list_any (λ e. among e.with v.name) es
+
+abbrev pub carried_declared : List EventPort → ℕ → Variable → List ℕ
+carried_declared es s v = if is_carried es v then variable_declared s v.name v.ty else []
+
+-- variables, the first with this number
+abbrev pub variables_declared : List EventPort → ℕ → List Variable → List ℕ
+variables_declared es s [] = []
+variables_declared es s (v ∷ vs) = carried_declared es s v ++ variables_declared es (s + 1) vs
+
+-- the signals of an interface, the first with this number
+abbrev pub ports_declared : ℕ → Ports → List ℕ
+ports_declared s its =
+    let outs = s + length its.event_inputs in
+    let ins = outs + length its.event_outputs in
+    events_declared s its.event_inputs ++ events_declared outs its.event_outputs
+    ++ variables_declared its.event_inputs ins its.inputs ++ variables_declared its.event_outputs (ins + length its.inputs) its.outputs
+
+-- ---- Scopes
+
+abbrev pub opened : Name → List ℕ
+opened n = line (codes "$scope module " ++ n ++ codes " $end")
+
+-- so many scopes are closed
+abbrev pub closed : ℕ → List ℕ
+closed zero = []
+closed (suc k) = line (codes "$upscope $end") ++ closed k
+
+-- the name of an instance among those beside it
+abbrev pub own_name : Path → Name
+own_name [] = []
+own_name (n ∷ p) = n
+
+-- The instances of a resource, where so many scopes of instances are open. Each lies in the scope of its composite, which
+-- comes before it.
+abbrev pub instances_declared : System → (resource depth first : ℕ) → List Path → List ℕ
+instances_declared sys r depth s [] = closed depth
+instances_declared sys r depth s (p ∷ ps) =
+    let its = ports_at sys p in
+    if sys.resource p == r
+    then closed (depth + 1 - length p) ++ opened (own_name p) ++ ports_declared s its ++ instances_declared sys r (length p) (s + size_of its) ps
+    else instances_declared sys r depth (s + size_of its) ps
+
+-- resources, the first with this number
+abbrev pub resources_declared : System → ℕ → List Name → List ℕ
+resources_declared sys r [] = []
+resources_declared sys r (n ∷ ns) =
+    opened n ++ instances_declared sys r 0 0 sys.paths ++ closed 1 ++ resources_declared sys (r + 1) ns
+
+-- ---- Beginnings
+
+-- no event yet
+abbrev pub event_begun : ℕ → List ℕ
+event_begun s = line (codes "b0 " ++ count_code s)
+
+abbrev pub events_begun : ℕ → List EventPort → List ℕ
+events_begun s [] = []
+events_begun s (e ∷ es) = event_begun s ++ events_begun (s + 1) es
+
+abbrev pub variable_begun : ℕ → Ty → List ℕ
+variable_begun s Boolean = line (codes "x" ++ variable_code s)
+variable_begun s _ = line (codes "bx " ++ variable_code s)
+
+abbrev pub carried_begun : List EventPort → ℕ → Variable → List ℕ
+carried_begun es s v = if is_carried es v then variable_begun s v.ty else []
+
+abbrev pub variables_begun : List EventPort → ℕ → List Variable → List ℕ
+variables_begun es s [] = []
+variables_begun es s (v ∷ vs) = carried_begun es s v ++ variables_begun es (s + 1) vs
+
+abbrev pub ports_begun : ℕ → Ports → List ℕ
+ports_begun s its =
+    let outs = s + length its.event_inputs in
+    let ins = outs + length its.event_outputs in
+    events_begun s its.event_inputs ++ events_begun outs its.event_outputs
+    ++ variables_begun its.event_inputs ins its.inputs ++ variables_begun its.event_outputs (ins + length its.inputs) its.outputs
+
+abbrev pub instances_begun : System → ℕ → List Path → List ℕ
+instances_begun sys s [] = []
+instances_begun sys s (p ∷ ps) = let its = ports_at sys p in ports_begun s its ++ instances_begun sys (s + size_of its) ps
+
+-- ---- The head
+
+abbrev pub head_text : System → List ℕ
+head_text sys =
+    line (codes "$timescale 1 ms $end") ++ resources_declared sys 0 sys.resource_names ++ line (codes "$enddefinitions $end")
+    ++ line (codes "#0") ++ line (codes "$dumpvars") ++ instances_begun sys 0 sys.paths ++ line (codes "$end")

@@ -1,0 +1,49 @@
+-- What the lines of a trace tell of signals (this project's profile).
+use Rattle.std.specs.Prelude.{ℕ, ◌+◌, List, [], ◌∷◌, map, if◌then◌else◌, unwrap_or, position}
+use Rattle.std.specs.List.{flat_map}
+use Rattle.fb_types.specs.Names.{Name, same_name}
+use Rattle.fb_types.specs.Blocks.{variable_names}
+use Rattle.fb_types.specs.Systems.{System}
+use Rattle.fb_types.specs.declared.library.Variable.{Variable}
+use Rattle.fb_types.specs.declared.run.Line.{Line}
+use Rattle.fb_types.specs.declared.value.Value.{Value}
+use Rattle.fb_system.specs.Lines.{line_variables}
+use Rattle.fb_wave.specs.Lines.{line_side}
+use Rattle.fb_wave.specs.Signals.{event_signal, first_variable}
+
+-- the place of a variable among those
+abbrev pub place_of : List Variable → Name → ℕ
+place_of vs n = unwrap_or (position (same_name n) (variable_names vs)) 0
+
+-- the signal whose event a line tells of
+abbrev pub fired : System → Line → ℕ
+fired sys l = event_signal sys l.instance l.taken l.event
+
+-- numbers, each with the value at its place
+abbrev pub pairs : List ℕ → List Value → List (ℕ × Value)
+pairs [] vs = []
+pairs (s ∷ ss) [] = []
+pairs (s ∷ ss) (v ∷ vs) = (s, v) ∷ pairs ss vs
+
+-- the signals whose values a line tells
+abbrev pub told_signals : System → Line → List ℕ
+told_signals sys l =
+    map (λ n. first_variable sys l.instance l.taken + place_of (line_side sys l) n) (line_variables sys l)
+
+abbrev pub told : System → Line → List (ℕ × Value)
+told sys l = pairs (told_signals sys l) l.values
+
+-- the signals that a line tells of
+abbrev pub touched : System → Line → List ℕ
+touched sys l = fired sys l ∷ map (λ t. t.0) (told sys l)
+
+-- the events of lines, and the values that they tell
+abbrev pub fires_of : System → List Line → List ℕ
+fires_of sys = map (fired sys)
+
+abbrev pub tells_of : System → List Line → List (ℕ × Value)
+tells_of sys = flat_map (told sys)
+
+-- the signals that lines tell of
+abbrev pub touches_of : System → List Line → List ℕ
+touches_of sys = flat_map (touched sys)

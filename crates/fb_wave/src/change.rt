@@ -1,0 +1,96 @@
+//! The changes of signals.
+
+ghost use Rattle.std.specs.Prelude.{◌≡◌, ◌<◌, ℕ, List, [], ◌++◌, All, OnOk, length, decimal};
+ghost use Rattle.fb_wave.specs.Changes.{changed, changes, event_changed, in_bits, number_changed, time_text, value_changed};
+ghost use Rattle.fb_wave.specs.Levels.{AreLevels};
+
+use crate::digits::{put_binary, put_decimal};
+use crate::levels::{Level, Levels};
+use fb_types::value::Value;
+use std::alloc::AllocError;
+
+/// A number in 64 bits, one below 0 as its complement to 2^64.
+fn in_bits(number: i128) -> u64
+    ensures { result ≡ in_bits (Value.Whole number) }
+{
+    if number < 0 {
+        u64::MAX - (((-1 - number) as u128) % (1 << 64)) as u64
+    } else {
+        ((number as u128) % (1 << 64)) as u64
+    }
+}
+
+/// A number of a signal that the dump calls by a letter and its number.
+fn put_bits(text: &mut Vec<u8>, bits: u64, letter: &[u8], signal: usize) -> Result<(), AllocError>
+    ensures { OnOk result (text.new.items ≡ text.old.items ++ number_changed bits (letter.now ++ decimal signal)) }
+{
+    text.extend_from_slice(b"b")?;
+    put_binary(text, bits)?;
+    text.extend_from_slice(b" ")?;
+    text.extend_from_slice(letter)?;
+    put_decimal(text, signal as u64)?;
+    text.extend_from_slice(b"\n")
+}
+
+fn put_value(text: &mut Vec<u8>, signal: usize, value: Value) -> Result<(), AllocError>
+    ensures { OnOk result (text.new.items ≡ text.old.items ++ value_changed signal value) }
+{
+    match value {
+        Value::Bool(truth) => {
+            text.extend_from_slice(if truth { b"1v" } else { b"0v" })?;
+            put_decimal(text, signal as u64)?;
+            text.extend_from_slice(b"\n")
+        }
+        Value::Whole(number) => put_bits(text, in_bits(number), b"v", signal),
+    }
+}
+
+fn put_event(text: &mut Vec<u8>, signal: usize, count: u64) -> Result<(), AllocError>
+    ensures { OnOk result (text.new.items ≡ text.old.items ++ event_changed signal count) }
+{
+    text.extend_from_slice(b"1e")?;
+    put_decimal(text, signal as u64)?;
+    text.extend_from_slice(b"\n")?;
+    put_bits(text, count, b"n", signal)
+}
+
+/// Puts what a signal shows behind a text.
+fn put_change(text: &mut Vec<u8>, signal: usize, shown: Level) -> Result<(), AllocError>
+    ensures { OnOk result (text.new.items ≡ text.old.items ++ changed signal shown) }
+{
+    match shown {
+        Level::Count(count) => put_event(text, signal, count),
+        Level::Last(value) => put_value(text, signal, value),
+    }
+}
+
+/// Puts a time behind a text, unless it is told already.
+pub(crate) fn put_time(text: &mut Vec<u8>, told: u64, tick: u64) -> Result<(), AllocError>
+    ensures { OnOk result (text.new.items ≡ text.old.items ++ time_text told tick) }
+{
+    if tick == told {
+        return Ok(());
+    }
+    text.extend_from_slice(b"#")?;
+    put_decimal(text, tick)?;
+    text.extend_from_slice(b"\n")
+}
+
+/// Puts the changes of a tick behind a text, and goes on to the next tick.
+pub(crate) fn put_changes(text: &mut Vec<u8>, levels: &mut Levels) -> Result<(), AllocError>
+    requires { All (λ s. s < length levels.old.cells.items) levels.old.noted.items }
+    ensures counted { length levels.new.cells.items ≡ length levels.old.cells.items }
+    ensures none { OnOk result (levels.new.noted.items ≡ []) }
+    ensures text { (n : ℕ) (fires : List ℕ) (tells : List (ℕ × Value)) (touches : List ℕ) → AreLevels n fires tells touches levels.old
+        → OnOk result (text.new.items ≡ text.old.items ++ changes fires tells touches) }
+    ensures levels { (n : ℕ) (fires : List ℕ) (tells : List (ℕ × Value)) (touches : List ℕ) → AreLevels n fires tells touches levels.old
+        → OnOk result (AreLevels n fires tells [] levels.new) }
+{
+    for place in 0..levels.noted.len() {
+        let signal = levels.noted[place];
+        put_change(text, signal, levels.cells[signal].shown)?;
+        levels.cells[signal].is_noted = false;
+    }
+    levels.noted.clear();
+    Ok(())
+}

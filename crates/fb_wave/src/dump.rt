@@ -1,0 +1,230 @@
+//! A dump, line by line.
+
+ghost use Rattle.std.specs.Prelude.{◌≡◌, ◌<◌, ℕ, ◌+◌, List, [], ◌∷◌, ◌++◌, map, length, All, IfOk, OnOk};
+ghost use Rattle.fb_types.specs.Headline.{system_of};
+ghost use Rattle.fb_types.specs.Systems.{System as Flat};
+ghost use Rattle.fb_types.specs.Text.{reason_text};
+ghost use Rattle.fb_system.specs.Lines.{BelongsTo};
+ghost use Rattle.fb_trace.specs.End.{EndsIn, ending_of};
+ghost use Rattle.fb_wave.specs.Levels.{AreLevels};
+ghost use Rattle.fb_wave.specs.Dumps.{dump_text, end_text, stop_comment};
+ghost use Rattle.fb_wave.specs.Told.{pairs};
+ghost use Rattle.fb_wave.specs.Writing.{AreFirsts, AreMarks, HasTold, IsDump, Tells, Turns};
+
+use crate::change::{put_changes, put_time};
+use crate::firsts::firsts_of;
+use crate::head::put_head;
+use crate::levels::Levels;
+use fb_system::system::System;
+use fb_trace::last::End;
+use fb_types::run::Line;
+use fb_types::value::{Reason, Value};
+use std::alloc::{AllocError, Global};
+
+/// A dump, as far as lines of a trace were told. It keeps a cell for each signal.
+#[derive(Drop)]
+pub(crate) struct Dump {
+    /// The number of the first signal of each instance, and behind them how many signals there are.
+    firsts: Vec<usize>,
+    levels: Levels,
+    /// The tick of the last line, or 0 before the first.
+    tick: u64,
+}
+
+fn reason_text(reason: Reason) -> &'static [u8]
+    ensures { result.now ≡ reason_text reason }
+{
+    match reason {
+        Reason::Steps => b"steps",
+        Reason::Divide => b"divide",
+        Reason::Range => b"range",
+    }
+}
+
+/// Puts the time of an end behind a text, and why a resource stopped.
+fn put_end(text: &mut Vec<u8>, system: &System, told: u64, end: End) -> Result<(), AllocError>
+    requires { EndsIn (system_of system.now) end }
+    ensures { OnOk result (text.new.items ≡ text.old.items ++ end_text (system_of system.now) told (ending_of end)) }
+{
+    match end {
+        End::Horizon(horizon) => put_time(text, told, horizon),
+        End::Stop(mark) => {
+            put_time(text, told, mark.tick)?;
+            let resource = system.resource_name(mark.resource as usize);
+            put_stop(text, resource, mark.reason)
+        }
+    }
+}
+
+/// Puts a comment that a resource stopped.
+fn put_stop(text: &mut Vec<u8>, resource: &[u8], reason: Reason) -> Result<(), AllocError>
+    ensures { OnOk result (text.new.items ≡ text.old.items ++ stop_comment resource.now reason) }
+{
+    text.extend_from_slice(b"$comment stop ")?;
+    text.extend_from_slice(resource)?;
+    text.extend_from_slice(b" ")?;
+    text.extend_from_slice(reason_text(reason))?;
+    text.extend_from_slice(b" $end\n")?;
+    Ok(())
+}
+
+/// The signals of a line.
+#[derive(Clone, Copy)]
+struct Marks<'a> {
+    /// That of its event.
+    event: usize,
+    /// That of the first variable among which those of the line are.
+    first: usize,
+    /// The places of the line's variables among those.
+    places: &'a [u32],
+}
+
+/// The signals of a line, by the numbers of the first signals of instances.
+fn marks_of<'a>(firsts: &[usize], system: &'a System, line: &Line) -> Marks<'a>
+    requires firsts { AreFirsts (system_of system.now) firsts.now }
+    requires line { BelongsTo (system_of system.now) line.now }
+    ensures { AreMarks (system_of system.now) line.now result }
+{
+    let ports = system.ports(line.instance);
+    let first = firsts[line.instance as usize];
+    let outputs = first + ports.event_inputs.len();
+    let variables = outputs + ports.event_outputs.len();
+    if line.taken {
+        Marks {
+            event: first + line.event as usize,
+            first: variables,
+            places: system.inputs_with(line.instance, line.event),
+        }
+    } else {
+        Marks {
+            event: outputs + line.event as usize,
+            first: variables + ports.inputs.len(),
+            places: system.outputs_with(line.instance, line.event),
+        }
+    }
+}
+
+/// Goes on to a tick: puts what changed in the one before behind a text, unless it is the same.
+fn turn(levels: &mut Levels, told: u64, tick: u64, text: &mut Vec<u8>) -> Result<(), AllocError>
+    requires { All (λ s. s < length levels.old.cells.items) levels.old.noted.items }
+    ensures counted { length levels.new.cells.items ≡ length levels.old.cells.items }
+    ensures within { OnOk result (All (λ s. s < length levels.new.cells.items) levels.new.noted.items) }
+    ensures turned { (sys : Flat) (ls : List Line) (sent : List ℕ) → Tells sys ls (sent ++ text.old.items) told levels.old
+        → OnOk result (Turns sys ls (sent ++ text.new.items) tick levels.new) }
+{
+    if tick == told {
+        return Ok(());
+    }
+    put_changes(text, levels)?;
+    put_time(text, told, tick)?;
+    Ok(())
+}
+
+/// The variables at some places have these values, each as a signal whose number is that of the first and its place.
+fn tell_all(
+    levels: &mut Levels,
+    first: usize,
+    places: &[u32],
+    values: &[Value],
+) -> Result<(), AllocError>
+    requires places { All (λ k. first + k < length levels.old.cells.items) places.now }
+    requires within { All (λ s. s < length levels.old.cells.items) levels.old.noted.items }
+    ensures counted { length levels.new.cells.items ≡ length levels.old.cells.items }
+    ensures within { All (λ s. s < length levels.new.cells.items) levels.new.noted.items }
+    ensures levels { (n : ℕ) (fires : List ℕ) (tells : List (ℕ × Value)) (touches : List ℕ) → AreLevels n fires tells touches levels.old
+        → OnOk result (let more = pairs (map (λ k. first + k) places.now) values.now in
+        AreLevels n fires (tells ++ more) (touches ++ map (λ t. t.0) more) levels.new) }
+{
+    for (place, value) in places.iter().zip(values) {
+        levels.tell(first + *place as usize, *value)?;
+    }
+    Ok(())
+}
+
+/// Notes an event, and values at some places behind the first variable.
+fn tell(
+    levels: &mut Levels,
+    event: usize,
+    first: usize,
+    places: &[u32],
+    values: &[Value],
+) -> Result<(), AllocError>
+    requires event { event < length levels.old.cells.items }
+    requires places { All (λ k. first + k < length levels.old.cells.items) places.now }
+    requires within { All (λ s. s < length levels.old.cells.items) levels.old.noted.items }
+    ensures counted { length levels.new.cells.items ≡ length levels.old.cells.items }
+    ensures within { All (λ s. s < length levels.new.cells.items) levels.new.noted.items }
+    ensures levels { (n : ℕ) (fires : List ℕ) (tells : List (ℕ × Value)) (touches : List ℕ) → AreLevels n fires tells touches levels.old
+        → OnOk result (let more = pairs (map (λ k. first + k) places.now) values.now in
+        AreLevels n (fires ++ event ∷ []) (tells ++ more) (touches ++ event ∷ [] ++ map (λ t. t.0) more) levels.new) }
+{
+    levels.fire(event)?;
+    tell_all(levels, first, places, values)?;
+    Ok(())
+}
+
+impl Dump {
+    /// Begins a dump of a trace of the system: puts its head behind a text.
+    pub(crate) fn begin(
+        alloc: Global,
+        system: &System,
+        text: &mut Vec<u8>,
+    ) -> Result<Dump, AllocError>
+        ensures numbers { IfOk result (IsDump (system_of system.now)) }
+        ensures told { text.old.items ≡ [] → IfOk result (HasTold (system_of system.now) [] text.new.items) }
+    {
+        let firsts = firsts_of(alloc, system)?;
+        put_head(text, system, firsts.as_slice())?;
+        let levels = Levels::new(alloc, firsts[system.count()])?;
+        Ok(Dump {
+            firsts,
+            levels,
+            tick: 0,
+        })
+    }
+
+    /// Tells of a line of the trace: puts what changed before its tick behind a text, where it is the first of its tick.
+    pub(crate) fn take(
+        &mut self,
+        system: &System,
+        line: &Line,
+        text: &mut Vec<u8>,
+    ) -> Result<(), AllocError>
+        requires dump { IsDump (system_of system.now) self.old }
+        requires line { BelongsTo (system_of system.now) line.now }
+        ensures numbers { OnOk result (IsDump (system_of system.now) self.new) }
+        ensures told { (ls : List Line) (sent : List ℕ) → HasTold (system_of system.now) ls (sent ++ text.old.items) self.old
+            → OnOk result (HasTold (system_of system.now) (ls ++ line.now ∷ []) (sent ++ text.new.items) self.new) }
+    {
+        system.facts();
+        let marks = marks_of(self.firsts.as_slice(), system, line);
+        turn(&mut self.levels, self.tick, line.key.tick, text)?;
+        self.tick = line.key.tick;
+        let values = line.values.as_slice();
+        tell(
+            &mut self.levels,
+            marks.event,
+            marks.first,
+            marks.places,
+            values,
+        )?;
+        Ok(())
+    }
+
+    /// Puts what changed in the last tick, and the end, behind a text.
+    pub(crate) fn end(
+        &mut self,
+        system: &System,
+        end: End,
+        text: &mut Vec<u8>,
+    ) -> Result<(), AllocError>
+        requires dump { IsDump (system_of system.now) self.old }
+        requires end { EndsIn (system_of system.now) end }
+        ensures { (ls : List Line) (sent : List ℕ) → HasTold (system_of system.now) ls (sent ++ text.old.items) self.old
+            → OnOk result (sent ++ text.new.items ≡ dump_text (system_of system.now) ls (ending_of end)) }
+    {
+        put_changes(text, &mut self.levels)?;
+        put_end(text, system, self.tick, end)?;
+        Ok(())
+    }
+}

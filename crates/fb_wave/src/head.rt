@@ -1,0 +1,125 @@
+//! The head of a dump: scopes, signals, and what these begin with.
+
+ghost use Rattle.std.specs.Prelude.{◌≡◌, ◌<◌, ◌≤◌, ◌+◌, ◌-◌, ◌^◌, ◌++◌, IfOk, OnOk, drop, length};
+ghost use Rattle.fb_types.specs.Headline.{system_of};
+ghost use Rattle.fb_types.specs.Numbers.{path_at, ports_at};
+ghost use Rattle.fb_wave.specs.Scopes as spec;
+ghost use Rattle.fb_wave.specs.Signals.{size_of};
+ghost use Rattle.fb_wave.specs.Writing.{AreFirsts};
+
+use crate::scopes::{put_closed, put_opened};
+use crate::{begun, declared};
+use fb_system::system::System;
+use std::alloc::AllocError;
+
+/// What stands behind so many bytes.
+fn rest_from(text: &[u8], count: usize) -> &[u8]
+    requires { count ≤ length text.now }
+    ensures { result.now ≡ drop count text.now }
+{
+    &text[count..]
+}
+
+/// The name of an instance among those beside it.
+fn own_name(system: &System, instance: u32) -> &[u8]
+    requires { instance < length (system_of system.now).paths }
+    ensures { result.now ≡ spec.own_name (path_at (system_of system.now) instance) }
+{
+    system.facts();
+    let path = system.path(instance);
+    match system.parent(instance) {
+        Some(parent) => rest_from(path, system.path(parent).len() + 1),
+        None => path,
+    }
+}
+
+/// Puts the scope of an instance, where so many scopes of instances are open, and tells how many are open then.
+fn put_instance(
+    text: &mut Vec<u8>,
+    system: &System,
+    first: usize,
+    depth: usize,
+    instance: u32,
+) -> Result<usize, AllocError>
+    requires instance { instance < length (system_of system.now).paths }
+    requires first { first + size_of (ports_at (system_of system.now) (path_at (system_of system.now) instance)) < 2 ^ 64 }
+    ensures height { IfOk result (λ h. h ≡ length (path_at (system_of system.now) instance)) }
+    ensures text { OnOk result (let sys = system_of system.now in let p = path_at sys instance in
+        text.new.items ≡ text.old.items ++ (spec.closed (depth + 1 - length p) ++ spec.opened (spec.own_name p) ++ spec.ports_declared first (ports_at sys p))) }
+{
+    system.facts();
+    let height = system.route(instance).len();
+    let outside = height.saturating_sub(1);
+    let ended = depth.saturating_sub(outside);
+    put_closed(text, ended)?;
+    put_opened(text, own_name(system, instance))?;
+    declared::put_ports(text, first, system.ports(instance))?;
+    Ok(height)
+}
+
+/// Puts the scopes of the instances of a resource.
+fn put_instances(
+    text: &mut Vec<u8>,
+    system: &System,
+    firsts: &[usize],
+    resource: usize,
+) -> Result<(), AllocError>
+    requires { AreFirsts (system_of system.now) firsts.now }
+    ensures { OnOk result (text.new.items ≡ text.old.items
+        ++ spec.instances_declared (system_of system.now) resource 0 0 (system_of system.now).paths) }
+{
+    system.facts();
+    let mut depth = 0;
+    for place in 0..system.count() {
+        if system.resource(place as u32) == resource {
+            let height = put_instance(text, system, firsts[place], depth, place as u32)?;
+            depth = height;
+        }
+    }
+    put_closed(text, depth)?;
+    Ok(())
+}
+
+/// Puts what the signals of all instances begin with.
+fn put_begun(text: &mut Vec<u8>, system: &System, firsts: &[usize]) -> Result<(), AllocError>
+    requires { AreFirsts (system_of system.now) firsts.now }
+    ensures { OnOk result (text.new.items ≡ text.old.items
+        ++ spec.instances_begun (system_of system.now) 0 (system_of system.now).paths) }
+{
+    system.facts();
+    for place in 0..system.count() {
+        begun::put_ports(text, firsts[place], system.ports(place as u32))?;
+    }
+    Ok(())
+}
+
+/// Puts the scopes of all resources.
+fn put_resources(text: &mut Vec<u8>, system: &System, firsts: &[usize]) -> Result<(), AllocError>
+    requires { AreFirsts (system_of system.now) firsts.now }
+    ensures { OnOk result (text.new.items ≡ text.old.items
+        ++ spec.resources_declared (system_of system.now) 0 (system_of system.now).resource_names) }
+{
+    for resource in 0..system.resources() {
+        put_opened(text, system.resource_name(resource))?;
+        put_instances(text, system, firsts, resource)?;
+        put_closed(text, 1)?;
+    }
+    Ok(())
+}
+
+/// Puts the head of a dump: the time scale, the scopes of the resources, the first time and what signals begin with.
+pub(crate) fn put_head(
+    text: &mut Vec<u8>,
+    system: &System,
+    firsts: &[usize],
+) -> Result<(), AllocError>
+    requires { AreFirsts (system_of system.now) firsts.now }
+    ensures { OnOk result (text.new.items ≡ text.old.items ++ spec.head_text (system_of system.now)) }
+{
+    text.extend_from_slice(b"$timescale 1 ms $end\n")?;
+    put_resources(text, system, firsts)?;
+    text.extend_from_slice(b"$enddefinitions $end\n#0\n$dumpvars\n")?;
+    put_begun(text, system, firsts)?;
+    text.extend_from_slice(b"$end\n")?;
+    Ok(())
+}

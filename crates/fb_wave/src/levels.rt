@@ -1,0 +1,108 @@
+//! What signals show, as far as a trace was read.
+
+ghost use Rattle.std.specs.Prelude.{◌≡◌, ◌<◌, ℕ, List, ◌++◌, [], ◌∷◌, All, IfOk, OnOk, length};
+ghost use Rattle.fb_wave.specs.Levels as spec;
+ghost use Rattle.fb_wave.specs.Levels.{AreLevels};
+
+use fb_types::value::Value;
+use std::alloc::{AllocError, Global};
+
+/// What a signal shows.
+#[derive(Clone, Copy)]
+pub(crate) enum Level {
+    /// How many events a port had, in 64 bits.
+    Count(u64),
+    /// The last value of a variable.
+    Last(Value),
+}
+
+/// A signal.
+#[derive(Clone, Copy)]
+pub(crate) struct Cell {
+    /// What it shows.
+    pub(crate) shown: Level,
+    /// Set where a line of this tick told of it.
+    pub(crate) is_noted: bool,
+}
+
+/// All signals, and those of which a line of this tick told, in the order in which each came first.
+#[derive(Drop)]
+pub(crate) struct Levels {
+    /// Each signal at the place of its number.
+    pub(crate) cells: Vec<Cell>,
+    /// The numbers of those of which a line of this tick told.
+    pub(crate) noted: Vec<usize>,
+}
+
+/// What is shown after one more event.
+fn after_event(shown: Level) -> Level
+    ensures { result ≡ spec.after_event shown }
+{
+    match shown {
+        Level::Count(count) => Level::Count(count.wrapping_add(1)),
+        shown => shown,
+    }
+}
+
+impl Levels {
+    /// So many signals, of which no line told.
+    pub(crate) fn new(alloc: Global, count: usize) -> Result<Levels, AllocError>
+        ensures { IfOk result (AreLevels count [] [] []) }
+    {
+        let mut cells = Vec::new(alloc);
+        while cells.len() < count {
+            cells.push(Cell {
+                shown: Level::Count(0),
+                is_noted: false,
+            })?;
+        }
+        Ok(Levels {
+            cells,
+            noted: Vec::new(alloc),
+        })
+    }
+
+    /// Notes that a line of this tick told of a signal.
+    fn note(&mut self, signal: usize) -> Result<(), AllocError>
+        requires signal { signal < length self.old.cells.items }
+        requires within { All (λ s. s < length self.old.cells.items) self.old.noted.items }
+        ensures counted { length self.new.cells.items ≡ length self.old.cells.items }
+        ensures within { All (λ s. s < length self.new.cells.items) self.new.noted.items }
+        ensures levels { (n : ℕ) (fires : List ℕ) (tells : List (ℕ × Value)) (touches : List ℕ) → AreLevels n fires tells touches self.old
+            → OnOk result (AreLevels n fires tells (touches ++ signal ∷ []) self.new) }
+    {
+        if self.cells[signal].is_noted {
+            return Ok(());
+        }
+        self.noted.push(signal)?;
+        self.cells[signal].is_noted = true;
+        Ok(())
+    }
+
+    /// A port had an event.
+    pub(crate) fn fire(&mut self, signal: usize) -> Result<(), AllocError>
+        requires signal { signal < length self.old.cells.items }
+        requires within { All (λ s. s < length self.old.cells.items) self.old.noted.items }
+        ensures counted { length self.new.cells.items ≡ length self.old.cells.items }
+        ensures within { All (λ s. s < length self.new.cells.items) self.new.noted.items }
+        ensures levels { (n : ℕ) (fires : List ℕ) (tells : List (ℕ × Value)) (touches : List ℕ) → AreLevels n fires tells touches self.old
+            → OnOk result (AreLevels n (fires ++ signal ∷ []) tells (touches ++ signal ∷ []) self.new) }
+    {
+        let shown = after_event(self.cells[signal].shown);
+        self.cells[signal].shown = shown;
+        self.note(signal)
+    }
+
+    /// A variable got a value.
+    pub(crate) fn tell(&mut self, signal: usize, value: Value) -> Result<(), AllocError>
+        requires signal { signal < length self.old.cells.items }
+        requires within { All (λ s. s < length self.old.cells.items) self.old.noted.items }
+        ensures counted { length self.new.cells.items ≡ length self.old.cells.items }
+        ensures within { All (λ s. s < length self.new.cells.items) self.new.noted.items }
+        ensures levels { (n : ℕ) (fires : List ℕ) (tells : List (ℕ × Value)) (touches : List ℕ) → AreLevels n fires tells touches self.old
+            → OnOk result (AreLevels n fires (tells ++ (signal, value) ∷ []) (touches ++ signal ∷ []) self.new) }
+    {
+        self.cells[signal].shown = Level::Last(value);
+        self.note(signal)
+    }
+}

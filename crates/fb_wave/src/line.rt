@@ -1,0 +1,115 @@
+//! Lines of a trace.
+
+ghost use Rattle.std.specs.Prelude.{◌≡◌, ◌++◌, IfOk, IfSome};
+ghost use Rattle.fb_types.specs.Headline.{system_of};
+ghost use Rattle.fb_types.specs.Numbers.{event_at, path_at, ports_at};
+ghost use Rattle.fb_types.specs.Text.{key_text};
+ghost use Rattle.fb_wave.specs.Lines.{AreValuesOf, IsHead, IsTextOf};
+ghost use Rattle.fb_wave.specs.Ports.{IsPortOf};
+ghost use Rattle.fb_wave.specs.Tables.{IsTable};
+
+use crate::number::{number, tick};
+use crate::ports::{Port, holder_of};
+use crate::table::{Guess, PortTable};
+use crate::values::values_of;
+use fb_system::system::System;
+use fb_types::items::Items;
+use fb_types::key::Key;
+use fb_types::run::{Form, Line};
+use fb_types::value::Value;
+use std::alloc::{AllocError, Global};
+
+/// The class and the parts of a key.
+#[derive(Clone, Copy)]
+struct Parts {
+    class: u8,
+    a: u128,
+    b: u128,
+}
+
+/// What a line begins with in a form, and what stands behind it.
+fn parts_of(form: Form, text: &[u8]) -> Option<(Parts, &[u8])>
+    ensures { IfSome result (λ p. IsHead form text.now p.0 p.1.now) }
+{
+    match form {
+        Form::One => Some((
+            Parts {
+                class: 0,
+                a: 0,
+                b: 0,
+            },
+            text,
+        )),
+        Form::Two => {
+            let class = number(text)?;
+            let a = number(class.1)?;
+            let b = number(a.1)?;
+            let parts = Parts {
+                class: u8::try_from(class.0).ok()?,
+                a: a.0,
+                b: b.0,
+            };
+            Some((parts, b.1))
+        }
+    }
+}
+
+/// The values of a line of a port, up to its end.
+fn port_values(
+    alloc: Global,
+    system: &System,
+    port: Port,
+    text: &[u8],
+) -> Result<Option<Items<Value>>, AllocError>
+    requires { IsPortOf (system_of system.now) port }
+    ensures { IfOk result (λ o. IfSome o (AreValuesOf (system_of system.now) port text.now)) }
+{
+    let ports = system.ports(port.instance);
+    if port.taken {
+        let places = system.inputs_with(port.instance, port.event);
+        values_of(alloc, ports.inputs.as_slice(), places, text)
+    } else {
+        let places = system.outputs_with(port.instance, port.event);
+        values_of(alloc, ports.outputs.as_slice(), places, text)
+    }
+}
+
+/// The line of the system that a text is in a form, with its line feed.
+pub(crate) fn read_line(
+    alloc: Global,
+    table: &PortTable,
+    guess: &mut Guess,
+    form: Form,
+    text: &[u8],
+) -> Result<Option<Line>, AllocError>
+    requires { IsTable table.now }
+    ensures { IfOk result (λ o. IfSome o (λ l. IsTextOf (system_of table.now.system.now) form l text.now)) }
+{
+    let Some(head) = parts_of(form, text) else {
+        return Ok(None);
+    };
+    let Some(tick) = tick(head.1) else {
+        return Ok(None);
+    };
+    let Some(found) = table.find(guess, tick.1) else {
+        return Ok(None);
+    };
+    let port = found.0;
+    let Some(values) = port_values(alloc, table.system, port, found.1)? else {
+        return Ok(None);
+    };
+    let key = Key {
+        tick: tick.0,
+        resource: holder_of(table.system, port),
+        class: head.0.class,
+        a: head.0.a,
+        b: head.0.b,
+    };
+    Ok(Some(Line {
+        key,
+        taken: port.taken,
+        instance: port.instance,
+        event: port.event,
+        values,
+    }))
+}

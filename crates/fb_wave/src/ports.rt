@@ -1,0 +1,122 @@
+//! The event ports of a system.
+
+ghost use Rattle.std.specs.Prelude.{◌≡◌, ◌<◌, All, IfOk, OnOk, length, codes, if◌then◌else◌};
+ghost use Rattle.fb_types.specs.Headline.{system_of};
+ghost use Rattle.fb_types.specs.Numbers.{event_at, path_at, ports_at};
+ghost use Rattle.fb_types.specs.Systems.{System as Flat};
+ghost use Rattle.fb_wave.specs.Ports as spec;
+ghost use Rattle.fb_wave.specs.Ports.{IsPortOf};
+
+use fb_system::system::System;
+use fb_types::items::Items;
+use fb_types::library::EventPort;
+use fb_types::name::Name;
+use std::alloc::{AllocError, Global};
+
+/// An event port.
+#[derive(Clone, Copy)]
+pub(crate) struct Port {
+    pub(crate) instance: u32,
+    /// The place of the event among the event inputs, or outputs.
+    pub(crate) event: u32,
+    /// Set where it is an event input.
+    pub(crate) taken: bool,
+}
+
+/// A place as a number. One beyond all numbers would be that of one of more than memory holds, so it counts as want of
+/// memory.
+fn number_of(place: usize) -> Result<u32, AllocError>
+    ensures { IfOk result (λ n. n ≡ place) }
+{
+    match u32::try_from(place) {
+        Ok(number) => Ok(number),
+        Err(_) => Err(AllocError),
+    }
+}
+
+/// Adds the event inputs of an instance, or its event outputs, of which there are so many.
+fn push_events(
+    all: &mut Vec<Port>,
+    instance: u32,
+    taken: bool,
+    count: usize,
+) -> Result<(), AllocError>
+    ensures { (sys : Flat) → instance < length sys.paths → count ≡ length (spec.side sys instance taken) → All (IsPortOf sys) all.old.items
+        → OnOk result (All (IsPortOf sys) all.new.items) }
+{
+    for event in 0..count {
+        all.push(Port {
+            instance,
+            event: number_of(event)?,
+            taken,
+        })?;
+    }
+    Ok(())
+}
+
+/// All event ports of a system.
+pub(crate) fn ports_of(alloc: Global, system: &System) -> Result<Vec<Port>, AllocError>
+    ensures { IfOk result (λ v. All (IsPortOf (system_of system.now)) v.items) }
+{
+    let mut all = Vec::new(alloc);
+    for place in 0..system.count() {
+        let instance = number_of(place)?;
+        let ports = system.ports(instance);
+        push_events(&mut all, instance, true, ports.event_inputs.len())?;
+        push_events(&mut all, instance, false, ports.event_outputs.len())?;
+    }
+    Ok(all)
+}
+
+/// The events among which a port is.
+fn events_of(system: &System, port: Port) -> &[EventPort]
+    requires { IsPortOf (system_of system.now) port }
+    ensures { result.now ≡ spec.side (system_of system.now) port.instance port.taken }
+{
+    let ports = system.ports(port.instance);
+    if port.taken {
+        ports.event_inputs.as_slice()
+    } else {
+        ports.event_outputs.as_slice()
+    }
+}
+
+/// The name of a port's event.
+fn event_name(system: &System, port: Port) -> &[u8]
+    requires { IsPortOf (system_of system.now) port }
+    ensures { result.now ≡ event_at (spec.side (system_of system.now) port.instance port.taken) port.event }
+{
+    events_of(system, port)[port.event as usize].name.as_bytes()
+}
+
+/// The number of the resource that holds a port.
+pub(crate) fn holder_of(system: &System, port: Port) -> u32
+    requires { IsPortOf (system_of system.now) port }
+    ensures held { result ≡ (system_of system.now).resource (path_at (system_of system.now) port.instance) }
+    ensures within { result < length (system_of system.now).resource_names }
+{
+    system.facts();
+    system.resource(port.instance) as u32
+}
+
+/// What stands between the resource and the path of a line: the sign of an event that was taken, or of one that was emitted.
+fn sign(taken: bool) -> &'static [u8]
+    ensures { result.now ≡ (if taken then codes " > " else codes " < ") }
+{
+    if taken { b" > " } else { b" < " }
+}
+
+/// What a line of a port has between its tick and its values: `RESOURCE > PATH.EVENT`, or with `<`.
+pub(crate) fn port_text(alloc: Global, system: &System, port: Port) -> Result<Name, AllocError>
+    requires { IsPortOf (system_of system.now) port }
+    ensures { IfOk result (λ n. n ≡ spec.port_text (system_of system.now) port) }
+{
+    let holder = holder_of(system, port);
+    let mut text = Vec::new(alloc);
+    text.extend_from_slice(system.resource_name(holder as usize))?;
+    text.extend_from_slice(sign(port.taken))?;
+    text.extend_from_slice(system.path(port.instance))?;
+    text.extend_from_slice(b".")?;
+    text.extend_from_slice(event_name(system, port))?;
+    Ok(Name::new(Items::from_vec(text)))
+}

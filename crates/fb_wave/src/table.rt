@@ -1,0 +1,171 @@
+//! The ports of a system by what lines have of them.
+
+ghost use Rattle.std.specs.Prelude.{◌≡◌, ◌+◌, ◌≤◌, ◌++◌, All, IfOk, IfSome, length, map};
+ghost use Rattle.fb_types.specs.Headline.{system_of};
+ghost use Rattle.fb_names.specs.Places.{names_in};
+ghost use Rattle.fb_wave.specs.Ports as spec;
+ghost use Rattle.fb_wave.specs.Ports.{IsPortOf};
+ghost use Rattle.fb_wave.specs.Tables.{IsTable};
+
+use crate::ports::{Port, port_text};
+use crate::words::{behind, cut};
+use fb_names::places::{Places, place_of, places_of};
+use fb_system::system::System;
+use fb_types::name::Name;
+use std::alloc::{AllocError, Global};
+
+/// The ports of a system, and the places of their texts among those of all.
+#[derive(Drop)]
+pub(crate) struct PortTable<'a> {
+    /// The system.
+    pub(crate) system: &'a System,
+    ports: &'a [Port],
+    texts: &'a [Name],
+    places: Places<'a>,
+}
+
+/// Where the port of a line is looked for first: at the port that came last behind that of the line before. A guess
+/// that is wrong costs time alone, so nothing is promised of it.
+#[derive(Drop)]
+pub(crate) struct Guess {
+    /// For each port the place of the one that came last behind it.
+    next: Vec<usize>,
+    /// The place of the port of the line before.
+    last: usize,
+}
+
+impl Guess {
+    /// The guess before the first line.
+    pub(crate) fn new(alloc: Global, table: &PortTable<'_>) -> Result<Guess, AllocError> {
+        let mut next = Vec::new(alloc);
+        for place in 0..table.ports.len() {
+            next.push(place)?;
+        }
+        Ok(Guess { next, last: 0 })
+    }
+
+    /// The place to look at.
+    fn place(&self) -> usize {
+        match self.next.get(self.last) {
+            Some(place) => *place,
+            None => 0,
+        }
+    }
+
+    /// Keeps that a line of the port at this place was read.
+    fn note(&mut self, place: usize) {
+        if let Some(next) = self.next.get_mut(self.last) {
+            *next = place;
+        }
+        self.last = place;
+    }
+}
+
+/// Whether a word ends before this text.
+fn ends_word(rest: &[u8]) -> bool {
+    matches!(rest.first(), Some(b' ' | b'\n'))
+}
+
+/// The texts of ports, each at the place of its port.
+pub(crate) fn texts_of(
+    alloc: Global,
+    system: &System,
+    ports: &[Port],
+) -> Result<Vec<Name>, AllocError>
+    requires { All (IsPortOf (system_of system.now)) ports.now }
+    ensures { IfOk result (λ v. v.items ≡ map (spec.port_text (system_of system.now)) ports.now) }
+{
+    let mut texts = Vec::new(alloc);
+    for port in ports {
+        texts.push(port_text(alloc, system, *port)?)?;
+    }
+    Ok(texts)
+}
+
+fn names_of(alloc: Global, texts: &[Name]) -> Result<Vec<&Name>, AllocError>
+    ensures { IfOk result (λ v. names_in v.items ≡ texts.now) }
+{
+    let mut names = Vec::new(alloc);
+    for text in texts {
+        names.push(text)?;
+    }
+    Ok(names)
+}
+
+/// What stands behind the first byte.
+fn past_one(text: &[u8]) -> Option<&[u8]>
+    ensures { IfSome result (λ rest. length rest.now + 1 ≡ length text.now) }
+{
+    if text.is_empty() {
+        return None;
+    }
+    Some(&text[1..])
+}
+
+/// How long the text of a port is that a text begins with: it ends where its third word ends.
+fn port_len(text: &[u8]) -> Option<usize>
+    ensures { IfSome result (λ n. n ≤ length text.now) }
+{
+    let holder = cut(text)?;
+    let sign = cut(past_one(holder.1)?)?;
+    let port = cut(past_one(sign.1)?)?;
+    Some(text.len() - port.1.len())
+}
+
+impl<'a> PortTable<'a> {
+    /// A table of ports, of which these are the texts, or `None` where two are written alike.
+    pub(crate) fn of(
+        alloc: Global,
+        system: &'a System,
+        ports: &'a [Port],
+        texts: &'a [Name],
+    ) -> Result<Option<PortTable<'a>>, AllocError>
+        requires ports { All (IsPortOf (system_of system.now)) ports.now }
+        requires texts { texts.now ≡ map (spec.port_text (system_of system.now)) ports.now }
+        ensures { IfOk result (λ o. IfSome o (λ t. IsTable t × (t.system.now ≡ system.now))) }
+    {
+        let names = names_of(alloc, texts)?;
+        match places_of(alloc, names.as_slice())? {
+            Some(places) => Ok(Some(PortTable {
+                system,
+                ports,
+                texts,
+                places,
+            })),
+            None => Ok(None),
+        }
+    }
+
+    /// The port at a place, if a text begins with its text, and what stands behind it.
+    fn at<'b>(&self, place: usize, text: &'b [u8]) -> Option<(Port, &'b [u8])>
+        requires { IsTable self.now }
+        ensures port { IfSome result (λ p. IsPortOf (system_of self.now.system.now) p.0) }
+        ensures text { IfSome result (λ p. text.now ≡ spec.port_text (system_of self.now.system.now) p.0 ++ p.1.now) }
+    {
+        let port = self.ports.get(place)?;
+        let name = self.texts.get(place)?;
+        let rest = behind(text, name.as_bytes())?;
+        if !ends_word(rest) {
+            return None;
+        }
+        Some((*port, rest))
+    }
+
+    /// The port with whose text a text begins, and what stands behind it. Its place is guessed, and looked up where the
+    /// guess is wrong.
+    pub(crate) fn find<'b>(&self, guess: &mut Guess, text: &'b [u8]) -> Option<(Port, &'b [u8])>
+        requires { IsTable self.now }
+        ensures port { IfSome result (λ p. IsPortOf (system_of self.now.system.now) p.0) }
+        ensures text { IfSome result (λ p. text.now ≡ spec.port_text (system_of self.now.system.now) p.0 ++ p.1.now) }
+    {
+        let guessed = guess.place();
+        if let Some(found) = self.at(guessed, text) {
+            guess.last = guessed;
+            return Some(found);
+        }
+        let length = port_len(text)?;
+        let place = place_of(&self.places, &text[..length])?;
+        guess.note(place);
+        self.at(place, text)
+    }
+}

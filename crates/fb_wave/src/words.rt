@@ -1,0 +1,31 @@
+//! Words of a line.
+
+ghost use Rattle.std.specs.Prelude.{◌≡◌, ℕ, List, ◌++◌, true, MatchOption};
+ghost use Rattle.fb_wave.specs.Words as spec;
+ghost use Rattle.fb_wave.specs.Words.{IsCut};
+
+/// Whether a byte ends a word: a blank or a line feed.
+fn is_end(byte: u8) -> bool
+    ensures { result ≡ spec.is_end byte }
+{
+    byte == b' ' || byte == b'\n'
+}
+
+/// The bytes before the first that ends a word, and the rest from that one on.
+pub(crate) fn cut(text: &[u8]) -> Option<(&[u8], &[u8])>
+    ensures { MatchOption result (spec.is_word text.now ≡ true) (λ p. IsCut text.now p.0.now p.1.now) }
+{
+    for (place, byte) in text.iter().enumerate() {
+        if is_end(*byte) {
+            return Some((&text[..place], &text[place..]));
+        }
+    }
+    None
+}
+
+/// What stands behind a front.
+pub(crate) fn behind<'a>(text: &'a [u8], front: &[u8]) -> Option<&'a [u8]>
+    ensures { MatchOption result ((rest : List ℕ) → text.now ≡ front.now ++ rest → ⊥) (λ rest. text.now ≡ front.now ++ rest.now) }
+{
+    text.strip_prefix(front)
+}
