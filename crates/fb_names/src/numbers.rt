@@ -4,7 +4,7 @@ use fb_types::event_kind::EventKind;
 use fb_types::items::Items;
 
 /// The type of an instance: an event block, or the block type at a place of the declaration.
-#[derive(Clone, Copy, Debug, PartialEq, Eq)]
+#[derive(Clone, Copy)]
 pub enum TypeNumber {
     Event(EventKind),
     Declared(usize),
@@ -12,21 +12,21 @@ pub enum TypeNumber {
 
 /// An end of a connection: the place of the component, or none at the boundary, and the place of the port among
 /// the ports of the right sort and direction.
-#[derive(Clone, Copy, Debug, PartialEq, Eq)]
+#[derive(Clone, Copy, PartialEq, Eq)]
 pub struct End {
     pub component: Option<usize>,
     pub port: usize,
 }
 
 /// A connection, of events or of data.
-#[derive(Clone, Copy, Debug, PartialEq, Eq)]
+#[derive(Clone, Copy)]
 pub struct Wire {
     pub from: End,
     pub to: End,
 }
 
 /// The resources of a link.
-#[derive(Clone, Copy, Debug, PartialEq, Eq)]
+#[derive(Clone, Copy)]
 pub struct LinkEnds {
     pub from: usize,
     pub to: usize,
