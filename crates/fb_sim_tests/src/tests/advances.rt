@@ -16,7 +16,7 @@ use std::sync::Wait;
 use std::thread::Threads;
 
 /// The simulation of a case by so many workers.
-fn opened(rt: &impl Abort, alloc: Global, case: &Case, workers: u64) -> Simulation {
+pub fn opened(rt: &impl Abort, alloc: Global, case: &Case, workers: u64) -> Simulation {
     let inputs = inputs_of(case.declaration, case.deploy, case.stimuli);
     let Ok(simulation) = Simulation::open(alloc, &inputs, case.steps, workers, Form::One) else {
         panic!(rt; "not opened");

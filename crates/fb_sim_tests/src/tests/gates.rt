@@ -1,5 +1,6 @@
 //! Workers work at the same time.
 
+use super::advances::opened;
 use super::texts::BETWEEN;
 use super::{inputs_of, to};
 use fb_phase::Gate;
@@ -112,13 +113,18 @@ impl Gate for InOrder {
     }
 }
 
+/// A simulation that is advanced goes by rounds, also by one worker, who does the jobs on the calling thread.
 #[test]
 fn one_worker_passes_the_gate_in_the_order_of_the_jobs(rt: HostRuntime) {
     let gate = InOrder {
         passed: AtomicU64::new(0),
         differs: AtomicBool::new(false),
     };
-    expect_between(&rt, rt.alloc(), 1, &gate);
+    let mut out = Vec::new(rt.alloc());
+    let mut simulation = opened(&rt, rt.alloc(), &BETWEEN, 1);
+    let advanced = simulation.advance(&rt, BETWEEN.horizon, &mut out, &gate);
+    let ended = simulation.finish(&mut out).expect(&rt, "ended");
+    assert!(rt; advanced.is_ok() && ended == BETWEEN.outcome);
     assert!(rt;
         gate.passed.load(SeqCst) >= InOrder::JOBS,
         "a job passed no gate"
