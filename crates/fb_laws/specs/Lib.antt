@@ -1,3 +1,10 @@
 pub mod Typed
 pub mod Simulations
 pub mod Sound
+pub mod Facts
+pub mod ResourceLaw
+pub mod Worlds
+pub mod Cuts
+pub mod Finality
+pub mod ScheduleLaw
+pub mod Phases

@@ -7,7 +7,8 @@
 //!
 //! To be read in this order: `specs/Typed`, what is said of a world; `specs/Simulations`, of a simulation; `typing`.
 //! Then `specs/Sound` with `soundness`; `proofs/Accepting`, an accepted system is sound; `proofs/Outs`, what a reaction
-//! puts out goes over links that there are.
+//! puts out goes over links that there are. Of one resource: `specs/ResourceLaw`, and `proofs/Told`; of schedules of all resources:
+//! `specs/ScheduleLaw`, and `proofs/Keeps`. Their laws are functions of `fb_resource` and `fb_window`.
 #![tactic(auto)]
 
 pub mod soundness;

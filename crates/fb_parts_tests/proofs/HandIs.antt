@@ -14,7 +14,7 @@ use Rattle.fb_types.specs.declared.run.Line as run
 use Rattle.fb_system.specs.Lines.{BelongsTo}
 use Rattle.fb_resource.specs.declared.resource.Inner.{Inner}
 use Rattle.fb_resource.specs.declared.resource.WindowDone.{WindowDone}
-use Rattle.fb_window.specs.Finality.{HasHanded, HasKept, core_of}
+use Rattle.fb_laws.specs.Finality.{HasHanded, HasKept, core_of}
 use Rattle.fb_window.specs.Jobs.{AreOf, Does, JobModel, MayLeave, jobs_of}
 use Rattle.fb_window.specs.Reaching.{OfEachCore}
 use Rattle.fb_window.specs.Settling.{AreLegal, HasLeft, Settles, after_phase, lists_of}
@@ -23,7 +23,7 @@ use Rattle.fb_window.specs.declared.cores.Away.{Away}
 use Rattle.fb_window.specs.declared.cores.Core.{Core}
 use Rattle.fb_window.specs.declared.cores.Settled.{Settled}
 use Rattle.fb_window.specs.declared.cores.Settled.TheVariants.{Going, Ended, Stopped}
-use Rattle.fb_window.proofs.Phasing.{phase_of, is_phase}
+use Rattle.fb_laws.proofs.Phasing.{phase_of, is_phase}
 use Rattle.fb_parts_tests.specs.Coming.{HasCome, IsAfter}
 
 -- ---- The opening

@@ -13,7 +13,7 @@ use Rattle.fb_agenda.specs.Arrivals.{AreNew, arrival_at}
 use Rattle.fb_laws.specs.Sound.{IsSound}
 use Rattle.fb_resource.specs.Resources.{StandsFor}
 use Rattle.fb_resource.specs.declared.resource.Inner.{Inner}
-use Rattle.fb_resource.proofs.Opening.{is_opening}
+use Rattle.fb_laws.proofs.Opening.{is_opening}
 
 parted : {A : Type 0} (b : Bool) (o : Option A) → or_else (cond b None o) (cond b o None) ≡ o
 parted true o = refl

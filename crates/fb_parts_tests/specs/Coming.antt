@@ -6,7 +6,7 @@ use Rattle.fb_types.specs.Cores.{CoreStep, opening_core}
 use Rattle.fb_types.specs.Parts.{machine, count_of}
 use Rattle.fb_types.specs.Schedules.{IsSchedule}
 use Rattle.fb_system.specs.Lines.{BelongsTo}
-use Rattle.fb_window.specs.Finality.{HasKept, core_of}
+use Rattle.fb_laws.specs.Finality.{HasKept, core_of}
 use Rattle.fb_window.specs.Settling.{lists_of}
 use Rattle.fb_window.specs.Standing.{IsAt}
 use Rattle.fb_window.specs.declared.cores.Core.{Core}

@@ -6,7 +6,7 @@ use Rattle.fb_types.specs.declared.key.Key.{Key}
 use Rattle.fb_types.proofs.EachLaws.{each_append}
 use Rattle.fb_types.proofs.Lookups.{none_some}
 use Rattle.fb_resource.specs.Runs.{HasCome, HasEnded}
-use Rattle.fb_resource.proofs.Chains.{chain_append, end_append, sent_append, lines_append, clock_append}
+use Rattle.fb_laws.proofs.Chains.{chain_append, end_append, sent_append, lines_append, clock_append}
 
 module _ (M : Machine) where
   pub come_none : (r t : ℕ) (l : Local M) → HasCome M r t l l [] []

@@ -21,8 +21,8 @@ use Rattle.fb_take.specs.declared.queues.Queues.{Queues}
 use Rattle.fb_take.proofs.Leaving.{Left, still}
 use Rattle.fb_resource.specs.Resources.{StandsFor}
 use Rattle.fb_resource.specs.declared.resource.Inner.{Inner}
-use Rattle.fb_resource.proofs.Effects.{takes_good}
-use Rattle.fb_resource.proofs.Takings.{ChangesOwn, IsParted, parted_after, waiting_after}
+use Rattle.fb_laws.proofs.Effects.{takes_good}
+use Rattle.fb_laws.proofs.Takings.{ChangesOwn, IsParted, parted_after, waiting_after}
 
 -- The event of a key, before which none waits, left the agenda.
 pub record HasLeft (k : Key) (e : Event) (old new : Contents) : Type 0 where

@@ -1,6 +1,6 @@
 //! The one-thread simulation is there, and takes keys in rising order.
 
-ghost use Rattle.fb_resource.specs.Law.{HasSimulation, HasRisingKeys, OfEach};
+ghost use Rattle.fb_laws.specs.ResourceLaw.{HasSimulation, HasRisingKeys, OfEach};
 
 /// Accepted inputs have a simulation, to each horizon and with each limit on steps. `fb_types::laws::one_simulation` says
 /// that it is the only one.

@@ -1,6 +1,6 @@
 //! What one resource does by itself, and what the simulation of all resources has of it.
 
-ghost use Rattle.fb_resource.specs.Law.{OfEach, HasHistories, OneRun, HasLines, HasStops};
+ghost use Rattle.fb_laws.specs.ResourceLaw.{OfEach, HasHistories, OneRun, HasLines, HasStops};
 
 /// A resource alone comes to its history.
 ///

@@ -12,7 +12,7 @@ use Rattle.fb_types.specs.declared.value.Reason.{Reason}
 use Rattle.fb_types.specs.declared.run.StopMark.{StopMark}
 use Rattle.fb_laws.specs.Sound.{AreGood}
 use Rattle.fb_laws.proofs.Accepting.{sound_of}
-use Rattle.fb_resource.proofs.Existence.{there_is}
+use Rattle.fb_laws.proofs.Existence.{there_is}
 use Rattle.fb_types.proofs.SimulationLaws.{one-simulation}
 use Rattle.fb_machine.proofs.Joined.{lines_of-append}
 use Rattle.fb_trace.specs.Progress.{IsPartWritten, bounded}

@@ -6,8 +6,8 @@ use Rattle.std.specs.List.{filter}
 use Rattle.fb_types.specs.Machines.{Machine, Each}
 use Rattle.fb_types.specs.Merges.{NotAfter, IsInOrder, IsMerge, lines_at, lines_before}
 use Rattle.fb_types.proofs.EachLaws.{each_map}
-use Rattle.fb_resource.proofs.Lines.{filter_joined, filter_all, filter_nothing, merge_one}
-use Rattle.fb_window.specs.Finality.{Edge, until}
+use Rattle.fb_laws.proofs.Lines.{filter_joined, filter_all, filter_nothing, merge_one}
+use Rattle.fb_laws.specs.Finality.{Edge, until}
 
 -- ---- How far an edge goes
 

@@ -18,19 +18,19 @@ use Rattle.fb_types.proofs.EachLaws.{each_map, each_append}
 use Rattle.fb_types.proofs.Lookups.{option_cases}
 use Rattle.fb_laws.specs.Sound.{AreGood}
 use Rattle.fb_laws.proofs.Accepting.{sound_of}
-use Rattle.fb_resource.specs.Facts.{IsLawful}
-use Rattle.fb_resource.specs.Worlds.{World, IsOpening, IsCounted, Simulation}
-use Rattle.fb_resource.proofs.Bridge.{world_of}
-use Rattle.fb_resource.proofs.Lines.{Here, sim_here, chain_here, merge_one, merge_same, sim_merge}
-use Rattle.fb_resource.proofs.Opening.{is_opening, is_counted}
-use Rattle.fb_resource.proofs.OwnPart.{lawful}
-use Rattle.fb_resource.proofs.Told.{is_simulation, lines_items}
-use Rattle.fb_window.specs.Finality.{Edge, until, lines_from, IsFinalIn, HasHanded, core_of, lines_in}
-use Rattle.fb_window.specs.Law.{lines_to}
-use Rattle.fb_window.proofs.Final.{final_lines}
-use Rattle.fb_window.proofs.Keeps.{passed, done_of, passed_limit, floor_live}
-use Rattle.fb_window.proofs.Reached.{inv_after, passed_live}
-use Rattle.fb_window.proofs.TellsAll.{end_told, stop_told}
+use Rattle.fb_laws.specs.Facts.{IsLawful}
+use Rattle.fb_laws.specs.Worlds.{World, IsOpening, IsCounted, Simulation}
+use Rattle.fb_laws.proofs.Bridge.{world_of}
+use Rattle.fb_laws.proofs.Lines.{Here, sim_here, chain_here, merge_one, merge_same, sim_merge}
+use Rattle.fb_laws.proofs.Opening.{is_opening, is_counted}
+use Rattle.fb_laws.proofs.OwnPart.{lawful}
+use Rattle.fb_laws.proofs.Told.{is_simulation, lines_items}
+use Rattle.fb_laws.specs.Finality.{Edge, until, lines_from, IsFinalIn, HasHanded, core_of, lines_in}
+use Rattle.fb_laws.specs.ScheduleLaw.{lines_to}
+use Rattle.fb_laws.proofs.Final.{final_lines}
+use Rattle.fb_laws.proofs.Keeps.{passed, done_of, passed_limit, floor_live}
+use Rattle.fb_laws.proofs.Reached.{inv_after, passed_live}
+use Rattle.fb_laws.proofs.TellsAll.{end_told, stop_told}
 use Rattle.fb_sim.proofs.Edges.{all_before, before_later, none_before, at_below, begins}
 
 module _ (M : Machine) where

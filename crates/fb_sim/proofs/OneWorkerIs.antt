@@ -16,8 +16,8 @@ use Rattle.fb_machine.specs.declared.machine.Machine.{Machine}
 use Rattle.fb_machine.specs.declared.pause.Pause.{Pause}
 use Rattle.fb_machine.specs.declared.pause.Pause.TheVariants.{Lines, Horizon, Stop}
 use Rattle.fb_machine.proofs.Joined.{reaches_after, reaches_none, joins, lines_of-append}
-use Rattle.fb_resource.proofs.Bridge.{all_each}
-use Rattle.fb_resource.proofs.Existence.{there_is}
+use Rattle.fb_laws.proofs.Bridge.{all_each}
+use Rattle.fb_laws.proofs.Existence.{there_is}
 use Rattle.fb_trace.specs.Progress.{IsPartWritten, bounded}
 use Rattle.fb_sim.specs.OneWorker.{RunsThrough}
 use Rattle.fb_sim.specs.Rounds.{AreAll, Begin, RunsOn, WritesPartOf, behind, text_of}

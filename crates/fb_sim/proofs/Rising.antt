@@ -13,18 +13,18 @@ use Rattle.fb_types.proofs.Lookups.{none_some, option_cases}
 use Rattle.fb_laws.specs.Sound.{AreGood}
 use Rattle.fb_laws.proofs.Accepting.{sound_of}
 use Rattle.fb_resource.specs.declared.resource.Inner.{Inner}
-use Rattle.fb_resource.specs.Worlds.{World}
-use Rattle.fb_resource.proofs.Bridge.{world_of}
-use Rattle.fb_resource.proofs.OwnPart.{lawful}
+use Rattle.fb_laws.specs.Worlds.{World}
+use Rattle.fb_laws.proofs.Bridge.{world_of}
+use Rattle.fb_laws.proofs.OwnPart.{lawful}
 use Rattle.fb_window.specs.Bounding.{AreGreatest, IsInReach}
-use Rattle.fb_window.specs.Finality.{core_of}
-use Rattle.fb_window.specs.Phases.{Turn, IsPhase, turned}
+use Rattle.fb_laws.specs.Finality.{core_of}
+use Rattle.fb_laws.specs.Phases.{Turn, IsPhase, turned}
 use Rattle.fb_window.specs.Settling.{AreTurns, HasRisen, after_phase}
 use Rattle.fb_window.specs.Standing.{IsAt}
-use Rattle.fb_window.proofs.AtHome.{has_turned, rises_or_stops, stop_in_range}
+use Rattle.fb_laws.proofs.AtHome.{has_turned, rises_or_stops, stop_in_range}
 use Rattle.fb_window.proofs.BoundsAre.{clock_within, home, is_round_of, kept_by}
-use Rattle.fb_window.proofs.Phasing.{IsRound, all_turned}
-use Rattle.fb_window.proofs.Reached.{runs_after}
+use Rattle.fb_laws.proofs.Phasing.{IsRound, all_turned}
+use Rattle.fb_laws.proofs.Reached.{runs_after}
 use Rattle.fb_sim.specs.Rounds.{Rises}
 
 -- ---- How far all may go

@@ -16,18 +16,18 @@ use Rattle.fb_types.specs.declared.value.Reason.{Reason}
 use Rattle.fb_laws.specs.Sound.{AreGood}
 use Rattle.fb_system.specs.Lines.{BelongsTo}
 use Rattle.fb_laws.proofs.Accepting.{sound_of}
-use Rattle.fb_resource.proofs.Existence.{there_is}
+use Rattle.fb_laws.proofs.Existence.{there_is}
 use Rattle.fb_resource.specs.declared.resource.Inner.{Inner}
 use Rattle.fb_window.specs.Bounding.{AreGreatest}
-use Rattle.fb_window.specs.Finality.{HasHanded, HasKept, core_of}
-use Rattle.fb_window.specs.Law.{lines_to}
+use Rattle.fb_laws.specs.Finality.{HasHanded, HasKept, core_of}
+use Rattle.fb_laws.specs.ScheduleLaw.{lines_to}
 use Rattle.fb_window.specs.Standing.{IsAt}
 use Rattle.fb_window.specs.Settling.{Settles, after_phase, lists_of}
 use Rattle.fb_window.specs.declared.cores.Core.{Core}
 use Rattle.fb_window.specs.declared.cores.Settled.{Settled}
 use Rattle.fb_window.specs.declared.cores.Settled.TheVariants as settled
-use Rattle.fb_window.proofs.Phasing.{phase_of, is_phase}
-use Rattle.fb_window.proofs.TellsAll.{end_told, stop_told}
+use Rattle.fb_laws.proofs.Phasing.{phase_of, is_phase}
+use Rattle.fb_laws.proofs.TellsAll.{end_told, stop_told}
 use Rattle.fb_sim.specs.Rounds.{Begin, AreAll, HasCome, IsHomeAgain}
 use Rattle.fb_sim.proofs.Fronts.{left_begins, all_left, all_stopped}
 use Rattle.fb_sim.proofs.Rising.{rises}

@@ -12,7 +12,7 @@ use Rattle.fb_types.specs.Text.{last_line, trace_text}
 use Rattle.fb_types.specs.declared.run.StopMark.{StopMark}
 use Rattle.fb_laws.specs.Sound.{AreGood}
 use Rattle.fb_trace.specs.Progress.{IsPartWritten, bounded}
-use Rattle.fb_window.specs.Finality.{core_of}
+use Rattle.fb_laws.specs.Finality.{core_of}
 use Rattle.fb_window.specs.Settling.{IsUnderWay, lists_of}
 use Rattle.fb_window.specs.declared.cores.Core.{Core}
 use Rattle.fb_sim.specs.Given.{Given}

@@ -11,9 +11,9 @@ use Rattle.fb_types.specs.Merges.{lines_before}
 use Rattle.fb_types.specs.Parts.{machine, count_of}
 use Rattle.fb_types.specs.Schedules.{IsSchedule, IsAtHorizon}
 use Rattle.fb_types.proofs.EachLaws.{each_map}
-use Rattle.fb_resource.proofs.Lines.{filter_nothing, merge_same}
+use Rattle.fb_laws.proofs.Lines.{filter_nothing, merge_same}
 use Rattle.fb_laws.specs.Sound.{AreGood}
-use Rattle.fb_window.specs.Finality.{Edge, until, lines_from, IsFinalIn, core_of}
+use Rattle.fb_laws.specs.Finality.{Edge, until, lines_from, IsFinalIn, core_of}
 use Rattle.fb_window.specs.Settling.{lists_of}
 use Rattle.fb_window.specs.declared.cores.Core as cores
 use Rattle.fb_sim.specs.Rounds.{AreAll, HasCome, IsFinished}

@@ -9,7 +9,7 @@ use Rattle.fb_types.specs.declared.key.Key.{Key}
 use Rattle.fb_types.specs.declared.value.Reason.{Reason}
 use Rattle.fb_types.proofs.Lookups.{key_cases, none_some, option_cases}
 use Rattle.fb_types.proofs.SimulationLaws.{takes-one}
-use Rattle.fb_resource.proofs.Bridge.{all_each}
+use Rattle.fb_laws.proofs.Bridge.{all_each}
 
 -- ---- A later tick
 

@@ -20,7 +20,7 @@ use Rattle.fb_resource.specs.declared.resource.Inner.{Inner}
 use Rattle.fb_resource.specs.declared.resource.WindowDone.{WindowDone}
 use Rattle.fb_trace.specs.Progress.{IsPartWritten, bounded}
 use Rattle.fb_window.specs.Bounding.{AreGreatest}
-use Rattle.fb_window.specs.Finality.{core_of}
+use Rattle.fb_laws.specs.Finality.{core_of}
 use Rattle.fb_window.specs.Jobs.{AreOf, Does, JobModel, MayLeave, jobs_of}
 use Rattle.fb_window.specs.Reaching.{OfEachCore}
 use Rattle.fb_window.specs.Settling.{AreLegal, HasLeft, Settles, lists_of}

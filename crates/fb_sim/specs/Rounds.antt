@@ -15,7 +15,7 @@ use Rattle.fb_types.specs.declared.run.Line as run
 use Rattle.fb_types.specs.declared.value.Reason.{Reason}
 use Rattle.fb_system.specs.Lines.{BelongsTo}
 use Rattle.fb_trace.specs.Progress.{IsPartWritten, bounded}
-use Rattle.fb_window.specs.Finality.{HasKept, core_of}
+use Rattle.fb_laws.specs.Finality.{HasKept, core_of}
 use Rattle.fb_window.specs.Settling.{IsUnderWay, lists_of}
 use Rattle.fb_window.specs.Standing.{IsAt}
 use Rattle.fb_window.specs.declared.cores.Core.{Core}

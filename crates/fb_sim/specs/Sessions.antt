@@ -10,7 +10,7 @@ use Rattle.fb_types.specs.contracts.run.Form as form
 use Rattle.fb_types.specs.declared.run.Form.{Form}
 use Rattle.fb_types.specs.declared.run.StopMark.{StopMark}
 use Rattle.fb_system.specs.contracts.system.System as system
-use Rattle.fb_window.specs.Finality.{core_of}
+use Rattle.fb_laws.specs.Finality.{core_of}
 use Rattle.fb_window.specs.declared.cores.Core.{Core}
 use Rattle.fb_sim.specs.Rounds.{HasCome, AreAll}
 use Rattle.fb_sim.specs.contracts.state.Phase as phase_row

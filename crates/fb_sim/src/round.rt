@@ -10,7 +10,7 @@ ghost use Rattle.fb_types.specs.States as model;
 ghost use Rattle.fb_types.specs.Text.{lines_text};
 ghost use Rattle.fb_system.specs.Lines.{BelongsTo};
 ghost use Rattle.fb_trace.specs.Progress.{bounded};
-ghost use Rattle.fb_window.specs.Finality.{core_of};
+ghost use Rattle.fb_laws.specs.Finality.{core_of};
 ghost use Rattle.fb_window.specs.Jobs.{Does};
 ghost use Rattle.fb_sim.specs.Serial.{AreWithin};
 ghost use Rattle.fb_sim.specs.Rounds as spec;

@@ -15,24 +15,24 @@ use Rattle.fb_laws.specs.Sound.{AreGood, IsSound}
 use Rattle.fb_laws.proofs.Accepting.{sound_of}
 use Rattle.fb_net.specs.Events.{event_of}
 use Rattle.fb_resource.specs.declared.resource.Inner.{Inner}
-use Rattle.fb_resource.proofs.OwnPart.{lawful}
-use Rattle.fb_resource.proofs.Bridge.{world_of}
-use Rattle.fb_resource.proofs.Opening.{is_opening}
-use Rattle.fb_resource.specs.Worlds.{World}
+use Rattle.fb_laws.proofs.OwnPart.{lawful}
+use Rattle.fb_laws.proofs.Bridge.{world_of}
+use Rattle.fb_laws.proofs.Opening.{is_opening}
+use Rattle.fb_laws.specs.Worlds.{World}
 use Rattle.fb_window.specs.Bounding.{AreGreatest}
-use Rattle.fb_window.specs.Finality.{core_of, IsLeastTick}
+use Rattle.fb_laws.specs.Finality.{core_of, IsLeastTick}
 use Rattle.fb_window.specs.Standing.{IsAt}
 use Rattle.fb_window.specs.Jobs.{MayLeave}
-use Rattle.fb_window.specs.Phases.{Turn, IsPhase}
+use Rattle.fb_laws.specs.Phases.{Turn, IsPhase}
 use Rattle.fb_window.specs.Settling.{AreLegal, AreTurns, HasRisen, after_phase}
-use Rattle.fb_window.proofs.AtHome.{clock_legal, clock_in_range}
+use Rattle.fb_laws.proofs.AtHome.{clock_legal, clock_in_range}
 use Rattle.fb_types.proofs.ByPlace.{element_at}
 use Rattle.fb_window.proofs.Bounding.{IsCoreOf, AreComputed, greatest, least_floor, least_most}
 use Rattle.fb_window.proofs.Passes.{clock_of, stop_of, Rests, IsLeastOf, least_cut}
-use Rattle.fb_window.proofs.Keeps.{Inv}
-use Rattle.fb_window.proofs.Phasing.{IsRound, is_round}
-use Rattle.fb_window.proofs.Rising.{rises}
-use Rattle.fb_window.proofs.Reached.{inv_after, runs_after}
+use Rattle.fb_laws.proofs.Keeps.{Inv}
+use Rattle.fb_laws.proofs.Phasing.{IsRound, is_round}
+use Rattle.fb_laws.proofs.FloorsRise.{rises}
+use Rattle.fb_laws.proofs.Reached.{inv_after, runs_after}
 
 module _ (i : Inputs) (limit : ℕ) (c : Core (machine (system_of i) limit)) (xs : List Inner) (at : IsAt i limit c xs) where
   pub core_is : IsCoreOf clock_of stop_of Rests (system_of i) limit c xs

@@ -15,13 +15,13 @@ use Rattle.fb_types.specs.declared.run.Message.{Message}
 use Rattle.fb_types.proofs.Lookups.{none_since, or_else_nones, or_else_parts, same_cases}
 use Rattle.fb_take.specs.Posts.{IsMessage, arriving, receiver_of}
 use Rattle.fb_link.specs.Exchanges.{keyed}
-use Rattle.fb_resource.specs.Facts.{IsLawful}
-use Rattle.fb_resource.specs.Worlds.{World}
+use Rattle.fb_laws.specs.Facts.{IsLawful}
+use Rattle.fb_laws.specs.Worlds.{World}
 use Rattle.fb_resource.specs.Resources.{HasReceived, IsFor, IsOf, StandsFor, with_messages}
 use Rattle.fb_resource.specs.declared.resource.Inner.{Inner}
 use Rattle.fb_window.specs.Standing.{IsQuiet, Sits}
-use Rattle.fb_window.proofs.AtHome.{arrives_at_clock, outbox_sends}
-use Rattle.fb_window.proofs.Keeps.{Inv}
+use Rattle.fb_laws.proofs.AtHome.{arrives_at_clock, outbox_sends}
+use Rattle.fb_laws.proofs.Keeps.{Inv}
 
 -- ---- Lists
 

@@ -14,12 +14,12 @@ use Rattle.fb_types.specs.declared.run.Line.{Line}
 use Rattle.fb_types.proofs.EachLaws.{each_map}
 use Rattle.fb_trace.specs.Merging.{AreMerged, AreRising, IsRising, Rises, resource_of, tick_of}
 use Rattle.fb_trace.proofs.Merged.{is_merge}
-use Rattle.fb_window.specs.Finality.{Edge, until, lines_from, TicksRise, IsEdge, IsLeastTick, HaveLeft, HasHanded, HasKept, NoneIsFinal, lines_in}
+use Rattle.fb_laws.specs.Finality.{Edge, until, lines_from, TicksRise, IsEdge, IsLeastTick, HaveLeft, HasHanded, HasKept, NoneIsFinal, lines_in}
 use Rattle.fb_window.specs.Frontiers.{AreCut}
 use Rattle.fb_window.specs.Settling.{lists_of}
-use Rattle.fb_window.proofs.Edges.{IsLater, each_filter, whole, handed_merge, handed_more, none_final}
-use Rattle.fb_window.proofs.Handing.{AreLinesOf}
-use Rattle.fb_window.proofs.Places.{has_at, is_at, one_at, index_at}
+use Rattle.fb_laws.proofs.Edges.{IsLater, each_filter, whole, handed_merge, handed_more, none_final}
+use Rattle.fb_laws.proofs.Handing.{AreLinesOf}
+use Rattle.fb_laws.proofs.Places.{has_at, is_at, one_at, index_at}
 
 -- ---- Lists
 

@@ -16,7 +16,7 @@ use Rattle.fb_resource.specs.declared.resource.WindowDone.TheVariants.{Ran}
 use Rattle.fb_window.specs.Jobs.{Does, JobModel, job_of, jobs_of, resting_of}
 use Rattle.fb_window.specs.Homes.{HasCome, IsHomeAt, IsHomeTo, AreHome}
 use Rattle.fb_window.specs.declared.home.Home.{Home}
-use Rattle.fb_window.proofs.Places.{push_here, push_before, push_counted, drop_at, drop_none}
+use Rattle.fb_laws.proofs.Places.{push_here, push_before, push_counted, drop_at, drop_none}
 
 -- what rested had stopped, and what had not stopped left
 pub resting_some : (x y : Inner) → resting_of x ≡ Some y → (reason : Reason) × (x.stopped ≡ Some reason) × (y ≡ x)

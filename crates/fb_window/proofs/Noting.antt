@@ -12,7 +12,7 @@ use Rattle.fb_link.specs.Exchanges.{receiver_of}
 use Rattle.fb_resource.specs.declared.resource.Inner.{Inner}
 use Rattle.fb_window.specs.Mails.{AreGiven}
 use Rattle.fb_window.specs.Noting.{AreNoted, IsHanded, IsNoted}
-use Rattle.fb_window.proofs.Places.{has_at, is_at, one_at, push_before, push_counted, push_here}
+use Rattle.fb_laws.proofs.Places.{has_at, is_at, one_at, push_before, push_counted, push_here}
 use Rattle.fb_window.proofs.Receives.{given_more, given_none}
 
 -- ---- Of so many resources

@@ -12,13 +12,13 @@ use Rattle.fb_types.specs.Simulation.{opening}
 use Rattle.fb_types.specs.declared.run.Line.{Line}
 use Rattle.fb_laws.specs.Sound.{AreGood}
 use Rattle.fb_laws.proofs.Accepting.{sound_of}
-use Rattle.fb_resource.proofs.Opening.{is_counted}
+use Rattle.fb_laws.proofs.Opening.{is_counted}
 use Rattle.fb_resource.specs.Resources.{AreOpened}
 use Rattle.fb_resource.specs.declared.resource.Inner.{Inner}
-use Rattle.fb_window.specs.Finality.{Edge, until, HasHanded, core_of, lines_in}
+use Rattle.fb_laws.specs.Finality.{Edge, until, HasHanded, core_of, lines_in}
 use Rattle.fb_window.specs.Settling.{lists_of}
 use Rattle.fb_window.specs.Standing.{IsAt}
-use Rattle.fb_window.proofs.Edges.{until_cases}
+use Rattle.fb_laws.proofs.Edges.{until_cases}
 
 nothing_waits : {A : Type 0} (b : Bool) (a : Option A) → a ≡ None → or_else (if b then None else a) (if b then a else None) ≡ None
 nothing_waits true a e = e

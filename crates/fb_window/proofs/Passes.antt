@@ -11,7 +11,7 @@ use Rattle.fb_types.specs.Parts.{count_of}
 use Rattle.fb_laws.specs.Sound.{AreGood}
 use Rattle.fb_agenda.specs.Agendas.{IsNext, waiting}
 use Rattle.fb_types.specs.declared.run.Event.{Event}
-use Rattle.fb_window.specs.Cuts.{IsCut}
+use Rattle.fb_laws.specs.Cuts.{IsCut}
 use Rattle.fb_window.proofs.Bounding.{EventsAllow, events_cut}
 use Rattle.fb_resource.specs.declared.resource.Inner.{Inner}
 

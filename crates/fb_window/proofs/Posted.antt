@@ -16,21 +16,21 @@ use Rattle.fb_types.specs.declared.run.Line.{Line}
 use Rattle.fb_types.specs.declared.run.Message.{Message}
 use Rattle.fb_take.specs.Posts.{IsMessage, arriving, receiver_of}
 use Rattle.fb_link.specs.Exchanges.{AreFor, all_of, goes_to}
-use Rattle.fb_resource.specs.Facts.{IsLawful}
-use Rattle.fb_resource.specs.Worlds.{World}
+use Rattle.fb_laws.specs.Facts.{IsLawful}
+use Rattle.fb_laws.specs.Worlds.{World}
 use Rattle.fb_resource.specs.Resources.{IsFor}
 use Rattle.fb_resource.specs.declared.resource.Inner.{Inner}
 use Rattle.fb_window.specs.Mails.{ArePosted}
-use Rattle.fb_window.specs.Phases.{turned}
+use Rattle.fb_laws.specs.Phases.{turned}
 use Rattle.fb_window.specs.Standing.{IsAt, IsQuiet, Sits}
 use Rattle.fb_window.specs.declared.home.Home.{Home}
-use Rattle.fb_window.proofs.AtHome.{outbox_sends}
-use Rattle.fb_window.proofs.Boxes.{found_in, found_some, found_with_sender}
+use Rattle.fb_laws.proofs.AtHome.{outbox_sends}
+use Rattle.fb_laws.proofs.Boxes.{found_in, found_some, found_with_sender}
 use Rattle.fb_types.proofs.ByPlace.{all_at}
 use Rattle.fb_window.proofs.Delivers.{IsBackAs, all_by_place, all_filter, all_flat, fits, found_keyed, map_at, map_flat, sits_received, sits_still, still_quiet}
-use Rattle.fb_window.proofs.Keeps.{Inv}
-use Rattle.fb_window.proofs.Phasing.{all_turned}
-use Rattle.fb_window.proofs.Places.{is_at, one_at}
+use Rattle.fb_laws.proofs.Keeps.{Inv}
+use Rattle.fb_laws.proofs.Phasing.{all_turned}
+use Rattle.fb_laws.proofs.Places.{is_at, one_at}
 use Rattle.fb_window.proofs.Turns.{AreBack}
 
 -- ---- The exchange

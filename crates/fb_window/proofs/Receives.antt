@@ -21,7 +21,7 @@ use Rattle.fb_resource.specs.Resources.{HasReceived, IsFor, StandsFor, with_mess
 use Rattle.fb_resource.specs.declared.resource.Inner.{Inner}
 use Rattle.fb_window.specs.Mails.{AreGiven}
 use Rattle.fb_window.proofs.Delivers.{map_append}
-use Rattle.fb_window.proofs.Places.{has_at, is_at, one_at}
+use Rattle.fb_laws.proofs.Places.{has_at, is_at, one_at}
 
 -- ---- One resource
 

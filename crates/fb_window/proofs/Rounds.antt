@@ -24,20 +24,20 @@ use Rattle.fb_laws.specs.Sound.{AreGood, IsSound}
 use Rattle.fb_laws.proofs.Accepting.{sound_of}
 use Rattle.fb_link.specs.Exchanges.{all_of}
 use Rattle.fb_trace.specs.Merging.{AreMerged, AreRising}
-use Rattle.fb_resource.specs.Facts.{IsLawful}
-use Rattle.fb_resource.specs.Worlds.{World, IsCounted, IsOpening}
-use Rattle.fb_resource.proofs.Bridge.{world_of}
-use Rattle.fb_resource.proofs.Opening.{is_counted, is_opening}
-use Rattle.fb_resource.proofs.OwnPart.{lawful}
+use Rattle.fb_laws.specs.Facts.{IsLawful}
+use Rattle.fb_laws.specs.Worlds.{World, IsCounted, IsOpening}
+use Rattle.fb_laws.proofs.Bridge.{world_of}
+use Rattle.fb_laws.proofs.Opening.{is_counted, is_opening}
+use Rattle.fb_laws.proofs.OwnPart.{lawful}
 use Rattle.fb_resource.specs.declared.resource.Inner.{Inner}
 use Rattle.fb_resource.specs.declared.resource.WindowDone.{WindowDone}
-use Rattle.fb_window.specs.Finality.{Edge, until, HasHanded, HasKept, IsEdge, IsLeastTick, core_of}
+use Rattle.fb_laws.specs.Finality.{Edge, until, HasHanded, HasKept, IsEdge, IsLeastTick, core_of}
 use Rattle.fb_window.specs.Frontiers.{AreCut, IsEnd, IsFirstStop, IsFrontier, AreAllPast, AreAtHorizon}
 use Rattle.fb_window.specs.Homes.{AreHome}
 use Rattle.fb_window.specs.Jobs.{Does, jobs_of, resting_of}
-use Rattle.fb_window.specs.Law.{lines_to}
+use Rattle.fb_laws.specs.ScheduleLaw.{lines_to}
 use Rattle.fb_window.specs.Mails.{ArePosted}
-use Rattle.fb_window.specs.Phases.{Turn, IsPhase}
+use Rattle.fb_laws.specs.Phases.{Turn, IsPhase}
 use Rattle.fb_window.specs.Settling.{AreLegal, AreTurns, HasLeft, HasRisen, IsKept, IsSettled, Settles, lists_of}
 use Rattle.fb_window.specs.Standing.{IsAt}
 use Rattle.fb_window.specs.declared.cores.Away.{Away}
@@ -47,20 +47,20 @@ use Rattle.fb_window.specs.declared.cores.Settled.TheVariants.{Going, Ended, Sto
 use Rattle.fb_window.specs.declared.ends.End.{End}
 use Rattle.fb_window.specs.declared.ends.End.TheVariants.{Open, Horizon, Stop}
 use Rattle.fb_window.specs.declared.home.Home.{Home}
-use Rattle.fb_window.proofs.Edges.{IsLater}
+use Rattle.fb_laws.proofs.Edges.{IsLater}
 use Rattle.fb_window.proofs.Gather.{out_handed, out_merges}
-use Rattle.fb_window.proofs.Handed.{until_at_stop}
-use Rattle.fb_window.proofs.Handing.{AreLinesOf, core_lines, is_later}
-use Rattle.fb_window.proofs.Keeps.{Inv}
-use Rattle.fb_window.proofs.Phasing.{IsRound, all_turned, after_append, is_round}
-use Rattle.fb_window.proofs.Places.{has_at, is_at as is_at_place, one_at}
+use Rattle.fb_laws.proofs.Handed.{until_at_stop}
+use Rattle.fb_laws.proofs.Handing.{AreLinesOf, core_lines, is_later}
+use Rattle.fb_laws.proofs.Keeps.{Inv}
+use Rattle.fb_laws.proofs.Phasing.{IsRound, all_turned, after_append, is_round}
+use Rattle.fb_laws.proofs.Places.{has_at, is_at as is_at_place, one_at}
 use Rattle.fb_window.proofs.Posted.{is_posted}
-use Rattle.fb_window.proofs.Reached.{inv_after, runs_after}
-use Rattle.fb_window.proofs.Rising.{rises}
+use Rattle.fb_laws.proofs.Reached.{inv_after, runs_after}
+use Rattle.fb_laws.proofs.FloorsRise.{rises}
 use Rattle.fb_window.proofs.Standings.{at_horizon, all_past, first_stop, from_horizon, is_edge, is_least, least_stop, mark_at, stop_clock}
-use Rattle.fb_window.proofs.Start as start
+use Rattle.fb_laws.proofs.Start as start
 use Rattle.fb_window.proofs.Turns.{AreBack, are_back, back_turns}
-use Rattle.fb_resource.proofs.Lines.{merge_same}
+use Rattle.fb_laws.proofs.Lines.{merge_same}
 
 -- What is found when all have come home.
 pub record HasFound (i : Inputs) (horizon : ℕ) (h : Home) (zs : List Inner) (fronts rests : List (Vec Line)) (out : List Line) (end : End) : Type 0 where

@@ -28,37 +28,37 @@ use Rattle.fb_laws.proofs.Accepting.{sound_of}
 use Rattle.fb_take.specs.Posts.{IsMessage, arriving, receiver_of}
 use Rattle.fb_link.specs.Exchanges.{goes_to}
 use Rattle.fb_link.proofs.Lists.{set_each}
-use Rattle.fb_resource.specs.Facts.{IsLawful}
+use Rattle.fb_laws.specs.Facts.{IsLawful}
 use Rattle.fb_resource.specs.Resources.{HasRun, IsFor, IsOf, RanTo}
-use Rattle.fb_resource.specs.Worlds.{World, IsCounted, IsOpening}
-use Rattle.fb_resource.proofs.Bridge.{world_of}
-use Rattle.fb_resource.proofs.Opening.{is_counted, is_opening}
-use Rattle.fb_resource.proofs.OwnPart.{lawful}
+use Rattle.fb_laws.specs.Worlds.{World, IsCounted, IsOpening}
+use Rattle.fb_laws.proofs.Bridge.{world_of}
+use Rattle.fb_laws.proofs.Opening.{is_counted, is_opening}
+use Rattle.fb_laws.proofs.OwnPart.{lawful}
 use Rattle.fb_resource.specs.declared.resource.Inner.{Inner}
 use Rattle.fb_resource.specs.declared.resource.WindowDone.TheVariants.{Ran}
-use Rattle.fb_window.specs.Finality.{HasKept, core_of, lines_in}
+use Rattle.fb_laws.specs.Finality.{HasKept, core_of, lines_in}
 use Rattle.fb_window.specs.Mails.{AreGiven}
-use Rattle.fb_window.specs.Phases.{Turn, IsPhase, MayTurn, steps_of, turn_steps, turned}
+use Rattle.fb_laws.specs.Phases.{Turn, IsPhase, MayTurn, steps_of, turn_steps, turned}
 use Rattle.fb_window.specs.Settling.{lists_of}
 use Rattle.fb_window.specs.Standing.{IsAt, IsQuiet, Sits}
 use Rattle.fb_window.specs.Walking.{IsSingle, Leads, Single, single_steps}
 use Rattle.fb_window.specs.declared.cores.Core as held
-use Rattle.fb_window.proofs.AtHome.{outbox_sends}
-use Rattle.fb_window.proofs.Boxes.{found_some}
+use Rattle.fb_laws.proofs.AtHome.{outbox_sends}
+use Rattle.fb_laws.proofs.Boxes.{found_some}
 use Rattle.fb_types.proofs.ByPlace.{all_at}
 use Rattle.fb_window.proofs.Delivers.{IsBackAs, all_by_place, all_filter, fits, found_keyed, map_append, map_at, sits_received, still_quiet}
-use Rattle.fb_window.proofs.Edges.{IsLater, kept_more}
+use Rattle.fb_laws.proofs.Edges.{IsLater, kept_more}
 use Rattle.fb_window.proofs.Gather.{left_same, list_at, map_length}
-use Rattle.fb_window.proofs.Handing.{floor_stays, is_later}
+use Rattle.fb_laws.proofs.Handing.{floor_stays, is_later}
 use Rattle.fb_types.proofs.Options.{some_from_is_some}
-use Rattle.fb_window.proofs.Keeps.{Inv}
-use Rattle.fb_window.proofs.Phasing.{IsRound, all_turned, after_append, is_round, other_steps, own_steps}
-use Rattle.fb_window.proofs.Places.{has_at, is_at as is_at_place, one_at}
-use Rattle.fb_window.proofs.Reached.{inv_after, runs_after}
+use Rattle.fb_laws.proofs.Keeps.{Inv}
+use Rattle.fb_laws.proofs.Phasing.{IsRound, all_turned, after_append, is_round, other_steps, own_steps}
+use Rattle.fb_laws.proofs.Places.{has_at, is_at as is_at_place, one_at}
+use Rattle.fb_laws.proofs.Reached.{inv_after, runs_after}
 use Rattle.fb_window.proofs.Receives.{found_to, set_other, set_same}
 use Rattle.fb_window.proofs.Rounds.{schedule_rest}
 use Rattle.fb_window.proofs.Standings.{is_least}
-use Rattle.fb_window.proofs.Start as start
+use Rattle.fb_laws.proofs.Start as start
 
 -- what waits does not wait below the clock
 pub clock_before : (i : Inputs) (limit m : ℕ) (x : Inner) → IsOf i limit x → IsNext x.queues.agenda m → x.clock ≤ m

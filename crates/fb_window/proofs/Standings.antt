@@ -17,10 +17,10 @@ use Rattle.fb_agenda.specs.Agendas.{IsNext, waiting}
 use Rattle.fb_types.specs.declared.run.Event.{Event}
 use Rattle.fb_net.specs.Events.{event_of}
 use Rattle.fb_resource.specs.declared.resource.Inner.{Inner}
-use Rattle.fb_window.specs.Finality.{Edge, IsEdge, IsLeastTick}
+use Rattle.fb_laws.specs.Finality.{Edge, IsEdge, IsLeastTick}
 use Rattle.fb_window.specs.Frontiers.{AreAllPast, AreAtHorizon, IsFirstStop, IsFrontier, floor_at}
 use Rattle.fb_window.specs.Standing.{IsAt}
-use Rattle.fb_window.proofs.Places.{has_at, is_at}
+use Rattle.fb_laws.proofs.Places.{has_at, is_at}
 
 module _ (i : Inputs) (limit : ℕ) (c : Core (machine (system_of i) limit)) (xs : List Inner) (at : IsAt i limit c xs) where
   abbrev M : Machine

@@ -14,10 +14,10 @@ use Rattle.fb_resource.specs.declared.resource.Inner.{Inner}
 use Rattle.fb_trace.specs.Merging.{flat}
 use Rattle.fb_trace.proofs.Together.{kept}
 use Rattle.fb_window.specs.Frontiers.{AreCut}
-use Rattle.fb_window.specs.Finality.{Edge}
+use Rattle.fb_laws.specs.Finality.{Edge}
 use Rattle.fb_window.specs.Homes.{AreHome}
 use Rattle.fb_window.specs.declared.home.Home.{Home}
-use Rattle.fb_window.proofs.Places.{has_at, is_at, one_at}
+use Rattle.fb_laws.proofs.Places.{has_at, is_at, one_at}
 use Rattle.fb_types.proofs.ByPlace.{all_at}
 
 pub all_by_place : {X : Type 0} (P : X → Type 0) (xs : List X) → ((n : ℕ) (x : X) → slice_get xs n ≡ Some x → P x) → All P xs

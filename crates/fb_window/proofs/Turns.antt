@@ -17,7 +17,7 @@ use Rattle.fb_take.specs.Posts.{IsMessage, arriving}
 use Rattle.fb_resource.specs.Resources.{IsOf, StandsFor, RanTo}
 use Rattle.fb_resource.specs.declared.resource.Inner.{Inner}
 use Rattle.fb_window.specs.Homes.{HasCome, IsHomeAt, AreHome}
-use Rattle.fb_window.specs.Phases.{Turn, MayTurn, turned}
+use Rattle.fb_laws.specs.Phases.{Turn, MayTurn, turned}
 use Rattle.fb_window.specs.Settling.{AreLegal, AreTurns}
 use Rattle.fb_window.specs.Standing.{IsAt, Sits}
 use Rattle.fb_window.specs.declared.home.Home.{Home}

@@ -20,12 +20,12 @@ use Rattle.fb_laws.specs.Sound.{AreGood}
 use Rattle.fb_system.specs.Lines.{BelongsTo}
 use Rattle.fb_resource.specs.Resources.{IsOf, mark_of}
 use Rattle.fb_resource.specs.declared.resource.Inner.{Inner}
-use Rattle.fb_window.specs.Finality.{core_of}
+use Rattle.fb_laws.specs.Finality.{core_of}
 use Rattle.fb_window.specs.Frontiers.{AreLive}
 use Rattle.fb_window.specs.Standing.{IsAt}
 use Rattle.fb_window.specs.Walking.{HasTurned, IsWalked, Leads, Single, Walks, after_walk}
 use Rattle.fb_window.specs.declared.cores.Core.{Core}
-use Rattle.fb_window.proofs.Places.{has_at, is_at, one_at, push_counted}
+use Rattle.fb_laws.proofs.Places.{has_at, is_at, one_at, push_counted}
 use Rattle.fb_window.proofs.Receives.{set_same}
 use Rattle.fb_window.proofs.Single.{leads}
 use Rattle.fb_window.proofs.Standings.{is_least}

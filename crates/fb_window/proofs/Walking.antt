@@ -7,12 +7,12 @@ use Rattle.fb_types.specs.Cores.{CoreStep, IsFloor, opening_core}
 use Rattle.fb_types.specs.Machines.{Machine}
 use Rattle.fb_types.specs.Parts.{machine, count_of}
 use Rattle.fb_types.specs.Schedules.{IsSchedule, core_after}
-use Rattle.fb_window.specs.Finality.{HasKept, core_of}
+use Rattle.fb_laws.specs.Finality.{HasKept, core_of}
 use Rattle.fb_window.specs.Settling.{lists_of}
 use Rattle.fb_window.specs.Standing.{IsAt}
 use Rattle.fb_window.specs.Walking.{AreSingle, Leads, Single, after_walk, single_steps, walk_steps}
 use Rattle.fb_window.specs.declared.cores.Core.{Core}
-use Rattle.fb_window.proofs.Phasing.{after_append}
+use Rattle.fb_laws.proofs.Phasing.{after_append}
 
 module _ (M : Machine) where
   -- turns, and then others from where these lead

@@ -17,13 +17,13 @@ use Rattle.fb_types.proofs.EachLaws.{each_map}
 use Rattle.fb_types.proofs.Lookups.{none_some}
 use Rattle.fb_resource.specs.Resources.{HasReceived}
 use Rattle.fb_resource.specs.declared.resource.Inner.{Inner}
-use Rattle.fb_resource.proofs.Lines.{filter_all, filter_in, filter_nothing, filter_out}
+use Rattle.fb_laws.proofs.Lines.{filter_all, filter_in, filter_nothing, filter_out}
 use Rattle.fb_link.specs.Exchanges.{AreFor, all_of}
 use Rattle.fb_trace.specs.Merging.{Rises, tick_of}
 use Rattle.fb_window.specs.Mails.{AreDelivered, ArePosted}
-use Rattle.fb_window.specs.Finality.{Edge, until}
+use Rattle.fb_laws.specs.Finality.{Edge, until}
 use Rattle.fb_window.specs.Frontiers.{AreAllPast, AreCut, AreAtHorizon, AreLive, IsFirstStop, IsFrontierTo, IsSplit, floor_at}
-use Rattle.fb_window.proofs.Places.{is_at, one_at, push_before, push_counted, push_here}
+use Rattle.fb_laws.proofs.Places.{is_at, one_at, push_before, push_counted, push_here}
 
 -- ---- The frontier
 

@@ -7,7 +7,7 @@ use Rattle.fb_types.specs.declared.run.StopMark.{StopMark}
 use Rattle.fb_types.specs.declared.value.Reason.{Reason}
 use Rattle.fb_resource.specs.declared.resource.Inner.{Inner}
 use Rattle.fb_trace.specs.Merging.{Rises, tick_of}
-use Rattle.fb_window.specs.Finality.{Edge, until}
+use Rattle.fb_laws.specs.Finality.{Edge, until}
 use Rattle.fb_window.specs.declared.ends.End.{End}
 use Rattle.fb_window.specs.declared.ends.End.TheVariants.{Open, Horizon, Stop}
 use Rattle.fb_window.specs.declared.frontier.Frontier.{Frontier}

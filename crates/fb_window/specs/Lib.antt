@@ -1,8 +1,4 @@
-pub mod Law
-pub mod Phases
-pub mod Finality
 pub mod Bounding
-pub mod Cuts
 pub mod Reaching
 pub mod Standing
 pub mod Jobs

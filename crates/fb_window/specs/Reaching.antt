@@ -5,7 +5,7 @@ use Rattle.fb_types.specs.Parts.{machine}
 use Rattle.fb_types.specs.Cores.{Core, CoreStep, opening_core}
 use Rattle.fb_types.specs.Schedules.{IsSchedule}
 use Rattle.fb_resource.specs.declared.resource.Inner.{Inner}
-use Rattle.fb_window.specs.Finality.{core_of}
+use Rattle.fb_laws.specs.Finality.{core_of}
 use Rattle.fb_window.specs.Standing.{IsAt}
 
 -- Said of every core that a schedule has brought to these resources.

@@ -14,9 +14,9 @@ use Rattle.fb_types.specs.declared.run.Line.{Line}
 use Rattle.fb_types.specs.declared.value.Reason.{Reason}
 use Rattle.fb_system.specs.Lines.{BelongsTo}
 use Rattle.fb_resource.specs.declared.resource.Inner.{Inner}
-use Rattle.fb_window.specs.Law.{lines_to}
-use Rattle.fb_window.specs.Phases.{Turn, IsPhase, MayTurn}
-use Rattle.fb_window.specs.Finality.{HasHanded, HasKept, core_of}
+use Rattle.fb_laws.specs.ScheduleLaw.{lines_to}
+use Rattle.fb_laws.specs.Phases.{Turn, IsPhase, MayTurn}
+use Rattle.fb_laws.specs.Finality.{HasHanded, HasKept, core_of}
 use Rattle.fb_window.specs.Standing.{IsAt}
 use Rattle.fb_window.specs.Jobs.{jobs_of, resting_of}
 use Rattle.fb_window.specs.declared.cores.Away.{Away}

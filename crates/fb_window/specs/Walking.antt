@@ -15,7 +15,7 @@ use Rattle.fb_types.specs.declared.value.Reason.{Reason}
 use Rattle.fb_resource.specs.Resources.{HasRun}
 use Rattle.fb_resource.specs.declared.resource.Inner.{Inner}
 use Rattle.fb_resource.specs.declared.resource.WindowDone.TheVariants.{Ran}
-use Rattle.fb_window.specs.Finality.{HasKept, core_of}
+use Rattle.fb_laws.specs.Finality.{HasKept, core_of}
 use Rattle.fb_window.specs.Mails.{AreGiven}
 use Rattle.fb_window.specs.Settling.{lists_of}
 use Rattle.fb_window.specs.Standing.{IsAt}

@@ -8,7 +8,7 @@ ghost use Rattle.fb_types.specs.Headline.{system_of};
 ghost use Rattle.fb_types.specs.Parts.{count_of};
 ghost use Rattle.fb_types.specs.declared.key.Key.{Key};
 ghost use Rattle.fb_window.specs.Bounding.{AreGreatest};
-ghost use Rattle.fb_window.specs.Cuts.{IsCut, LinkAllows, StopAllows};
+ghost use Rattle.fb_laws.specs.Cuts.{IsCut, LinkAllows, StopAllows};
 ghost use Rattle.fb_window.specs.Jobs.{AreOf, MayLeave};
 ghost use Rattle.fb_window.specs.Reaching.{OfEachCore};
 ghost use Rattle.fb_window.specs.Settling.{AreLegal};

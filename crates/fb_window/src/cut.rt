@@ -1,7 +1,7 @@
 //! Lines, cut where they are final.
 
 ghost use Rattle.std.specs.Prelude.{◌≡◌, IfOk};
-ghost use Rattle.fb_window.specs.Finality.{until};
+ghost use Rattle.fb_laws.specs.Finality.{until};
 ghost use Rattle.fb_window.specs.Frontiers.{AreCut, IsSplit, edge_of};
 
 use crate::frontier::Frontier;

@@ -1,7 +1,7 @@
 //! Up to where lines are final.
 
 ghost use Rattle.std.specs.Prelude.{◌≡◌, nat_lt};
-ghost use Rattle.fb_window.specs.Finality.{until};
+ghost use Rattle.fb_laws.specs.Finality.{until};
 ghost use Rattle.fb_window.specs.Frontiers.{IsFrontier, edge_of};
 
 use crate::bounds::floor;

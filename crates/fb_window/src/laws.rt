@@ -1,7 +1,7 @@
 //! What every schedule of core steps comes to.
 
-ghost use Rattle.fb_window.specs.Phases.{HasPhases};
-ghost use Rattle.fb_window.specs.Law.{OfEachSchedule, HasStates, HasMessages, HasEnd, HasStop, HasFinalLines};
+ghost use Rattle.fb_laws.specs.Phases.{HasPhases};
+ghost use Rattle.fb_laws.specs.ScheduleLaw.{OfEachSchedule, HasStates, HasMessages, HasEnd, HasStop, HasFinalLines};
 
 /// Any schedule of the core's steps gives the simulation that always takes the least key.
 ///

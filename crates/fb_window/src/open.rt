@@ -2,7 +2,7 @@
 
 ghost use Rattle.std.specs.Prelude.{◌≡◌, ◌^◌, ◌≤◌, ℕ, [], length, All, IfOk};
 ghost use Rattle.fb_resource.specs.Resources.{AreOpened};
-ghost use Rattle.fb_window.specs.Finality.{HasHanded, core_of};
+ghost use Rattle.fb_laws.specs.Finality.{HasHanded, core_of};
 ghost use Rattle.fb_window.specs.Settling.{lists_of};
 ghost use Rattle.fb_window.specs.Standing.{IsAt};
 

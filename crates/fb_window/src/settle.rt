@@ -8,7 +8,7 @@ ghost use Rattle.fb_types.specs.Parts.{machine};
 ghost use Rattle.fb_types.specs.Schedules.{IsSchedule};
 ghost use Rattle.fb_system.specs.Lines.{BelongsTo};
 ghost use Rattle.fb_resource.specs.declared.resource.Inner.{Inner};
-ghost use Rattle.fb_window.specs.Finality.{core_of};
+ghost use Rattle.fb_laws.specs.Finality.{core_of};
 ghost use Rattle.fb_window.specs.Jobs.{Does};
 ghost use Rattle.fb_window.specs.Settling.{AreLegal, HasLeft, Settles, lists_of};
 ghost use Rattle.fb_window.specs.Standing.{IsAt};

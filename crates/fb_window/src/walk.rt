@@ -8,7 +8,7 @@ ghost use Rattle.fb_types.specs.Headline.{stimuli_of, system_of};
 ghost use Rattle.fb_types.specs.Parts.{count_of, machine};
 ghost use Rattle.fb_types.specs.Schedules.{IsSchedule};
 ghost use Rattle.fb_system.specs.Lines.{BelongsTo};
-ghost use Rattle.fb_window.specs.Finality.{core_of};
+ghost use Rattle.fb_laws.specs.Finality.{core_of};
 ghost use Rattle.fb_window.specs.Mails.{AreGiven};
 ghost use Rattle.fb_window.specs.Noting.{AreNoted, IsHanded};
 ghost use Rattle.fb_window.specs.Standing.{IsAt};

@@ -1,6 +1,6 @@
 use Rattle.fb_types.specs.Headline.{system_of, stimuli_of}
 use Rattle.fb_laws.proofs.Accepting.{sound_of}
-use Rattle.fb_resource.proofs.Told.{histories_told, one_run, lines_told, stops_told}
+use Rattle.fb_laws.proofs.Told.{histories_told, one_run, lines_told, stops_told}
 use Rattle.fb_resource.proofs.laws.histories.Goals as goal
 
 pub returns : goal.returns

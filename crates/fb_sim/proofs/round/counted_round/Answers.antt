@@ -1,6 +1,6 @@
 use Rattle.std.proofs.Common.{Ok, refl, subst, sym}
 use Rattle.fb_laws.specs.Sound.{AreGood}
-use Rattle.fb_window.specs.Finality.{core_of}
+use Rattle.fb_laws.specs.Finality.{core_of}
 use Rattle.fb_sim.specs.Rounds.{CountedRounds}
 use Rattle.fb_sim.specs.declared.progress.Round.{Round}
 use Rattle.fb_sim.specs.declared.tally.Tally.{Tally}

@@ -1,4 +1,4 @@
-use Rattle.fb_window.specs.Finality.{core_of}
+use Rattle.fb_laws.specs.Finality.{core_of}
 use Rattle.fb_sim.proofs.WindowIs.{passed, uncounted}
 use Rattle.fb_sim.proofs.round.round.Goals as goal
 

@@ -7,7 +7,7 @@ use Rattle.fb_types.specs.Systems.{System}
 use Rattle.fb_laws.specs.Sound.{AreGood, IsSound}
 use Rattle.fb_laws.proofs.Accepting.{sound_of}
 use Rattle.fb_link.specs.Arrivals.{IsEarliest}
-use Rattle.fb_window.specs.Cuts.{IsCut, LinkAllows}
+use Rattle.fb_laws.specs.Cuts.{IsCut, LinkAllows}
 use Rattle.fb_window.proofs.Bounding.{AreCut, cuts_first, cuts_here, cuts_past}
 use Rattle.fb_window.proofs.Passes.{clock_of, stop_of, Rests, few_resources}
 use Rattle.fb_window.proofs.bounds.arrivals.Goals as goal

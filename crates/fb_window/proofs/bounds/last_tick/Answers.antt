@@ -1,7 +1,7 @@
 use Rattle.std.proofs.Common.{◌≡◌, ◌+◌, Some, slice_get, refl, sym, subst, ap, ◌∙◌, arith}
 use Rattle.std.specs.Prelude.{is_some}
 use Rattle.std.proofs.lemmas.Option.{slice_get_read}
-use Rattle.fb_window.specs.Cuts.{IsCut, StopAllows}
+use Rattle.fb_laws.specs.Cuts.{IsCut, StopAllows}
 use Rattle.fb_window.proofs.Bounding.{stop_live, stop_taken}
 use Rattle.fb_types.proofs.Options.{some_from_is_some, none_from_is_some}
 use Rattle.fb_window.proofs.Passes.{clock_of, stop_of, Rests}

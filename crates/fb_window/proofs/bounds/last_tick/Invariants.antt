@@ -1,4 +1,4 @@
-use Rattle.fb_window.specs.Cuts.{IsCut, StopAllows}
+use Rattle.fb_laws.specs.Cuts.{IsCut, StopAllows}
 use Rattle.fb_window.proofs.Passes.{clock_of, stop_of}
 use Rattle.fb_window.proofs.bounds.last_tick.Given as goal
 

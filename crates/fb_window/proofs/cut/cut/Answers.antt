@@ -3,7 +3,7 @@ use Rattle.std.specs.Prelude.{nat_lt}
 use Rattle.std.specs.List.Sorted.{IsPartitionedBy, IsPartitionPoint}
 use Rattle.std.proofs.lemmas.List.Sorted.{IsPartitionPoint-from_clause}
 use Rattle.fb_types.specs.declared.run.Line.{Line}
-use Rattle.fb_window.specs.Finality.{until}
+use Rattle.fb_laws.specs.Finality.{until}
 use Rattle.fb_window.specs.Frontiers.{edge_of}
 use Rattle.fb_window.proofs.Walks.{parted, split_point, take_none, drop_none_off, take_whole, drop_whole}
 use Rattle.fb_window.proofs.cut.cut.Goals as goal

@@ -1,9 +1,9 @@
 use Rattle.std.proofs.Common.{◌≡◌, ◌++◌, ℕ, [], ◌∷◌, length, refl, sym, ap, ◌∙◌, subst, append_assoc, arith}
 use Rattle.std.specs.Vec.Iter.{into_iter_items}
-use Rattle.fb_window.specs.Finality.{until}
+use Rattle.fb_laws.specs.Finality.{until}
 use Rattle.fb_window.specs.Frontiers.{IsSplit, edge_of}
 use Rattle.fb_window.proofs.Leaves.{length_join}
-use Rattle.fb_window.proofs.Places.{middle_at, push_counted}
+use Rattle.fb_laws.proofs.Places.{middle_at, push_counted}
 use Rattle.fb_window.proofs.Walks.{AreCutTo, cut_every, cut_more}
 use Rattle.fb_window.proofs.cut.cut_all.Goals as goal
 

@@ -2,7 +2,7 @@ use Rattle.std.proofs.Common.{◌≡◌, Some, refl, sym, ◌∙◌, arith}
 use Rattle.std.specs.Prelude.{slice_get}
 use Rattle.std.proofs.lemmas.Option.{slice_get_read, slice_get_within}
 use Rattle.fb_resource.specs.declared.resource.Inner.{Inner}
-use Rattle.fb_window.proofs.Scans.{holds_more}
+use Rattle.fb_laws.proofs.Scans.{holds_more}
 use Rattle.fb_window.proofs.ends.are_at.Goals as goal
 
 pub returns-then-clock-tick-clause-no : goal.returns-then-clock-tick-clause-no

@@ -4,7 +4,7 @@ use Rattle.std.proofs.lemmas.Option.{slice_get_read, slice_get_within}
 use Rattle.fb_types.proofs.Lookups.{none_some}
 use Rattle.fb_resource.specs.declared.resource.Inner.{Inner}
 use Rattle.fb_types.proofs.Options.{none_from_is_some, some_from_is_some}
-use Rattle.fb_window.proofs.Scans.{holds_more}
+use Rattle.fb_laws.proofs.Scans.{holds_more}
 use Rattle.fb_window.proofs.ends.are_past.Goals as goal
 use Rattle.fb_window.proofs.ends.are_past.Goals.{else-is_none-via-then-is_none+else-clock-tick, else-is_none-via-else-is_none}
 

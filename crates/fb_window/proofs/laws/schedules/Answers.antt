@@ -1,6 +1,6 @@
 use Rattle.fb_types.specs.Headline.{system_of, stimuli_of}
 use Rattle.fb_laws.proofs.Accepting.{sound_of}
-use Rattle.fb_window.proofs.TellsAll.{states_told, messages_told, end_told, stop_told, final_told, phases_told}
+use Rattle.fb_laws.proofs.TellsAll.{states_told, messages_told, end_told, stop_told, final_told, phases_told}
 use Rattle.fb_window.proofs.laws.schedules.Goals as goal
 
 pub returns : goal.returns

@@ -5,7 +5,7 @@ use Rattle.fb_types.specs.Parts.{count_of}
 use Rattle.fb_laws.specs.Sound.{AreGood}
 use Rattle.fb_types.specs.Systems.{System}
 use Rattle.fb_resource.specs.declared.resource.Inner.{Inner}
-use Rattle.fb_window.specs.Cuts.{IsCut, LinkAllows, StopAllows}
+use Rattle.fb_laws.specs.Cuts.{IsCut, LinkAllows, StopAllows}
 use Rattle.fb_window.proofs.Bounding.{AreComputed}
 use Rattle.fb_window.proofs.BoundsAre.{are_greatest, are_legal, may_leave}
 use Rattle.fb_window.proofs.Passes.{clock_of, stop_of, Rests, few_resources, IsLeastOf, least_of, least_cut, AreRaised, raised_more}

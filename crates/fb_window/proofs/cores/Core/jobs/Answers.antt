@@ -9,7 +9,7 @@ use Rattle.fb_resource.specs.Resources.{IsOf}
 use Rattle.fb_window.specs.Jobs.{job_of, jobs_of, resting_of}
 use Rattle.fb_window.proofs.Leaves.{jobs_push, jobs_few, length_join, map_push}
 use Rattle.fb_window.proofs.Passes.{few_resources}
-use Rattle.fb_window.proofs.Places.{middle_at}
+use Rattle.fb_laws.proofs.Places.{middle_at}
 use Rattle.fb_window.proofs.cores.Core.jobs.Goals as goal
 
 pub leave-requires-clause-of : goal.leave-requires-clause-of

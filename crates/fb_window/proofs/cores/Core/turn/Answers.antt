@@ -8,7 +8,7 @@ use Rattle.fb_resource.specs.declared.resource.WindowDone.TheVariants.{Ran}
 use Rattle.fb_resource.specs.declared.resource.Inner.{Inner}
 use Rattle.fb_window.specs.Mails.{AreGiven}
 use Rattle.fb_window.specs.Noting.{AreNoted}
-use Rattle.fb_window.proofs.Places.{one_at}
+use Rattle.fb_laws.proofs.Places.{one_at}
 use Rattle.fb_window.proofs.Receives.{set_same}
 use Rattle.fb_window.proofs.cores.Core.turn.Goals as goal
 use Rattle.fb_window.proofs.cores.Core.turn.Goals.{After-index}

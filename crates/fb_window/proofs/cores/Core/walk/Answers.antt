@@ -14,7 +14,7 @@ use Rattle.fb_window.specs.Noting.{AreNoted}
 use Rattle.fb_window.specs.Walking.{HasTurned}
 use Rattle.fb_window.specs.declared.cores.Core.{Core}
 use Rattle.fb_types.proofs.Options.{none_from_is_some, some_from_is_some}
-use Rattle.fb_window.proofs.Places.{is_at, one_at}
+use Rattle.fb_laws.proofs.Places.{is_at, one_at}
 use Rattle.fb_window.proofs.Single.{clock_before}
 use Rattle.fb_window.proofs.Walked.{HasGone, HasStepped, all_counted, by_count, by_horizon, by_stop, each_of, gone_none, stepped}
 use Rattle.fb_window.proofs.cores.Core.walk.Goals as goal
