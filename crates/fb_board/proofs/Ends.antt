@@ -3,8 +3,8 @@ use Rattle.std.proofs.Common.{◌≡◌, ◌≢◌, ℕ, ◌+◌, ◌<◌, List,
 use mathlib.Core.Option.{some}
 use lib.ListN.{get_elem?}
 use Rattle.atomic_table.specs.Table.{Final, Seen}
-use Rattle.fb_board.specs.declared.rule.Place.{Place}
-use Rattle.fb_board.specs.declared.rule.Place.TheVariants.{Home}
+use Rattle.fb_board.specs.declared.rule.SlotContent.{SlotContent}
+use Rattle.fb_board.specs.declared.rule.SlotContent.TheVariants.{Home}
 use Rattle.fb_board.specs.declared.rule.View.{View}
 use Rattle.fb_board.specs.Claims.{Knows, MeetsRule, flag}
 use Rattle.fb_board.specs.Moment.{Moment, IsLeastOut}
@@ -12,7 +12,7 @@ use Rattle.fb_board.proofs.Counts.{is_there}
 use Rattle.fb_board.proofs.Follows.{back_raised}
 use Rattle.std.proofs.lemmas.Option.{slice_get_within}
 
-module _ {J D : Type 0} (does : J → D → Type 0) (jobs : List J) (seat : ℕ) (v : View J) (words : List ℕ) (values : List (Place J D))
+module _ {J D : Type 0} (does : J → D → Type 0) (jobs : List J) (seat : ℕ) (v : View J) (words : List ℕ) (values : List (SlotContent J D))
     (last : Final (Seen (MeetsRule does jobs) seat v) words values) where
   flag_is : (k : ℕ) → flag last.0 k ≡ get_or words (k + 1) 0
   flag_is k = ap (λ ws. get_or ws (k + 1) 0) last.2

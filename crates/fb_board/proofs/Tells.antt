@@ -8,8 +8,8 @@ use lib.ListN.{get_elem?}
 use Rattle.atomic_table.specs.Table.{Me, Act, step, keeps, takes, gives, rest, stepped, carried_after, Valid, Allows, Splits}
 use Rattle.atomic_table.specs.Seated.{TableId}
 use Rattle.atomic_table.proofs.Lists.{set_here}
-use Rattle.fb_board.specs.declared.rule.Place.{Place}
-use Rattle.fb_board.specs.declared.rule.Place.TheVariants.{Waiting, Home}
+use Rattle.fb_board.specs.declared.rule.SlotContent.{SlotContent}
+use Rattle.fb_board.specs.declared.rule.SlotContent.TheVariants.{Waiting, Home}
 use Rattle.fb_board.specs.declared.rule.View.{View}
 use Rattle.fb_board.specs.View.{view_after_split, split_off_view, view_after_draw, view_after_dry_draw, view_after_put_back}
 use Rattle.fb_board.specs.Claims.{BoardState, Knows, MeetsRule, draw_count}
@@ -29,14 +29,14 @@ module _ {J D : Type 0} (does : J → D → Type 0) (jobs : List J) where
   sits s rule seat v w at same = subst (λ i. get_elem? (set s.views seat w) i ≡ some w) (sym (same ∙ rule.seats.numbered seat v at))
       (set_here s.views seat w (within s.views seat v at))
 
-  module _ (s : BoardState J D) (rule : MeetsRule does jobs s) (seat : ℕ) (me : Me (Place J D) (View J))
+  module _ (s : BoardState J D) (rule : MeetsRule does jobs s) (seat : ℕ) (me : Me (SlotContent J D) (View J))
       (at : Knows s seat me.0) (idle : me.0.slip ≡ None) (wet : me.0.dry ≡ false) where
-    abbrev AfterDraw : View J → Act (Place J D) → BoardState J D
+    abbrev AfterDraw : View J → Act (SlotContent J D) → BoardState J D
     AfterDraw w act = stepped s 0 ((draw_count s + 1) % 2 ^ 64) seat me.1 w act
 
     -- what the seat may do with the number that it finds, and what it is told
     abbrev Drawn : Type 0
-    Drawn = (w : View J) × (act : Act (Place J D)) × Valid s.homes me.1 act × MeetsRule does jobs (AfterDraw w act)
+    Drawn = (w : View J) × (act : Act (SlotContent J D)) × Valid s.homes me.1 act × MeetsRule does jobs (AfterDraw w act)
         × Draws does (step 0 0 0 0 none) me (draw_count s) (w, carried_after me.1 act)
 
     draws_none : length jobs ≤ draw_count s → Drawn
@@ -66,7 +66,7 @@ module _ {J D : Type 0} (does : J → D → Type 0) (jobs : List J) where
     draws_job room =
         let v : View J = me.0 in let k : ℕ = draw_count s in let w : View J = view_after_draw v k in let told = rule.seats.told seat v at in
         let count : length v.jobs ≡ length jobs = ap length told in let job = is_there jobs k room in
-        let act : Act (Place J D) = takes k (Waiting job.0) in
+        let act : Act (SlotContent J D) = takes k (Waiting job.0) in
         let kept : MeetsRule does jobs (AfterDraw w act) = draw_keeps s rule seat v at me.1 wet job.0 idle room in
         let here = sits s rule seat v w at refl in
         let alone_with : IsAlone does jobs w k = record {
@@ -92,21 +92,21 @@ module _ {J D : Type 0} (does : J → D → Type 0) (jobs : List J) where
         )
 
   -- the step of a draw
-  pub draws : (slots seat : ℕ) (me : Me (Place J D) (View J)) → me.0.slip ≡ None → me.0.dry ≡ false
+  pub draws : (slots seat : ℕ) (me : Me (SlotContent J D) (View J)) → me.0.slip ≡ None → me.0.dry ≡ false
       → Allows (MeetsRule does jobs) slots seat me 0 (λ n. (n + 1) % 2 ^ 64) (Draws does (step 0 0 0 0 none) me)
   draws slots seat me idle wet s rule _ at _ = dite (dec_le (length jobs) (draw_count s))
       (λ none_left. draws_none s rule seat me at idle wet none_left)
       (λ no. draws_job s rule seat me at idle wet (lt_of_not-le no))
 
-  done_or : D → Place J D → D
+  done_or : D → SlotContent J D → D
   done_or d (Home done) = done
   done_or d _ = d
 
-  done_in : D → List (ℕ × Place J D) → D
+  done_in : D → List (ℕ × SlotContent J D) → D
   done_in d [] = d
   done_in d (x ∷ xs) = done_or d x.1
 
-  one_done : (k k' : ℕ) (d d' : D) → ◌≡◌ {A = List (ℕ × Place J D)} ((k, Home d) ∷ []) ((k', Home d') ∷ []) → d ≡ d'
+  one_done : (k k' : ℕ) (d d' : D) → ◌≡◌ {A = List (ℕ × SlotContent J D)} ((k, Home d) ∷ []) ((k', Home d') ∷ []) → d ≡ d'
   unfolding done_in done_or
   one_done k k' d d' e = ap (done_in d) e
 
@@ -133,11 +133,11 @@ module _ {J D : Type 0} (does : J → D → Type 0) (jobs : List J) where
       )
 
   -- the step of putting back, where the seat's slot has the done value
-  puts_back : (slots seat : ℕ) (me : Me (Place J D) (View J)) (k : ℕ) (done : D) → me.1 ≡ (k, Home done) ∷ [] → me.0.slip ≡ Some k
+  puts_back : (slots seat : ℕ) (me : Me (SlotContent J D) (View J)) (k : ℕ) (done : D) → me.1 ≡ (k, Home done) ∷ [] → me.0.slip ≡ Some k
       → ((job : J) → slice_get jobs k ≡ Some job → does job done)
       → Allows (MeetsRule does jobs) slots seat me (k + 1) (λ _. 1) (λ _. PutsBack does (step 0 0 0 0 none) me 1)
   puts_back slots seat me k done has out right =
-      subst (λ (m : Me (Place J D) (View J)). Allows (MeetsRule does jobs) slots seat m (k + 1) (λ _. 1) (λ _. PutsBack does (step 0 0 0 0 none) m 1))
+      subst (λ (m : Me (SlotContent J D) (View J)). Allows (MeetsRule does jobs) slots seat m (k + 1) (λ _. 1) (λ _. PutsBack does (step 0 0 0 0 none) m 1))
       (λ i. (me.0, sym has i)) (puts_back_plain slots seat me.0 k done out right)
 
   -- the step that splits a seat off the opener
@@ -145,7 +145,7 @@ module _ {J D : Type 0} (does : J → D → Type 0) (jobs : List J) where
   splits seat v more s rule at = split_keeps s rule seat v at more
 
 -- Putting back is a plain write of the slot, from `before` to `written`, and then the step to `after`
-module _ {J D : Type 0} {does : J → D → Type 0} {dry : Bool} (before written : Me (Place J D) (View J)) (k : ℕ) (done : D)
+module _ {J D : Type 0} {does : J → D → Type 0} {dry : Bool} (before written : Me (SlotContent J D) (View J)) (k : ℕ) (done : D)
     (sound : IsSound does dry before) (out : before.0.slip ≡ Some k) (write : written ≡ (before.0, (k, Home done) ∷ rest before.1)) where
   same_view : written.0 ≡ before.0
   same_view = ap (λ m. m.0) write
@@ -154,14 +154,14 @@ module _ {J D : Type 0} {does : J → D → Type 0} {dry : Bool} (before written
   still_out = ap (λ v. v.slip) same_view ∙ out
 
   has_done : written.1 ≡ (k, Home done) ∷ []
-  has_done = ap (λ m. m.1) write ∙ ap (λ (l : List (ℕ × Place J D)). (k, Home done) ∷ rest l) (sound.slots ∙ ap (λ o. slots_with o) out)
+  has_done = ap (λ m. m.1) write ∙ ap (λ (l : List (ℕ × SlotContent J D)). (k, Home done) ∷ rest l) (sound.slots ∙ ap (λ o. slots_with o) out)
 
   -- the step may be taken
   pub may_put_back : (jobs : List J) (slots seat : ℕ) → ((job : J) → slice_get jobs k ≡ Some job → does job done)
       → Allows (MeetsRule does jobs) slots seat written (k + 1) (λ _. 1) (λ _. PutsBack does (step 0 0 0 0 none) written 1)
   may_put_back jobs slots seat right = puts_back does jobs slots seat written k done has_done still_out right
 
-  module _ (after : Me (Place J D) (View J)) (step_taken : PutsBack does (step 0 0 0 0 none) written 1 after) where
+  module _ (after : Me (SlotContent J D) (View J)) (step_taken : PutsBack does (step 0 0 0 0 none) written 1 after) where
     -- and what it tells the seat
     pub put_back_tells : PutsBackDone does before k done after
     put_back_tells = let told = step_taken k done still_out has_done in record {
@@ -172,7 +172,7 @@ module _ {J D : Type 0} {does : J → D → Type 0} {dry : Bool} (before written
 
     -- so the seat is sound again
     pub sound_after : IsSound does dry after
-    sound_after = let told = put_back_tells in subst (λ (m : Me (Place J D) (View J)). IsSound does dry m) (λ i. (sym told.view i, sym told.slots i)) record {
+    sound_after = let told = put_back_tells in subst (λ (m : Me (SlotContent J D) (View J)). IsSound does dry m) (λ i. (sym told.view i, sym told.slots i)) record {
       tells = sound.tells;
       slots = refl;
       within = λ j e. absurd cc;

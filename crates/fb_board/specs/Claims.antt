@@ -8,14 +8,14 @@ use Rattle.std.specs.Prelude.{◌≡◌, ℕ, ◌+◌, ◌<◌, ◌≤◌, min, 
 use mathlib.Core.Option.{some}
 use lib.ListN.{get_elem?}
 use Rattle.atomic_table.specs.Table.{State}
-use Rattle.fb_board.specs.declared.rule.Place.{Place}
-use Rattle.fb_board.specs.declared.rule.Place.TheVariants.{Waiting, Home}
+use Rattle.fb_board.specs.declared.rule.SlotContent.{SlotContent}
+use Rattle.fb_board.specs.declared.rule.SlotContent.TheVariants.{Waiting, Home}
 use Rattle.fb_board.specs.declared.rule.View.{View}
 use Rattle.fb_board.specs.declared.board.TheConstants.{MAX_JOBS, MAX_SEATS}
 use Rattle.fb_board.specs.View.{times_drawn, times_back, times_out, dryness}
 
 abbrev pub BoardState : Type 0 → Type 0 → Type 0
-BoardState J D = State (Place J D) (View J)
+BoardState J D = State (SlotContent J D) (View J)
 
 module _ {J D : Type 0} (s : BoardState J D) where
   -- how many draws there were, and how many of them found one of the jobs
@@ -34,7 +34,7 @@ module _ {J D : Type 0} (s : BoardState J D) where
   Knows seat v = get_elem? s.views seat ≡ some v
 
   -- the slot of k is at home, with this in it
-  abbrev pub SlotHas : ℕ → Place J D → Type 0
+  abbrev pub SlotHas : ℕ → SlotContent J D → Type 0
   SlotHas k place = get_elem? s.homes k ≡ some (some place)
 
 -- Seats are numbered as they come, and only seat 0, the opener, may have more split off.

@@ -1,7 +1,7 @@
 -- What the rule of a claim board means for each number.
 -- This project's own profile: no clause of IEC 61499 speaks of a claim board.
 use Rattle.std.specs.Prelude.{◌≡◌, ◌≢◌, ◌⊎◌, ℕ, List, slice_get, Some, Contains}
-use Rattle.fb_board.specs.declared.rule.Place.TheVariants.{Waiting, Home}
+use Rattle.fb_board.specs.declared.rule.SlotContent.TheVariants.{Waiting, Home}
 use Rattle.fb_board.specs.declared.rule.View.{View}
 use Rattle.fb_board.specs.View.{times_drawn}
 use Rattle.fb_board.specs.Claims.{BoardState, Knows, SlotHas, MeetsRule, flag}

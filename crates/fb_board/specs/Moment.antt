@@ -6,8 +6,8 @@
 -- from the seat's last step until its next one, since the rule is kept all along and no other seat changes that view.
 use Rattle.std.specs.Prelude.{◌≡◌, ◌≢◌, ℕ, ◌<◌, ◌≤◌, Bool, List, [], ◌∷◌, length, slice_get, Option, Some, None, Contains, IsTrue}
 use Rattle.atomic_table.specs.Table.{Me, Step}
-use Rattle.fb_board.specs.declared.rule.Place.{Place}
-use Rattle.fb_board.specs.declared.rule.Place.TheVariants.{Waiting, Out, Home}
+use Rattle.fb_board.specs.declared.rule.SlotContent.{SlotContent}
+use Rattle.fb_board.specs.declared.rule.SlotContent.TheVariants.{Waiting, Out, Home}
 use Rattle.fb_board.specs.declared.rule.View.{View}
 use Rattle.fb_board.specs.View.{view_after_draw, view_after_dry_draw, view_after_put_back}
 use Rattle.fb_board.specs.Claims.{BoardState, Knows, SlotHas, MeetsRule, flag}
@@ -45,13 +45,13 @@ module _ {J D : Type 0} (does : J → D → Type 0) (jobs : List J) where
 
 module _ {J D : Type 0} where
   -- the slots that a seat has: the one of its slip, whose job it took out
-  abbrev pub slots_with : Option ℕ → List (ℕ × Place J D)
+  abbrev pub slots_with : Option ℕ → List (ℕ × SlotContent J D)
   slots_with None = []
   slots_with (Some k) = (k, Out) ∷ []
 
 module _ {J D : Type 0} (does : J → D → Type 0) where
   -- a draw that found a number: the number is new, and its slot comes with its job
-  pub record DrawsJob (before : Me (Place J D) (View J)) (found : ℕ) (after : Me (Place J D) (View J)) : Type 0 where
+  pub record DrawsJob (before : Me (SlotContent J D) (View J)) (found : ℕ) (after : Me (SlotContent J D) (View J)) : Type 0 where
     pub view : after.0 ≡ view_after_draw before.0 found
     pub job : J
     pub there : slice_get before.0.jobs found ≡ Some job
@@ -61,29 +61,29 @@ module _ {J D : Type 0} (does : J → D → Type 0) where
     pub alone : IsAlone does before.0.jobs after.0 found
 
   -- a draw that found none
-  pub record DrawsNone (before : Me (Place J D) (View J)) (after : Me (Place J D) (View J)) : Type 0 where
+  pub record DrawsNone (before : Me (SlotContent J D) (View J)) (after : Me (SlotContent J D) (View J)) : Type 0 where
     pub view : after.0 ≡ view_after_dry_draw before.0
     pub slots : after.1 ≡ before.1
     pub all : IsAllDrawn does before.0.jobs after.0
 
   -- what a draw tells, by the number that it found in word 0
-  abbrev pub Draws : Step (Place J D) → Me (Place J D) (View J) → ℕ → Me (Place J D) (View J) → Type 0
+  abbrev pub Draws : Step (SlotContent J D) → Me (SlotContent J D) (View J) → ℕ → Me (SlotContent J D) (View J) → Type 0
   Draws _ before found after =
       (found < length before.0.jobs → DrawsJob before found after) × (length before.0.jobs ≤ found → DrawsNone before after)
 
   -- a seat that put the number k back, with this done value
-  pub record PutsBackDone (before : Me (Place J D) (View J)) (k : ℕ) (done : D) (after : Me (Place J D) (View J)) : Type 0 where
+  pub record PutsBackDone (before : Me (SlotContent J D) (View J)) (k : ℕ) (done : D) (after : Me (SlotContent J D) (View J)) : Type 0 where
     pub view : after.0 ≡ view_after_put_back before.0 k
     pub slots : after.1 ≡ []
     pub home : IsHome does before.0.jobs after.0 k done
 
   -- what putting back tells, by the done value that the seat wrote into its slot
-  abbrev pub PutsBack : Step (Place J D) → Me (Place J D) (View J) → ℕ → Me (Place J D) (View J) → Type 0
+  abbrev pub PutsBack : Step (SlotContent J D) → Me (SlotContent J D) (View J) → ℕ → Me (SlotContent J D) (View J) → Type 0
   PutsBack _ before _ after =
       (k : ℕ) (done : D) → before.0.slip ≡ Some k → before.1 ≡ (k, Home done) ∷ [] → PutsBackDone before k done after
 
 -- What holds of a seat between its steps: its flag `dry` tells whether it is dry, and it has the slot of its slip
-pub record IsSound {J D : Type 0} (does : J → D → Type 0) (dry : Bool) (me : Me (Place J D) (View J)) : Type 0 where
+pub record IsSound {J D : Type 0} (does : J → D → Type 0) (dry : Bool) (me : Me (SlotContent J D) (View J)) : Type 0 where
   pub tells : dry ≡ me.0.dry
   pub slots : me.1 ≡ slots_with me.0.slip
   pub within : (k : ℕ) → me.0.slip ≡ Some k → k < length me.0.jobs

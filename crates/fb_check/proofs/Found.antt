@@ -13,7 +13,7 @@ use Rattle.fb_types.specs.declared.library.Instance.{Instance}
 use Rattle.fb_types.specs.declared.library.Ports.{Ports}
 use Rattle.fb_types.proofs.Positions.{named-position}
 use Rattle.fb_check.specs.Directory.{IsFound, IsDirectory, ports_at, ports_at_place}
-use Rattle.fb_check.specs.declared.directory_making.Inputs.{Inputs}
+use Rattle.fb_check.specs.declared.directory_making.TypeInputs.{TypeInputs}
 use Rattle.fb_check.specs.declared.directory.Directory.{Directory}
 
 -- ---- Types
@@ -92,7 +92,7 @@ missing_instance lib i none =
     let P : Option Instance → Type 0 = λ o. IsFound (ports_of_found lib o) None in subst P (sym none) tt
 
 pub found_instance :
-    (lib : Library) (i : ℕ) (x : Instance) (o : Option Inputs) → slice_get lib.application.network.instances i ≡ Some x → IsFound (ports_named lib x.block_type) o
+    (lib : Library) (i : ℕ) (x : Instance) (o : Option TypeInputs) → slice_get lib.application.network.instances i ≡ Some x → IsFound (ports_named lib x.block_type) o
     → IsFound (ports_at_place lib i) o
 found_instance lib i x o there found =
     let P : Option Instance → Type 0 = λ p. IsFound (ports_of_found lib p) o in subst P (sym there) found

@@ -27,7 +27,7 @@ use Rattle.fb_names.specs.Places.{IsIndex, place_in}
 use Rattle.fb_check.specs.Directory.{first_of, input_in, input_of, lists, leads_to, ports_at, ports_at_place, is_settable, can_set, AreTaken, CanTake, IsInputs, IsFound, IsDirectory}
 use Rattle.fb_system.specs.declared.rows.StimulusRow.{StimulusRow}
 use Rattle.fb_check.specs.declared.directory_making.Input.{Input}
-use Rattle.fb_check.specs.declared.directory_making.Inputs.{Inputs}
+use Rattle.fb_check.specs.declared.directory_making.TypeInputs.{TypeInputs}
 use Rattle.fb_check.specs.declared.directory.Directory.{Directory}
 use Rattle.fb_types.proofs.Options.{none_from_is_some}
 use Rattle.fb_types.proofs.ListTests.{passes_from}
@@ -89,7 +89,7 @@ first_place {A} name xs n =
       | Some k ↦ λ e. ap (option_map (λ (x : A). k)) (position_is name n xs k e).1
     ] refl
 
-is_event-is : (p : Ports) (x : Inputs) (n : Name) → IsInputs p x → is_some (place_in x.events n) ≡ is_event_input p n
+is_event-is : (p : Ports) (x : TypeInputs) (n : Name) → IsInputs p x → is_some (place_in x.events n) ≡ is_event_input p n
 is_event-is p x n is =
     ap is_some (is.events.first n ∙ first_place (λ (e : EventPort). e.name) p.event_inputs n) ∙ is_some-position (same_name n) (event_names p.event_inputs)
 
@@ -101,7 +101,7 @@ value_held o v = elim o as (λ _. Bool) [ None ↦ false | Some w ↦ fits w.ty 
 abbrev input_held : Option Input → Setting → Bool
 input_held o v = elim o as (λ _. Bool) [ None ↦ false | Some i ↦ fits i.ty v.value ]
 
-held-is : (p : Ports) (x : Inputs) (v : Setting) → IsInputs p x → input_held (input_in x.variables v.variable) v ≡ is_held p v
+held-is : (p : Ports) (x : TypeInputs) (v : Setting) → IsInputs p x → input_held (input_in x.variables v.variable) v ≡ is_held p v
 held-is p x v is =
     let name : Variable → Name = λ w. w.name in
     ap (λ (o : Option Input). input_held o v) (is.variables.first v.variable)
@@ -112,7 +112,7 @@ held-is p x v is =
     ])
     ∙ sym (ap (λ (o : Option Variable). value_held o v) (named-position name v.variable p.inputs))
 
-settable-is : (lib : Library) (d : Directory) (p : Ports) (x : Inputs) (s : Stimulus) (v : Setting) → IsDirectory lib d → IsInputs p x → is_settable d x s v ≡ can_set lib p s v
+settable-is : (lib : Library) (d : Directory) (p : Ports) (x : TypeInputs) (s : Stimulus) (v : Setting) → IsDirectory lib d → IsInputs p x → is_settable d x s v ≡ can_set lib p s v
 settable-is lib d p x s v directory is =
     λ i. is.withs.has s.event v.variable i && (not (directory.targets.has s.instance v.variable i) && held-is p x v is i)
 
@@ -164,11 +164,11 @@ can_set_from lib k s v known of is =
 
 -- ---- A stimulus
 
-pub the_ports : (o : Option Ports) (x : Inputs) → IsFound o (Some x) → (p : Ports) × (o ≡ Some p) × IsInputs p x
+pub the_ports : (o : Option Ports) (x : TypeInputs) → IsFound o (Some x) → (p : Ports) × (o ≡ Some p) × IsInputs p x
 the_ports None x found = absurd found
 the_ports (Some p) x found = (p, refl, found)
 
-inputs_of_ports : (o : Option Ports) (x : Inputs) (p : Ports) → IsFound o (Some x) → o ≡ Some p → IsInputs p x
+inputs_of_ports : (o : Option Ports) (x : TypeInputs) (p : Ports) → IsFound o (Some x) → o ≡ Some p → IsInputs p x
 inputs_of_ports o x p found of = let P : Option Ports → Type 0 = λ o. IsFound o (Some x) in subst P of found
 
 -- the place that a table has for a name
@@ -177,10 +177,10 @@ pub placed_at :
 placed_at names m n b o index same is = sym (index.place n) ∙ ap (place_in m) (sym same) ∙ sym is
 
 -- what was found for the instance at the place of its name
-abbrev pub IsFoundAt : Library → Stimulus → (place : ℕ) → Option Inputs → Type 0
+abbrev pub IsFoundAt : Library → Stimulus → (place : ℕ) → Option TypeInputs → Type 0
 IsFoundAt lib s k o = (position (same_name s.instance) (instance_names lib.application.network) ≡ Some k) × IsFound (ports_at_place lib k) o
 
-pub found_at : (lib : Library) (s : Stimulus) (k : ℕ) (o : Option Inputs) → IsFoundAt lib s k o → IsFound (ports_at lib s.instance) o
+pub found_at : (lib : Library) (s : Stimulus) (k : ℕ) (o : Option TypeInputs) → IsFoundAt lib s k o → IsFound (ports_at lib s.instance) o
 found_at lib s k o h = let P : Option Ports → Type 0 = λ p. IsFound p o in subst P (sym (ports_placed lib s.instance k h.0)) h.1
 
 pub no_instance : (lib : Library) (s : Stimulus) → IsFound (ports_at lib s.instance) None → ¬ (CanTake lib s)
@@ -188,7 +188,7 @@ no_instance lib s found take =
     let P : Option Ports → Type 0 = λ o. IsFound o None in
     let f : ⊥ = subst P take.of_ports found in f
 
-pub no_event : (lib : Library) (s : Stimulus) (x : Inputs) → IsFound (ports_at lib s.instance) (Some x) → is_some (place_in x.events s.event) ≡ false → ¬ (CanTake lib s)
+pub no_event : (lib : Library) (s : Stimulus) (x : TypeInputs) → IsFound (ports_at lib s.instance) (Some x) → is_some (place_in x.events s.event) ≡ false → ¬ (CanTake lib s)
 no_event lib s x found absent take =
     let is = inputs_of_ports (ports_at lib s.instance) x take.ports found take.of_ports in
     absurd (true≢false (sym (is_event-is take.ports x s.event is ∙ take.is_event) ∙ absent))
@@ -201,7 +201,7 @@ all-is p q [] same = refl
 all-is p q (x ∷ xs) same = λ i. same x i && all-is p q xs same i
 
 pub can_take :
-    (lib : Library) (d : Directory) (x : Inputs) (s : Stimulus) → IsDirectory lib d → IsFound (ports_at lib s.instance) (Some x) → is_some (place_in x.events s.event) ≡ true
+    (lib : Library) (d : Directory) (x : TypeInputs) (s : Stimulus) → IsDirectory lib d → IsFound (ports_at lib s.instance) (Some x) → is_some (place_in x.events s.event) ≡ true
     → ¬ (Twice (set_names s)) → Decides (list_all (is_settable d x s) s.settings) (CanTake lib s)
 can_take lib d x s directory found event distinct = (
   λ all.

@@ -30,7 +30,7 @@ use Rattle.fb_system.specs.declared.rows.StimulusRow.{StimulusRow}
 use Rattle.fb_system.specs.Rows.{IsSet, AreSets, IsRow, AreRows, AreRowsUpTo}
 use Rattle.fb_check.specs.Directory.{CanTake, IsDirectory, IsInputs, IsTaken, has_pair, held_slot, holds, input_in, input_of, is_settable, ports_at, slot_of}
 use Rattle.fb_check.specs.declared.directory_making.Input.{Input}
-use Rattle.fb_check.specs.declared.directory_making.Inputs.{Inputs}
+use Rattle.fb_check.specs.declared.directory_making.TypeInputs.{TypeInputs}
 use Rattle.fb_check.specs.declared.directory.Directory.{Directory}
 use Rattle.fb_check.proofs.Good.{IsFoundAt, all-is, can_take, first_place, found_at, kind_of_ports, the_ports}
 
@@ -43,7 +43,7 @@ held_some (Some i) v =
     elim (fits i.ty v) as (λ b. is_some (if b then Some it else None) ≡ b) [ true ↦ refl | false ↦ refl ]
 
 -- there is a slot exactly for a setting that can be made
-slot_some : (d : Directory) (x : Inputs) (s : Stimulus) (v : Setting) → is_some (slot_of d x s v) ≡ is_settable d x s v
+slot_some : (d : Directory) (x : TypeInputs) (s : Stimulus) (v : Setting) → is_some (slot_of d x s v) ≡ is_settable d x s v
 slot_some d x s v =
     let held : Option SlotValue = held_slot (input_in x.variables v.variable) v.value in
     let can : Bool = holds x v.variable v.value in
@@ -57,7 +57,7 @@ slot_some d x s v =
     ]
 
 pub slots_some :
-    (d : Directory) (x : Inputs) (s : Stimulus) → is_some (each_or_none (slot_of d x s) s.settings) ≡ list_all (is_settable d x s) s.settings
+    (d : Directory) (x : TypeInputs) (s : Stimulus) → is_some (each_or_none (slot_of d x s) s.settings) ≡ list_all (is_settable d x s) s.settings
 slots_some d x s =
     is_some-each (slot_of d x s) s.settings ∙ all-is (λ v. is_some (slot_of d x s v)) (is_settable d x s) s.settings (slot_some d x s)
 
@@ -73,7 +73,7 @@ set_is p s k n h e =
       within = subst (λ (j : ℕ). j < length p.inputs) (sym e) (slice_get_within p.inputs k at.0 at.1);
     }
 
-held_set : (p : Ports) (x : Inputs) (v : Setting) (y : SlotValue) → IsInputs p x → held_slot (input_in x.variables v.variable) v.value ≡ Some y → IsSet p.inputs v y
+held_set : (p : Ports) (x : TypeInputs) (v : Setting) (y : SlotValue) → IsInputs p x → held_slot (input_in x.variables v.variable) v.value ≡ Some y → IsSet p.inputs v y
 held_set p x v y is h =
     let name : Variable → Name = λ w. w.name in
     let place : Option ℕ = position (same_name v.variable) (variable_names p.inputs) in
@@ -88,7 +88,7 @@ held_set p x v y is h =
           ]) (sym (ap (λ (o : Option Variable). held_slot (option_map (input_of k) o) v.value) at.1) ∙ g)
     ] refl (sym (ap (λ (o : Option Input). held_slot o v.value) (is.variables.first v.variable)) ∙ h)
 
-slot_set : (p : Ports) (d : Directory) (x : Inputs) (s : Stimulus) (v : Setting) (y : SlotValue) → IsInputs p x → slot_of d x s v ≡ Some y → IsSet p.inputs v y
+slot_set : (p : Ports) (d : Directory) (x : TypeInputs) (s : Stimulus) (v : Setting) (y : SlotValue) → IsInputs p x → slot_of d x s v ≡ Some y → IsSet p.inputs v y
 slot_set p d x s v y is h =
     elim (has_pair x.withs s.event v.variable && not (has_pair d.targets s.instance v.variable)) as
     (λ b. (if b then held_slot (input_in x.variables v.variable) v.value else None) ≡ Some y → IsSet p.inputs v y) [
@@ -97,7 +97,7 @@ slot_set p d x s v y is h =
     ] h
 
 slots_set :
-    (p : Ports) (d : Directory) (x : Inputs) (s : Stimulus) (vs : List Setting) (ys : List SlotValue) → IsInputs p x → each_or_none (slot_of d x s) vs ≡ Some ys
+    (p : Ports) (d : Directory) (x : TypeInputs) (s : Stimulus) (vs : List Setting) (ys : List SlotValue) → IsInputs p x → each_or_none (slot_of d x s) vs ≡ Some ys
     → AreSets p.inputs vs ys
 slots_set p d x s [] ys is h =
     let none : [] ≡ ys = cc in
@@ -123,7 +123,7 @@ event_at_place p n k j h e =
 
 -- what was made of a stimulus that can be taken
 pub taken_is :
-    (lib : Library) (d : Directory) (s : Stimulus) (x : Inputs) (row : StimulusRow) (k e : ℕ) → IsDirectory lib d → IsFoundAt lib s k (Some x)
+    (lib : Library) (d : Directory) (s : Stimulus) (x : TypeInputs) (row : StimulusRow) (k e : ℕ) → IsDirectory lib d → IsFoundAt lib s k (Some x)
     → place_in x.events s.event ≡ Some e → ¬ (Twice (set_names s)) → each_or_none (slot_of d x s) s.settings ≡ Some row.sets
     → row.tick ≡ s.tick → row.instance ≡ k → row.event ≡ e → IsTaken lib s row
 taken_is lib d s x row k e directory placed event distinct slots tick instance event_is =
@@ -158,7 +158,7 @@ taken_is lib d s x row k e directory placed event distinct slots tick instance e
 
 -- a stimulus of which a slot can't be set
 pub slots_none :
-    (lib : Library) (d : Directory) (s : Stimulus) (x : Inputs) (k e : ℕ) → IsDirectory lib d → IsFoundAt lib s k (Some x) → place_in x.events s.event ≡ Some e
+    (lib : Library) (d : Directory) (s : Stimulus) (x : TypeInputs) (k e : ℕ) → IsDirectory lib d → IsFoundAt lib s k (Some x) → place_in x.events s.event ≡ Some e
     → ¬ (Twice (set_names s)) → each_or_none (slot_of d x s) s.settings ≡ None → ¬ (CanTake lib s)
 slots_none lib d s x k e directory placed event distinct slots takes =
     let all = (can_take lib d x s directory (found_at lib s k (Some x) placed) (ap is_some event) distinct).1 takes in

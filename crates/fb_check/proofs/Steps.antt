@@ -23,7 +23,7 @@ use Rattle.fb_types.proofs.LoopSteps.{more_of_part}
 use Rattle.fb_types.proofs.Positions.{is_some-position, position-append_old, position-push_new, position_is}
 use Rattle.fb_types.proofs.NameLaws.{same_name-is, same_from_same_name, same_name-flip}
 use Rattle.fb_check.specs.Directory.{Pair, has_pair, first_of, read_in, lists, leads_to, AreFirst, IsExtended, AreWiths, AreTargets, IsInputs, IsFound, AreInputs}
-use Rattle.fb_check.specs.declared.directory_making.Inputs.{Inputs}
+use Rattle.fb_check.specs.declared.directory_making.TypeInputs.{TypeInputs}
 
 -- ---- Comparisons
 
@@ -255,7 +255,7 @@ targets_more ws i w component s t k h at some is_component is_port so_far update
 -- ---- One more type
 
 inputs_push :
-    (ps : List Ports) (xs : List Inputs) (p : Ports) (x : Inputs) → ((i : ℕ) → IsFound (slice_get ps i) (slice_get xs i)) → IsInputs p x
+    (ps : List Ports) (xs : List TypeInputs) (p : Ports) (x : TypeInputs) → ((i : ℕ) → IsFound (slice_get ps i) (slice_get xs i)) → IsInputs p x
     → (i : ℕ) → IsFound (slice_get (ps ++ p ∷ []) i) (slice_get (xs ++ x ∷ []) i)
 inputs_push [] [] p x each is zero = is
 inputs_push [] [] p x each is (suc i) = tt
@@ -264,22 +264,22 @@ inputs_push (q ∷ qs) [] p x each is i = absurd (each 0)
 inputs_push (q ∷ qs) (y ∷ ys) p x each is zero = each 0
 inputs_push (q ∷ qs) (y ∷ ys) p x each is (suc i) = inputs_push qs ys p x (λ j. each (suc j)) is i
 
-pub inputs_none : (xs : List Inputs) → xs ≡ [] → AreInputs [] xs
-inputs_none xs e = subst (λ (ys : List Inputs). AreInputs [] ys) (sym e) (record { each = λ i. tt })
+pub inputs_none : (xs : List TypeInputs) → xs ≡ [] → AreInputs [] xs
+inputs_none xs e = subst (λ (ys : List TypeInputs). AreInputs [] ys) (sym e) (record { each = λ i. tt })
 
 pub inputs_more :
-    {A : Type 0} (f : A → Ports) (ts : List A) (i : ℕ) (a : A) (p : Ports) (xs ys : List Inputs) (x : Inputs) → i < length ts → a ≡ get_or ts i a → p ≡ f a
+    {A : Type 0} (f : A → Ports) (ts : List A) (i : ℕ) (a : A) (p : Ports) (xs ys : List TypeInputs) (x : TypeInputs) → i < length ts → a ≡ get_or ts i a → p ≡ f a
     → AreInputs (map f (take i ts)) xs → IsInputs p x → ys ≡ xs ++ x ∷ [] → AreInputs (map f (take (i + 1) ts)) ys
 inputs_more f ts i a p xs ys x h at is so_far new grown =
-    let R : List Inputs → Type 0 = λ zs. AreInputs (map f (take i ts) ++ p ∷ []) zs in
+    let R : List TypeInputs → Type 0 = λ zs. AreInputs (map f (take i ts) ++ p ∷ []) zs in
     let P : List Ports → Type 0 = λ qs. AreInputs qs ys in
     more_of_part P f ts i a p h at is (subst R (sym grown) (record { each = inputs_push (map f (take i ts)) xs p x so_far.each new }))
 
 pub interfaces_more :
-    (ps : List Ports) (i : ℕ) (p : Ports) (xs ys : List Inputs) (x : Inputs) → i < length ps → p ≡ get_or ps i p
+    (ps : List Ports) (i : ℕ) (p : Ports) (xs ys : List TypeInputs) (x : TypeInputs) → i < length ps → p ≡ get_or ps i p
     → AreInputs (take i ps) xs → IsInputs p x → ys ≡ xs ++ x ∷ [] → AreInputs (take (i + 1) ps) ys
 interfaces_more ps i p xs ys x h at so_far new grown =
     let P : List Ports → Type 0 = λ qs. AreInputs qs ys in
-    let R : List Inputs → Type 0 = λ zs. AreInputs (take i ps ++ p ∷ []) zs in
+    let R : List TypeInputs → Type 0 = λ zs. AreInputs (take i ps ++ p ∷ []) zs in
     subst P (sym (take_more ps i p h))
     (subst (λ (q : Ports). AreInputs (take i ps ++ q ∷ []) ys) at (subst R (sym grown) (record { each = inputs_push (take i ps) xs p x so_far.each new })))

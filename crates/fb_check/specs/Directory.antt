@@ -26,7 +26,7 @@ use Rattle.fb_system.specs.Rows.{AreRows, IsRow}
 use Rattle.fb_system.specs.declared.rows.SlotValue.{SlotValue}
 use Rattle.fb_system.specs.declared.rows.StimulusRow.{StimulusRow}
 use Rattle.fb_check.specs.declared.directory_making.Input.{Input}
-use Rattle.fb_check.specs.declared.directory_making.Inputs.{Inputs}
+use Rattle.fb_check.specs.declared.directory_making.TypeInputs.{TypeInputs}
 use Rattle.fb_check.specs.declared.directory.Directory.{Directory}
 
 -- ---- Sets and maps of names
@@ -78,20 +78,20 @@ abbrev pub AreVariables : List Variable → tree.BTreeMap (Bor Name) Input → T
 AreVariables variables m = AreFirst (λ (v : Variable). v.name) input_of variables m
 
 -- the event inputs, the variables WITH them and the data inputs of an interface
-pub record IsInputs (p : Ports) (x : Inputs) : Type 0 where
+pub record IsInputs (p : Ports) (x : TypeInputs) : Type 0 where
   pub events : AreEvents p.event_inputs x.events
   pub withs : AreWiths p.event_inputs x.withs
   pub variables : AreVariables p.inputs x.variables
 
 -- none for none, else those of the interface
-abbrev pub IsFound : Option Ports → Option Inputs → Type 0
+abbrev pub IsFound : Option Ports → Option TypeInputs → Type 0
 IsFound None None = Unit
 IsFound None (Some x) = ⊥
 IsFound (Some p) None = ⊥
 IsFound (Some p) (Some x) = IsInputs p x
 
 -- those of each interface, at its place
-pub record AreInputs (ps : List Ports) (xs : List Inputs) : Type 0 where
+pub record AreInputs (ps : List Ports) (xs : List TypeInputs) : Type 0 where
   pub each : (i : ℕ) → IsFound (slice_get ps i) (slice_get xs i)
 
 -- ---- A declaration
@@ -134,11 +134,11 @@ pub record CanTake (lib : Library) (s : Stimulus) : Type 0 where
   pub each : list_all (can_set lib ports s) s.settings ≡ true
 
 -- whether there is an input with the name, and its type holds the value
-abbrev pub holds : Inputs → Name → Value → Bool
+abbrev pub holds : TypeInputs → Name → Value → Bool
 holds x n v = elim (input_in x.variables n) [ None ↦ false | Some i ↦ fits i.ty v ]
 
 -- the name is in the directory WITH the event and unconnected, and its type holds the value
-abbrev pub is_settable : Directory → Inputs → Stimulus → Setting → Bool
+abbrev pub is_settable : Directory → TypeInputs → Stimulus → Setting → Bool
 is_settable d x s v =
     has_pair x.withs s.event v.variable && (not (has_pair d.targets s.instance v.variable) && holds x v.variable v.value)
 
@@ -150,7 +150,7 @@ held_slot None v = None
 held_slot (Some i) v = if fits i.ty v then Some (record { place = i.place; value = v }) else None
 
 -- the slot of a setting, where it is settable
-abbrev pub slot_of : Directory → Inputs → Stimulus → Setting → Option SlotValue
+abbrev pub slot_of : Directory → TypeInputs → Stimulus → Setting → Option SlotValue
 slot_of d x s v =
     if has_pair x.withs s.event v.variable && not (has_pair d.targets s.instance v.variable) then held_slot (input_in x.variables v.variable) v.value else None
 

@@ -8,7 +8,7 @@ ghost use Rattle.fb_types.specs.EventPorts.{ArePortsOfKinds};
 ghost use Rattle.fb_types.specs.Flat.{type_name, type_named};
 ghost use Rattle.fb_check.specs.Directory.{IsDirectory, IsFound};
 
-use crate::directory_making::{Inputs, Pairs, inputs_of_blocks, inputs_of_each, targets_of};
+use crate::directory_making::{Pairs, TypeInputs, inputs_of_blocks, inputs_of_each, targets_of};
 use fb_names::places::{Places, place_of};
 use fb_types::event_ports::kind_named;
 use fb_types::items::Items;
@@ -20,9 +20,9 @@ use std::alloc::{AllocError, Global};
 #[derive(Drop)]
 pub struct Directory<'a> {
     /// For each event block, by the place of its interface.
-    pub event_blocks: Items<Inputs<'a>>,
+    pub event_blocks: Items<TypeInputs<'a>>,
     /// For each block type of the declaration.
-    pub declared: Items<Inputs<'a>>,
+    pub declared: Items<TypeInputs<'a>>,
     /// The ports to which data connections of the application lead.
     pub targets: Pairs<'a>,
 }
@@ -50,7 +50,7 @@ pub fn inputs_named<'d, 'a>(
     directory: &'d Directory<'a>,
     types: &Places,
     name: &[u8],
-) -> Option<&'d Inputs<'a>>
+) -> Option<&'d TypeInputs<'a>>
     requires directory { IsDirectory library.now directory.now }
     requires types { IsIndex (map type_name library.now.blocks) types.now }
     ensures { IsFound (option_map ports_of (type_named library.now name.now)) (option_copied result) }

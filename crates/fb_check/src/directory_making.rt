@@ -25,7 +25,7 @@ pub struct Input {
 
 /// What stimuli may name of a type.
 #[derive(Drop)]
-pub struct Inputs<'a> {
+pub struct TypeInputs<'a> {
     /// The places of the event inputs.
     pub events: BTreeMap<&'a [u8], u32, Global>,
     /// The event inputs, each with a variable that goes WITH it.
@@ -94,10 +94,10 @@ fn variables_of<'a>(
     Ok(inputs)
 }
 
-fn inputs_of<'a>(alloc: Global, ports: &'a Ports) -> Result<Inputs<'a>, AllocError>
+fn inputs_of<'a>(alloc: Global, ports: &'a Ports) -> Result<TypeInputs<'a>, AllocError>
     ensures { IfOk result (IsInputs ports.now) }
 {
-    Ok(Inputs {
+    Ok(TypeInputs {
         events: events_of(alloc, ports.event_inputs.as_slice())?,
         withs: withs_of(alloc, ports.event_inputs.as_slice())?,
         variables: variables_of(alloc, ports.inputs.as_slice())?,
@@ -108,7 +108,7 @@ fn inputs_of<'a>(alloc: Global, ports: &'a Ports) -> Result<Inputs<'a>, AllocErr
 pub fn inputs_of_each<'a>(
     alloc: Global,
     interfaces: &'a [Ports],
-) -> Result<Items<Inputs<'a>>, AllocError>
+) -> Result<Items<TypeInputs<'a>>, AllocError>
     ensures { IfOk result (AreInputs interfaces.now) }
 {
     let mut all = Items::new(alloc);
@@ -122,7 +122,7 @@ pub fn inputs_of_each<'a>(
 pub fn inputs_of_blocks<'a>(
     alloc: Global,
     blocks: &'a [BlockType],
-) -> Result<Items<Inputs<'a>>, AllocError>
+) -> Result<Items<TypeInputs<'a>>, AllocError>
     ensures { IfOk result (AreInputs (map (λ t. ports_of (kind_of t)) blocks.now)) }
 {
     let mut all = Items::new(alloc);

@@ -12,7 +12,7 @@ ghost use Rattle.fb_names.specs.Places.{names_in, place_in};
 ghost use Rattle.fb_check.specs.Directory.{IsDirectory, IsFound, CanTake, IsTaken, AreTaken, held_slot, input_in, ports_at_place, slot_of};
 
 use crate::directory::{Directory, directory_of, inputs_named};
-use crate::directory_making::Inputs;
+use crate::directory_making::TypeInputs;
 use fb_names::catalog::Catalog;
 use fb_names::places::{place_of, places_of};
 use fb_system::rows::{SlotValue, StimulusRow, number_of};
@@ -30,7 +30,7 @@ fn inputs_at<'d, 'a>(
     catalog: &Catalog,
     directory: &'d Directory<'a>,
     place: usize,
-) -> Option<&'d Inputs<'a>>
+) -> Option<&'d TypeInputs<'a>>
     requires catalog { (plan : Plan) × IsCatalog library.now plan catalog.now }
     requires directory { IsDirectory library.now directory.now }
     ensures { IsFound (ports_at_place library.now place) (option_copied result) }
@@ -41,7 +41,7 @@ fn inputs_at<'d, 'a>(
 }
 
 /// The place of an event input.
-fn event_place(inputs: &Inputs, event: &[u8]) -> Option<u32>
+fn event_place(inputs: &TypeInputs, event: &[u8]) -> Option<u32>
     ensures { result ≡ place_in inputs.now.events event.now }
 {
     inputs.events.get(event).copied()
@@ -67,7 +67,7 @@ fn has_setting_twice(alloc: Global, stimulus: &Stimulus) -> Result<bool, AllocEr
 }
 
 /// The slot of a data input with the value that it gets, where its type holds the value.
-fn held_slot(inputs: &Inputs, variable: &[u8], value: Value) -> Option<SlotValue>
+fn held_slot(inputs: &TypeInputs, variable: &[u8], value: Value) -> Option<SlotValue>
     ensures { result ≡ held_slot (input_in inputs.now.variables variable.now) value }
 {
     let place = match inputs.variables.get(variable) {
@@ -80,7 +80,7 @@ fn held_slot(inputs: &Inputs, variable: &[u8], value: Value) -> Option<SlotValue
 /// The slot of a variable that goes WITH the event of the stimulus, is not connected, and can hold the value.
 fn slot_of<'a>(
     directory: &Directory<'a>,
-    inputs: &Inputs<'a>,
+    inputs: &TypeInputs<'a>,
     stimulus: &'a Stimulus,
     setting: &'a Setting,
 ) -> Option<SlotValue>
@@ -100,7 +100,7 @@ fn slot_of<'a>(
 fn slots_of<'a>(
     alloc: Global,
     directory: &Directory<'a>,
-    inputs: &Inputs<'a>,
+    inputs: &TypeInputs<'a>,
     stimulus: &'a Stimulus,
 ) -> Result<Option<Items<SlotValue>>, AllocError>
     ensures { IfOk result (λ o. o ≡ each_or_none (slot_of directory.now inputs.now stimulus.now) stimulus.now.settings) }

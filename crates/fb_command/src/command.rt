@@ -14,7 +14,7 @@ use crate::failure::Failure;
 use crate::notes::{note_of, note_of_file};
 use crate::output::write_text;
 use crate::source::Source;
-use crate::status::{Done, Exit, status};
+use crate::status::{Done, ExitStatus, status};
 use crate::texts::{Texts, read_files};
 use crate::wave::show;
 use fb_call::line::{Call, LineFault, Order, Request, parse};
@@ -294,7 +294,7 @@ pub fn command<'w, R: Threads + Wait + Sync, S: Source, W: Write, E: Write>(
     source: &mut S,
     out: &mut W,
     err: &mut E,
-) -> Exit
+) -> ExitStatus
     ensures { (end : Result Done Failure) × (reports : List ℕ) × (note : Option (List ℕ)) × (result.status ≡ status_of end)
         × Does S.gives S.opens source.old source.new (map (λ w. w.now) words.entry.now) (W.contents out.old) (W.contents out.new) end reports note
         × (IsTrue result.is_told → Appends (E.contents err.old) (E.contents err.new) (reports ++ told_of end note))
@@ -303,7 +303,7 @@ pub fn command<'w, R: Threads + Wait + Sync, S: Source, W: Write, E: Write>(
     let answer = obey(rt, alloc, words, source, out, err);
     // Where it can't be told, the status alone tells of it.
     let is_told = tell_end(err, &answer.end, &answer.note);
-    Exit {
+    ExitStatus {
         status: status(&answer.end),
         is_told: answer.is_heard && is_told,
     }

@@ -24,7 +24,7 @@ pub enum Done {
 
 /// What the program ends with.
 #[derive(Clone, Copy)]
-pub struct Exit {
+pub struct ExitStatus {
     /// The status of the program.
     pub status: u8,
     /// Whether standard error took all that was told.

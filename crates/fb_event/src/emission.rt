@@ -5,7 +5,7 @@ ghost use Rattle.fb_event.specs.Block.{state_of};
 ghost use Rattle.fb_event.specs.Emissions.{values_of, emission_at};
 ghost use Rattle.fb_event.specs.Reactions.{IsEventOutput, IsWellFormed};
 
-use crate::state::Block;
+use crate::state::EventBlock;
 use fb_types::items::Items;
 use fb_types::run::{Emission, Emits};
 use fb_types::value::Value;
@@ -13,7 +13,11 @@ use std::alloc::{AllocError, Global};
 
 /// Emits the events at these places in order, each with the values of all data outputs: of the fourteen
 /// blocks, those that have data outputs emit no event without them.
-pub(crate) fn emit_all(block: Block, events: &[u32], emits: &mut Emits) -> Result<(), AllocError>
+pub(crate) fn emit_all(
+    block: EventBlock,
+    events: &[u32],
+    emits: &mut Emits,
+) -> Result<(), AllocError>
     requires { All (IsEventOutput (state_of block).kind) events.now }
     ensures ok { OnOk result (emits.new ≡ emits.old ++ map (emission_at block) events.now) }
     ensures well_formed { let IsFit = IsWellFormed (state_of block).kind in All IsFit emits.old → All IsFit emits.new }
@@ -25,7 +29,7 @@ pub(crate) fn emit_all(block: Block, events: &[u32], emits: &mut Emits) -> Resul
     Ok(())
 }
 
-fn emit(block: Block, event: u32, emits: &mut Emits) -> Result<(), AllocError>
+fn emit(block: EventBlock, event: u32, emits: &mut Emits) -> Result<(), AllocError>
     ensures ok { OnOk result (emits.new ≡ emits.old ++ emission_at block event ∷ []) }
     ensures err { OnErr result (emits.new ≡ emits.old) }
 {
@@ -34,12 +38,15 @@ fn emit(block: Block, event: u32, emits: &mut Emits) -> Result<(), AllocError>
 }
 
 /// The values of the data outputs. A list that is empty takes no memory.
-fn outputs(block: Block, alloc: Global) -> Result<Items<Value>, AllocError>
+fn outputs(block: EventBlock, alloc: Global) -> Result<Items<Value>, AllocError>
     ensures { IfOk result (λ values. values ≡ values_of block) }
 {
     match block {
-        Block::SetReset(q) | Block::DataLatch(q) => Items::from_slice(alloc, &[Value::Bool(q)]),
-        Block::CountUp { count, reached } => {
+        EventBlock::SetReset(q) | EventBlock::DataLatch(q) => Items::from_slice(
+            alloc,
+            &[Value::Bool(q)],
+        ),
+        EventBlock::CountUp { count, reached } => {
             Items::from_slice(alloc, &[Value::Bool(reached), Value::Whole(count as i128)])
         }
         _ => Ok(Items::new(alloc)),

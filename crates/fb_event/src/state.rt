@@ -16,7 +16,7 @@ pub(crate) enum Timer {
 
 /// An event block of each kind, with what it remembers.
 #[derive(Clone, Copy, Debug, PartialEq, Eq)]
-pub(crate) enum Block {
+pub(crate) enum EventBlock {
     Restart,
     Split,
     Merge,
@@ -42,7 +42,7 @@ pub(crate) enum Block {
 /// An event block: its kind, and what it remembers from one reaction to the next.
 #[derive(Clone, Debug, Drop)]
 pub struct EventState {
-    pub(crate) block: Block,
+    pub(crate) block: EventBlock,
 }
 
 impl Model for EventState {
@@ -64,23 +64,23 @@ impl EventState {
         ensures memory { result.memory ≡ memory_at_start kind }
     {
         let block = match kind {
-            EventKind::Restart => Block::Restart,
-            EventKind::Split => Block::Split,
-            EventKind::Merge => Block::Merge,
-            EventKind::Rendezvous => Block::Rendezvous {
+            EventKind::Restart => EventBlock::Restart,
+            EventKind::Split => EventBlock::Split,
+            EventKind::Merge => EventBlock::Merge,
+            EventKind::Rendezvous => EventBlock::Rendezvous {
                 first: false,
                 second: false,
             },
-            EventKind::Permit => Block::Permit,
-            EventKind::Select => Block::Select,
-            EventKind::Switch => Block::Switch,
-            EventKind::Delay => Block::Delay(Timer::Idle),
-            EventKind::Cycle => Block::Cycle(Timer::Idle),
-            EventKind::SetReset => Block::SetReset(false),
-            EventKind::DataLatch => Block::DataLatch(false),
-            EventKind::RisingEdge => Block::RisingEdge(false),
-            EventKind::FallingEdge => Block::FallingEdge(false),
-            EventKind::CountUp => Block::CountUp {
+            EventKind::Permit => EventBlock::Permit,
+            EventKind::Select => EventBlock::Select,
+            EventKind::Switch => EventBlock::Switch,
+            EventKind::Delay => EventBlock::Delay(Timer::Idle),
+            EventKind::Cycle => EventBlock::Cycle(Timer::Idle),
+            EventKind::SetReset => EventBlock::SetReset(false),
+            EventKind::DataLatch => EventBlock::DataLatch(false),
+            EventKind::RisingEdge => EventBlock::RisingEdge(false),
+            EventKind::FallingEdge => EventBlock::FallingEdge(false),
+            EventKind::CountUp => EventBlock::CountUp {
                 count: 0,
                 reached: false,
             },
@@ -103,7 +103,7 @@ impl EventState {
     }
 }
 
-impl Block {
+impl EventBlock {
     ghost use Rattle.fb_event.specs.Block.{state_of};
 
     /// The kind of the block.
@@ -111,20 +111,20 @@ impl Block {
         ensures { result ≡ (state_of self.now).kind }
     {
         match self {
-            Block::Restart => EventKind::Restart,
-            Block::Split => EventKind::Split,
-            Block::Merge => EventKind::Merge,
-            Block::Rendezvous { .. } => EventKind::Rendezvous,
-            Block::Permit => EventKind::Permit,
-            Block::Select => EventKind::Select,
-            Block::Switch => EventKind::Switch,
-            Block::Delay(_) => EventKind::Delay,
-            Block::Cycle(_) => EventKind::Cycle,
-            Block::SetReset(_) => EventKind::SetReset,
-            Block::DataLatch(_) => EventKind::DataLatch,
-            Block::RisingEdge(_) => EventKind::RisingEdge,
-            Block::FallingEdge(_) => EventKind::FallingEdge,
-            Block::CountUp { .. } => EventKind::CountUp,
+            EventBlock::Restart => EventKind::Restart,
+            EventBlock::Split => EventKind::Split,
+            EventBlock::Merge => EventKind::Merge,
+            EventBlock::Rendezvous { .. } => EventKind::Rendezvous,
+            EventBlock::Permit => EventKind::Permit,
+            EventBlock::Select => EventKind::Select,
+            EventBlock::Switch => EventKind::Switch,
+            EventBlock::Delay(_) => EventKind::Delay,
+            EventBlock::Cycle(_) => EventKind::Cycle,
+            EventBlock::SetReset(_) => EventKind::SetReset,
+            EventBlock::DataLatch(_) => EventKind::DataLatch,
+            EventBlock::RisingEdge(_) => EventKind::RisingEdge,
+            EventBlock::FallingEdge(_) => EventKind::FallingEdge,
+            EventBlock::CountUp { .. } => EventKind::CountUp,
         }
     }
 }

@@ -9,7 +9,7 @@ use Rattle.fb_types.specs.Unknown.{event_ins, event_outs, data_ins, data_outs}
 use Rattle.fb_types.specs.declared.library.Library.{Library}
 use Rattle.fb_types.specs.declared.library.Ports.{Ports}
 use Rattle.fb_types.specs.declared.run.Target.{Target}
-use Rattle.fb_names.specs.declared.numbers.End.{End}
+use Rattle.fb_names.specs.declared.numbers.WireEnd.{WireEnd}
 use Rattle.fb_names.specs.declared.numbers.NetworkNumbers.{NetworkNumbers}
 use Rattle.fb_types.proofs.ByPlace.{element_of_place, element_at}
 use Rattle.fb_fabric.specs.Layouts.{IsRow, path_of}
@@ -73,7 +73,7 @@ outside_wired lib layout app blocks i r are within is =
 -- ---- Events
 
 -- What a look-up in the network around an instance, or inside it, answers for each port that the end stands for.
-abbrev pub LeadsFrom : Library → Path → End → ℕ → Option Target → Type 0
+abbrev pub LeadsFrom : Library → Path → WireEnd → ℕ → Option Target → Type 0
 LeadsFrom lib p e place result =
     (q : Port) → IsEndOf lib p event_outs event_ins e q → option_map (port_of lib) result ≡ slice_get (targets_along (events_inside lib p) q) place
 
@@ -158,7 +158,7 @@ leads_inside lib layout app blocks t place result are port out leads =
 
 -- ---- Data
 
-abbrev pub ComesFrom : Library → Path → End → Option Place → Type 0
+abbrev pub ComesFrom : Library → Path → WireEnd → Option Place → Type 0
 ComesFrom lib p e result =
     (q : Port) → IsEndOf lib p data_ins data_outs e q → option_map (variable_of lib) result ≡ source_along (data_inside lib p) q
 

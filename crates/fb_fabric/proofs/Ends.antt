@@ -17,7 +17,7 @@ use Rattle.fb_types.proofs.NameLaws.{same_from_same_name, same_name-itself}
 use Rattle.fb_types.proofs.Positions.{named-position, position_is, position_of_once}
 use Rattle.fb_types.proofs.PathLaws.{same_path_is, same_path_itself}
 use Rattle.fb_names.specs.Numbers.{place_of, ports_at_place, end_at, end_number}
-use Rattle.fb_names.specs.declared.numbers.End.{End}
+use Rattle.fb_names.specs.declared.numbers.WireEnd.{WireEnd}
 use Rattle.fb_fabric.specs.Wirings.{same_component, same_end}
 use Rattle.fb_types.proofs.Options.{and_then_parts, map_parts}
 use Rattle.fb_fabric.specs.Networks.{IsThere, IsEndOf, side, composite_of}
@@ -122,7 +122,7 @@ side_once component boundary (Some j) p d = d.first_once
 
 -- ends stand for one port exactly where they are one
 pub ends_there :
-    (lib : Library) (p : Path) (net : Network) (component boundary : Ports → List Name) (e f : End) (q r : Port) → network_at lib p ≡ Some net
+    (lib : Library) (p : Path) (net : Network) (component boundary : Ports → List Name) (e f : WireEnd) (q r : Port) → network_at lib p ≡ Some net
     → ¬ (Twice (instance_names net)) → AreApart lib component boundary → IsEndOf lib p component boundary e q → IsEndOf lib p component boundary f r
     → same_port q r ≡ same_end e f
 ends_there lib p net component boundary e f q r is once apart h g =
@@ -159,13 +159,13 @@ kind_of_component lib p net c i x is at there =
     ∙ ap (option_and_then (kind_of_instance lib)) (named-position (λ (x : Instance). x.name) c net.instances ∙ ap (option_and_then (slice_get net.instances)) at ∙ there)
 
 boundary_is :
-    (lib : Library) (p : Path) (component boundary : Ports → List Name) (e : PortName) (w : End)
+    (lib : Library) (p : Path) (component boundary : Ports → List Name) (e : PortName) (w : WireEnd)
     → option_and_then (λ t. end_at None (boundary t.ports) e) (composite_of (kind_at lib p)) ≡ Some w
     → IsEndOf lib p component boundary w (record { at = p; name = e.port })
 boundary_is lib p component boundary e w h =
     let t = and_then_parts (λ (t : CompositeType). end_at None (boundary t.ports) e) (composite_of (kind_at lib p)) w h in
     let k = map_parts (λ (k : ℕ). record { component = None; port = k }) (place_of (boundary t.0.ports) e.port) w t.2 in
-    subst (λ (w : End). IsEndOf lib p component boundary w (record { at = p; name = e.port })) k.2
+    subst (λ (w : WireEnd). IsEndOf lib p component boundary w (record { at = p; name = e.port })) k.2
     (record {
       there = refl;
       kind = Composite t.0;
@@ -174,7 +174,7 @@ boundary_is lib p component boundary e w h =
     })
 
 component_there :
-    (lib : Library) (p : Path) (net : Network) (component boundary : Ports → List Name) (e : PortName) (c : Name) (w : End) → network_at lib p ≡ Some net
+    (lib : Library) (p : Path) (net : Network) (component boundary : Ports → List Name) (e : PortName) (c : Name) (w : WireEnd) → network_at lib p ≡ Some net
     → option_and_then (λ i. option_and_then (λ ps. end_at (Some i) (component ps) e) (option_map ports_of (option_and_then (kind_of_instance lib) (slice_get net.instances i))))
     (place_of (instance_names net) c) ≡ Some w
     → IsEndOf lib p component boundary w (record { at = c ∷ p; name = e.port })
@@ -188,7 +188,7 @@ component_there lib p net component boundary e c w is h =
     let named = position_is (λ (x : Instance). x.name) c net.instances i.0 i.1 in
     let same : named.0 ≡ x.0 = same_Some named.0 x.0 (sym named.1 ∙ x.1) in
     let name : x.0.name ≡ c = ap (λ (x : Instance). x.name) (sym same) ∙ named.2 in
-    subst (λ (w : End). IsEndOf lib p component boundary w (record { at = c ∷ p; name = e.port })) j.2
+    subst (λ (w : WireEnd). IsEndOf lib p component boundary w (record { at = c ∷ p; name = e.port })) j.2
     (record {
       there = (net, x.0, is, x.1, ap (λ (n : Name). n ∷ p) (sym name));
       kind = k.0;
@@ -198,12 +198,12 @@ component_there lib p net component boundary e c w is h =
 
 -- an end stands for the port that its names stand for
 pub end_there :
-    (lib : Library) (p : Path) (net : Network) (component boundary : Ports → List Name) (e : PortName) (w : End) → network_at lib p ≡ Some net
+    (lib : Library) (p : Path) (net : Network) (component boundary : Ports → List Name) (e : PortName) (w : WireEnd) → network_at lib p ≡ Some net
     → end_number lib (composite_of (kind_at lib p), net) component boundary e ≡ Some w → IsEndOf lib p component boundary w (port_in p e)
 end_there lib p net component boundary e w is h =
     elim e.component as
     (λ (o : Option Name).
-    elim o as (λ _. Option End) [
+    elim o as (λ _. Option WireEnd) [
       | None ↦ option_and_then (λ t. end_at None (boundary t.ports) e) (composite_of (kind_at lib p))
       | Some c ↦ option_and_then (λ i. option_and_then (λ ps. end_at (Some i) (component ps) e) (ports_at_place lib (composite_of (kind_at lib p), net) i)) (place_of (instance_names net) c)
     ] ≡ Some w

@@ -4,28 +4,28 @@ use Rattle.std.specs.BTreeMap.{is_at}
 use Rattle.std.specs.List.{filter}
 use Rattle.std.specs.Map.{lookup}
 use Rattle.std.specs.Ordering.{nat_cmp}
-use Rattle.fb_names.specs.declared.numbers.End.{End}
+use Rattle.fb_names.specs.declared.numbers.WireEnd.{WireEnd}
 use Rattle.fb_names.specs.declared.numbers.NetworkNumbers.{NetworkNumbers}
-use Rattle.fb_fabric.specs.declared.wiring_table.Table.{Table}
+use Rattle.fb_fabric.specs.declared.wiring_table.WiringTable.{WiringTable}
 use Rattle.fb_fabric.specs.Wirings.{same_end, targets_in}
 
 -- the ends at a port, of the ends at the ports that have any
-abbrev pub ends_of : List (ℕ × List End) → ℕ → List End
+abbrev pub ends_of : List (ℕ × List WireEnd) → ℕ → List WireEnd
 ends_of row port = unwrap_or (lookup (is_at (nat_cmp port)) row) []
 
 -- the ports of a component
-abbrev pub row_of : List (List (ℕ × List End)) → ℕ → List (ℕ × List End)
+abbrev pub row_of : List (List (ℕ × List WireEnd)) → ℕ → List (ℕ × List WireEnd)
 row_of rows component = slice_index_or rows component []
 
-abbrev pub row_at : Table → Option ℕ → List (ℕ × List End)
+abbrev pub row_at : WiringTable → Option ℕ → List (ℕ × List WireEnd)
 row_at t None = t.boundary
 row_at t (Some component) = row_of t.components.items component
 
 -- the ends at an end
-abbrev pub ends_at : Table → End → List End
+abbrev pub ends_at : WiringTable → WireEnd → List WireEnd
 ends_at t e = ends_of (row_at t e.component) e.port
 
 -- The tables have the targets of the event connections, and the sources of the data connections, of each end.
-pub record AreTablesOf (x : NetworkNumbers) (targets sources : Table) : Type 0 where
-  pub targets_are : (e : End) → ends_at targets e ≡ targets_in x e
-  pub sources_are : (e : End) → ends_at sources e ≡ map (λ w. w.from) (filter (λ w. same_end w.to e) x.data_wires)
+pub record AreTablesOf (x : NetworkNumbers) (targets sources : WiringTable) : Type 0 where
+  pub targets_are : (e : WireEnd) → ends_at targets e ≡ targets_in x e
+  pub sources_are : (e : WireEnd) → ends_at sources e ≡ map (λ w. w.from) (filter (λ w. same_end w.to e) x.data_wires)

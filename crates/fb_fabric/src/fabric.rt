@@ -17,7 +17,7 @@ use crate::declared::{declared_at, parameters_at};
 use crate::making::{narrow_layout, wirings_of};
 use crate::tables::{Tables, last_place, row_at, source_in, target_in};
 use crate::wiring::Wiring;
-use fb_names::numbers::{End, Resolved, TypeNumber};
+use fb_names::numbers::{Resolved, TypeNumber, WireEnd};
 use fb_types::library::{Instance, Library};
 use fb_types::run::{Place, Target};
 use std::alloc::{AllocError, Global};
@@ -168,13 +168,13 @@ impl Fabric {
         if from.is_output {
             let row = row_at(&self.tables, from.instance);
             let component = last_place(row.route.as_slice());
-            target_in(&self.tables, row.parent, End { component, port }, place)
+            target_in(&self.tables, row.parent, WireEnd { component, port }, place)
         } else {
             let component = None;
             target_in(
                 &self.tables,
                 Some(from.instance),
-                End { component, port },
+                WireEnd { component, port },
                 place,
             )
         }
@@ -190,11 +190,11 @@ impl Fabric {
         let port = to.variable as usize;
         if to.is_output {
             let component = None;
-            source_in(&self.tables, Some(to.instance), End { component, port })
+            source_in(&self.tables, Some(to.instance), WireEnd { component, port })
         } else {
             let row = row_at(&self.tables, to.instance);
             let component = last_place(row.route.as_slice());
-            source_in(&self.tables, row.parent, End { component, port })
+            source_in(&self.tables, row.parent, WireEnd { component, port })
         }
     }
 }

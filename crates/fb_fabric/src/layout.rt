@@ -49,7 +49,7 @@ struct Outside<'a> {
 
 /// A network, and what it is inside of, or none for the application's.
 #[derive(Clone, Copy)]
-struct Site<'a, 'b, 'c> {
+struct Enclosed<'a, 'b, 'c> {
     network: &'a Network,
     types: &'b Items<TypeNumber>,
     outside: Option<Outside<'c>>,
@@ -168,7 +168,7 @@ fn lay_out(
     depth: usize,
     library: &Library,
     numbers: &Resolved,
-    site: Site<'_, '_, '_>,
+    site: Enclosed<'_, '_, '_>,
     first: u32,
 ) -> Result<Layer, AllocError>
     requires { first + length (spec.layer depth library.now numbers.now (spec.around site.outside) first site.network.now site.types.now).rows ≤ 4096 }
@@ -189,7 +189,7 @@ fn lay_out(
         let inside = match network_inside(library, numbers, *kind) {
             None => Layer::new(alloc),
             Some((network, inner)) => {
-                let site = Site {
+                let site = Enclosed {
                     network,
                     types: &inner.types,
                     outside: Some(Outside { number, row: &row }),
@@ -214,7 +214,7 @@ pub(crate) fn layout_of(
     requires few { length (paths_of library.now) ≤ 4096 }
     ensures { IfOk result (IsLayout library.now) }
 {
-    let site = Site {
+    let site = Enclosed {
         network: &library.application.network,
         types: &numbers.application.types,
         outside: None,

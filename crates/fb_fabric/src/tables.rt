@@ -11,7 +11,7 @@ ghost use Rattle.fb_fabric.specs.Networks.{DataEnters, DataLeaves, EventEnters, 
 
 use crate::layout::{InstanceRow, Layout};
 use crate::wiring::Wiring;
-use fb_names::numbers::{End, TypeNumber};
+use fb_names::numbers::{TypeNumber, WireEnd};
 use fb_types::items::Items;
 use fb_types::library::Library;
 use fb_types::run::{Place, Target};
@@ -79,7 +79,7 @@ fn instance_at(tables: &Tables, around: Option<u32>, component: Option<usize>) -
 }
 
 /// The event to which a connection leads: an input of a component, or an output of the composite itself.
-fn target_at(tables: &Tables, around: Option<u32>, end: End) -> Target
+fn target_at(tables: &Tables, around: Option<u32>, end: WireEnd) -> Target
     requires fabric { IsFabric tables.now }
     requires within { IsAround tables.now.library around }
     requires network { (inside : Network) × (network_at tables.now.library (path_around tables.now.library around) ≡ Some inside) }
@@ -95,7 +95,7 @@ fn target_at(tables: &Tables, around: Option<u32>, end: End) -> Target
 }
 
 /// The variable from which a connection comes: an output of a component, or an input of the composite itself.
-fn place_at(tables: &Tables, around: Option<u32>, end: End) -> Place
+fn place_at(tables: &Tables, around: Option<u32>, end: WireEnd) -> Place
     requires fabric { IsFabric tables.now }
     requires within { IsAround tables.now.library around }
     requires network { (inside : Network) × (network_at tables.now.library (path_around tables.now.library around) ≡ Some inside) }
@@ -114,7 +114,7 @@ fn place_at(tables: &Tables, around: Option<u32>, end: End) -> Place
 pub(crate) fn target_in(
     tables: &Tables,
     around: Option<u32>,
-    end: End,
+    end: WireEnd,
     place: usize,
 ) -> Option<Target>
     requires fabric { IsFabric tables.now }
@@ -129,7 +129,7 @@ pub(crate) fn target_in(
 }
 
 /// Where the data connection to an end of a network comes from.
-pub(crate) fn source_in(tables: &Tables, around: Option<u32>, end: End) -> Option<Place>
+pub(crate) fn source_in(tables: &Tables, around: Option<u32>, end: WireEnd) -> Option<Place>
     requires fabric { IsFabric tables.now }
     requires within { IsAround tables.now.library around }
     requires end { (q : Port) × DataEnters tables.now.library around end q }

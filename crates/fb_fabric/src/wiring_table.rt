@@ -1,11 +1,11 @@
 //! Lists of ends of connections that are looked up by an end.
 
 ghost use Rattle.std.specs.Prelude.{◌≡◌, ℕ, [], ◌∷◌, ◌++◌, ◌&&◌, cond, nat_eq, IfOk, OnOk};
-ghost use Rattle.fb_names.specs.declared.numbers.End.{End};
+ghost use Rattle.fb_names.specs.declared.numbers.WireEnd.{WireEnd};
 ghost use Rattle.fb_fabric.specs.Tables.{ends_of, row_of, ends_at};
 ghost use Rattle.fb_fabric.specs.Wirings.{same_end};
 
-use fb_names::numbers::End;
+use fb_names::numbers::WireEnd;
 use fb_types::items::Items;
 use std::alloc::{AllocError, Global};
 use std::collections::BTreeMap;
@@ -15,14 +15,14 @@ use std::marker::Model;
 /// and takes no memory, since a component may have many ports of which few are connected.
 #[derive(Drop)]
 pub(crate) struct PortEnds {
-    ports: BTreeMap<usize, Items<End>>,
+    ports: BTreeMap<usize, Items<WireEnd>>,
 }
 
 impl Model for PortEnds {
     ghost use Rattle.std.specs.Prelude.{List, ℕ};
-    ghost use Rattle.fb_names.specs.declared.numbers.End.{End};
+    ghost use Rattle.fb_names.specs.declared.numbers.WireEnd.{WireEnd};
 
-    ghost Value = { List (ℕ × List End) };
+    ghost Value = { List (ℕ × List WireEnd) };
 
     ghost view = { λ r. r.ports.entries };
 }
@@ -37,7 +37,7 @@ impl PortEnds {
     }
 
     /// The ends at a port.
-    fn get(&self, port: usize) -> &[End]
+    fn get(&self, port: usize) -> &[WireEnd]
         ensures { result.now ≡ ends_of self.now port }
     {
         match self.ports.get(&port) {
@@ -47,7 +47,7 @@ impl PortEnds {
     }
 
     /// One more end at a port.
-    fn push(&mut self, alloc: Global, port: usize, end: End) -> Result<(), AllocError>
+    fn push(&mut self, alloc: Global, port: usize, end: WireEnd) -> Result<(), AllocError>
         ensures { OnOk result ((p : ℕ) → ends_of self.new p ≡ cond (nat_eq port p) (ends_of self.old p ++ end ∷ []) (ends_of self.old p)) }
     {
         if let Some(ends) = self.ports.get_mut(&port) {
@@ -67,7 +67,7 @@ fn push_at(
     alloc: Global,
     component: usize,
     port: usize,
-    end: End,
+    end: WireEnd,
 ) -> Result<(), AllocError>
     ensures { OnOk result ((c p : ℕ) → ends_of (row_of rows.new.items c) p ≡ cond (nat_eq component c && nat_eq port p) (ends_of (row_of rows.old.items c) p ++ end ∷ []) (ends_of (row_of rows.old.items c) p)) }
 {
@@ -81,25 +81,25 @@ fn push_at(
 
 /// For each end, a list of ends. An end that was not reached yet has none.
 #[derive(Drop)]
-pub(crate) struct Table {
+pub(crate) struct WiringTable {
     boundary: PortEnds,
     /// For each component, its ports.
     components: Vec<PortEnds>,
 }
 
-impl Table {
+impl WiringTable {
     /// The table in which no end has ends.
-    pub(crate) fn new(alloc: Global) -> Table
-        ensures { (e : End) → ends_at result e ≡ [] }
+    pub(crate) fn new(alloc: Global) -> WiringTable
+        ensures { (e : WireEnd) → ends_at result e ≡ [] }
     {
-        Table {
+        WiringTable {
             boundary: PortEnds::new(alloc),
             components: Vec::new(alloc),
         }
     }
 
     /// The ends at an end.
-    pub(crate) fn get(&self, at: End) -> &[End]
+    pub(crate) fn get(&self, at: WireEnd) -> &[WireEnd]
         ensures { result.now ≡ ends_at self.now at }
     {
         match at.component {
@@ -112,8 +112,13 @@ impl Table {
     }
 
     /// One more end at an end.
-    pub(crate) fn push(&mut self, alloc: Global, at: End, end: End) -> Result<(), AllocError>
-        ensures { OnOk result ((e : End) → ends_at self.new e ≡ cond (same_end at e) (ends_at self.old e ++ end ∷ []) (ends_at self.old e)) }
+    pub(crate) fn push(
+        &mut self,
+        alloc: Global,
+        at: WireEnd,
+        end: WireEnd,
+    ) -> Result<(), AllocError>
+        ensures { OnOk result ((e : WireEnd) → ends_at self.new e ≡ cond (same_end at e) (ends_at self.old e ++ end ∷ []) (ends_at self.old e)) }
     {
         match at.component {
             None => self.boundary.push(alloc, at.port, end)?,

@@ -7,7 +7,7 @@ use Rattle.toml.specs.Parse.{parse_document}
 use Rattle.fb_types.specs.declared.deploy.Link.{Link}
 use Rattle.fb_types.specs.declared.deploy.Plan.{Plan}
 use Rattle.fb_types.specs.declared.latency.Entry.{Entry}
-use Rattle.fb_inputs.specs.declared.document.Pair.{Pair}
+use Rattle.fb_inputs.specs.declared.document.LatencyDraft.{LatencyDraft}
 use Rattle.fb_inputs.specs.declared.document.LinkDraft.{LinkDraft}
 use Rattle.fb_inputs.specs.declared.document.PlanDraft.{PlanDraft}
 use Rattle.fb_inputs.specs.Refusals.{Outcome, ◌>>=◌, or_refuse, no_document, bad_shape, bad_latency, bad_table, over_limit}
@@ -22,7 +22,7 @@ abbrev pub is_latency : ℤ → Bool
 is_latency (pos n) = nat_le 1 n && nat_le n (10 ^ 6)
 is_latency (negsuc n) = false
 
-abbrev pub has_latencies : List Pair → Bool
+abbrev pub has_latencies : List LatencyDraft → Bool
 has_latencies = list_all (λ p. is_latency p.ticks)
 
 -- a tick behind another one
@@ -31,7 +31,7 @@ is_after last (pos n) = nat_lt last n && nat_le n (10 ^ 12)
 is_after last (negsuc n) = false
 
 -- each tick is behind the one before it
-abbrev pub rises_from : ℕ → List Pair → Bool
+abbrev pub rises_from : ℕ → List LatencyDraft → Bool
 rises_from last [] = true
 rises_from last (p ∷ ps) = is_after last p.start && rises_from (unsigned_abs p.start) ps
 
@@ -40,21 +40,21 @@ is_zero (pos n) = n == 0
 is_zero (negsuc n) = false
 
 -- ticks that begin at 0 and rise
-abbrev pub rises : List Pair → Bool
+abbrev pub rises : List LatencyDraft → Bool
 rises [] = false
 rises (p ∷ ps) = is_zero p.start && rises_from 0 ps
 
-abbrev pub is_short : List Pair → Bool
+abbrev pub is_short : List LatencyDraft → Bool
 is_short table = nat_le (length table) 64
 
-abbrev pub all_tables : (List Pair → Bool) → List LinkDraft → Bool
+abbrev pub all_tables : (List LatencyDraft → Bool) → List LinkDraft → Bool
 all_tables test = list_all (λ l. test l.table)
 
 -- the counts are within the limits
 abbrev pub is_small : PlanDraft → Bool
 is_small d = nat_le (length d.resources) 256 && nat_le (length d.links) 1024 && all_tables is_short d.links
 
-abbrev pub entry : Pair → Entry
+abbrev pub entry : LatencyDraft → Entry
 entry p = record { from = unsigned_abs p.start; latency = unsigned_abs p.ticks }
 
 abbrev pub link_of : LinkDraft → Link

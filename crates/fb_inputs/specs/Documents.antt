@@ -2,8 +2,8 @@
 use Rattle.std.specs.Prelude.{ℕ, ◌+◌, ℤ, pos, Bool, true, false, not, ◌&&◌, ◌==◌, if◌then◌else◌, List, [], ◌∷◌, length, Option, Some, None, is_some, codes}
 use Rattle.toml.specs.Data.{Data, Items, no_items, item, Members, no_members, member, get_member, as_str, as_integer, as_array, as_table}
 use Rattle.fb_types.specs.Names.{same_name}
-use Rattle.fb_types.specs.declared.deploy.Resource.{Resource}
-use Rattle.fb_inputs.specs.declared.document.Pair.{Pair}
+use Rattle.fb_types.specs.declared.deploy.ResourceEntry.{ResourceEntry}
+use Rattle.fb_inputs.specs.declared.document.LatencyDraft.{LatencyDraft}
 use Rattle.fb_inputs.specs.declared.document.LinkDraft.{LinkDraft}
 use Rattle.fb_inputs.specs.declared.document.PlanDraft.{PlanDraft}
 use Rattle.fb_inputs.specs.Lists.{◌>>=◌, each}
@@ -37,7 +37,7 @@ abbrev pub name_of : Data → Option Text
 name_of d = as_str d >>= name
 
 -- a device, a name and instances, and no other key
-unfoldable pub resource : Data → Option Resource
+unfoldable pub resource : Data → Option ResourceEntry
 resource d = do
   keys ← as_table d
   device ← read_at name_of (codes "device") keys
@@ -46,22 +46,22 @@ resource d = do
   if count_of keys == 3 then Some (record { device = device; name = own; instances = instances }) else None
 
 -- two whole numbers
-unfoldable pub pair_of : List Data → Option Pair
+unfoldable pub pair_of : List Data → Option LatencyDraft
 pair_of (a ∷ b ∷ []) = do
   start ← as_integer a
   ticks ← as_integer b
   Some (record { start = start; ticks = ticks })
 pair_of _ = None
 
-abbrev pub pair : Data → Option Pair
+abbrev pub pair : Data → Option LatencyDraft
 pair d = as_array d >>= λ ds. pair_of (list_of ds)
 
 -- one latency from tick 0 on
-abbrev pub constant : Data → Option (List Pair)
+abbrev pub constant : Data → Option (List LatencyDraft)
 constant d = as_integer d >>= λ n. Some (record { start = pos 0; ticks = n } ∷ [])
 
 -- either one latency or a table of latencies
-unfoldable pub table_of : Option Data → Option Data → Option (List Pair)
+unfoldable pub table_of : Option Data → Option Data → Option (List LatencyDraft)
 table_of (Some d) None = constant d
 table_of None (Some d) = array_of pair d
 table_of None None = None

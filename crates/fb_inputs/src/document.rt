@@ -8,7 +8,7 @@ ghost use Rattle.fb_inputs.specs.Documents as spec;
 
 use crate::beside::beside;
 use crate::text::name;
-use fb_types::deploy::Resource;
+use fb_types::deploy::ResourceEntry;
 use fb_types::items::Items;
 use fb_types::name::Name;
 use std::alloc::{AllocError, Global};
@@ -16,7 +16,7 @@ use toml::{Table, Value};
 
 /// A latency as it is written: from this tick on, so many ticks.
 #[derive(Clone, Copy)]
-pub struct Pair {
+pub struct LatencyDraft {
     pub start: i64,
     pub ticks: i64,
 }
@@ -26,13 +26,13 @@ pub struct Pair {
 pub struct LinkDraft {
     pub start: Name,
     pub end: Name,
-    pub table: Items<Pair>,
+    pub table: Items<LatencyDraft>,
 }
 
 /// The resources and links of a document.
 #[derive(Drop)]
 pub struct PlanDraft {
-    pub resources: Items<Resource>,
+    pub resources: Items<ResourceEntry>,
     pub links: Items<LinkDraft>,
 }
 
@@ -118,11 +118,11 @@ fn array_at<T: Piece>(
     }
 }
 
-impl Piece for Resource {
+impl Piece for ResourceEntry {
     ghost meaning = { spec.resource };
 
     #[tactic(auto, unfolding(crate::specs::Documents::resource))]
-    fn read(alloc: Global, value: &Value) -> Result<Option<Resource>, AllocError> {
+    fn read(alloc: Global, value: &Value) -> Result<Option<ResourceEntry>, AllocError> {
         let Some(keys) = value.as_table() else {
             return Ok(None);
         };
@@ -140,7 +140,7 @@ impl Piece for Resource {
         if count_of(keys) != 3 {
             return Ok(None);
         }
-        Ok(Some(Resource {
+        Ok(Some(ResourceEntry {
             device,
             name,
             instances,
@@ -148,11 +148,11 @@ impl Piece for Resource {
     }
 }
 
-impl Piece for Pair {
+impl Piece for LatencyDraft {
     ghost meaning = { spec.pair };
 
     #[tactic(auto, unfolding(crate::specs::Documents::pair_of))]
-    fn read(_alloc: Global, value: &Value) -> Result<Option<Pair>, AllocError> {
+    fn read(_alloc: Global, value: &Value) -> Result<Option<LatencyDraft>, AllocError> {
         let Some(values) = value.as_array() else {
             return Ok(None);
         };
@@ -165,22 +165,22 @@ impl Piece for Pair {
         let Some(ticks) = ticks.as_integer() else {
             return Ok(None);
         };
-        Ok(Some(Pair { start, ticks }))
+        Ok(Some(LatencyDraft { start, ticks }))
     }
 }
 
-fn constant(alloc: Global, value: &Value) -> Result<Option<Items<Pair>>, AllocError>
+fn constant(alloc: Global, value: &Value) -> Result<Option<Items<LatencyDraft>>, AllocError>
     ensures { IfOk result (λ r. r ≡ spec.constant (view value.now)) }
 {
     match value.as_integer() {
-        Some(ticks) => Ok(Some(Items::from_slice(alloc, &[Pair { start: 0, ticks }])?)),
+        Some(ticks) => Ok(Some(Items::from_slice(alloc, &[LatencyDraft { start: 0, ticks }])?)),
         None => Ok(None),
     }
 }
 
 /// The latencies of a link: the same at every tick, or a table.
 #[tactic(auto, unfolding(crate::specs::Documents::table_of))]
-fn table_of(alloc: Global, keys: &Table) -> Result<Option<Items<Pair>>, AllocError>
+fn table_of(alloc: Global, keys: &Table) -> Result<Option<Items<LatencyDraft>>, AllocError>
     ensures { IfOk result (λ r. r ≡ spec.table_of (get_member (codes "latency") (table_view keys.now)) (get_member (codes "latencies") (table_view keys.now))) }
 {
     match value_at(keys, "latency") {
@@ -189,7 +189,7 @@ fn table_of(alloc: Global, keys: &Table) -> Result<Option<Items<Pair>>, AllocErr
             None => constant(alloc, ticks),
         },
         None => match value_at(keys, "latencies") {
-            Some(table) => array::<Pair>(alloc, table),
+            Some(table) => array::<LatencyDraft>(alloc, table),
             None => Ok(None),
         },
     }
@@ -246,7 +246,7 @@ pub fn draft_of(alloc: Global, keys: &Table) -> Result<Option<PlanDraft>, AllocE
     ensures value { IfOk result (λ r. r ≡ spec.draft (table_view keys.now)) }
     ensures some { IfOk result (λ r. IfSome r (λ d. 1 ≤ length d.resources)) }
 {
-    let Some(resources) = array_at::<Resource>(alloc, keys, "resource")? else {
+    let Some(resources) = array_at::<ResourceEntry>(alloc, keys, "resource")? else {
         return Ok(None);
     };
     let Some((resources, links)) = beside(resources, links_at(alloc, keys))? else {

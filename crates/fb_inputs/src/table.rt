@@ -3,7 +3,7 @@
 ghost use Rattle.std.specs.Prelude.{◌≡◌, map, true, IfOk};
 ghost use Rattle.fb_inputs.specs.Deployments as spec;
 
-use crate::document::{LinkDraft, Pair};
+use crate::document::{LatencyDraft, LinkDraft};
 use fb_types::deploy::Link;
 use fb_types::items::Items;
 use fb_types::latency::{Entry, Latency};
@@ -24,7 +24,7 @@ fn is_latency(ticks: i64) -> bool
     1 <= ticks && ticks <= MOST_TICKS
 }
 
-fn has_latencies(table: &[Pair]) -> bool
+fn has_latencies(table: &[LatencyDraft]) -> bool
     ensures { result ≡ spec.has_latencies table.now }
 {
     table.iter().all(|p| is_latency(p.ticks))
@@ -37,7 +37,7 @@ fn is_after(last: u64, start: i64) -> bool
 }
 
 /// Whether the ticks rise, each from the one before it.
-fn rises_behind_zero(table: &[Pair]) -> bool
+fn rises_behind_zero(table: &[LatencyDraft]) -> bool
     ensures { result ≡ spec.rises_from 0 table.now }
 {
     let mut last = 0;
@@ -57,7 +57,7 @@ fn is_zero(start: i64) -> bool
 }
 
 /// Whether the ticks begin at 0 and rise.
-fn rises(table: &[Pair]) -> bool
+fn rises(table: &[LatencyDraft]) -> bool
     ensures { result ≡ spec.rises table.now }
 {
     match table {
@@ -66,7 +66,7 @@ fn rises(table: &[Pair]) -> bool
     }
 }
 
-fn is_short(table: &[Pair]) -> bool
+fn is_short(table: &[LatencyDraft]) -> bool
     ensures { result ≡ spec.is_short table.now }
 {
     table.len() <= MOST_ENTRIES
@@ -93,7 +93,7 @@ pub fn all_are_short(links: &[LinkDraft]) -> bool
     links.iter().all(|l| is_short(l.table.as_slice()))
 }
 
-fn entry_of(pair: Pair) -> Entry
+fn entry_of(pair: LatencyDraft) -> Entry
     ensures { result ≡ spec.entry pair }
 {
     Entry {
@@ -102,14 +102,14 @@ fn entry_of(pair: Pair) -> Entry
     }
 }
 
-fn entries_of(alloc: Global, table: &[Pair]) -> Result<Items<Entry>, AllocError>
+fn entries_of(alloc: Global, table: &[LatencyDraft]) -> Result<Items<Entry>, AllocError>
     ensures { IfOk result (λ t. t ≡ map spec.entry table.now) }
 {
     Ok(Items::from_vec(table.iter().map(|p| entry_of(*p)).collect(alloc)?))
 }
 
 /// The latency of a table that was judged.
-fn latency_of(alloc: Global, table: &[Pair]) -> Result<Latency, AllocError>
+fn latency_of(alloc: Global, table: &[LatencyDraft]) -> Result<Latency, AllocError>
     requires latencies { spec.has_latencies table.now ≡ true }
     requires rising { spec.rises table.now ≡ true }
     requires short { spec.is_short table.now ≡ true }

@@ -21,7 +21,7 @@ use Rattle.fb_types.specs.declared.deploy.Plan.{Plan}
 use Rattle.fb_types.proofs.Positions.{named-position, position_is, slice_get-Contains}
 use Rattle.fb_types.proofs.Elements.{Contains-cons_cases}
 use Rattle.fb_names.specs.declared.numbers.TypeNumber.{TypeNumber}
-use Rattle.fb_names.specs.declared.numbers.End.{End}
+use Rattle.fb_names.specs.declared.numbers.WireEnd.{WireEnd}
 use Rattle.fb_names.specs.declared.numbers.Wire.{Wire}
 use Rattle.fb_names.specs.declared.numbers.NetworkNumbers.{NetworkNumbers}
 use Rattle.fb_names.specs.declared.numbers.Resolved.{Resolved}
@@ -93,7 +93,7 @@ abbrev Finds : (Ports → List Variable) → Ports → Type 0
 Finds sort p = (e : PortName) (k : ℕ) → place_of (variable_names (sort p)) e.port ≡ Some k → type_at (sort p) k ≡ type_among p e
 
 -- the type at an end, among the variables of the one sort at a component, or of the other at the boundary
-abbrev end_type : Library → (component boundary : Ports → List Variable) → Option Ports → List TypeNumber → End → Option Ty
+abbrev end_type : Library → (component boundary : Ports → List Variable) → Option Ports → List TypeNumber → WireEnd → Option Ty
 end_type lib component around ports types e =
     elim e.component [
       | None ↦ option_and_then (λ p. type_at (around p) e.port) ports
@@ -101,21 +101,21 @@ end_type lib component around ports types e =
     ]
 
 boundary_end :
-    (lib : Library) (n : Placed) (types : List TypeNumber) (component around : Ports → List Variable) (e : PortName) (w : End)
+    (lib : Library) (n : Placed) (types : List TypeNumber) (component around : Ports → List Variable) (e : PortName) (w : WireEnd)
     → ((t : CompositeType) → n.0 ≡ Some t → Finds around t.ports)
     → option_and_then (λ t. end_at None (variable_names (around t.ports)) e) n.0 ≡ Some w
     → end_type lib component around (boundary n) types w ≡ option_and_then (λ t. type_among t.ports e) n.0
 boundary_end lib n types component around e w finds h =
     let t = and_then_parts (λ (t : CompositeType). end_at None (variable_names (around t.ports)) e) n.0 w h in
     let at = map_parts (λ (k : ℕ). record { component = None; port = k }) (place_of (variable_names (around t.0.ports)) e.port) w t.2 in
-    let P : End → Type 0 = λ w. end_type lib component around (boundary n) types w ≡ option_and_then (λ t. type_among t.ports e) n.0 in
+    let P : WireEnd → Type 0 = λ w. end_type lib component around (boundary n) types w ≡ option_and_then (λ t. type_among t.ports e) n.0 in
     subst P at.2
     (ap (λ (o : Option CompositeType). option_and_then (λ (p : Ports). type_at (around p) at.0) (option_map (λ t. t.ports) o)) t.1
     ∙ finds t.0 t.1 e at.0 at.1
     ∙ sym (ap (option_and_then (λ (t : CompositeType). type_among t.ports e)) t.1))
 
 component_end :
-    (lib : Library) (n : Placed) (x : NetworkNumbers) (component around : Ports → List Variable) (e : PortName) (c : Name) (w : End) → IsNetwork lib n x
+    (lib : Library) (n : Placed) (x : NetworkNumbers) (component around : Ports → List Variable) (e : PortName) (c : Name) (w : WireEnd) → IsNetwork lib n x
     → ((t : TypeNumber) (k : Kind) → kind_of_number lib t ≡ Some k → Finds component (ports_of k))
     → option_and_then (λ i. option_and_then (λ p. end_at (Some i) (variable_names (component p)) e) (ports_at_place lib n i)) (place_of (instance_names n.1) c) ≡ Some w
     → end_type lib component around (boundary n) x.types w
@@ -133,7 +133,7 @@ component_end lib n x component around e c w is finds h =
     let found : instance_in n.1 c ≡ slice_get n.1.instances i.0 =
     named-position (λ (i : Instance). i.name) c n.1.instances ∙ ap (option_and_then (slice_get n.1.instances)) i.1 in
     let stands : option_and_then (kind_of_instance lib) (instance_in n.1 c) ≡ Some k.0 = ap (option_and_then (kind_of_instance lib)) found ∙ k.1 in
-    let P : End → Type 0 = λ w. end_type lib component around (boundary n) x.types w ≡ option_and_then (λ k. type_among (ports_of k) e) (option_and_then (kind_of_instance lib) (instance_in n.1 c)) in
+    let P : WireEnd → Type 0 = λ w. end_type lib component around (boundary n) x.types w ≡ option_and_then (λ k. type_among (ports_of k) e) (option_and_then (kind_of_instance lib) (instance_in n.1 c)) in
     subst P at.2
     (ap (option_and_then (λ (t : TypeNumber). option_and_then (λ (kind : Kind). type_at (component (ports_of kind)) at.0) (kind_of_number lib t))) t.1
     ∙ ap (option_and_then (λ (kind : Kind). type_at (component (ports_of kind)) at.0)) kind
@@ -141,7 +141,7 @@ component_end lib n x component around e c w is finds h =
     ∙ sym (ap (option_and_then (λ (k : Kind). type_among (ports_of k) e)) stands))
 
 end_by_number :
-    (lib : Library) (n : Placed) (x : NetworkNumbers) (component around : Ports → List Variable) (e : PortName) (w : End) → IsNetwork lib n x
+    (lib : Library) (n : Placed) (x : NetworkNumbers) (component around : Ports → List Variable) (e : PortName) (w : WireEnd) → IsNetwork lib n x
     → ((t : TypeNumber) (k : Kind) → kind_of_number lib t ≡ Some k → Finds component (ports_of k))
     → ((t : CompositeType) → n.0 ≡ Some t → Finds around t.ports)
     → end_number lib n (λ p. variable_names (component p)) (λ p. variable_names (around p)) e ≡ Some w
@@ -149,7 +149,7 @@ end_by_number :
 end_by_number lib n x component around e w is finds finds_around h =
     elim e.component as
     (λ (o : Option Name).
-    elim o as (λ _. Option End) [
+    elim o as (λ _. Option WireEnd) [
       | None ↦ option_and_then (λ t. end_at None (variable_names (around t.ports)) e) n.0
       | Some c ↦ option_and_then (λ i. option_and_then (λ p. end_at (Some i) (variable_names (component p)) e) (ports_at_place lib n i)) (place_of (instance_names n.1) c)
     ] ≡ Some w
@@ -164,10 +164,10 @@ end_by_number lib n x component around e w is finds finds_around h =
 
 -- ---- Networks
 
-both_parts : (a b : Option End) (w : Wire) → both_ends a b ≡ Some w → (a ≡ Some w.from) × (b ≡ Some w.to)
+both_parts : (a b : Option WireEnd) (w : Wire) → both_ends a b ≡ Some w → (a ≡ Some w.from) × (b ≡ Some w.to)
 both_parts a b w h =
-    let x = and_then_parts (λ (x : End). option_map (λ (y : End). record { from = x; to = y }) b) a w h in
-    let y = map_parts (λ (y : End). record { from = x.0; to = y }) b w x.2 in
+    let x = and_then_parts (λ (x : WireEnd). option_map (λ (y : WireEnd). record { from = x; to = y }) b) a w h in
+    let y = map_parts (λ (y : WireEnd). record { from = x.0; to = y }) b w x.2 in
     (x.1 ∙ ap (λ (w : Wire). Some w.from) y.2, y.1 ∙ ap (λ (w : Wire). Some w.to) y.2)
 
 -- the types at the two ends of a connection

@@ -12,7 +12,7 @@ use Rattle.std.proofs.lemmas.Bool.{false_from_ne_true, true≢false}
 use Rattle.fb_types.specs.Names.{Name, same_name}
 use Rattle.fb_types.specs.Blocks.{named, among}
 use Rattle.fb_types.specs.Repeated.{Twice}
-use Rattle.fb_types.specs.declared.deploy.Resource.{Resource}
+use Rattle.fb_types.specs.declared.deploy.ResourceEntry.{ResourceEntry}
 use Rattle.fb_names.specs.Places.{place_in}
 use Rattle.fb_types.proofs.LoopSteps.{more_of_part}
 use Rattle.fb_types.proofs.Positions.{position-cons}
@@ -28,7 +28,7 @@ abbrev pub at_number : ℕ → List Name → List (Name × ℕ)
 at_number k ns = map (λ n. (n, k)) ns
 
 -- the names of the resources from the one with a number on
-abbrev pub holdings : ℕ → List Resource → List (Name × ℕ)
+abbrev pub holdings : ℕ → List ResourceEntry → List (Name × ℕ)
 holdings k [] = []
 holdings k (r ∷ rs) = at_number k r.instances ++ holdings (suc k) rs
 
@@ -43,7 +43,7 @@ or_else None o = o
 or_else (Some x) o = Some x
 
 holdings-push :
-    (k : ℕ) (rs : List Resource) (r : Resource) → holdings k (rs ++ r ∷ []) ≡ holdings k rs ++ at_number (k + length rs) r.instances
+    (k : ℕ) (rs : List ResourceEntry) (r : ResourceEntry) → holdings k (rs ++ r ∷ []) ≡ holdings k rs ++ at_number (k + length rs) r.instances
 holdings-push k [] r =
     let e : k ≡ k + 0 = omega arith in append-nil (at_number k r.instances) ∙ ap (λ n. at_number n r.instances) e
 holdings-push k (s ∷ rs) r =
@@ -55,7 +55,7 @@ names-at_number : (k : ℕ) (ns : List Name) → names_of (at_number k ns) ≡ n
 names-at_number k [] = refl
 names-at_number k (n ∷ ns) = ap (λ ms. n ∷ ms) (names-at_number k ns)
 
-names-holdings : (k : ℕ) (rs : List Resource) → names_of (holdings k rs) ≡ flat_map (λ r. r.instances) rs
+names-holdings : (k : ℕ) (rs : List ResourceEntry) → names_of (holdings k rs) ≡ flat_map (λ r. r.instances) rs
 names-holdings k [] = refl
 names-holdings k (r ∷ rs) =
     map-append (λ (p : Name × ℕ). p.0) (at_number k r.instances) (holdings (suc k) rs)
@@ -81,10 +81,10 @@ number_in-at k (m ∷ ms) n =
 
 -- the first resource that lists a name
 number_in-holdings :
-    (k : ℕ) (rs : List Resource) (n : Name) → number_in (holdings k rs) n ≡ option_map (λ i. i + k) (position (λ r. among r.instances n) rs)
+    (k : ℕ) (rs : List ResourceEntry) (n : Name) → number_in (holdings k rs) n ≡ option_map (λ i. i + k) (position (λ r. among r.instances n) rs)
 number_in-holdings k [] n = refl
 number_in-holdings k (r ∷ rs) n =
-    let p : Resource → Bool = λ r. among r.instances n in
+    let p : ResourceEntry → Bool = λ r. among r.instances n in
     number_in-append (at_number k r.instances) (holdings (suc k) rs) n
     ∙ ap (λ o. or_else o (number_in (holdings (suc k) rs) n)) (number_in-at k r.instances n)
     ∙ ap (λ o. or_else (cond (p r) (Some k) None) o) (number_in-holdings (suc k) rs n)
@@ -159,11 +159,11 @@ held_push ps number m m' k held new updates =
 -- ---- Steps of the loops
 
 -- the names so far: all of the resources before one, and some of this one's
-abbrev pub so_far : List Resource → ℕ → List Name → List (Name × ℕ)
+abbrev pub so_far : List ResourceEntry → ℕ → List Name → List (Name × ℕ)
 so_far rs number ns = holdings 0 (take number rs) ++ at_number number ns
 
 pub held_more :
-    (rs : List Resource) (number : ℕ) (ns : List Name) (j : ℕ) (n : Name) (m m' : tree.BTreeMap (Bor Name) ℕ) (k : Bor Name) (o : Option ℕ)
+    (rs : List ResourceEntry) (number : ℕ) (ns : List Name) (j : ℕ) (n : Name) (m m' : tree.BTreeMap (Bor Name) ℕ) (k : Bor Name) (o : Option ℕ)
     → j < length ns → n ≡ get_or ns j n → k.now ≡ n → IsHeld (so_far rs number (take j ns)) m → o ≡ tree.get name_cmp m k → is_some o ≡ false
     → ((q : Bor Name) → tree.get name_cmp m' q ≡ cond (is_eq (name_cmp k q)) (Some number) (tree.get name_cmp m q))
     → IsHeld (so_far rs number (take (j + 1) ns)) m'
@@ -176,30 +176,30 @@ held_more rs number ns j n m m' k o h e g held old new updates =
     (held_push (so_far rs number (take j ns)) number m m' k held (sym old ∙ none_from_is_some o new) updates))
 
 resources_more :
-    (rs : List Resource) (number : ℕ) (r : Resource) → number < length rs → r ≡ get_or rs number r
+    (rs : List ResourceEntry) (number : ℕ) (r : ResourceEntry) → number < length rs → r ≡ get_or rs number r
     → holdings 0 (take (number + 1) rs) ≡ so_far rs number r.instances
 resources_more rs number r h e =
     let counted : 0 + length (take number rs) ≡ number = omega (arith, length-take number rs) in
-    ap (holdings 0) (take_more rs number r h ∙ ap (λ (r : Resource). take number rs ++ r ∷ []) (sym e))
+    ap (holdings 0) (take_more rs number r h ∙ ap (λ (r : ResourceEntry). take number rs ++ r ∷ []) (sym e))
     ∙ holdings-push 0 (take number rs) r
     ∙ ap (λ n. holdings 0 (take number rs) ++ at_number n r.instances) counted
 
 -- all names of a resource
 pub held_resource :
-    (rs : List Resource) (number : ℕ) (r : Resource) (items : List Name) (j : ℕ) (m : tree.BTreeMap (Bor Name) ℕ) → number < length rs → r ≡ get_or rs number r
+    (rs : List ResourceEntry) (number : ℕ) (r : ResourceEntry) (items : List Name) (j : ℕ) (m : tree.BTreeMap (Bor Name) ℕ) → number < length rs → r ≡ get_or rs number r
     → items ≡ r.instances → length items ≤ j → IsHeld (so_far rs number (take j items)) m → IsHeld (holdings 0 (take (number + 1) rs)) m
 held_resource rs number r items j m h e same ended held =
     let P : List (Name × ℕ) → Type 0 = λ ps. IsHeld ps m in
     subst P (ap (so_far rs number) (take_all j items ended ∙ same) ∙ sym (resources_more rs number r h e)) held
 
 -- a resource before its first name
-pub held_before : (rs : List Resource) (number : ℕ) (m : tree.BTreeMap (Bor Name) ℕ) → IsHeld (holdings 0 (take number rs)) m → IsHeld (so_far rs number []) m
+pub held_before : (rs : List ResourceEntry) (number : ℕ) (m : tree.BTreeMap (Bor Name) ℕ) → IsHeld (holdings 0 (take number rs)) m → IsHeld (so_far rs number []) m
 held_before rs number m held =
     let P : List (Name × ℕ) → Type 0 = λ ps. IsHeld ps m in subst P (sym (append-nil (holdings 0 (take number rs)))) held
 
 -- what stands twice up to a name stands twice in all
 pub held_twice :
-    (rs : List Resource) (number : ℕ) (r : Resource) (items : List Name) (j : ℕ) (n : Name) (m : tree.BTreeMap (Bor Name) ℕ) (k : Bor Name) (o : Option ℕ)
+    (rs : List ResourceEntry) (number : ℕ) (r : ResourceEntry) (items : List Name) (j : ℕ) (n : Name) (m : tree.BTreeMap (Bor Name) ℕ) (k : Bor Name) (o : Option ℕ)
     → number < length rs → r ≡ get_or rs number r → items ≡ r.instances → j < length items → n ≡ get_or items j n → k.now ≡ n
     → IsHeld (so_far rs number (take j items)) m → o ≡ tree.get name_cmp m k → is_some o ≡ true → Twice (flat_map (λ r. r.instances) rs)
 held_twice rs number r items j n m k o hr er same h e g held old found =
@@ -222,17 +222,17 @@ held_twice rs number r items j n m k o hr er same h e g held old found =
     append_assoc before (take (j + 1) items) (drop (j + 1) items)
     ∙ ap (λ ns. before ++ ns) (take-append-drop (j + 1) items ∙ same)
     ∙ ap (λ ns. before ++ ns) (sym (append-nil r.instances))
-    ∙ sym (ap (flat_map (λ (r : Resource). r.instances)) (take_more rs number r hr ∙ ap (λ (r : Resource). take number rs ++ r ∷ []) (sym er))
-    ∙ flat_map-append (λ (r : Resource). r.instances) (take number rs) (r ∷ [])) in
+    ∙ sym (ap (flat_map (λ (r : ResourceEntry). r.instances)) (take_more rs number r hr ∙ ap (λ (r : ResourceEntry). take number rs ++ r ∷ []) (sym er))
+    ∙ flat_map-append (λ (r : ResourceEntry). r.instances) (take number rs) (r ∷ [])) in
     subst T
-    (sym (flat_map-append (λ (r : Resource). r.instances) (take (number + 1) rs) (drop (number + 1) rs)) ∙ ap (flat_map (λ (r : Resource). r.instances)) (take-append-drop (number + 1) rs))
+    (sym (flat_map-append (λ (r : ResourceEntry). r.instances) (take (number + 1) rs) (drop (number + 1) rs)) ∙ ap (flat_map (λ (r : ResourceEntry). r.instances)) (take-append-drop (number + 1) rs))
     (Twice-append_left (flat_map (λ r. r.instances) (take (number + 1) rs)) (flat_map (λ r. r.instances) (drop (number + 1) rs)) (subst T whole of_resource))
 
 option_map-zero : (o : Option ℕ) → option_map (λ i. i + 0) o ≡ o
 option_map-zero None = refl
 option_map-zero (Some i) = let e : i + 0 ≡ i = omega arith in ap (λ i. Some i) e
 
-pub listing_from_held : (rs : List Resource) (m : tree.BTreeMap (Bor Name) ℕ) → IsHeld (holdings 0 rs) m → IsListing rs m
+pub listing_from_held : (rs : List ResourceEntry) (m : tree.BTreeMap (Bor Name) ℕ) → IsHeld (holdings 0 rs) m → IsListing rs m
 listing_from_held rs m held = record {
   once = let P : List Name → Type 0 = λ ns. ¬ (Twice ns) in subst P (names-holdings 0 rs) held.once;
   place = λ n. held.place n ∙ number_in-holdings 0 rs n ∙ option_map-zero (position (λ r. among r.instances n) rs);

@@ -15,7 +15,7 @@ use Rattle.fb_types.specs.Mapped.{NotMapped, mapped}
 use Rattle.fb_types.specs.declared.library.Library.{Library}
 use Rattle.fb_types.specs.declared.library.Instance.{Instance}
 use Rattle.fb_types.specs.declared.deploy.Plan.{Plan}
-use Rattle.fb_types.specs.declared.deploy.Resource.{Resource}
+use Rattle.fb_types.specs.declared.deploy.ResourceEntry.{ResourceEntry}
 use Rattle.fb_names.specs.Places.{place_in}
 use Rattle.fb_types.proofs.Positions.{is_some-position}
 use Rattle.fb_types.proofs.NameLaws.{contains_from_any, any_from_contains}
@@ -58,13 +58,13 @@ all_mapped lib plan h once =
 
 -- ---- Resources list what they hold
 
-any_listed : (rs : List Resource) (n : Name) → list_any (λ r. among r.instances n) rs ≡ list_any (same_name n) (flat_map (λ r. r.instances) rs)
+any_listed : (rs : List ResourceEntry) (n : Name) → list_any (λ r. among r.instances n) rs ≡ list_any (same_name n) (flat_map (λ r. r.instances) rs)
 any_listed [] n = refl
 any_listed (r ∷ rs) n =
     ap (λ b. among r.instances n || b) (any_listed rs n) ∙ sym (list_any-append (same_name n) r.instances (flat_map (λ r. r.instances) rs))
 
 -- the map has a name exactly where a resource lists it
-found_is : (rs : List Resource) (m : tree.BTreeMap (Bor Name) ℕ) (n : Name) → IsListing rs m → is_some (place_in m n) ≡ list_any (same_name n) (flat_map (λ r. r.instances) rs)
+found_is : (rs : List ResourceEntry) (m : tree.BTreeMap (Bor Name) ℕ) (n : Name) → IsListing rs m → is_some (place_in m n) ≡ list_any (same_name n) (flat_map (λ r. r.instances) rs)
 found_is rs m n listing = ap is_some (listing.place n) ∙ is_some-position (λ r. among r.instances n) rs ∙ any_listed rs n
 
 listed_all : (lib : Library) (plan : Plan) → plan.holds_all ≡ false → mapped lib plan ≡ flat_map (λ r. r.instances) plan.resources
@@ -124,21 +124,21 @@ not_listed lib plan m i h listing c absent =
 
 -- the same, at an element of the loop
 pub not_listed_at :
-    (lib : Library) (plan : Plan) (m : tree.BTreeMap (Bor Name) ℕ) (is : List Instance) (k : ℕ) (i : Instance) (q : Bor Name) (b : Bool) (rs : List Resource)
+    (lib : Library) (plan : Plan) (m : tree.BTreeMap (Bor Name) ℕ) (is : List Instance) (k : ℕ) (i : Instance) (q : Bor Name) (b : Bool) (rs : List ResourceEntry)
     → plan.holds_all ≡ false → rs ≡ plan.resources → IsListing rs m → is ≡ lib.application.network.instances → k < length is → i ≡ get_or is k i
     → q.now ≡ i.name → b ≡ is_some (tree.get name_cmp m q) → b ≡ false → NotMapped lib plan
 not_listed_at lib plan m is k i q b rs h all listing own kh e g found absent =
     let there : Contains lib.application.network.instances i =
     subst (λ (is : List Instance). Contains is i) own (subst (λ (j : Instance). Contains is j) (sym e) (Contains-get_or is k i kh)) in
     let lacks : is_some (place_in m i.name) ≡ false = ap (λ n. is_some (place_in m n)) (sym g) ∙ sym found ∙ absent in
-    let L : List Resource → Type 0 = λ rs. IsListing rs m in
+    let L : List ResourceEntry → Type 0 = λ rs. IsListing rs m in
     not_listed lib plan m i h (subst L all listing) there lacks
 
 pub listed_found :
     (m : tree.BTreeMap (Bor Name) ℕ) (n : Name) (q : Bor Name) (b : Bool) → q.now ≡ n → b ≡ is_some (tree.get name_cmp m q) → b ≡ true → is_some (place_in m n) ≡ true
 listed_found m n q b g found there = ap (λ n. is_some (place_in m n)) (sym g) ∙ sym found ∙ there
 
-pub listing_some : (rs : List Resource) (o : Option (tree.BTreeMap (Bor Name) ℕ)) (m : tree.BTreeMap (Bor Name) ℕ)
+pub listing_some : (rs : List ResourceEntry) (o : Option (tree.BTreeMap (Bor Name) ℕ)) (m : tree.BTreeMap (Bor Name) ℕ)
     → MatchOption o (Twice (flat_map (λ r. r.instances) rs)) (IsListing rs) → o ≡ Some m → IsListing rs m
 listing_some rs o m h e =
     let M : Option (tree.BTreeMap (Bor Name) ℕ) → Type 0 = λ o. MatchOption o (Twice (flat_map (λ r. r.instances) rs)) (IsListing rs) in subst M e h

@@ -17,7 +17,7 @@ use Rattle.fb_types.specs.declared.library.Ports.{Ports}
 use Rattle.fb_names.specs.Numbers.{IsNetwork, type_number, kind_of_number, place_of, ports_at_place, end_at, end_number, event_wire, data_wire}
 use Rattle.fb_names.specs.declared.numbers.TypeNumber.{TypeNumber}
 use Rattle.fb_names.specs.declared.numbers.TypeNumber.TheVariants as number
-use Rattle.fb_names.specs.declared.numbers.End.{End}
+use Rattle.fb_names.specs.declared.numbers.WireEnd.{WireEnd}
 use Rattle.fb_names.specs.declared.numbers.Wire.{Wire}
 use Rattle.fb_names.specs.declared.numbers.NetworkNumbers.{NetworkNumbers}
 use Rattle.fb_names.proofs.Each.{each_at}
@@ -42,7 +42,7 @@ kind_of_type lib n t h =
 -- ---- Ends of connections
 
 -- an end of a connection of the application, with what stands there
-pub record IsKnown (lib : Library) (component : Ports → List Name) (p : PortName) (e : End) : Type 0 where
+pub record IsKnown (lib : Library) (component : Ports → List Name) (p : PortName) (e : WireEnd) : Type 0 where
   pub name : Name
   pub place : ℕ
   pub instance : Instance
@@ -55,20 +55,20 @@ pub record IsKnown (lib : Library) (component : Ports → List Name) (p : PortNa
   pub port_is : place_of (component (ports_of kind)) p.port ≡ Some port
   pub is : record { component = Some place; port = port } ≡ e
 
-abbrev the_end : Option ℕ → ℕ → End
+abbrev the_end : Option ℕ → ℕ → WireEnd
 the_end c j = record { component = c; port = j }
 
-abbrev wire : End → End → Wire
+abbrev wire : WireEnd → WireEnd → Wire
 wire y z = record { from = y; to = z }
 
 pub end_known :
-    (lib : Library) (component boundary : Ports → List Name) (p : PortName) (e : End)
+    (lib : Library) (component boundary : Ports → List Name) (p : PortName) (e : WireEnd)
     → end_number lib (None, lib.application.network) component boundary p ≡ Some e → IsKnown lib component p e
 end_known lib component boundary p e h =
     let is = lib.application.network.instances in
-    let at_place : ℕ → Option End = λ i. option_and_then (λ ps. end_at (Some i) (component ps) p) (ports_at_place lib (None, lib.application.network) i) in
+    let at_place : ℕ → Option WireEnd = λ i. option_and_then (λ ps. end_at (Some i) (component ps) p) (ports_at_place lib (None, lib.application.network) i) in
     elim p.component as (λ o. p.component ≡ o
-    → elim o as (λ _. Option End) [ None ↦ None | Some c ↦ option_and_then at_place (place_of (instance_names lib.application.network) c) ] ≡ Some e → IsKnown lib component p e) [
+    → elim o as (λ _. Option WireEnd) [ None ↦ None | Some c ↦ option_and_then at_place (place_of (instance_names lib.application.network) c) ] ≡ Some e → IsKnown lib component p e) [
       | None ↦ λ o h. absurd (cc)
       | Some c ↦ λ o h.
           let a = and_then_parts at_place (place_of (instance_names lib.application.network) c) e h in
@@ -94,7 +94,7 @@ end_known lib component boundary p e h =
 
 -- the port that the names stand for
 pub known_port :
-    (lib : Library) (component : Ports → List Name) (p : PortName) (e : End) (k : IsKnown lib component p e) → port_in [] p ≡ record { at = k.name ∷ []; name = p.port }
+    (lib : Library) (component : Ports → List Name) (p : PortName) (e : WireEnd) (k : IsKnown lib component p e) → port_in [] p ≡ record { at = k.name ∷ []; name = p.port }
 known_port lib component p e k =
     ap (λ o. elim o as (λ _. Port) [ None ↦ record { at = []; name = p.port } | Some c ↦ record { at = c ∷ []; name = p.port } ]) k.component_is
 
@@ -102,7 +102,7 @@ abbrev with_of : Option EventPort → List Name
 with_of o = elim o [ None ↦ [] | Some p ↦ p.with ]
 
 -- the output event at an end
-abbrev output_of : Library → NetworkNumbers → End → Option EventPort
+abbrev output_of : Library → NetworkNumbers → WireEnd → Option EventPort
 output_of lib x e =
     option_and_then (λ i. option_and_then (λ t. option_and_then (λ k. slice_get (ports_of k).event_outputs e.port) (kind_of_number lib t)) (slice_get x.types i)) e.component
 
@@ -118,8 +118,8 @@ withs_known lib x i c network h =
     let w = each_at (event_wire lib (None, net)) net.event_connections x.event_wires i c network.event_wires h in
     let from_end = end_number lib (None, net) event_outs event_ins c.from in
     let to_end = end_number lib (None, net) event_ins event_outs c.to in
-    let a = and_then_parts (λ (y : End). option_map (λ (z : End). wire y z) to_end) from_end w.0 w.2 in
-    let b = map_parts (λ (z : End). wire a.0 z) to_end w.0 a.2 in
+    let a = and_then_parts (λ (y : WireEnd). option_map (λ (z : WireEnd). wire y z) to_end) from_end w.0 w.2 in
+    let b = map_parts (λ (z : WireEnd). wire a.0 z) to_end w.0 a.2 in
     let k = end_known lib event_outs event_ins c.from a.0 a.1 in
     let from : w.0.from ≡ record { component = Some k.place; port = k.port } = sym (ap (λ (y : Wire). y.from) b.2) ∙ sym k.is in
     let t = each_at (λ (j : Instance). type_number lib j.block_type) net.instances x.types k.place k.instance network.types k.stands in
@@ -146,12 +146,12 @@ withs_read lib x cs i c network all h e =
 -- the end at which a data connection begins
 pub data_known :
     (lib : Library) (x : NetworkNumbers) (c : Connection) → IsNetwork lib (None, lib.application.network) x
-    → Contains lib.application.network.data_connections c → (e : End) × IsKnown lib data_outs c.from e
+    → Contains lib.application.network.data_connections c → (e : WireEnd) × IsKnown lib data_outs c.from e
 data_known lib x c network there =
     let net = lib.application.network in
     let w = each_at (data_wire lib (None, net)) net.data_connections x.data_wires there.0 c network.data_wires
     (slice_get_read net.data_connections (length net.data_connections) there.0 c refl there.1 (sym there.2)) in
     let from_end = end_number lib (None, net) data_outs data_ins c.from in
     let to_end = end_number lib (None, net) data_ins data_outs c.to in
-    let a = and_then_parts (λ (y : End). option_map (λ (z : End). wire y z) to_end) from_end w.0 w.2 in
+    let a = and_then_parts (λ (y : WireEnd). option_map (λ (z : WireEnd). wire y z) to_end) from_end w.0 w.2 in
     (a.0, end_known lib data_outs data_ins c.from a.0 a.1)

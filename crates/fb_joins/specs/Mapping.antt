@@ -10,13 +10,13 @@ use Rattle.fb_types.specs.Mapped.{NotMapped}
 use Rattle.fb_types.specs.declared.library.Library.{Library}
 use Rattle.fb_types.specs.declared.library.PortName.{PortName}
 use Rattle.fb_types.specs.declared.deploy.Plan.{Plan}
-use Rattle.fb_types.specs.declared.deploy.Resource.{Resource}
+use Rattle.fb_types.specs.declared.deploy.ResourceEntry.{ResourceEntry}
 use Rattle.fb_names.specs.Places.{place_in}
 use Rattle.fb_joins.specs.declared.mapping.Mapping.{Mapping}
 use Rattle.fb_joins.specs.declared.mapping.Mapping.TheVariants.{All, Listed}
 
 -- No name is listed twice, and the map gives the first resource that lists a name.
-pub record IsListing (resources : List Resource) (m : BTreeMap (Bor Name) ℕ) : Type 0 where
+pub record IsListing (resources : List ResourceEntry) (m : BTreeMap (Bor Name) ℕ) : Type 0 where
   pub once : ¬ (Twice (flat_map (λ r. r.instances) resources))
   pub place : (n : Name) → place_in m n ≡ position (λ r. among r.instances n) resources
 

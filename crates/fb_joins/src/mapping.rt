@@ -5,7 +5,7 @@ ghost use Rattle.fb_types.specs.Repeated.{NameTwice, Twice};
 ghost use Rattle.fb_types.specs.Mapped.{NotMapped};
 ghost use Rattle.fb_joins.specs.Mapping.{IsMapping, IsListing, holder_in, resource_in};
 
-use fb_types::deploy::{Plan, Resource};
+use fb_types::deploy::{Plan, ResourceEntry};
 use fb_types::items::Items;
 use fb_types::library::{Library, PortName};
 use std::alloc::{AllocError, Global};
@@ -26,7 +26,7 @@ pub enum Mapping<'a> {
 /// The resource that lists each name, or `None` where a name is listed twice.
 fn listing_of<'a>(
     alloc: Global,
-    resources: &'a [Resource],
+    resources: &'a [ResourceEntry],
 ) -> Result<Option<Listing<'a>>, AllocError>
     ensures { IfOk result (λ o. MatchOption o (Twice (flat_map (λ r. r.instances) resources.now)) (IsListing resources.now)) }
 {

@@ -1,37 +1,23 @@
 //! E24: ports to which two data connections lead.
 
 ghost use Rattle.std.specs.Prelude.{◌≡◌, ◌↔◌, [], Contains, IfOk, IsTrue};
-ghost use Rattle.fb_types.specs.Flat.{port_in};
 ghost use Rattle.fb_types.specs.Joined.{TwoSources};
 ghost use Rattle.fb_types.specs.Repeated.{Twice};
 ghost use Rattle.fb_types.specs.declared.library.BlockType.{BlockType};
-ghost use Rattle.fb_names.specs.Ends.{end_port};
 ghost use Rattle.fb_joins.specs.Sources.{TwiceInside, targets};
 
+use fb_names::repeats::{EndNames, end_names};
 use fb_types::library::{BlockType, Connection, Library};
 use std::alloc::{AllocError, Global};
 use std::collections::BTreeSet;
-
-/// The names at the end of a connection: the component, if there is one, and the port.
-type End<'a> = (Option<&'a [u8]>, &'a [u8]);
-
-fn target_of(connection: &Connection) -> End<'_>
-    ensures { end_port result ≡ port_in [] connection.now.to }
-{
-    let end = &connection.to;
-    match &end.component {
-        Some(component) => (Some(component.as_bytes()), end.port.as_bytes()),
-        None => (None, end.port.as_bytes()),
-    }
-}
 
 /// Whether two connections lead to one port.
 fn has_target_twice(alloc: Global, connections: &[Connection]) -> Result<bool, AllocError>
     ensures { IfOk result (λ b. IsTrue b ↔ Twice (targets connections.now)) }
 {
-    let mut seen: BTreeSet<End, Global> = BTreeSet::new(alloc);
+    let mut seen: BTreeSet<EndNames, Global> = BTreeSet::new(alloc);
     for connection in connections {
-        if !seen.insert(target_of(connection))? {
+        if !seen.insert(end_names(&connection.to))? {
             return Ok(true);
         }
     }

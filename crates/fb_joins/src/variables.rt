@@ -5,7 +5,7 @@ ghost use Rattle.std.specs.Option.{option_copied};
 ghost use Rattle.fb_types.specs.Blocks as blocks;
 ghost use Rattle.fb_joins.specs.Variables as spec;
 
-use fb_names::numbers::{End, TypeNumber};
+use fb_names::numbers::{TypeNumber, WireEnd};
 use fb_types::event_kind::EventKind;
 use fb_types::library::{Library, Ports, Variable};
 use fb_types::value::Ty;
@@ -79,7 +79,7 @@ pub fn source_type(
     library: &Library,
     boundary: Option<&Ports>,
     types: &[TypeNumber],
-    end: End,
+    end: WireEnd,
 ) -> Option<Ty>
     ensures { result ≡ spec.source_type library.now (option_copied boundary.entry) types.now end }
 {
@@ -94,7 +94,7 @@ pub fn target_type(
     library: &Library,
     boundary: Option<&Ports>,
     types: &[TypeNumber],
-    end: End,
+    end: WireEnd,
 ) -> Option<Ty>
     ensures { result ≡ spec.target_type library.now (option_copied boundary.entry) types.now end }
 {

@@ -23,7 +23,7 @@ use Rattle.fb_names.specs.Numbers.{each_or_none, place_of, type_number, kind_of_
 use Rattle.fb_names.specs.Scopes.{AreTyped, component_number}
 use Rattle.fb_names.specs.Sorts.{ArePlacesOf}
 use Rattle.fb_names.specs.Types.{HasTypes, port_number, ports_of_block}
-use Rattle.fb_names.specs.declared.numbers.End.{End}
+use Rattle.fb_names.specs.declared.numbers.WireEnd.{WireEnd}
 use Rattle.fb_names.specs.declared.numbers.TypeNumber.{TypeNumber}
 use Rattle.fb_names.specs.declared.numbers.TypeNumber.TheVariants as number
 use Rattle.fb_types.proofs.TwiceLaws.{once_right}
@@ -193,7 +193,7 @@ no_parameters lib i h =
 
 -- ---- Ends at components
 
-abbrev pub end_there : ℕ → Option ℕ → Option End
+abbrev pub end_there : ℕ → Option ℕ → Option WireEnd
 end_there i o = option_map (λ k. record { component = Some i; port = k }) o
 
 port_there :

@@ -21,7 +21,7 @@ use Rattle.fb_types.proofs.Positions.{named-position, is_some-position}
 use Rattle.fb_types.proofs.NameLaws.{any_from_contains, contains_from_any, any-named}
 use Rattle.fb_names.specs.Numbers.{IsNetwork, each_or_none, place_of, type_number, end_at, end_number, both_ends, event_wire, data_wire, parameter_numbers, ports_at_place}
 use Rattle.fb_names.specs.Unknown.{NetworkUnknown, network_wanted}
-use Rattle.fb_names.specs.declared.numbers.End.{End}
+use Rattle.fb_names.specs.declared.numbers.WireEnd.{WireEnd}
 use Rattle.fb_names.specs.declared.numbers.NetworkNumbers.{NetworkNumbers}
 use Rattle.fb_names.specs.declared.numbers.TypeNumber.{TypeNumber}
 use Rattle.fb_names.specs.declared.numbers.TypeNumber.TheVariants as number
@@ -132,7 +132,7 @@ at_kind :
 at_kind component e i None = refl
 at_kind component e i (Some k) =
     sym (is_some-position (same_name e.port) (component (ports_of k)))
-    ∙ is_some-option_map (λ (f : ℕ). let r : End = record { component = Some i; port = f } in r) (place_of (component (ports_of k)) e.port)
+    ∙ is_some-option_map (λ (f : ℕ). let r : WireEnd = record { component = Some i; port = f } in r) (place_of (component (ports_of k)) e.port)
 
 abbrev found : Library → (Ports → List Name) → PortName → Option Instance → Bool
 found lib component e o = elim (option_and_then (kind_of_instance lib) o) [ None ↦ false | Some k ↦ among (component (ports_of k)) e.port ]
@@ -156,7 +156,7 @@ boundary_known :
 boundary_known boundary e None = refl
 boundary_known boundary e (Some t) =
     sym (is_some-position (same_name e.port) (boundary t.ports))
-    ∙ is_some-option_map (λ (f : ℕ). let r : End = record { component = None; port = f } in r) (place_of (boundary t.ports) e.port)
+    ∙ is_some-option_map (λ (f : ℕ). let r : WireEnd = record { component = None; port = f } in r) (place_of (boundary t.ports) e.port)
 
 -- an end stands for a port where it has a number
 end_known :
@@ -168,7 +168,7 @@ end_known lib n component boundary e =
       | None ↦ elim n.0 [ None ↦ false | Some t ↦ among (boundary t.ports) e.port ]
       | Some c ↦ found lib component e (instance_in n.1 c)
     ])
-    ≡ is_some (elim o as (λ _. Option End) [
+    ≡ is_some (elim o as (λ _. Option WireEnd) [
       | None ↦ option_and_then (λ t. end_at None (boundary t.ports) e) n.0
       | Some c ↦ option_and_then (λ i. option_and_then (λ p. end_at (Some i) (component p) e) (ports_at_place lib n i)) (place_of (instance_names n.1) c)
     ])) [
@@ -176,7 +176,7 @@ end_known lib n component boundary e =
       | Some c ↦ component_known lib n component c e
     ]
 
-both_known : (a b : Option End) → (is_some a && is_some b) ≡ is_some (both_ends a b)
+both_known : (a b : Option WireEnd) → (is_some a && is_some b) ≡ is_some (both_ends a b)
 both_known None b = refl
 both_known (Some x) None = refl
 both_known (Some x) (Some y) = refl

@@ -15,7 +15,7 @@ use Rattle.fb_types.specs.declared.library.BlockType.TheVariants as block
 use Rattle.fb_types.specs.declared.library.Library.{Library}
 use Rattle.fb_types.specs.declared.deploy.Plan.{Plan}
 use Rattle.fb_types.specs.declared.deploy.Link.{Link}
-use Rattle.fb_types.specs.declared.deploy.Resource.{Resource}
+use Rattle.fb_types.specs.declared.deploy.ResourceEntry.{ResourceEntry}
 use Rattle.fb_names.specs.Places.{IsIndex, place_in}
 use Rattle.fb_names.specs.Parts.{ArePartsKnown}
 use Rattle.fb_types.proofs.Positions.{is_some-position}
@@ -143,8 +143,8 @@ of_links plan = flat_map (λ l. all_of (l.from ∷ l.to ∷ []) (resource_names_
 
 lists_met : (lib : Library) (plan : Plan) → list_all met (of_lists lib plan) ≡ is_some (each_or_none (held_numbers lib) plan.resources)
 lists_met lib plan =
-    list_all-flat_map met (λ (r : Resource). all_of r.instances (instance_names lib.application.network)) plan.resources
-    ∙ list_all-agree (λ (r : Resource). list_all met (all_of r.instances (instance_names lib.application.network))) (λ r. is_some (held_numbers lib r))
+    list_all-flat_map met (λ (r : ResourceEntry). all_of r.instances (instance_names lib.application.network)) plan.resources
+    ∙ list_all-agree (λ (r : ResourceEntry). list_all met (all_of r.instances (instance_names lib.application.network))) (λ r. is_some (held_numbers lib r))
     (λ r. places_met r.instances (instance_names lib.application.network)) plan.resources
     ∙ sym (is_some-each (held_numbers lib) plan.resources)
 
@@ -197,10 +197,10 @@ deployment_known lib plan hs ls h g unknown =
 
 -- the numbers by the maps of places
 pub held_are :
-    (lib : Library) (places : BTreeMap (Bor Name) ℕ) (rs : List Resource) → IsIndex (instance_names lib.application.network) places
+    (lib : Library) (places : BTreeMap (Bor Name) ℕ) (rs : List ResourceEntry) → IsIndex (instance_names lib.application.network) places
     → each_or_none (λ r. each_or_none (place_in places) r.instances) rs ≡ each_or_none (held_numbers lib) rs
 held_are lib places rs is =
-    each-agree (λ (r : Resource). each_or_none (place_in places) r.instances) (held_numbers lib)
+    each-agree (λ (r : ResourceEntry). each_or_none (place_in places) r.instances) (held_numbers lib)
     (λ r. each-agree (place_in places) (place_of (instance_names lib.application.network)) is.place r.instances) rs
 
 pub links_are :
@@ -236,10 +236,10 @@ networks_known lib x xs is are n c =
 -- ---- All numbers
 
 pub held_by :
-    (lib : Library) (places : BTreeMap (Bor Name) ℕ) (rs qs : List Resource) (o : Option (List (List ℕ))) → IsIndex (instance_names lib.application.network) places
+    (lib : Library) (places : BTreeMap (Bor Name) ℕ) (rs qs : List ResourceEntry) (o : Option (List (List ℕ))) → IsIndex (instance_names lib.application.network) places
     → qs ≡ rs → o ≡ each_or_none (λ r. each_or_none (place_in places) r.instances) qs → each_or_none (held_numbers lib) rs ≡ o
 held_by lib places rs qs o is e made =
-    sym (made ∙ ap (each_or_none (λ (r : Resource). each_or_none (place_in places) r.instances)) e ∙ held_are lib places rs is)
+    sym (made ∙ ap (each_or_none (λ (r : ResourceEntry). each_or_none (place_in places) r.instances)) e ∙ held_are lib places rs is)
 
 pub links_by :
     (plan : Plan) (places : BTreeMap (Bor Name) ℕ) (ls ks : List Link) (o : Option (List LinkEnds)) → IsIndex (resource_names_of plan) places

@@ -15,10 +15,10 @@ use Rattle.fb_types.specs.declared.library.Instance.{Instance}
 use Rattle.fb_types.specs.declared.library.PortName.{PortName}
 use Rattle.fb_types.specs.declared.deploy.Plan.{Plan}
 use Rattle.fb_types.specs.declared.deploy.Link.{Link}
-use Rattle.fb_types.specs.declared.deploy.Resource.{Resource}
+use Rattle.fb_types.specs.declared.deploy.ResourceEntry.{ResourceEntry}
 use Rattle.fb_names.specs.declared.numbers.TypeNumber.{TypeNumber}
 use Rattle.fb_names.specs.declared.numbers.TypeNumber.TheVariants as number
-use Rattle.fb_names.specs.declared.numbers.End.{End}
+use Rattle.fb_names.specs.declared.numbers.WireEnd.{WireEnd}
 use Rattle.fb_names.specs.declared.numbers.Wire.{Wire}
 use Rattle.fb_names.specs.declared.numbers.LinkEnds.{LinkEnds}
 use Rattle.fb_names.specs.declared.numbers.NetworkNumbers.{NetworkNumbers}
@@ -52,18 +52,18 @@ kind_of_number lib (number.Declared t) = option_map kind_of (slice_get lib.block
 abbrev pub ports_at_place : Library → Placed → ℕ → Option Ports
 ports_at_place lib n i = option_map ports_of (option_and_then (kind_of_instance lib) (slice_get n.1.instances i))
 
-abbrev pub end_at : Option ℕ → List Name → PortName → Option End
+abbrev pub end_at : Option ℕ → List Name → PortName → Option WireEnd
 end_at component ports e = option_map (λ k. record { component = component; port = k }) (place_of ports e.port)
 
 -- an end among the ports of the one sort at a component, or of the other at the boundary
-abbrev pub end_number : Library → Placed → (component boundary : Ports → List Name) → PortName → Option End
+abbrev pub end_number : Library → Placed → (component boundary : Ports → List Name) → PortName → Option WireEnd
 end_number lib n component boundary e =
     elim e.component [
       | None ↦ option_and_then (λ t. end_at None (boundary t.ports) e) n.0
       | Some c ↦ option_and_then (λ i. option_and_then (λ p. end_at (Some i) (component p) e) (ports_at_place lib n i)) (place_of (instance_names n.1) c)
     ]
 
-abbrev pub both_ends : Option End → Option End → Option Wire
+abbrev pub both_ends : Option WireEnd → Option WireEnd → Option Wire
 both_ends a b = option_and_then (λ x. option_map (λ y. record { from = x; to = y }) b) a
 
 abbrev pub event_wire : Library → Placed → Connection → Option Wire
@@ -87,7 +87,7 @@ pub record IsNetwork (lib : Library) (n : Placed) (x : NetworkNumbers) : Type 0 
 
 -- ---- Deployments
 
-abbrev pub held_numbers : Library → Resource → Option (List ℕ)
+abbrev pub held_numbers : Library → ResourceEntry → Option (List ℕ)
 held_numbers lib r = each_or_none (place_of (instance_names lib.application.network)) r.instances
 
 abbrev pub link_ends : Plan → Link → Option LinkEnds

@@ -6,11 +6,11 @@ use Rattle.fb_types.specs.Names.{Name}
 use Rattle.fb_types.specs.Unknown.{event_ins, event_outs, data_ins, data_outs}
 use Rattle.fb_types.specs.declared.library.Ports.{Ports}
 use Rattle.fb_names.specs.Places.{IsIndex}
-use Rattle.fb_names.specs.declared.ports.Sort.{Sort}
-use Rattle.fb_names.specs.declared.ports.Sort.TheVariants.{EventInput, EventOutput, Input, Output}
+use Rattle.fb_names.specs.declared.ports.PortSort.{PortSort}
+use Rattle.fb_names.specs.declared.ports.PortSort.TheVariants.{EventInput, EventOutput, Input, Output}
 
 -- the names of the ports of a sort
-abbrev pub names_of_sort : Sort → Ports → List Name
+abbrev pub names_of_sort : PortSort → Ports → List Name
 names_of_sort EventInput = event_ins
 names_of_sort EventOutput = event_outs
 names_of_sort Input = data_ins

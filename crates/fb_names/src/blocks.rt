@@ -4,7 +4,7 @@ ghost use Rattle.std.specs.Prelude.{IfOk, MatchOption};
 ghost use Rattle.fb_names.specs.Types.{AreTypes};
 ghost use Rattle.fb_names.specs.Unknown.{AreBlocks, BlockUnknown};
 
-use crate::ends::Scope;
+use crate::ends::NetworkScope;
 use crate::networks::network_numbers;
 use crate::numbers::NetworkNumbers;
 use crate::types::Types;
@@ -28,7 +28,7 @@ pub fn blocks_of(
             BlockType::Basic(_) => all.push(None)?,
             BlockType::Composite(composite) => {
                 let places = &types.catalog.blocks[place];
-                let scope = Scope {
+                let scope = NetworkScope {
                     composite: Some((composite, &places.ports)),
                     network: &composite.network,
                     instances: &places.instances,

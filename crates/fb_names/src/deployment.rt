@@ -6,7 +6,7 @@ ghost use Rattle.fb_names.specs.Numbers.{each_or_none};
 
 use crate::numbers::LinkEnds;
 use crate::places::{Places, place_of};
-use fb_types::deploy::{Link, Resource};
+use fb_types::deploy::{Link, ResourceEntry};
 use fb_types::items::Items;
 use fb_types::name::Name;
 use std::alloc::{AllocError, Global};
@@ -33,7 +33,7 @@ fn places_of_names(
 pub fn held_of(
     alloc: Global,
     instances: &Places,
-    resources: &[Resource],
+    resources: &[ResourceEntry],
 ) -> Result<Option<Items<Items<usize>>>, AllocError>
     ensures { IfOk result (λ o. o ≡ each_or_none (λ r. each_or_none (place_in instances.now) r.instances) resources.now) }
 {

@@ -6,9 +6,9 @@ ghost use Rattle.fb_names.specs.Scopes.{IsScope, AreTyped, component_number, pla
 ghost use Rattle.fb_names.specs.Sorts.{names_of_sort};
 ghost use Rattle.fb_names.specs.Types.{AreTypes};
 
-use crate::numbers::{End, TypeNumber, Wire};
+use crate::numbers::{TypeNumber, Wire, WireEnd};
 use crate::places::{Places, place_of};
-use crate::ports::{Sort, place_in};
+use crate::ports::{PortSort, place_in};
 use crate::types::Types;
 use fb_types::items::Items;
 use fb_types::library::{CompositeType, Connection, Network, PortName};
@@ -17,7 +17,7 @@ use std::alloc::{AllocError, Global};
 
 /// A network, and where the names in it are found.
 #[derive(Clone, Copy)]
-pub struct Scope<'a, 'b> {
+pub struct NetworkScope<'a, 'b> {
     /// The composite type that the network is inside of, with the places of its names, or none for the application's.
     pub composite: Option<(&'a CompositeType, &'a Places<'b>)>,
     pub network: &'a Network,
@@ -28,31 +28,31 @@ pub struct Scope<'a, 'b> {
 /// The directions of a connection's ends: it goes from the one sort to the other at components, and the other way
 /// round at the boundary.
 #[derive(Clone, Copy)]
-pub struct Flow {
-    pub outputs: Sort,
-    pub inputs: Sort,
+pub struct WireSorts {
+    pub outputs: PortSort,
+    pub inputs: PortSort,
 }
 
 /// From an output event to an input event.
-pub const EVENTS: Flow = Flow {
-    outputs: Sort::EventOutput,
-    inputs: Sort::EventInput,
+pub const EVENTS: WireSorts = WireSorts {
+    outputs: PortSort::EventOutput,
+    inputs: PortSort::EventInput,
 };
 
 /// From an output variable to an input variable.
-pub const DATA: Flow = Flow {
-    outputs: Sort::Output,
-    inputs: Sort::Input,
+pub const DATA: WireSorts = WireSorts {
+    outputs: PortSort::Output,
+    inputs: PortSort::Input,
 };
 
 /// An end at the boundary.
-fn boundary_end(scope: &Scope, sort: Sort, end: &PortName) -> Option<End>
+fn boundary_end(scope: &NetworkScope, sort: PortSort, end: &PortName) -> Option<WireEnd>
     requires { IsScope scope.now }
     ensures { result ≡ option_and_then (λ t. end_at None (names_of_sort sort t.ports) end.now) (placed scope.now).0 }
 {
     let (composite, places) = scope.composite?;
     let port = place_in(&composite.ports, places, sort, &end.port)?;
-    Some(End {
+    Some(WireEnd {
         component: None,
         port,
     })
@@ -61,12 +61,12 @@ fn boundary_end(scope: &Scope, sort: Sort, end: &PortName) -> Option<End>
 /// An end at a component.
 fn component_end(
     types: &Types,
-    scope: &Scope,
+    scope: &NetworkScope,
     kinds: &Items<TypeNumber>,
-    sort: Sort,
+    sort: PortSort,
     component: &Name,
     end: &PortName,
-) -> Option<End>
+) -> Option<WireEnd>
     requires types { AreTypes types.now }
     requires scope { IsScope scope.now }
     requires typed { AreTyped types.now.library.now scope.now.network.now.instances kinds.now }
@@ -75,7 +75,7 @@ fn component_end(
     let instance = place_of(scope.instances, component.as_bytes())?;
     let kind = kinds.get(instance)?;
     let port = types.port_of(*kind, sort, &end.port)?;
-    Some(End {
+    Some(WireEnd {
         component: Some(instance),
         port,
     })
@@ -84,12 +84,12 @@ fn component_end(
 /// An end, among the ports of the one sort at a component, or of the other at the boundary.
 fn end_of(
     types: &Types,
-    scope: &Scope,
+    scope: &NetworkScope,
     kinds: &Items<TypeNumber>,
-    component: Sort,
-    boundary: Sort,
+    component: PortSort,
+    boundary: PortSort,
     end: &PortName,
-) -> Option<End>
+) -> Option<WireEnd>
     requires types { AreTypes types.now }
     requires scope { IsScope scope.now }
     requires typed { AreTyped types.now.library.now scope.now.network.now.instances kinds.now }
@@ -103,9 +103,9 @@ fn end_of(
 
 fn wire_of(
     types: &Types,
-    scope: &Scope,
+    scope: &NetworkScope,
     kinds: &Items<TypeNumber>,
-    flow: Flow,
+    flow: WireSorts,
     connection: &Connection,
 ) -> Option<Wire>
     requires types { AreTypes types.now }
@@ -136,9 +136,9 @@ fn wire_of(
 pub fn wires_of(
     alloc: Global,
     types: &Types,
-    scope: &Scope,
+    scope: &NetworkScope,
     kinds: &Items<TypeNumber>,
-    flow: Flow,
+    flow: WireSorts,
     connections: &[Connection],
 ) -> Result<Option<Items<Wire>>, AllocError>
     requires types { AreTypes types.now }

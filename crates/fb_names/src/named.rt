@@ -5,7 +5,7 @@ ghost use Rattle.fb_names.specs.Places.{IsIndex, names_in};
 ghost use Rattle.fb_types.specs.Repeated.{Twice};
 
 use crate::places::{Places, places_of};
-use fb_types::deploy::Resource;
+use fb_types::deploy::ResourceEntry;
 use fb_types::library::{Algorithm, BlockType, EventPort, Instance, Parameter, State, Variable};
 use fb_types::name::Name;
 use std::alloc::{AllocError, Global};
@@ -87,7 +87,7 @@ impl Named for BlockType {
     }
 }
 
-impl Named for Resource {
+impl Named for ResourceEntry {
     ghost called = { λ r. r.name };
 
     fn name(&self) -> &Name {

@@ -6,9 +6,9 @@ ghost use Rattle.fb_names.specs.Scopes.{IsScope, placed};
 ghost use Rattle.fb_names.specs.Types.{AreTypes};
 ghost use Rattle.fb_names.specs.Unknown.{NetworkUnknown};
 
-use crate::ends::{DATA, EVENTS, Scope, wires_of};
+use crate::ends::{DATA, EVENTS, NetworkScope, wires_of};
 use crate::numbers::{NetworkNumbers, TypeNumber};
-use crate::ports::Sort;
+use crate::ports::PortSort;
 use crate::types::Types;
 use fb_types::items::Items;
 use fb_types::library::Instance;
@@ -47,7 +47,7 @@ fn input_places(
     };
     let mut places = Items::new(alloc);
     for parameter in instance.parameters.as_slice() {
-        match types.port_of(number, Sort::Input, &parameter.name) {
+        match types.port_of(number, PortSort::Input, &parameter.name) {
             Some(place) => places.push(place)?,
             None => return Ok(None),
         }
@@ -78,7 +78,7 @@ fn parameters_of(
 pub fn network_numbers(
     alloc: Global,
     types: &Types,
-    scope: &Scope,
+    scope: &NetworkScope,
 ) -> Result<Option<NetworkNumbers>, AllocError>
     requires types { AreTypes types.now }
     requires scope { IsScope scope.now }

@@ -13,7 +13,7 @@ pub enum TypeNumber {
 /// An end of a connection: the place of the component, or none at the boundary, and the place of the port among
 /// the ports of the right sort and direction.
 #[derive(Clone, Copy, PartialEq, Eq)]
-pub struct End {
+pub struct WireEnd {
     pub component: Option<usize>,
     pub port: usize,
 }
@@ -21,8 +21,8 @@ pub struct End {
 /// A connection, of events or of data.
 #[derive(Clone, Copy)]
 pub struct Wire {
-    pub from: End,
-    pub to: End,
+    pub from: WireEnd,
+    pub to: WireEnd,
 }
 
 /// The resources of a link.

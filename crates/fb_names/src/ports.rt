@@ -11,7 +11,7 @@ use fb_types::name::Name;
 
 /// A sort of ports, each with a direction.
 #[derive(Clone, Copy)]
-pub enum Sort {
+pub enum PortSort {
     EventInput,
     EventOutput,
     Input,
@@ -31,14 +31,14 @@ fn variable_place(variables: &[Variable], name: &Name) -> Option<usize>
 }
 
 /// The place of a port among those of its sort. It goes through all of them, as suits an interface with few.
-pub fn place_among(ports: &Ports, sort: Sort, name: &Name) -> Option<usize>
+pub(crate) fn place_among(ports: &Ports, sort: PortSort, name: &Name) -> Option<usize>
     ensures { result ≡ spec.place_of (names_of_sort sort ports.now) name.now }
 {
     match sort {
-        Sort::EventInput => event_place(ports.event_inputs.as_slice(), name),
-        Sort::EventOutput => event_place(ports.event_outputs.as_slice(), name),
-        Sort::Input => variable_place(ports.inputs.as_slice(), name),
-        Sort::Output => variable_place(ports.outputs.as_slice(), name),
+        PortSort::EventInput => event_place(ports.event_inputs.as_slice(), name),
+        PortSort::EventOutput => event_place(ports.event_outputs.as_slice(), name),
+        PortSort::Input => variable_place(ports.inputs.as_slice(), name),
+        PortSort::Output => variable_place(ports.outputs.as_slice(), name),
     }
 }
 
@@ -60,7 +60,7 @@ fn within(place: Option<usize>, count: usize) -> Option<usize>
 }
 
 /// The place of a port among those of its sort, from the places of all names of the type.
-pub fn place_in(ports: &Ports, places: &Places, sort: Sort, name: &Name) -> Option<usize>
+pub(crate) fn place_in(ports: &Ports, places: &Places, sort: PortSort, name: &Name) -> Option<usize>
     requires { ArePlacesOf ports.now places.now }
     ensures { result ≡ spec.place_of (names_of_sort sort ports.now) name.now }
 {
@@ -69,9 +69,9 @@ pub fn place_in(ports: &Ports, places: &Places, sort: Sort, name: &Name) -> Opti
     let after_events = after(after_event_inputs, ports.event_outputs.len());
     let after_inputs = after(after_events, ports.inputs.len());
     match sort {
-        Sort::EventInput => within(place, ports.event_inputs.len()),
-        Sort::EventOutput => within(after_event_inputs, ports.event_outputs.len()),
-        Sort::Input => within(after_events, ports.inputs.len()),
-        Sort::Output => within(after_inputs, ports.outputs.len()),
+        PortSort::EventInput => within(place, ports.event_inputs.len()),
+        PortSort::EventOutput => within(after_event_inputs, ports.event_outputs.len()),
+        PortSort::Input => within(after_events, ports.inputs.len()),
+        PortSort::Output => within(after_inputs, ports.outputs.len()),
     }
 }

@@ -29,7 +29,7 @@ fn is_listed_twice(alloc: Global, names: &[Name]) -> Result<bool, AllocError>
 }
 
 /// Whether an event has a variable twice in its WITH list.
-pub fn has_with_twice(alloc: Global, events: &[EventPort]) -> Result<bool, AllocError>
+pub(crate) fn has_with_twice(alloc: Global, events: &[EventPort]) -> Result<bool, AllocError>
     ensures { IfOk result (λ b. IsTrue b ↔ ((e : EventPort) × Contains events.now e × Twice e.with)) }
 {
     for event in events {
@@ -41,7 +41,7 @@ pub fn has_with_twice(alloc: Global, events: &[EventPort]) -> Result<bool, Alloc
 }
 
 /// Whether an instance gives a parameter twice.
-pub fn has_parameter_twice(alloc: Global, instances: &[Instance]) -> Result<bool, AllocError>
+pub(crate) fn has_parameter_twice(alloc: Global, instances: &[Instance]) -> Result<bool, AllocError>
     ensures { IfOk result (λ b. IsTrue b ↔ ((i : Instance) × Contains instances.now i × Twice (map (λ x. x.name) i.parameters))) }
 {
     for instance in instances {
@@ -52,10 +52,11 @@ pub fn has_parameter_twice(alloc: Global, instances: &[Instance]) -> Result<bool
     Ok(false)
 }
 
-/// The names at an end of a connection.
-type End<'a> = (Option<&'a [u8]>, &'a [u8]);
+/// The names at an end of a connection: the component, if there is one, and the port.
+pub type EndNames<'a> = (Option<&'a [u8]>, &'a [u8]);
 
-fn end_of(port: &PortName) -> End<'_>
+/// The names at an end of a connection.
+pub fn end_names(port: &PortName) -> EndNames<'_>
     ensures { end_port result ≡ port_in [] port.now }
 {
     match &port.component {
@@ -65,12 +66,15 @@ fn end_of(port: &PortName) -> End<'_>
 }
 
 /// Whether a connection is given twice.
-pub fn has_connection_twice(alloc: Global, connections: &[Connection]) -> Result<bool, AllocError>
+pub(crate) fn has_connection_twice(
+    alloc: Global,
+    connections: &[Connection],
+) -> Result<bool, AllocError>
     ensures { IfOk result (λ b. IsTrue b ↔ Twice (pairs_in [] connections.now)) }
 {
-    let mut seen: BTreeSet<(End, End), Global> = BTreeSet::new(alloc);
+    let mut seen: BTreeSet<(EndNames, EndNames), Global> = BTreeSet::new(alloc);
     for connection in connections {
-        if !seen.insert((end_of(&connection.from), end_of(&connection.to)))? {
+        if !seen.insert((end_names(&connection.from), end_names(&connection.to)))? {
             return Ok(true);
         }
     }
@@ -78,7 +82,7 @@ pub fn has_connection_twice(alloc: Global, connections: &[Connection]) -> Result
 }
 
 /// Whether two links go from one resource to one resource.
-pub fn has_link_twice(alloc: Global, links: &[Link]) -> Result<bool, AllocError>
+pub(crate) fn has_link_twice(alloc: Global, links: &[Link]) -> Result<bool, AllocError>
     ensures { IfOk result (λ b. IsTrue b ↔ Twice (map link_ends links.now)) }
 {
     let mut seen: BTreeSet<(&[u8], &[u8]), Global> = BTreeSet::new(alloc);

@@ -9,7 +9,7 @@ ghost use Rattle.fb_names.specs.Numbers.{IsResolved};
 use crate::blocks::blocks_of;
 use crate::catalog::Catalog;
 use crate::deployment::{held_of, links_of};
-use crate::ends::Scope;
+use crate::ends::NetworkScope;
 use crate::networks::network_numbers;
 use crate::numbers::Resolved;
 use crate::types::Types;
@@ -29,7 +29,7 @@ pub fn resolve(
     ensures { IfOk result (λ o. MatchOption o (NameUnknown library.now plan.now) (IsResolved library.now plan.now)) }
 {
     let types = Types::new(alloc, library, catalog)?;
-    let scope = Scope {
+    let scope = NetworkScope {
         composite: None,
         network: &library.application.network,
         instances: &catalog.instances,

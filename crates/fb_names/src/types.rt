@@ -8,7 +8,7 @@ ghost use Rattle.fb_names.specs.Types.{AreTypes, HasTypes, port_number};
 use crate::catalog::Catalog;
 use crate::numbers::TypeNumber;
 use crate::places::place_of;
-use crate::ports::{Sort, place_among, place_in};
+use crate::ports::{PortSort, place_among, place_in};
 use fb_types::event_ports::{all_ports, kind_named};
 use fb_types::items::Items;
 use fb_types::library::{Library, Ports};
@@ -55,7 +55,7 @@ impl<'a, 'b> Types<'a, 'b> {
     }
 
     /// The place of a port of a type among those of its sort.
-    pub fn port_of(&self, number: TypeNumber, sort: Sort, name: &Name) -> Option<usize>
+    pub fn port_of(&self, number: TypeNumber, sort: PortSort, name: &Name) -> Option<usize>
         requires { AreTypes self.now }
         ensures { result ≡ port_number self.now.library.now number (names_of_sort sort) name.now }
     {

@@ -10,7 +10,7 @@ use Rattle.fb_types.specs.Headline.{Inputs, system_of}
 use Rattle.fb_types.specs.Limits.{IsWithinLimits}
 use Rattle.fb_types.specs.Names.{Name, Path}
 use Rattle.fb_types.specs.declared.deploy.Plan.{Plan}
-use Rattle.fb_types.specs.declared.deploy.Resource.{Resource}
+use Rattle.fb_types.specs.declared.deploy.ResourceEntry.{ResourceEntry}
 
 -- ---- A place that is sought
 
@@ -39,9 +39,9 @@ position_within p xs = one_within (position_or_len p xs) (length xs)
 holder_below : (plan : Plan) (n : Name) → 0 < length plan.resources → holder plan n < length plan.resources
 holder_below plan n some = go plan.holds_all
   where
-    go : (t : Bool) → cond t 0 (unwrap_or (position (λ (r : Resource). among r.instances n) plan.resources) 0) < length plan.resources
+    go : (t : Bool) → cond t 0 (unwrap_or (position (λ (r : ResourceEntry). among r.instances n) plan.resources) 0) < length plan.resources
     go true = some
-    go false = position_below (λ (r : Resource). among r.instances n) plan.resources some
+    go false = position_below (λ (r : ResourceEntry). among r.instances n) plan.resources some
 
 resource_below : (plan : Plan) (p : Path) → 0 < length plan.resources → resource_of plan p < length plan.resources
 resource_below plan [] some = some
@@ -51,7 +51,7 @@ resource_below plan (n ∷ m ∷ p) some = resource_below plan (m ∷ p) some
 pub resource_named : (i : Inputs) (p : Path) → IsWithinLimits i.plan → (system_of i).resource p < length (system_of i).resource_names
 resource_named i p limits =
     let some : 0 < length i.plan.resources = let h = limits.some_resource in omega arith in
-    subst (λ n. resource_of i.plan p < n) (sym (length-map i.plan.resources (λ (r : Resource). r.name))) (resource_below i.plan p some)
+    subst (λ n. resource_of i.plan p < n) (sym (length-map i.plan.resources (λ (r : ResourceEntry). r.name))) (resource_below i.plan p some)
 
 -- ---- Links
 

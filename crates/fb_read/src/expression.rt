@@ -79,14 +79,14 @@ fn binary_of(alloc: Global, operator: BinaryOperator, x: Expr, y: Expr) -> Resul
 
 /// The rules that hold expressions take the reader of those as a parameter, so that each is proved by itself.
 #[derive(Clone, Copy)]
-struct Rules<F> {
+struct ExpressionRules<F> {
     alloc: Global,
     /// How deep the parts may nest.
     below: u32,
     inner: F,
 }
 
-impl<F: Fn(Global, &mut Cursor<'_>, u32, u8) -> Result<Nested, ParseFault>> Rules<F> {
+impl<F: Fn(Global, &mut Cursor<'_>, u32, u8) -> Result<Nested, ParseFault>> ExpressionRules<F> {
     /// A part, whose operators have at most this level.
     fn part(&self, cursor: &mut Cursor<'_>, level: u8) -> Result<Nested, ParseFault>
         requires { Nests self.now.below (F.pre self.now.inner) (F.post self.now.inner) }
@@ -260,7 +260,7 @@ fn nested_expression(
     if depth == 0 {
         return Err(ParseFault::Nesting);
     }
-    Rules {
+    ExpressionRules {
         alloc,
         below: depth - 1,
         inner: nested_expression,

@@ -99,14 +99,14 @@ fn simple(alloc: Global, cursor: &mut Cursor<'_>) -> Result<Stmt, ParseFault>
 
 /// The rules that hold statements take the reader of those as a parameter, so that each is proved by itself.
 #[derive(Clone, Copy)]
-pub struct Rules<F> {
+pub struct StatementRules<F> {
     alloc: Global,
     /// How deep the statements inside may nest.
     below: u32,
     inner: F,
 }
 
-impl<F: Fn(Global, &mut Cursor<'_>, u32) -> Result<Stmt, ParseFault>> Rules<F> {
+impl<F: Fn(Global, &mut Cursor<'_>, u32) -> Result<Stmt, ParseFault>> StatementRules<F> {
     /// A statement inside.
     fn part(&self, cursor: &mut Cursor<'_>) -> Result<Stmt, ParseFault>
         requires { StatementNests self.now.below (F.pre self.now.inner) (F.post self.now.inner) }
@@ -332,7 +332,7 @@ fn nested_statement(alloc: Global, cursor: &mut Cursor<'_>, depth: u32) -> Resul
     if depth == 0 {
         return Err(ParseFault::Nesting);
     }
-    Rules {
+    StatementRules {
         alloc,
         below: depth - 1,
         inner: nested_statement,
@@ -346,7 +346,7 @@ fn nested_statement(alloc: Global, cursor: &mut Cursor<'_>, depth: u32) -> Resul
 pub fn body(alloc: Global, cursor: &mut Cursor<'_>) -> Result<Body, ParseFault>
     ensures { Reads (spec.body cursor.old) result cursor.new }
 {
-    let rules = Rules {
+    let rules = StatementRules {
         alloc,
         below: MOST_NESTING,
         inner: nested_statement,

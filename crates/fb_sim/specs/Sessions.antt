@@ -16,8 +16,8 @@ use Rattle.fb_sim.specs.Rounds.{HasCome, AreAll}
 use Rattle.fb_sim.specs.contracts.state.Phase as phase_row
 use Rattle.fb_sim.specs.declared.state.Phase.{Phase}
 use Rattle.fb_sim.specs.declared.state.Phase.TheVariants as going
-use Rattle.fb_sim.specs.declared.state.State.{State}
-use Rattle.fb_sim.specs.declared.state.State.TheVariants as state
+use Rattle.fb_sim.specs.declared.state.SessionState.{SessionState}
+use Rattle.fb_sim.specs.declared.state.SessionState.TheVariants as state
 
 -- Inputs, the limit on the steps of a tick, the number of workers, the form of the trace, and the greatest tick that was advanced to.
 pub record Session : Type 0 where
@@ -37,13 +37,13 @@ session_code =
     (λ p. record { inputs = p.0; steps = p.1.0; workers = p.1.1.0; form = p.1.1.1.0; to = p.1.1.1.1.0; phase = p.1.1.1.1.1 })
     (λ _. refl)
 
-abbrev pub phase_of : State → Phase
+abbrev pub phase_of : SessionState → Phase
 phase_of (state.Open core) = going.Running
 phase_of (state.Stopped mark) = going.Stopped mark
 phase_of state.Failed = going.Failed
 
 -- the core, where there is one
-abbrev pub core_in : State → Option Core
+abbrev pub core_in : SessionState → Option Core
 core_in (state.Open core) = Some core
 core_in (state.Stopped mark) = None
 core_in state.Failed = None
@@ -59,13 +59,13 @@ pub record HasStoppedAt (i : Inputs) (limit to : ℕ) (mark : StopMark) : Type 0
   pub lines : List Line
   pub all : AreAll i limit to lines (AtStop mark.tick mark.resource mark.reason)
 
-abbrev pub IsAtTick : (i : Inputs) (limit to : ℕ) → State → Type 0
+abbrev pub IsAtTick : (i : Inputs) (limit to : ℕ) → SessionState → Type 0
 IsAtTick i limit to (state.Open core) = IsAhead i limit to core
 IsAtTick i limit to (state.Stopped mark) = HasStoppedAt i limit to mark
 IsAtTick i limit to state.Failed = Unit {0}
 
 -- Its options are in their ranges, and it is where it says.
-pub record IsSession (i : Inputs) (limit workers to : ℕ) (s : State) : Type 0 where
+pub record IsSession (i : Inputs) (limit workers to : ℕ) (s : SessionState) : Type 0 where
   pub some_steps : 1 ≤ limit
   pub few_steps : limit ≤ 10 ^ 7
   pub some_workers : 1 ≤ workers

@@ -9,7 +9,7 @@ use crate::options::Options;
 use crate::outcome::RunError;
 use crate::progress::Round;
 use crate::round::counted_round;
-use crate::tally::{Plan, first_window};
+use crate::tally::{RoundPlan, first_window};
 use fb_phase::Gate;
 use fb_system::system::System;
 use fb_types::run::StopMark;
@@ -62,7 +62,7 @@ pub(crate) fn run_on<R: Threads + Wait + Sync, W: Write, P: Gate>(
     let mut ticks = first_window(system.count());
     // Each round that the run goes on after has left a tick behind: none is left after as many.
     for _ in 0..options.horizon + 1 {
-        let plan = Plan {
+        let plan = RoundPlan {
             options: Options { workers, ..options },
             turns,
             ticks,

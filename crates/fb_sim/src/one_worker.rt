@@ -20,7 +20,7 @@ use crate::serial::outcome_of;
 use fb_machine::machine::Machine;
 use fb_machine::pause::Pause;
 use fb_system::system::System;
-use fb_trace::last::End;
+use fb_trace::last::RunEnd;
 use std::alloc::Global;
 use std::io::Write;
 
@@ -35,7 +35,7 @@ fn run_through<W: Write>(
     machine: &mut Machine,
     options: Options,
     out: &mut W,
-) -> Result<(End, u128), RunError>
+) -> Result<(RunEnd, u128), RunError>
     requires options { AreWithin options }
     requires ready { IsReady system.now options.steps 0 machine.old }
     requires at { IsAt system.now (opening_state (system_of system.now)) (opening_agenda (system_of system.now) (stimuli_of system.now)) machine.old }
@@ -54,8 +54,8 @@ fn run_through<W: Write>(
         }
         match pause {
             Pause::Lines => machine.clear_lines(),
-            Pause::Horizon => return Ok((End::Horizon(options.horizon), written)),
-            Pause::Stop(mark) => return Ok((End::Stop(mark), written)),
+            Pause::Horizon => return Ok((RunEnd::Horizon(options.horizon), written)),
+            Pause::Stop(mark) => return Ok((RunEnd::Stop(mark), written)),
         }
     }
 }

@@ -20,7 +20,7 @@ ghost use Rattle.fb_sim.specs.declared.outcome.RunError.TheVariants.{Memory};
 use crate::options::Options;
 use crate::outcome::RunError;
 use crate::progress::Round;
-use crate::tally::{LONGEST_WINDOW, Plan, Tally};
+use crate::tally::{LONGEST_WINDOW, RoundPlan, Tally};
 use crate::work::Windows;
 use fb_phase::{Gate, run_all};
 use fb_resource::resource::WindowDone;
@@ -101,7 +101,7 @@ fn run_jobs<R: Threads + Wait + Sync, P: Gate>(
 
 /// The core after the turns of single resources that are planned. What has become final meanwhile is handed out after
 /// the next window.
-fn walked(alloc: Global, system: &System, core: Core, plan: Plan) -> Result<Core, RunError>
+fn walked(alloc: Global, system: &System, core: Core, plan: RoundPlan) -> Result<Core, RunError>
     requires options { AreWithin plan.options }
     requires come { (ls : List model.Line) × HasCome system.now plan.options.steps plan.options.horizon core ls }
     ensures on { (ls : List model.Line) (come : HasCome system.now plan.options.steps plan.options.horizon core ls)
@@ -187,7 +187,7 @@ pub(crate) fn counted_round<R: Threads + Wait + Sync, W: Write, P: Gate>(
     alloc: Global,
     system: &System,
     core: Core,
-    plan: Plan,
+    plan: RoundPlan,
     out: &mut W,
     gate: &P,
 ) -> Result<(Round, Tally), RunError>
@@ -227,7 +227,7 @@ pub fn round<R: Threads + Wait + Sync, W: Write, P: Gate>(
     ensures { (ls : List model.Line) (come : HasCome system.now options.steps options.horizon core ls)
         → Rounds system.now options (core_of system.now options.steps come.steps) ls (W.contents out.old) (W.contents out.new) result }
 {
-    let plan = Plan {
+    let plan = RoundPlan {
         options,
         turns: 0,
         ticks: LONGEST_WINDOW,

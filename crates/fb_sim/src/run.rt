@@ -18,7 +18,7 @@ use crate::reading::open;
 use fb_phase::Gate;
 use fb_resource::resource::Resource;
 use fb_system::system::System;
-use fb_trace::last::{End, write_last};
+use fb_trace::last::{RunEnd, write_last};
 use fb_window::cores::Core;
 use std::alloc::{AllocError, Global};
 use std::io::Write;
@@ -39,7 +39,7 @@ pub fn open_core(alloc: Global, system: &System, steps: u64) -> Result<Core, All
 pub(crate) fn close<W: Write>(
     out: &mut W,
     system: &System,
-    end: End,
+    end: RunEnd,
     written: u128,
 ) -> Result<(), RunError>
     requires { EndsIn (system_of system.now) end }
@@ -69,11 +69,11 @@ fn run_system<R: Threads + Wait + Sync, W: Write, P: Gate>(
     let (finish, written) = run_on(rt, alloc, system, core, options, out, gate)?;
     match finish {
         Finish::AtEnd(_) => {
-            close(out, system, End::Horizon(options.horizon), written)?;
+            close(out, system, RunEnd::Horizon(options.horizon), written)?;
             Ok(Outcome::End(options.horizon))
         }
         Finish::AtMark(mark) => {
-            close(out, system, End::Stop(mark), written)?;
+            close(out, system, RunEnd::Stop(mark), written)?;
             Ok(Outcome::Stop(mark))
         }
     }

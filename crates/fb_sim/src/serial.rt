@@ -11,7 +11,7 @@ use crate::outcome::{Outcome, RunError};
 use crate::reading::{judge_inputs, open};
 use fb_machine::run::run;
 use fb_system::system::System;
-use fb_trace::last::End;
+use fb_trace::last::RunEnd;
 use fb_trace::trace::write_trace;
 use fb_types::run::StopMark;
 use std::alloc::Global;
@@ -30,22 +30,22 @@ pub fn check(alloc: Global, inputs: &Inputs<'_>) -> Result<(), RunError>
 }
 
 /// How a run of that horizon ends, that stopped there or did not.
-fn end_of(horizon: u64, stop: Option<StopMark>) -> End
+fn end_of(horizon: u64, stop: Option<StopMark>) -> RunEnd
     ensures { trace.ending_of result ≡ ending_at horizon stop }
 {
     match stop {
-        None => End::Horizon(horizon),
-        Some(mark) => End::Stop(mark),
+        None => RunEnd::Horizon(horizon),
+        Some(mark) => RunEnd::Stop(mark),
     }
 }
 
 /// What a run answers that ended so.
-pub(crate) fn outcome_of(end: End) -> Outcome
+pub(crate) fn outcome_of(end: RunEnd) -> Outcome
     ensures { ending_of result ≡ trace.ending_of end }
 {
     match end {
-        End::Horizon(horizon) => Outcome::End(horizon),
-        End::Stop(mark) => Outcome::Stop(mark),
+        RunEnd::Horizon(horizon) => Outcome::End(horizon),
+        RunEnd::Stop(mark) => Outcome::Stop(mark),
     }
 }
 

@@ -10,10 +10,10 @@ use crate::options::{Inputs, Options};
 use crate::outcome::{Outcome, RunError};
 use crate::reading::open;
 use crate::run::{close, open_core};
-use crate::state::{Phase, State};
+use crate::state::{Phase, SessionState};
 use fb_phase::Gate;
 use fb_system::system::System;
-use fb_trace::last::End;
+use fb_trace::last::RunEnd;
 use fb_types::run::Form;
 use fb_window::cores::Core;
 use std::alloc::Global;
@@ -35,7 +35,7 @@ pub struct Simulation {
     workers: u64,
     form: Form,
     to: u64,
-    state: State,
+    state: SessionState,
 }
 
 impl Model for Simulation {
@@ -84,7 +84,7 @@ impl Simulation {
             workers,
             form,
             to: 0,
-            state: State::Open(core),
+            state: SessionState::Open(core),
         })
     }
 
@@ -143,13 +143,13 @@ impl Simulation {
         match finish {
             Finish::AtEnd(core) => {
                 self.to = to;
-                self.state.put(State::Open(core));
+                self.state.put(SessionState::Open(core));
                 Ok(Outcome::End(to))
             }
             Finish::AtMark(mark) => {
-                close(out, &self.system, End::Stop(mark), written)?;
+                close(out, &self.system, RunEnd::Stop(mark), written)?;
                 self.to = to;
-                self.state.put(State::Stopped(mark));
+                self.state.put(SessionState::Stopped(mark));
                 Ok(Outcome::Stop(mark))
             }
         }
@@ -166,7 +166,7 @@ impl Simulation {
             Phase::Failed => Err(RunError::Failed),
             Phase::Stopped(mark) => Ok(Outcome::Stop(mark)),
             Phase::Running => {
-                close(out, &self.system, End::Horizon(self.to), 0)?;
+                close(out, &self.system, RunEnd::Horizon(self.to), 0)?;
                 Ok(Outcome::End(self.to))
             }
         }

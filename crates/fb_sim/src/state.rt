@@ -2,7 +2,7 @@
 
 ghost use Rattle.std.specs.Prelude.{◌≡◌};
 ghost use Rattle.fb_sim.specs.Sessions.{core_in, phase_of};
-ghost use Rattle.fb_sim.specs.declared.state.State.TheVariants.{Failed};
+ghost use Rattle.fb_sim.specs.declared.state.SessionState.TheVariants.{Failed};
 
 use fb_types::run::StopMark;
 use fb_window::cores::Core;
@@ -10,7 +10,7 @@ use std::mem;
 
 /// How far a simulation is, with its core.
 #[derive(Drop)]
-pub(crate) enum State {
+pub(crate) enum SessionState {
     /// Every clock is at the tick that was advanced to.
     Open(Core),
     /// A resource has stopped.
@@ -30,15 +30,15 @@ pub enum Phase {
     Failed,
 }
 
-impl State {
+impl SessionState {
     /// How far it is, without the core.
     pub(crate) fn phase(&self) -> Phase
         ensures { result ≡ phase_of self.now }
     {
         match self {
-            State::Open(_) => Phase::Running,
-            State::Stopped(mark) => Phase::Stopped(*mark),
-            State::Failed => Phase::Failed,
+            SessionState::Open(_) => Phase::Running,
+            SessionState::Stopped(mark) => Phase::Stopped(*mark),
+            SessionState::Failed => Phase::Failed,
         }
     }
 
@@ -47,14 +47,14 @@ impl State {
         ensures core { result ≡ core_in self.old }
         ensures left { self.new ≡ Failed }
     {
-        match mem::replace(self, State::Failed) {
-            State::Open(core) => Some(core),
-            State::Stopped(_) | State::Failed => None,
+        match mem::replace(self, SessionState::Failed) {
+            SessionState::Open(core) => Some(core),
+            SessionState::Stopped(_) | SessionState::Failed => None,
         }
     }
 
     /// Puts another state in its place.
-    pub(crate) fn put(&mut self, next: State)
+    pub(crate) fn put(&mut self, next: SessionState)
         ensures { self.new ≡ next }
     {
         *self = next;

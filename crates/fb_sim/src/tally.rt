@@ -46,7 +46,7 @@ pub(crate) struct Tally {
 
 /// How a round is made.
 #[derive(Clone, Copy)]
-pub(crate) struct Plan {
+pub(crate) struct RoundPlan {
     /// The options of the run, but with as many workers as the round has at most.
     pub options: Options,
     /// How many turns of single resources go before its window, at most.

@@ -20,19 +20,19 @@ use std::thread::Threads;
 
 /// How much of a trace is written, and whether standard error took all that was told of it.
 #[derive(Clone, Copy)]
-struct Tally {
+struct ToldTally {
     bytes: u128,
     lines: u128,
     is_heard: bool,
 }
 
-impl Tally {
+impl ToldTally {
     /// With this text behind what is written.
-    fn with(self, text: &[u8]) -> Tally
+    fn with(self, text: &[u8]) -> ToldTally
         ensures { Counted self result text.now }
     {
         let feeds = text.iter().filter(|byte| **byte == b'\n').count();
-        Tally {
+        ToldTally {
             bytes: self.bytes.saturating_add(text.len() as u128),
             lines: self.lines.saturating_add(feeds as u128),
             is_heard: self.is_heard,
@@ -79,7 +79,7 @@ fn go_on<R: Threads + Wait + Sync, W: Write>(
     simulation: &mut Simulation,
     to: u64,
     out: &mut W,
-    tally: &mut Tally,
+    tally: &mut ToldTally,
 ) -> Result<Outcome, RunError>
     requires running { simulation.old.phase ≡ going.Running }
     requires later { simulation.old.to < to }
@@ -115,7 +115,7 @@ fn go_to_next<R: Threads + Wait + Sync, W: Write, E: Write>(
     count: u64,
     out: &mut W,
     err: &mut E,
-    tally: &mut Tally,
+    tally: &mut ToldTally,
 ) -> Result<Outcome, RunError>
     requires within { AreWithin options }
     requires good { AreGood simulation.old.inputs }
@@ -148,13 +148,13 @@ fn go_far<R: Threads + Wait + Sync, W: Write, E: Write>(
     options: Options,
     out: &mut W,
     err: &mut E,
-) -> (Result<Outcome, RunError>, Tally)
+) -> (Result<Outcome, RunError>, ToldTally)
     requires within { AreWithin options }
     requires good { AreGood simulation.old.inputs }
     requires first { simulation.old ≡ session simulation.old.inputs options 0 }
     ensures { Comes simulation.old.inputs options simulation.new (W.contents out.old) (W.contents out.new) (E.contents err.old) (E.contents err.new) 100 result.1 result.0 }
 {
-    let mut tally = Tally {
+    let mut tally = ToldTally {
         bytes: 0,
         lines: 0,
         is_heard: true,

@@ -11,7 +11,7 @@ use Rattle.fb_types.specs.declared.library.Library.{Library}
 use Rattle.fb_types.specs.declared.library.Instance.{Instance}
 use Rattle.fb_types.specs.declared.deploy.Plan.{Plan}
 use Rattle.fb_types.specs.declared.deploy.Link.{Link}
-use Rattle.fb_types.specs.declared.deploy.Resource.{Resource}
+use Rattle.fb_types.specs.declared.deploy.ResourceEntry.{ResourceEntry}
 use Rattle.fb_types.proofs.NameLaws.{same_name-Decides, same_from_same_name}
 use Rattle.fb_types.proofs.Positions.{position-cons, position_is, position_of_once}
 use Rattle.fb_names.proofs.NameTwice.{plan_twice}
@@ -78,9 +78,9 @@ named_place :
     → nat_eq k r ≡ same_name n (name_of_resource plan r)
 named_place plan n k r once h found =
     let rs = plan.resources in
-    let own : Resource → Name = λ x. x.name in
+    let own : ResourceEntry → Name = λ x. x.name in
     let at = position_is own n rs k found in
-    let it : Resource = get_or rs r at.0 in
+    let it : ResourceEntry = get_or rs r at.0 in
     let there : slice_get rs r ≡ Some it = slice_get-get_or rs r at.0 h in
     let named : name_of_resource plan r ≡ own it =
     ap (λ (o : Option Name). unwrap_or o []) (slice_get-map own rs r ∙ ap (option_map own) there) in

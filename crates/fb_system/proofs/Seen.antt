@@ -13,7 +13,7 @@ use Rattle.fb_types.specs.Text.{path_text}
 use Rattle.fb_types.specs.Unknown.{NameUnknown}
 use Rattle.fb_types.specs.declared.deploy.Link.{Link}
 use Rattle.fb_types.specs.declared.deploy.Plan.{Plan}
-use Rattle.fb_types.specs.declared.deploy.Resource.{Resource}
+use Rattle.fb_types.specs.declared.deploy.ResourceEntry.{ResourceEntry}
 use Rattle.fb_types.specs.declared.deploy.Stimulus.{Stimulus}
 use Rattle.fb_types.specs.declared.library.Library.{Library}
 use Rattle.fb_types.specs.declared.library.Ports.{Ports}
@@ -173,7 +173,7 @@ links_counted v w i p e s r = ap (λ (p : Plan). length p.links) (plan_read v w 
 pub resources_counted :
     (v w : Whole) (i : Inputs) (p : Plan) → v ≡ w → inputs_of w ≡ i → p ≡ v.deploy → length p.resources ≡ length (system_of i).resource_names
 resources_counted v w i p e s r =
-    ap (λ (p : Plan). length p.resources) (plan_read v w i p e s r) ∙ sym (length-map i.plan.resources (λ (x : Resource). x.name))
+    ap (λ (p : Plan). length p.resources) (plan_read v w i p e s r) ∙ sym (length-map i.plan.resources (λ (x : ResourceEntry). x.name))
 
 -- ---- Links
 
@@ -195,7 +195,7 @@ pub link_seen :
     (v w : Whole) (i : Inputs) (from to : ℕ) → StandFor w → v ≡ w → inputs_of w ≡ i → from < length (system_of i).resource_names
     → to < length (system_of i).resource_names → link_at v.links from to ≡ link_between i.plan from to
 link_seen v w i from to is e s f t =
-    let counted : length (system_of i).resource_names ≡ length i.plan.resources = length-map i.plan.resources (λ (x : Resource). x.name) in
+    let counted : length (system_of i).resource_names ≡ length i.plan.resources = length-map i.plan.resources (λ (x : ResourceEntry). x.name) in
     ap (λ (w : Whole). link_at w.links from to) e ∙ (linked_seen w i is s).links from to (subst (λ n. from < n) counted f) (subst (λ n. to < n) counted t)
 
 pub link_within :

@@ -18,7 +18,7 @@ use std::io::Write;
 
 /// How a run ends.
 #[derive(Clone, Copy, Debug, PartialEq, Eq)]
-pub enum End {
+pub enum RunEnd {
     /// It came to its horizon, the tick at which it was to end.
     Horizon(u64),
     /// A resource stopped before.
@@ -71,15 +71,15 @@ pub(crate) fn put_last<W: Write>(
     page: &mut Page,
     out: &mut W,
     system: &System,
-    end: &End,
+    end: &RunEnd,
 ) -> Result<(), WriteFault>
     requires { EndsIn (system_of system.now) end.now }
     ensures { Gathers (W.contents out.old) (W.contents out.new) page.old page.new
         (last_line (system_of system.now) (ending_of end.now)) result }
 {
     match end {
-        End::Horizon(horizon) => put_horizon(page, out, system, *horizon),
-        End::Stop(mark) => put_stop(page, out, system, mark),
+        RunEnd::Horizon(horizon) => put_horizon(page, out, system, *horizon),
+        RunEnd::Stop(mark) => put_stop(page, out, system, mark),
     }
 }
 
@@ -88,7 +88,7 @@ pub(crate) fn put_last<W: Write>(
 /// # Errors
 /// The writer gave an error or took no byte. It has then got the first bytes of the line, but not all, and
 /// the fault says how many.
-pub fn write_last<W: Write>(out: &mut W, system: &System, end: End) -> Result<(), WriteFault>
+pub fn write_last<W: Write>(out: &mut W, system: &System, end: RunEnd) -> Result<(), WriteFault>
     requires { EndsIn (system_of system.now) end }
     ensures whole { OnOk result
         (Appends (W.contents out.old) (W.contents out.new) (last_line (system_of system.now) (ending_of end))) }

@@ -10,7 +10,7 @@ ghost use Rattle.fb_system.specs.Lines.{BelongsTo};
 ghost use Rattle.fb_trace.specs.Progress.{IsPartWritten};
 
 use crate::fault::WriteFault;
-use crate::last::{End, put_last};
+use crate::last::{RunEnd, put_last};
 use crate::lines::put_lines;
 use crate::page::Page;
 use fb_system::system::System;
@@ -27,7 +27,7 @@ pub fn write_trace<W: Write>(
     system: &System,
     form: Form,
     lines: &[Line],
-    end: End,
+    end: RunEnd,
 ) -> Result<(), WriteFault>
     requires lines { All (BelongsTo (system_of system.now)) lines.now }
     requires end { EndsIn (system_of system.now) end }

@@ -16,7 +16,7 @@ use Rattle.fb_types.specs.declared.library.Transition.{Transition}
 use Rattle.fb_types.specs.declared.library.Instance.{Instance}
 use Rattle.fb_types.specs.declared.library.Connection.{Connection}
 use Rattle.fb_types.specs.declared.deploy.Plan.{Plan}
-use Rattle.fb_types.specs.declared.deploy.Resource.{Resource}
+use Rattle.fb_types.specs.declared.deploy.ResourceEntry.{ResourceEntry}
 use Rattle.fb_types.specs.declared.deploy.Link.{Link}
 use Rattle.fb_types.specs.declared.deploy.Stimulus.{Stimulus}
 use Rattle.fb_types.specs.declared.value.Value.TheVariants as value
@@ -46,10 +46,10 @@ library blocks is events wires =
       application = record { name = codes "A"; network = record { instances = is; event_connections = events; data_connections = wires } };
     }
 
-abbrev pub resource : Name → List Name → Resource
+abbrev pub resource : Name → List Name → ResourceEntry
 resource n is = record { device = codes "D1"; name = n; instances = is }
 
-abbrev pub plan : List Resource → List Link → Plan
+abbrev pub plan : List ResourceEntry → List Link → Plan
 plan rs ls = record { resources = rs; links = ls; holds_all = false }
 
 -- an event of an instance at a tick, which sets no slots

@@ -12,7 +12,7 @@ use std::marker::Model;
 
 /// A resource of a device, with the instances of the application that it holds.
 #[derive(Drop)]
-pub struct Resource {
+pub struct ResourceEntry {
     pub device: Name,
     pub name: Name,
     pub instances: Items<Name>,
@@ -30,7 +30,7 @@ pub struct Link {
 /// holds every instance, whatever its list says.
 #[derive(Drop)]
 pub struct Plan {
-    pub resources: Items<Resource>,
+    pub resources: Items<ResourceEntry>,
     pub links: Items<Link>,
     pub holds_all: bool,
 }
@@ -65,7 +65,7 @@ impl Deploy {
     pub fn single(alloc: Global) -> Result<Deploy, AllocError>
         ensures { IfOk result (λ d. d ≡ single) }
     {
-        let main = Resource {
+        let main = ResourceEntry {
             device: Name::from_text(alloc, "DEV")?,
             name: Name::from_text(alloc, "MAIN")?,
             instances: Items::new(alloc),

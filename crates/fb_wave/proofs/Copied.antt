@@ -11,8 +11,8 @@ use Rattle.fb_types.specs.Text.{line_text, lines_text, trace_text}
 use Rattle.fb_types.specs.declared.run.Form.{Form}
 use Rattle.fb_types.specs.declared.run.Line.{Line}
 use Rattle.fb_trace.specs.End.{EndsIn, ending_of}
-use Rattle.fb_trace.specs.declared.last.End.{End}
-use Rattle.fb_trace.specs.declared.last.End.TheVariants.{Horizon, Stop}
+use Rattle.fb_trace.specs.declared.last.RunEnd.{RunEnd}
+use Rattle.fb_trace.specs.declared.last.RunEnd.TheVariants.{Horizon, Stop}
 use Rattle.fb_wave.specs.Scopes.{head_text}
 use Rattle.fb_wave.specs.Dumps.{dump_text, end_text, last_tick, ticks_text}
 use Rattle.fb_wave.specs.Writing.{HasTold, IsDump}
@@ -91,13 +91,13 @@ copied_none sys form x next input left old tick numbers told read =
       got = Appends-nil old;
     }
 
-ends_after : (sys : System) (t u : ℕ) (end : End) → t ≡ u → IsAfter t end → EndsIn sys end → EndsAfter sys u (ending_of end)
+ends_after : (sys : System) (t u : ℕ) (end : RunEnd) → t ≡ u → IsAfter t end → EndsIn sys end → EndsAfter sys u (ending_of end)
 ends_after sys t u (Horizon h) same after ends = subst (λ (k : ℕ). k < h) same after
 ends_after sys t u (Stop m) same after ends = (subst (λ (k : ℕ). k ≤ m.tick) same after, ends)
 
 -- the end was read and told
 pub copied_all :
-    (sys : System) (form : Form) (x : Progress) (line : List ℕ) (input left old mid new : Option (List ℕ)) (end : End) → IsCopied sys form x line input left old mid
+    (sys : System) (form : Form) (x : Progress) (line : List ℕ) (input left old mid new : Option (List ℕ)) (end : RunEnd) → IsCopied sys form x line input left old mid
     → IsLast sys line end → IsFinished sys end x left mid new → IfSome input (λ text. IsWave sys text old new)
 copied_all sys form x line input left old mid new end is last finished = by input left is.read finished.over
   where
@@ -222,7 +222,7 @@ unfinished_none sys x old =
 
 -- a part of the end is sent
 pub unfinished_part :
-    (sys : System) (x : Progress) (end : End) (text : List ℕ) (old new : Option (List ℕ))
+    (sys : System) (x : Progress) (end : RunEnd) (text : List ℕ) (old new : Option (List ℕ))
     → ((ls : List Line) (front : List ℕ) → HasTold sys ls (front ++ x.page.text.items) x.dump → front ++ text ≡ dump_text sys ls (ending_of end))
     → IsFrontSent old new text → IsUnfinished sys x old new
 unfinished_part sys x end text old new whole cut =

@@ -7,8 +7,8 @@ use Rattle.fb_types.specs.Text.{lines_text}
 use Rattle.fb_types.specs.declared.run.Form.{Form}
 use Rattle.fb_types.specs.declared.run.Line.{Line}
 use Rattle.fb_trace.specs.End.{ending_of}
-use Rattle.fb_trace.specs.declared.last.End.{End}
-use Rattle.fb_trace.specs.declared.last.End.TheVariants.{Horizon, Stop}
+use Rattle.fb_trace.specs.declared.last.RunEnd.{RunEnd}
+use Rattle.fb_trace.specs.declared.last.RunEnd.TheVariants.{Horizon, Stop}
 use Rattle.fb_wave.specs.Dumps.{dump_text, last_tick}
 use Rattle.fb_wave.specs.Writing.{HasTold, IsDump}
 use Rattle.fb_wave.specs.Lines.{IsTextOf}
@@ -16,7 +16,7 @@ use Rattle.fb_wave.specs.Waves.{AreLinesOf, IsBegun}
 use Rattle.fb_wave.specs.declared.copy.Progress.{Progress}
 
 -- what may come behind a last line of that tick: a horizon after it, or a stop in it or after it
-abbrev pub IsAfter : ℕ → End → Type 0
+abbrev pub IsAfter : ℕ → RunEnd → Type 0
 IsAfter t (Horizon h) = t < h
 IsAfter t (Stop m) = t ≤ m.tick
 
@@ -45,7 +45,7 @@ pub record IsTaken (sys : System) (form : Form) (text : List ℕ) (old new : Pro
       → HasTold sys (ls ++ line ∷ []) (sent ++ new.page.text.items) new.dump
 
 -- An end can come, nothing is behind it, and all that waited and the rest of the dump was sent.
-pub record IsFinished (sys : System) (end : End) (before : Progress) (left old new : Option (List ℕ)) : Type 0 where
+pub record IsFinished (sys : System) (end : RunEnd) (before : Progress) (left old new : Option (List ℕ)) : Type 0 where
   pub after : IsAfter before.tick end
   pub over : IsAtEnd left
   pub sent : List ℕ

@@ -17,7 +17,7 @@ use Rattle.fb_wave.specs.declared.ports.Port.{Port}
 use Rattle.fb_system.specs.Stands.{ArePlaces}
 use Rattle.fb_system.specs.Lines.{BelongsTo, line_variables}
 use Rattle.fb_trace.specs.End.{EndsIn, ending_of}
-use Rattle.fb_trace.specs.declared.last.End.{End}
+use Rattle.fb_trace.specs.declared.last.RunEnd.{RunEnd}
 use Rattle.fb_wave.specs.Reading.{fit_each, type_at}
 
 -- the variables among which those of a line are
@@ -66,7 +66,7 @@ pub record IsTextOf (sys : System) (form : Form) (l : Line) (text : List ℕ) : 
   pub is : text ≡ line_text form sys (line_of sys l)
 
 -- The text is that of an end of the system.
-pub record IsLast (sys : System) (text : List ℕ) (end : End) : Type 0 where
+pub record IsLast (sys : System) (text : List ℕ) (end : RunEnd) : Type 0 where
   pub ends : EndsIn sys end
   pub is : text ≡ last_line sys (ending_of end)
 

@@ -16,7 +16,7 @@ use crate::line::read_line;
 use crate::page::DumpPage;
 use crate::table::{Guess, PortTable};
 use fb_system::system::System;
-use fb_trace::last::End;
+use fb_trace::last::RunEnd;
 use fb_types::run::Form;
 use std::alloc::{AllocError, Global};
 use std::io::{BufRead, Write};
@@ -46,12 +46,12 @@ fn form_of(line: &[u8]) -> Form {
 }
 
 /// Whether a trace whose last line is of a tick can end so.
-fn can_end(tick: u64, end: End) -> bool
+fn can_end(tick: u64, end: RunEnd) -> bool
     ensures { IsTrue result → IsAfter tick end }
 {
     match end {
-        End::Horizon(horizon) => tick < horizon,
-        End::Stop(mark) => tick <= mark.tick,
+        RunEnd::Horizon(horizon) => tick < horizon,
+        RunEnd::Stop(mark) => tick <= mark.tick,
     }
 }
 
@@ -101,7 +101,7 @@ impl Progress {
     fn finish<R: BufRead, W: Write>(
         &mut self,
         system: &System,
-        end: End,
+        end: RunEnd,
         number: u64,
         line: &mut Vec<u8>,
         input: &mut R,

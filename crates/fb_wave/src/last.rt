@@ -9,7 +9,7 @@ ghost use Rattle.fb_wave.specs.Lines.{IsLast, IsStop};
 use crate::number::{narrow, natural, tick};
 use crate::words::{behind, cut};
 use fb_system::system::System;
-use fb_trace::last::End;
+use fb_trace::last::RunEnd;
 use fb_types::run::StopMark;
 use fb_types::value::Reason;
 
@@ -72,7 +72,7 @@ fn stop_of(system: &System, text: &[u8]) -> Option<StopMark>
 }
 
 /// The end that a text tells, with its line feed.
-pub(crate) fn read_last(system: &System, text: &[u8]) -> Option<End>
+pub(crate) fn read_last(system: &System, text: &[u8]) -> Option<RunEnd>
     ensures { IfSome result (IsLast (system_of system.now) text.now) }
 {
     // With a number begins the line of an event.
@@ -80,7 +80,7 @@ pub(crate) fn read_last(system: &System, text: &[u8]) -> Option<End>
         return None;
     }
     if let Some(rest) = behind(text, b"end ") {
-        return Some(End::Horizon(horizon_of(rest)?));
+        return Some(RunEnd::Horizon(horizon_of(rest)?));
     }
-    Some(End::Stop(stop_of(system, behind(text, b"stop ")?)?))
+    Some(RunEnd::Stop(stop_of(system, behind(text, b"stop ")?)?))
 }

@@ -4,7 +4,7 @@ use Rattle.std.specs.Prelude.{IfSome, option_map, slice_get, ℕ}
 use Rattle.toml.specs.Data.{Data, Members, as_array, as_table}
 use Rattle.toml.specs.View.{view, items_view}
 use Rattle.toml.specs.declared.value.Value.{Value}
-use Rattle.fb_inputs.specs.declared.document.Pair.{Pair}
+use Rattle.fb_inputs.specs.declared.document.LatencyDraft.{LatencyDraft}
 use Rattle.fb_why_bytes.specs.Keys.{elements_at, value_at}
 use Rattle.fb_why_bytes.specs.Numbers.{IsAmongLinks, IsLinkPlace, IsNumbersFault, IsTablePlace, pair_of, pairs_of, table_in}
 use Rattle.fb_why_bytes.specs.declared.numbers.WrittenEntry.{WrittenEntry}
@@ -15,7 +15,7 @@ use Rattle.fb_why_bytes.proofs.TableValues.{elements, view_at}
 
 pub pairs_push : (t : List WrittenEntry) (e : WrittenEntry) → pairs_of (t ++ e ∷ []) ≡ pairs_of t ++ pair_of e ∷ []
 pairs_push [] e = refl
-pairs_push (x ∷ t) e = ap (λ (ps : List Pair). pair_of x ∷ ps) (pairs_push t e)
+pairs_push (x ∷ t) e = ap (λ (ps : List LatencyDraft). pair_of x ∷ ps) (pairs_push t e)
 
 -- ---- Places
 
@@ -24,7 +24,7 @@ pub table_told : (link : ℕ) (d : Data) (keys : Members) (t xs : List WrittenEn
 table_told link d keys t xs None table entries same h = h
 table_told link d keys t xs (Some p) table entries same h = (keys, xs, sym table, entries ∙ ap (λ (ys : List WrittenEntry). Some (pairs_of ys)) (sym same), h)
 
-pub entries_are : (o : Option (Vec WrittenEntry Global)) (t : Vec WrittenEntry Global) (p : Option (List Pair)) → option_map (λ (v : Vec WrittenEntry Global). pairs_of v.items) o ≡ p → o ≡ Some t
+pub entries_are : (o : Option (Vec WrittenEntry Global)) (t : Vec WrittenEntry Global) (p : Option (List LatencyDraft)) → option_map (λ (v : Vec WrittenEntry Global). pairs_of v.items) o ≡ p → o ≡ Some t
     → p ≡ Some (pairs_of t.items)
 entries_are o t p seen is = sym seen ∙ ap (option_map (λ (v : Vec WrittenEntry Global). pairs_of v.items)) is
 

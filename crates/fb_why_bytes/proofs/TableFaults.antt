@@ -4,11 +4,11 @@ use Rattle.std.specs.Prelude.{codes, is_some, option_and_then, IfSome, MatchOpti
 use Rattle.std.proofs.lemmas.Bool.{true≢false}
 use Rattle.toml.specs.Data.{Data, Items, Members, as_array, get_member, table}
 use Rattle.fb_types.specs.Names.{same_name}
-use Rattle.fb_types.specs.declared.deploy.Resource.{Resource}
+use Rattle.fb_types.specs.declared.deploy.ResourceEntry.{ResourceEntry}
 use Rattle.fb_inputs.specs.Lists.{◌>>=◌, each}
 use Rattle.fb_inputs.specs.Words.{Text}
 use Rattle.fb_inputs.specs.declared.document.LinkDraft.{LinkDraft}
-use Rattle.fb_inputs.specs.declared.document.Pair.{Pair}
+use Rattle.fb_inputs.specs.declared.document.LatencyDraft.{LatencyDraft}
 use Rattle.fb_inputs.specs.declared.document.PlanDraft.{PlanDraft}
 use Rattle.fb_inputs.specs.Documents.{array_of, count_of, draft, known_keys, link, list_of, name_of, optional_array, read_at, resource, table_of}
 use Rattle.fb_inputs.specs.Deployments.{document}
@@ -30,7 +30,7 @@ resource_met keys device own instances count =
     by (read_at name_of (codes "device") keys) (read_at name_of (codes "name") keys) (read_at (array_of name_of) (codes "instances") keys) (count_of keys == 3) device own instances count
   where
     by : (a b : Option Text) (c : Option (List Text)) (t : Bool) → is_some a ≡ true → is_some b ≡ true → is_some c ≡ true → t ≡ true
-        → is_some {T = Resource} (a >>= λ x. b >>= λ y. c >>= λ z. cond t (Some (record { device = x; name = y; instances = z })) None) ≡ true
+        → is_some {T = ResourceEntry} (a >>= λ x. b >>= λ y. c >>= λ z. cond t (Some (record { device = x; name = y; instances = z })) None) ≡ true
     by None b c t ha hb hc ht = absurd (true≢false (sym ha))
     by (Some x) None c t ha hb hc ht = absurd (true≢false (sym hb))
     by (Some x) (Some y) None t ha hb hc ht = absurd (true≢false (sym hc))
@@ -46,13 +46,13 @@ link_met keys start end latencies count apart =
     by (read_at name_of (codes "from") keys) (read_at name_of (codes "to") keys) (table_of (get_member (codes "latency") keys) (get_member (codes "latencies") keys)) (count_of keys == 3)
     start end latencies count apart
   where
-    at_names : (a b : Text) (c : List Pair) (t loop : Bool) → t ≡ true → loop ≡ false
+    at_names : (a b : Text) (c : List LatencyDraft) (t loop : Bool) → t ≡ true → loop ≡ false
         → is_some {T = LinkDraft} (cond (t && not loop) (Some (record { start = a; end = b; table = c })) None) ≡ true
     at_names a b c true false ht hl = refl
     at_names a b c true true ht hl = absurd (true≢false hl)
     at_names a b c false loop ht hl = absurd (true≢false (sym ht))
 
-    by : (a b : Option Text) (c : Option (List Pair)) (t : Bool) → is_some a ≡ true → is_some b ≡ true → is_some c ≡ true → t ≡ true → alike_names a b ≡ false
+    by : (a b : Option Text) (c : Option (List LatencyDraft)) (t : Bool) → is_some a ≡ true → is_some b ≡ true → is_some c ≡ true → t ≡ true → alike_names a b ≡ false
         → is_some {T = LinkDraft} (a >>= λ x. b >>= λ y. c >>= λ z. cond (t && not (same_name x y)) (Some (record { start = x; end = y; table = z })) None) ≡ true
     by None b c t ha hb hc ht hl = absurd (true≢false (sym ha))
     by (Some x) None c t ha hb hc ht hl = absurd (true≢false (sym hb))
@@ -71,13 +71,13 @@ unfolding draft
 draft_met keys resources links count some =
     by (read_at (array_of resource) (codes "resource") keys) (optional_array link (get_member (codes "link") keys)) (count_of keys == known_keys keys) resources links count some
   where
-    at_counts : (a : List Resource) (b : List LinkDraft) (t none : Bool) → t ≡ true → none ≡ false
+    at_counts : (a : List ResourceEntry) (b : List LinkDraft) (t none : Bool) → t ≡ true → none ≡ false
         → is_some {T = PlanDraft} (cond (t && not none) (Some (record { resources = a; links = b })) None) ≡ true
     at_counts a b true false ht hn = refl
     at_counts a b true true ht hn = absurd (true≢false hn)
     at_counts a b false none ht hn = absurd (true≢false (sym ht))
 
-    by : (a : Option (List Resource)) (b : Option (List LinkDraft)) (t : Bool) → is_some a ≡ true → is_some b ≡ true → t ≡ true → is_empty_found a ≡ false
+    by : (a : Option (List ResourceEntry)) (b : Option (List LinkDraft)) (t : Bool) → is_some a ≡ true → is_some b ≡ true → t ≡ true → is_empty_found a ≡ false
         → is_some {T = PlanDraft} (a >>= λ x. b >>= λ y. cond (t && not (length x == 0)) (Some (record { resources = x; links = y })) None) ≡ true
     by None b t ha hb ht hn = absurd (true≢false (sym ha))
     by (Some x) None t ha hb ht hn = absurd (true≢false (sym hb))

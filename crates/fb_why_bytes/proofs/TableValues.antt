@@ -8,7 +8,7 @@ use Rattle.toml.specs.Data.{Data, Items, Members, as_array, as_integer}
 use Rattle.toml.specs.View.{view, items_view}
 use Rattle.toml.specs.declared.value.Value.{Value}
 use Rattle.fb_inputs.specs.Lists.{◌>>=◌, each}
-use Rattle.fb_inputs.specs.declared.document.Pair.{Pair}
+use Rattle.fb_inputs.specs.declared.document.LatencyDraft.{LatencyDraft}
 use Rattle.fb_inputs.specs.Documents.{array_of, list_of, optional_array, pair, pair_of, read_at, table_of}
 use Rattle.fb_inputs.proofs.Values.{array_view}
 use Rattle.fb_why_bytes.specs.Keys.{elements_at, is_either, is_element, text_of, value_at}
@@ -98,7 +98,7 @@ emptied keys k d vs xs at array same =
 
 -- ---- Pairs
 
-abbrev of_array : Option Items → Option Pair
+abbrev of_array : Option Items → Option LatencyDraft
 of_array o = o >>= λ ds. pair_of (list_of ds)
 
 two_whole : (x y : Data) → whole_pair (as_integer x) (as_integer y) ≡ pair_of (x ∷ y ∷ [])
@@ -120,7 +120,7 @@ two_values d vs (x ∷ y ∷ []) a b array same low high first second =
     ap (λ (v : Value). whole_pair (as_integer (view v)) (as_integer (view b))) first ∙ ap (λ (v : Value). whole_pair (as_integer (view x)) (as_integer (view v))) second
     ∙ two_whole (view x) (view y) ∙ ap (λ (ws : List Value). of_array (Some (items_view ws))) same ∙ ap of_array array
 
-pub some_pair : (o : Option WrittenEntry) (p : Option Pair) → option_map numbers.pair_of o ≡ p → is_some o ≡ is_some p
+pub some_pair : (o : Option WrittenEntry) (p : Option LatencyDraft) → option_map numbers.pair_of o ≡ p → is_some o ≡ is_some p
 some_pair None p h = ap is_some h
 some_pair (Some e) p h = ap is_some h
 
@@ -139,7 +139,7 @@ pub one_met : (a b : Option Data) (d : Data) → Some d ≡ a → is_some b ≡ 
 unfolding table_of
 one_met a b d is none whole = ap (λ (o : Option Data). is_some (table_of o b)) (sym is) ∙ by b none (as_integer d) whole refl
   where
-    of_whole : (o : Option ℤ) → is_some o ≡ true → is_some {T = List Pair} (o >>= λ n. Some (record { start = pos 0; ticks = n } ∷ [])) ≡ true
+    of_whole : (o : Option ℤ) → is_some o ≡ true → is_some {T = List LatencyDraft} (o >>= λ n. Some (record { start = pos 0; ticks = n } ∷ [])) ≡ true
     of_whole None h = h
     of_whole (Some n) h = refl
 

@@ -3,7 +3,7 @@ use Rattle.std.specs.Prelude.{◌≡◌, ◌<◌, ◌-◌, ◌==◌, ℕ, ℤ, u
 use Rattle.toml.specs.Data.{Data, Members, as_table}
 use Rattle.toml.specs.View.{view}
 use Rattle.toml.specs.declared.value.Value.{Value}
-use Rattle.fb_inputs.specs.declared.document.Pair.{Pair}
+use Rattle.fb_inputs.specs.declared.document.LatencyDraft.{LatencyDraft}
 use Rattle.fb_inputs.specs.Documents.{array_of, constant, pair}
 use Rattle.fb_inputs.specs.Deployments.{is_after, is_latency, is_zero}
 use Rattle.fb_why_bytes.specs.Keys.{elements_at, value_at}
@@ -13,26 +13,26 @@ use Rattle.fb_why_bytes.specs.declared.place.DeployPlace.TheVariants as place
 use Rattle.fb_why_bytes.specs.declared.place.DeployKey.{DeployKey}
 use Rattle.fb_why_bytes.specs.declared.place.DeployKey.TheVariants as key
 
-abbrev pub pair_of : WrittenEntry → Pair
+abbrev pub pair_of : WrittenEntry → LatencyDraft
 pair_of e = record { start = e.start; ticks = e.ticks }
 
-abbrev pub pairs_of : List WrittenEntry → List Pair
+abbrev pub pairs_of : List WrittenEntry → List LatencyDraft
 pairs_of t = map pair_of t
 
 -- an entry of two whole numbers
-abbrev pub whole_pair : Option ℤ → Option ℤ → Option Pair
+abbrev pub whole_pair : Option ℤ → Option ℤ → Option LatencyDraft
 whole_pair None o = None
 whole_pair (Some s) None = None
 whole_pair (Some s) (Some t) = Some (record { start = s; ticks = t })
 
 -- one latency or a table of them
-abbrev pub either_table : Option Data → Option Data → Option (List Pair)
+abbrev pub either_table : Option Data → Option Data → Option (List LatencyDraft)
 either_table (Some d) None = constant d
 either_table None (Some d) = array_of pair d
 either_table None None = None
 either_table (Some d) (Some e) = None
 
-abbrev pub table_in : Members → Option (List Pair)
+abbrev pub table_in : Members → Option (List LatencyDraft)
 table_in keys = either_table (value_at keys key.Latency) (value_at keys key.Latencies)
 
 -- The link with these keys has this table of latencies.

@@ -14,8 +14,6 @@ use Rattle.fb_types.specs.declared.library.Library.{Library}
 use Rattle.fb_types.specs.declared.library.Network.{Network}
 use Rattle.fb_types.specs.declared.library.Ports.{Ports}
 use Rattle.fb_types.specs.declared.library.Variable.{Variable}
-use Rattle.fb_why_kinds.specs.declared.lookup.PortSort.TheVariants.{EventInput, EventOutput, Input, Output}
-use Rattle.fb_why_kinds.specs.declared.lookup.PortSort.{PortSort}
 use Rattle.fb_why_kinds.specs.declared.networks.PlacedNetwork.{PlacedNetwork}
 use Rattle.fb_why_kinds.specs.declared.place.FlowKind.TheVariants.{Events, Data}
 use Rattle.fb_why_kinds.specs.declared.place.FlowKind.{FlowKind}
@@ -23,13 +21,6 @@ use Rattle.fb_why_kinds.specs.declared.place.Site.TheVariants.{Application, Insi
 use Rattle.fb_why_kinds.specs.declared.place.Site.{Site}
 use Rattle.fb_why_kinds.specs.declared.place.Variables.TheVariants.{Inputs, Outputs, Internals}
 use Rattle.fb_why_kinds.specs.declared.place.Variables.{Variables}
-
--- the names of the ports of a sort
-abbrev pub names_of_sort : PortSort → Ports → List Name
-names_of_sort EventInput = event_ins
-names_of_sort EventOutput = event_outs
-names_of_sort Input = data_ins
-names_of_sort Output = data_outs
 
 abbrev pub network_inside : BlockType → Option Placed
 network_inside (block.Basic t) = None

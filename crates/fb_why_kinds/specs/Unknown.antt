@@ -17,7 +17,7 @@ use Rattle.fb_types.specs.declared.library.Ports.{Ports}
 use Rattle.fb_types.specs.declared.library.Transition.{Transition}
 use Rattle.fb_types.specs.declared.deploy.Link.{Link}
 use Rattle.fb_types.specs.declared.deploy.Plan.{Plan}
-use Rattle.fb_types.specs.declared.deploy.Resource.{Resource}
+use Rattle.fb_types.specs.declared.deploy.ResourceEntry.{ResourceEntry}
 use Rattle.fb_kinds.specs.Checks.{is_met, all_met, guard_mentions, is_known_block}
 use Rattle.fb_names.specs.Unknown.{NetworkUnknown}
 use Rattle.fb_names.specs.Types.{ports_of_block}
@@ -169,13 +169,13 @@ link_wanted plan k side = option_map (λ l. (side_of side l, resource_names_of p
 abbrev pub is_instance : List Instance → Name → Bool
 is_instance is n = list_any (λ i. same_name n i.name) is
 
-abbrev pub are_mapped : List Instance → Resource → Bool
+abbrev pub are_mapped : List Instance → ResourceEntry → Bool
 are_mapped is r = list_all (is_instance is) r.instances
 
-abbrev pub is_resource : List Resource → Name → Bool
+abbrev pub is_resource : List ResourceEntry → Name → Bool
 is_resource rs n = list_any (λ r. same_name n r.name) rs
 
-abbrev pub are_sides_met : List Resource → Link → Bool
+abbrev pub are_sides_met : List ResourceEntry → Link → Bool
 are_sides_met rs l = is_resource rs l.from && is_resource rs l.to
 
 -- Something is unknown at this place.

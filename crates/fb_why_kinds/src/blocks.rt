@@ -13,10 +13,11 @@ ghost use Rattle.fb_why_kinds.specs.Sites.{basic_at};
 ghost use Rattle.fb_why_kinds.specs.Unknown.{IsBlockKnown, IsUnknownIn, UnknownAmong};
 
 use crate::charts::{unknown_in_states, unknown_in_transitions, unknown_with};
-use crate::lookup::{BlockTypes, PortSort};
+use crate::lookup::BlockTypes;
 use crate::mentions::{Mention, is_mention_known, push_body, push_expression};
 use crate::networks::{PlacedNetwork, unknown_in_network};
 use crate::place::{Direction, Site, UnknownName};
+use fb_names::ports::PortSort;
 use fb_types::library::{Algorithm, BasicType, BlockType, Library, Transition};
 use std::alloc::{AllocError, Global};
 

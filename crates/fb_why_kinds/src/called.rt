@@ -4,7 +4,7 @@ ghost use Rattle.std.specs.Prelude.{◌≡◌};
 ghost use Rattle.std.specs.List.{list_any};
 ghost use Rattle.fb_types.specs.Names.{same_name};
 
-use fb_types::deploy::Resource;
+use fb_types::deploy::ResourceEntry;
 use fb_types::library::{Algorithm, EventPort, Instance, State, Variable};
 use fb_types::name::Name;
 
@@ -59,7 +59,7 @@ impl Called for Instance {
     }
 }
 
-impl Called for Resource {
+impl Called for ResourceEntry {
     ghost called = { λ r. r.name };
 
     fn name(&self) -> &Name {

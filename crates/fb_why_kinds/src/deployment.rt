@@ -4,13 +4,13 @@ ghost use Rattle.std.specs.Prelude.{◌≡◌, MatchOption, Some, true, false, s
 ghost use Rattle.std.specs.List.{list_all};
 ghost use Rattle.fb_types.specs.Names.{Name};
 ghost use Rattle.fb_types.specs.declared.deploy.Link.{Link};
-ghost use Rattle.fb_types.specs.declared.deploy.Resource.{Resource};
+ghost use Rattle.fb_types.specs.declared.deploy.ResourceEntry.{ResourceEntry};
 ghost use Rattle.fb_names.specs.Unknown.{DeploymentUnknown};
 ghost use Rattle.fb_why_kinds.specs.Unknown.{IsUnknownAt, are_sides_met, are_mapped, is_instance, is_resource, side_of};
 
 use crate::called::is_called;
 use crate::place::{Side, UnknownName};
-use fb_types::deploy::{Link, Plan, Resource};
+use fb_types::deploy::{Link, Plan, ResourceEntry};
 use fb_types::library::{Instance, Library};
 use fb_types::name::Name;
 
@@ -27,8 +27,8 @@ fn unknown_name(instances: &[Instance], names: &[Name]) -> Option<usize>
 }
 
 /// The first resource that lists such a name, and the name.
-fn unknown_mapped(instances: &[Instance], resources: &[Resource]) -> Option<(usize, usize)>
-    ensures { MatchOption result (list_all (are_mapped instances.now) resources.now ≡ true) (λ r. (x : Resource) × (slice_get resources.now r.0 ≡ Some x) × ((n : Name) × (slice_get x.instances r.1 ≡ Some n) × (is_instance instances.now n ≡ false))) }
+fn unknown_mapped(instances: &[Instance], resources: &[ResourceEntry]) -> Option<(usize, usize)>
+    ensures { MatchOption result (list_all (are_mapped instances.now) resources.now ≡ true) (λ r. (x : ResourceEntry) × (slice_get resources.now r.0 ≡ Some x) × ((n : Name) × (slice_get x.instances r.1 ≡ Some n) × (is_instance instances.now n ≡ false))) }
 {
     for (place, resource) in resources.iter().enumerate() {
         if let Some(instance) = unknown_name(instances, resource.instances.as_slice()) {
@@ -39,7 +39,7 @@ fn unknown_mapped(instances: &[Instance], resources: &[Resource]) -> Option<(usi
 }
 
 /// The end of a link that is no resource, the first one where both are none.
-fn unknown_side(resources: &[Resource], link: &Link) -> Option<Side>
+fn unknown_side(resources: &[ResourceEntry], link: &Link) -> Option<Side>
     ensures { MatchOption result (are_sides_met resources.now link.now ≡ true) (λ side. is_resource resources.now (side_of side link.now) ≡ false) }
 {
     if !is_called(resources, &link.from) {
@@ -52,7 +52,7 @@ fn unknown_side(resources: &[Resource], link: &Link) -> Option<Side>
 }
 
 /// The first link with such an end, and the end.
-fn unknown_link(resources: &[Resource], links: &[Link]) -> Option<(usize, Side)>
+fn unknown_link(resources: &[ResourceEntry], links: &[Link]) -> Option<(usize, Side)>
     ensures { MatchOption result (list_all (are_sides_met resources.now) links.now ≡ true) (λ r. (l : Link) × (slice_get links.now r.0 ≡ Some l) × (is_resource resources.now (side_of r.1 l) ≡ false)) }
 {
     for (place, link) in links.iter().enumerate() {

@@ -3,26 +3,18 @@
 ghost use Rattle.std.specs.Prelude.{◌≡◌, IfOk, option_map};
 ghost use Rattle.std.specs.Option.{option_copied};
 ghost use Rattle.fb_types.specs.Blocks.{among, ports_of};
+ghost use Rattle.fb_names.specs.Sorts.{names_of_sort};
 ghost use Rattle.fb_types.specs.EventPorts.{ArePortsOfKinds};
 ghost use Rattle.fb_types.specs.Flat as spec;
 ghost use Rattle.fb_types.specs.Repeated.{block_type_names};
-ghost use Rattle.fb_why_kinds.specs.Sites.{names_of_sort};
 
 use crate::called::is_called;
+use fb_names::ports::PortSort;
 use fb_types::event_ports::{all_ports, kind_named};
 use fb_types::items::Items;
 use fb_types::library::{Library, Ports, block_named};
 use fb_types::name::Name;
 use std::alloc::{AllocError, Global};
-
-/// A sort of ports, each with a direction.
-#[derive(Clone, Copy)]
-pub enum PortSort {
-    EventInput,
-    EventOutput,
-    Input,
-    Output,
-}
 
 /// The block types of a declaration, and the ports of the event blocks in the order of their kinds.
 #[derive(Drop)]

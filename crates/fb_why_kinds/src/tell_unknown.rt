@@ -1,11 +1,12 @@
 //! The text that tells where a name stands for nothing: where it is, and what was wanted there.
 
-use crate::lookup::{BlockTypes, PortSort};
+use crate::lookup::BlockTypes;
 use crate::mentions::{Mention, push_body, push_expression};
 use crate::networks::PlacedNetwork;
 use crate::place::{ActionPart, Direction, FlowKind, Side, Site, TransitionPart, UnknownName};
 use crate::tell_sites::{push_basic, push_block, push_instance, push_site, scope_of};
 use crate::words::Text;
+use fb_names::ports::PortSort;
 use fb_types::deploy::Plan;
 use fb_types::library::{
     Action, BasicType, CompositeType, Instance, Library, Transition, instance_named,
@@ -15,7 +16,7 @@ use std::alloc::{AllocError, Global};
 
 /// The inputs of which something is told.
 #[derive(Clone, Copy)]
-struct Inputs<'a> {
+struct Documents<'a> {
     library: &'a Library,
     plan: &'a Plan,
     types: &'a BlockTypes<'a>,
@@ -29,7 +30,7 @@ pub fn tell_unknown(
     place: UnknownName,
 ) -> Result<String, AllocError> {
     let types = BlockTypes::new(alloc, library)?;
-    let inputs = Inputs {
+    let inputs = Documents {
         library,
         plan,
         types: &types,
@@ -38,7 +39,7 @@ pub fn tell_unknown(
 }
 
 /// The text of the place. What it reads it borrows, and what it writes to has one owner above all that may fail.
-fn told(alloc: Global, inputs: &Inputs, place: UnknownName) -> Result<String, AllocError> {
+fn told(alloc: Global, inputs: &Documents, place: UnknownName) -> Result<String, AllocError> {
     let mut text = Text::new(alloc);
     tell_place(alloc, &mut text, inputs, place)?;
     Ok(text.into_string())
@@ -47,7 +48,7 @@ fn told(alloc: Global, inputs: &Inputs, place: UnknownName) -> Result<String, Al
 fn tell_place(
     alloc: Global,
     text: &mut Text,
-    inputs: &Inputs,
+    inputs: &Documents,
     place: UnknownName,
 ) -> Result<(), AllocError> {
     match place {
@@ -75,7 +76,7 @@ fn instance_of(library: &Library, site: Site, instance: usize) -> Option<&Instan
 
 fn tell_type(
     text: &mut Text,
-    inputs: &Inputs,
+    inputs: &Documents,
     site: Site,
     instance: usize,
 ) -> Result<(), AllocError> {
@@ -89,7 +90,7 @@ fn tell_type(
 
 fn tell_parameter(
     text: &mut Text,
-    inputs: &Inputs,
+    inputs: &Documents,
     site: Site,
     (instance, parameter): (usize, usize),
 ) -> Result<(), AllocError> {
@@ -127,7 +128,7 @@ fn sorts_of(flow: FlowKind, side: Side) -> (PortSort, PortSort) {
 
 fn tell_end(
     text: &mut Text,
-    inputs: &Inputs,
+    inputs: &Documents,
     site: Site,
     (flow, connection, side): (FlowKind, usize, Side),
 ) -> Result<(), AllocError> {
@@ -179,7 +180,7 @@ fn tell_boundary(
 /// What the type of an instance lacks.
 fn tell_port(
     text: &mut Text,
-    inputs: &Inputs,
+    inputs: &Documents,
     instance: &Instance,
     (sort, wanted): (PortSort, &Name),
 ) -> Result<(), AllocError> {
@@ -191,7 +192,7 @@ fn tell_port(
 
 fn tell_mapped(
     text: &mut Text,
-    inputs: &Inputs,
+    inputs: &Documents,
     resource: usize,
     instance: usize,
 ) -> Result<(), AllocError> {
@@ -207,7 +208,12 @@ fn tell_mapped(
     text.named(" has no instance ", instance)
 }
 
-fn tell_link(text: &mut Text, inputs: &Inputs, link: usize, side: Side) -> Result<(), AllocError> {
+fn tell_link(
+    text: &mut Text,
+    inputs: &Documents,
+    link: usize,
+    side: Side,
+) -> Result<(), AllocError> {
     let Some(link) = inputs.plan.links.get(link) else {
         return Ok(());
     };

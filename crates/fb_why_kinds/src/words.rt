@@ -1,7 +1,7 @@
 //! Texts that are put together of words, names and numbers.
 
 use crate::called::Called;
-use crate::lookup::PortSort;
+use fb_names::ports::PortSort;
 use fb_types::library::{Connection, PortName, Ports};
 use fb_types::name::Name;
 use fb_types::value::{Ty, Value};

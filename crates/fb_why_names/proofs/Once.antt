@@ -22,7 +22,7 @@ use Rattle.fb_types.specs.declared.library.Ports.{Ports}
 use Rattle.fb_types.specs.declared.library.Variable.{Variable}
 use Rattle.fb_types.specs.declared.deploy.Link.{Link}
 use Rattle.fb_types.specs.declared.deploy.Plan.{Plan}
-use Rattle.fb_types.specs.declared.deploy.Resource.{Resource}
+use Rattle.fb_types.specs.declared.deploy.ResourceEntry.{ResourceEntry}
 use Rattle.fb_names.specs.Ends.{link_ends}
 use Rattle.fb_names.specs.GivenTwice.{BlockTwice, NetworkTwice, PortTwice, TypeTwice, names_of_ports}
 use Rattle.fb_types.proofs.NameLaws.{any_from_contains, same_name-flip}
@@ -165,7 +165,7 @@ types_once ts own once t =
 -- ---- All of a declaration and a deployment
 
 pub all_once :
-    (lib : Library) (plan : Plan) (ts : List BlockType) (rs : List Resource) (ls : List Link) → ts ≡ lib.blocks → rs ≡ plan.resources → ls ≡ plan.links
+    (lib : Library) (plan : Plan) (ts : List BlockType) (rs : List ResourceEntry) (ls : List Link) → ts ≡ lib.blocks → rs ≡ plan.resources → ls ≡ plan.links
     → list_all is_own_name ts ≡ true → ¬ (Twice (map type_name ts)) → All IsBlockOnce ts → ¬ (NetworkTwice lib.application.network)
     → ¬ (Twice (map (λ r. r.name) rs)) → ¬ (Twice (map link_ends ls)) → ¬ (NameTwice lib plan)
 all_once lib plan ts rs ls blocks resources links own names each network places joined =
@@ -175,7 +175,7 @@ all_once lib plan ts rs ls blocks resources links own names each network places 
       network = network;
       deployment = λ t.
           elim t [
-            | inl r ↦ places (subst (λ (rs : List Resource). Twice (map (λ r. r.name) rs)) (sym resources) r)
+            | inl r ↦ places (subst (λ (rs : List ResourceEntry). Twice (map (λ r. r.name) rs)) (sym resources) r)
             | inr l ↦ joined (subst (λ (ls : List Link). Twice (map link_ends ls)) (sym links) l)
           ];
     })

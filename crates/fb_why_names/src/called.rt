@@ -3,7 +3,7 @@
 ghost use Rattle.std.specs.Prelude.{◌≡◌, ◌++◌, map, IfOk};
 ghost use Rattle.fb_names.specs.Places.{names_in};
 
-use fb_types::deploy::Resource;
+use fb_types::deploy::ResourceEntry;
 use fb_types::library::{Algorithm, BlockType, EventPort, Instance, Parameter, State, Variable};
 use fb_types::name::Name;
 use std::alloc::AllocError;
@@ -75,7 +75,7 @@ impl Called for Parameter {
     }
 }
 
-impl Called for Resource {
+impl Called for ResourceEntry {
     ghost called = { λ r. r.name };
 
     fn name(&self) -> &Name {

@@ -1,27 +1,28 @@
 //! The first thing of a list that stood in it before.
 
 ghost use Rattle.std.specs.Prelude.{◌≡◌, [], map, IfOk};
-ghost use Rattle.fb_types.specs.Flat.{pairs_in, port_in};
-ghost use Rattle.fb_names.specs.Ends.{end_port, link_ends};
+ghost use Rattle.fb_types.specs.Flat.{pairs_in};
+ghost use Rattle.fb_names.specs.Ends.{link_ends};
 ghost use Rattle.fb_names.specs.Places.{names_in};
 ghost use Rattle.fb_why_names.specs.Pairs.{Paired};
 ghost use Rattle.fb_why_names.specs.Sources.{targets};
 
 use crate::called::{Called, push_names};
+use fb_names::repeats::{EndNames, end_names};
 use fb_types::deploy::Link;
-use fb_types::library::{Connection, PortName};
+use fb_types::library::Connection;
 use fb_types::name::Name;
 use std::alloc::{AllocError, Global};
 use std::collections::BTreeMap;
 
 /// The places in a list, from 0, of two that are the same, the earlier one first.
-pub type Pair = (usize, usize);
+pub type Repeat = (usize, usize);
 
 /// Names with the places where they stand.
 type Names<'a> = BTreeMap<&'a [u8], usize, Global>;
 
 /// Notes names in a table, up to one that is noted there.
-fn note_names<'a>(seen: &mut Names<'a>, names: &[&'a Name]) -> Result<Option<Pair>, AllocError>
+fn note_names<'a>(seen: &mut Names<'a>, names: &[&'a Name]) -> Result<Option<Repeat>, AllocError>
     requires { seen.old.entries ≡ [] }
     ensures { IfOk result (Paired (names_in names.now)) }
 {
@@ -34,7 +35,7 @@ fn note_names<'a>(seen: &mut Names<'a>, names: &[&'a Name]) -> Result<Option<Pai
 }
 
 /// The first name that stood before, with the place where it did.
-pub(crate) fn name_pair(alloc: Global, names: &[&Name]) -> Result<Option<Pair>, AllocError>
+pub(crate) fn name_pair(alloc: Global, names: &[&Name]) -> Result<Option<Repeat>, AllocError>
     ensures { IfOk result (Paired (names_in names.now)) }
 {
     let mut seen = BTreeMap::new(alloc);
@@ -42,7 +43,10 @@ pub(crate) fn name_pair(alloc: Global, names: &[&Name]) -> Result<Option<Pair>, 
 }
 
 /// The same of the names of a list.
-pub(crate) fn called_pair<T: Called>(alloc: Global, items: &[T]) -> Result<Option<Pair>, AllocError>
+pub(crate) fn called_pair<T: Called>(
+    alloc: Global,
+    items: &[T],
+) -> Result<Option<Repeat>, AllocError>
     ensures { IfOk result (Paired (map T.called items.now)) }
 {
     let mut names = Vec::new(alloc);
@@ -51,37 +55,25 @@ pub(crate) fn called_pair<T: Called>(alloc: Global, items: &[T]) -> Result<Optio
 }
 
 /// The same of a list of names.
-pub(crate) fn listed_pair(alloc: Global, names: &[Name]) -> Result<Option<Pair>, AllocError>
+pub(crate) fn listed_pair(alloc: Global, names: &[Name]) -> Result<Option<Repeat>, AllocError>
     ensures { IfOk result (Paired names.now) }
 {
     called_pair(alloc, names)
 }
 
-/// The names at an end of a connection.
-type End<'a> = (Option<&'a [u8]>, &'a [u8]);
-
-fn end_of(port: &PortName) -> End<'_>
-    ensures { end_port result ≡ port_in [] port.now }
-{
-    match &port.component {
-        Some(component) => (Some(component.as_bytes()), port.port.as_bytes()),
-        None => (None, port.port.as_bytes()),
-    }
-}
-
 /// Connections with the places where they stand.
-type Connections<'a> = BTreeMap<(End<'a>, End<'a>), usize, Global>;
+type Connections<'a> = BTreeMap<(EndNames<'a>, EndNames<'a>), usize, Global>;
 
 /// Notes connections in a table, up to one that is noted there.
 fn note_connections<'a>(
     seen: &mut Connections<'a>,
     connections: &'a [Connection],
-) -> Result<Option<Pair>, AllocError>
+) -> Result<Option<Repeat>, AllocError>
     requires { seen.old.entries ≡ [] }
     ensures { IfOk result (Paired (pairs_in [] connections.now)) }
 {
     for (second, connection) in connections.iter().enumerate() {
-        let ends = (end_of(&connection.from), end_of(&connection.to));
+        let ends = (end_names(&connection.from), end_names(&connection.to));
         if let Some(first) = seen.insert(ends, second)? {
             return Ok(Some((first, second)));
         }
@@ -93,7 +85,7 @@ fn note_connections<'a>(
 pub(crate) fn connection_pair(
     alloc: Global,
     connections: &[Connection],
-) -> Result<Option<Pair>, AllocError>
+) -> Result<Option<Repeat>, AllocError>
     ensures { IfOk result (Paired (pairs_in [] connections.now)) }
 {
     let mut seen = BTreeMap::new(alloc);
@@ -101,10 +93,13 @@ pub(crate) fn connection_pair(
 }
 
 /// The names of two resources with the place of the link from the one to the other.
-type Links<'a> = BTreeMap<(&'a [u8], &'a [u8]), usize, Global>;
+type LinkPlaces<'a> = BTreeMap<(&'a [u8], &'a [u8]), usize, Global>;
 
 /// Notes links in a table, up to one whose resources are noted there.
-fn note_links<'a>(seen: &mut Links<'a>, links: &'a [Link]) -> Result<Option<Pair>, AllocError>
+fn note_links<'a>(
+    seen: &mut LinkPlaces<'a>,
+    links: &'a [Link],
+) -> Result<Option<Repeat>, AllocError>
     requires { seen.old.entries ≡ [] }
     ensures { IfOk result (Paired (map link_ends links.now)) }
 {
@@ -117,7 +112,7 @@ fn note_links<'a>(seen: &mut Links<'a>, links: &'a [Link]) -> Result<Option<Pair
 }
 
 /// The first link that goes from and to the same resources as one before, with the place of that one.
-pub(crate) fn link_pair(alloc: Global, links: &[Link]) -> Result<Option<Pair>, AllocError>
+pub(crate) fn link_pair(alloc: Global, links: &[Link]) -> Result<Option<Repeat>, AllocError>
     ensures { IfOk result (Paired (map link_ends links.now)) }
 {
     let mut seen = BTreeMap::new(alloc);
@@ -125,18 +120,18 @@ pub(crate) fn link_pair(alloc: Global, links: &[Link]) -> Result<Option<Pair>, A
 }
 
 /// Ports with the places of the connections that lead to them.
-type Targets<'a> = BTreeMap<End<'a>, usize, Global>;
+type Targets<'a> = BTreeMap<EndNames<'a>, usize, Global>;
 
 /// Notes where connections lead in a table, up to one whose port is noted there.
 fn note_targets<'a>(
     seen: &mut Targets<'a>,
     connections: &'a [Connection],
-) -> Result<Option<Pair>, AllocError>
+) -> Result<Option<Repeat>, AllocError>
     requires { seen.old.entries ≡ [] }
     ensures { IfOk result (Paired (targets connections.now)) }
 {
     for (second, connection) in connections.iter().enumerate() {
-        if let Some(first) = seen.insert(end_of(&connection.to), second)? {
+        if let Some(first) = seen.insert(end_names(&connection.to), second)? {
             return Ok(Some((first, second)));
         }
     }
@@ -147,7 +142,7 @@ fn note_targets<'a>(
 pub(crate) fn target_pair(
     alloc: Global,
     connections: &[Connection],
-) -> Result<Option<Pair>, AllocError>
+) -> Result<Option<Repeat>, AllocError>
     ensures { IfOk result (Paired (targets connections.now)) }
 {
     let mut seen = BTreeMap::new(alloc);

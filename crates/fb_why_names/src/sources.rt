@@ -4,7 +4,7 @@ ghost use Rattle.std.specs.Prelude.{IfOk, MatchOption, All};
 ghost use Rattle.fb_types.specs.Joined.{TwoSources};
 ghost use Rattle.fb_why_names.specs.Sources.{IsJoinedAt, IsJoinedIn, IsJoinedInside, IsParted};
 
-use crate::pair::{Pair, target_pair};
+use crate::pair::{Repeat, target_pair};
 use fb_types::library::{BlockType, Library};
 use std::alloc::{AllocError, Global};
 
@@ -12,13 +12,13 @@ use std::alloc::{AllocError, Global};
 #[derive(Clone, Copy)]
 pub enum Joined {
     /// Two of the application.
-    Application(Pair),
+    Application(Repeat),
     /// Two of the composite type at this place.
-    Inside(usize, Pair),
+    Inside(usize, Repeat),
 }
 
 /// Two data connections inside a block type that lead to one port.
-fn joined_inside(alloc: Global, block: &BlockType) -> Result<Option<Pair>, AllocError>
+fn joined_inside(alloc: Global, block: &BlockType) -> Result<Option<Repeat>, AllocError>
     ensures { IfOk result (λ o. MatchOption o (IsParted block.now) (IsJoinedInside block.now)) }
 {
     match block {
@@ -33,7 +33,7 @@ fn joined_inside(alloc: Global, block: &BlockType) -> Result<Option<Pair>, Alloc
 fn joined_in_blocks(
     alloc: Global,
     blocks: &[BlockType],
-) -> Result<Option<(usize, Pair)>, AllocError>
+) -> Result<Option<(usize, Repeat)>, AllocError>
     ensures { IfOk result (λ o. MatchOption o (All IsParted blocks.now) (λ r. IsJoinedIn blocks.now r.0 r.1)) }
 {
     for (place, block) in blocks.iter().enumerate() {

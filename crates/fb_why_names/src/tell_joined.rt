@@ -1,6 +1,6 @@
 //! The text that tells of two data connections that lead to one port (E24).
 
-use crate::pair::Pair;
+use crate::pair::Repeat;
 use crate::sources::Joined;
 use crate::words::Text;
 use fb_types::library::{BlockType, Library, Network};
@@ -29,7 +29,11 @@ fn push_joined(text: &mut Text, library: &Library, place: Joined) -> Result<(), 
     }
 }
 
-fn push_pair(text: &mut Text, network: &Network, (first, second): Pair) -> Result<(), AllocError> {
+fn push_pair(
+    text: &mut Text,
+    network: &Network,
+    (first, second): Repeat,
+) -> Result<(), AllocError> {
     if let Some(connection) = network.data_connections.get(first) {
         text.connection(": data connections ", connection)?;
     }

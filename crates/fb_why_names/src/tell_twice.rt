@@ -1,7 +1,7 @@
 //! The text that tells of what is given twice (E20).
 
 use crate::called::Called;
-use crate::pair::Pair;
+use crate::pair::Repeat;
 use crate::twice::{GivenTwice, InBlock, InNetwork};
 use crate::words::Text;
 use fb_types::deploy::Plan;
@@ -72,7 +72,7 @@ fn push_block(
     }
 }
 
-fn push_link(text: &mut Text, plan: &Plan, (_, place): Pair) -> Result<(), AllocError> {
+fn push_link(text: &mut Text, plan: &Plan, (_, place): Repeat) -> Result<(), AllocError> {
     match plan.links.get(place) {
         Some(link) => {
             text.named("link from ", &link.from)?;
@@ -88,7 +88,7 @@ fn push_again<T: Called>(
     text: &mut Text,
     words: &str,
     items: &[T],
-    (_, place): Pair,
+    (_, place): Repeat,
 ) -> Result<(), AllocError> {
     match items.get(place) {
         Some(item) => {
@@ -118,7 +118,7 @@ fn push_in_network(text: &mut Text, network: &Network, found: InNetwork) -> Resu
     }
 }
 
-fn push_parameter(text: &mut Text, instance: &Instance, pair: Pair) -> Result<(), AllocError> {
+fn push_parameter(text: &mut Text, instance: &Instance, pair: Repeat) -> Result<(), AllocError> {
     text.named(": instance ", &instance.name)?;
     text.named(" : ", &instance.block_type)?;
     push_again(text, ", parameter ", instance.parameters.as_slice(), pair)
@@ -143,7 +143,7 @@ fn push_with(
     text: &mut Text,
     words: &str,
     event: Option<&EventPort>,
-    pair: Pair,
+    pair: Repeat,
 ) -> Result<(), AllocError> {
     match event {
         Some(event) => {
@@ -213,7 +213,11 @@ fn variable_at(block: &BlockType, place: usize) -> Option<(&'static str, &Name)>
     }
 }
 
-fn push_ports(text: &mut Text, block: &BlockType, (first, second): Pair) -> Result<(), AllocError> {
+fn push_ports(
+    text: &mut Text,
+    block: &BlockType,
+    (first, second): Repeat,
+) -> Result<(), AllocError> {
     let Some((sort, name)) = variable_at(block, first) else {
         return Ok(());
     };

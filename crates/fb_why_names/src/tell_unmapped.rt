@@ -1,9 +1,9 @@
 //! The text that tells of an instance that is not mapped to one resource (E26).
 
-use crate::pair::Pair;
+use crate::pair::Repeat;
 use crate::unmapped::Unmapped;
 use crate::words::Text;
-use fb_types::deploy::{Plan, Resource};
+use fb_types::deploy::{Plan, ResourceEntry};
 use fb_types::library::Library;
 use fb_types::name::Name;
 use std::alloc::{AllocError, Global};
@@ -40,7 +40,7 @@ fn push_unmapped(
 }
 
 /// The resource and the name at a place of the lists of all resources behind each other.
-fn listed_at(plan: &Plan, place: usize) -> Option<(&Resource, &Name)> {
+fn listed_at(plan: &Plan, place: usize) -> Option<(&ResourceEntry, &Name)> {
     let mut rest = place;
     for resource in plan.resources.as_slice() {
         let names = resource.instances.as_slice();
@@ -52,7 +52,7 @@ fn listed_at(plan: &Plan, place: usize) -> Option<(&Resource, &Name)> {
     None
 }
 
-fn push_again(text: &mut Text, plan: &Plan, (first, second): Pair) -> Result<(), AllocError> {
+fn push_again(text: &mut Text, plan: &Plan, (first, second): Repeat) -> Result<(), AllocError> {
     let Some((one, name)) = listed_at(plan, first) else {
         return Ok(());
     };

@@ -13,7 +13,7 @@ ghost use Rattle.fb_why_names.specs.Pairs.{IsPair, Paired};
 ghost use Rattle.fb_why_names.specs.Twice.{IsEventBlock, IsParameterTwice, IsTwiceAt, IsTwiceInBlock, IsTwiceInNetwork, IsTwiceInPorts, IsTwiceInSome, IsWithTwice, is_own_name, parameter_names};
 
 use crate::called::{Called, push_names};
-use crate::pair::{Pair, called_pair, connection_pair, link_pair, listed_pair, name_pair};
+use crate::pair::{Repeat, called_pair, connection_pair, link_pair, listed_pair, name_pair};
 use fb_types::deploy::Plan;
 use fb_types::event_ports::kind_named;
 use fb_types::library::{
@@ -26,11 +26,11 @@ use std::alloc::{AllocError, Global};
 #[derive(Clone, Copy)]
 pub enum InNetwork {
     /// The name of an instance.
-    Instance(Pair),
+    Instance(Repeat),
     /// A parameter of the instance at this place.
-    Parameter(usize, Pair),
+    Parameter(usize, Repeat),
     /// An event connection.
-    Connection(Pair),
+    Connection(Repeat),
 }
 
 /// What a block type gives twice.
@@ -38,15 +38,15 @@ pub enum InNetwork {
 pub enum InBlock {
     /// A name of its event inputs, event outputs, inputs, outputs and internal variables, which are one list in this
     /// order.
-    Port(Pair),
+    Port(Repeat),
     /// A variable WITH the event input at this place.
-    WithInput(usize, Pair),
+    WithInput(usize, Repeat),
     /// A variable WITH the event output at this place.
-    WithOutput(usize, Pair),
+    WithOutput(usize, Repeat),
     /// The name of a state.
-    State(Pair),
+    State(Repeat),
     /// The name of an algorithm.
-    Algorithm(Pair),
+    Algorithm(Repeat),
     /// Something of the network inside.
     Inside(InNetwork),
 }
@@ -57,19 +57,19 @@ pub enum GivenTwice {
     /// The name of an event block, to the block type at this place.
     EventBlock(usize),
     /// The name of a block type.
-    Type(Pair),
+    Type(Repeat),
     /// Something of the block type at this place.
     Block(usize, InBlock),
     /// Something of the application.
     Application(InNetwork),
     /// The name of a resource.
-    Resource(Pair),
+    Resource(Repeat),
     /// A link from one resource to another.
-    Link(Pair),
+    Link(Repeat),
 }
 
 /// The first event with a variable twice in its WITH list.
-fn with_pair(alloc: Global, events: &[EventPort]) -> Result<Option<(usize, Pair)>, AllocError>
+fn with_pair(alloc: Global, events: &[EventPort]) -> Result<Option<(usize, Repeat)>, AllocError>
     ensures { IfOk result (λ o. MatchOption o (All (λ e. ¬ (Twice e.with)) events.now) (λ r. IsWithTwice events.now r.0 r.1)) }
 {
     for (place, event) in events.iter().enumerate() {
@@ -84,7 +84,7 @@ fn with_pair(alloc: Global, events: &[EventPort]) -> Result<Option<(usize, Pair)
 fn parameter_pair(
     alloc: Global,
     instances: &[Instance],
-) -> Result<Option<(usize, Pair)>, AllocError>
+) -> Result<Option<(usize, Repeat)>, AllocError>
     ensures { IfOk result (λ o. MatchOption o (All (λ i. ¬ (Twice (parameter_names i))) instances.now) (λ r. IsParameterTwice instances.now r.0 r.1)) }
 {
     for (place, instance) in instances.iter().enumerate() {
@@ -132,7 +132,7 @@ fn port_pair(
     alloc: Global,
     ports: &Ports,
     internals: &[Variable],
-) -> Result<Option<Pair>, AllocError>
+) -> Result<Option<Repeat>, AllocError>
     ensures { IfOk result (Paired (names_of_ports ports.now internals.now)) }
 {
     let mut names = Vec::new(alloc);

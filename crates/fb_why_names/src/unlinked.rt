@@ -10,7 +10,7 @@ ghost use Rattle.fb_types.specs.Mapped.{NoLink};
 ghost use Rattle.fb_types.specs.declared.library.Connection.{Connection};
 ghost use Rattle.fb_why_names.specs.Unlinked.{IsUnlinkedAt, is_joining, is_linked};
 
-use fb_types::deploy::{Link, Plan, Resource};
+use fb_types::deploy::{Link, Plan, ResourceEntry};
 use fb_types::library::{Connection, Library, PortName};
 use fb_types::name::Name;
 
@@ -21,7 +21,7 @@ pub enum Unlinked {
     Data(usize),
 }
 
-fn lists(resource: &Resource, name: &Name) -> bool
+fn lists(resource: &ResourceEntry, name: &Name) -> bool
     ensures { result ≡ among resource.now.instances name.now }
 {
     resource
@@ -31,7 +31,7 @@ fn lists(resource: &Resource, name: &Name) -> bool
         .any(|listed| name.is(listed))
 }
 
-fn place_of_holder(resources: &[Resource], name: &Name) -> Option<usize>
+fn place_of_holder(resources: &[ResourceEntry], name: &Name) -> Option<usize>
     ensures { result ≡ position (λ r. among r.instances name.now) resources.now }
 {
     resources.iter().position(|resource| lists(resource, name))

@@ -9,8 +9,8 @@ ghost use Rattle.fb_names.specs.Places.{names_in};
 ghost use Rattle.fb_why_names.specs.Unmapped.{AllListed, IsUnmappedAmong, IsUnmappedAt, is_listed};
 
 use crate::called::push_names;
-use crate::pair::{Pair, name_pair};
-use fb_types::deploy::{Plan, Resource};
+use crate::pair::{Repeat, name_pair};
+use fb_types::deploy::{Plan, ResourceEntry};
 use fb_types::library::{Instance, Library};
 use fb_types::name::Name;
 use std::alloc::{AllocError, Global};
@@ -21,11 +21,14 @@ pub enum Unmapped {
     /// No resource lists the instance at this place of the application.
     Unlisted(usize),
     /// A name is listed twice, in the lists of all resources behind each other.
-    Again(Pair),
+    Again(Repeat),
 }
 
 /// The names that the resources list, one list behind the other.
-fn listed_names<'a>(alloc: Global, resources: &'a [Resource]) -> Result<Vec<&'a Name>, AllocError>
+fn listed_names<'a>(
+    alloc: Global,
+    resources: &'a [ResourceEntry],
+) -> Result<Vec<&'a Name>, AllocError>
     ensures { IfOk result (λ v. names_in v.items ≡ flat_map (λ r. r.instances) resources.now) }
 {
     let mut names = Vec::new(alloc);

@@ -9,7 +9,7 @@ ghost use Rattle.fb_parts_tests.specs.Coming.{HasCome, IsAfter};
 
 use fb_resource::resource::{Resource, WindowDone};
 use fb_system::system::System;
-use fb_trace::last::{End, write_last};
+use fb_trace::last::{RunEnd, write_last};
 use fb_trace::lines::write_lines;
 use fb_types::run::{Form, Line};
 use fb_window::cores::{Bounds, Core, Settled};
@@ -36,7 +36,7 @@ pub const SHUFFLED: u64 = 0x9e37_79b9_7f4a_7c15;
 
 /// How a run is made.
 #[derive(Clone, Copy)]
-pub struct Plan {
+pub struct HandPlan {
     /// The tick at which it ends.
     pub horizon: u64,
     /// The limit on the steps of one tick of a resource.
@@ -107,7 +107,7 @@ fn window<R: Abort>(
     alloc: Global,
     system: &System,
     core: Core,
-    plan: Plan,
+    plan: HandPlan,
     out: &mut Vec<u8>,
 ) -> Settled
     requires early { plan.horizon ≤ 10 ^ 12 }
@@ -154,7 +154,7 @@ fn run_on<R: Abort>(
     alloc: Global,
     system: &System,
     first: Core,
-    plan: Plan,
+    plan: HandPlan,
     out: &mut Vec<u8>,
 )
     requires early { plan.horizon ≤ 10 ^ 12 }
@@ -171,13 +171,13 @@ fn run_on<R: Abort>(
             }
             Settled::Ended(last, lines) => {
                 hand_out(rt, system, plan.form, lines, out);
-                write_last(out, system, End::Horizon(plan.horizon)).expect(rt, "written");
+                write_last(out, system, RunEnd::Horizon(plan.horizon)).expect(rt, "written");
                 last.let_go();
                 return;
             }
             Settled::Stopped(lines, mark) => {
                 hand_out(rt, system, plan.form, lines, out);
-                write_last(out, system, End::Stop(mark)).expect(rt, "written");
+                write_last(out, system, RunEnd::Stop(mark)).expect(rt, "written");
                 return;
             }
         }
@@ -190,7 +190,7 @@ pub fn run_by_hand<R: Abort>(
     rt: &R,
     alloc: Global,
     system: &System,
-    plan: Plan,
+    plan: HandPlan,
     out: &mut Vec<u8>,
 ) {
     assert!(rt; plan.horizon <= 1_000_000_000_000);

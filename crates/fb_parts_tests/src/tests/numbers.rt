@@ -3,7 +3,7 @@
 use super::belonging::{all_belong, ends_in};
 use super::chain::{accepted, expect_text};
 use fb_system::system::System;
-use fb_trace::last::{End, write_last};
+use fb_trace::last::{RunEnd, write_last};
 use fb_types::items::Items;
 use fb_types::key::Key;
 use fb_types::run::{Form, Line, StopMark};
@@ -175,13 +175,13 @@ fn expect_line(rt: &impl Abort, alloc: Global, system: &System, row: &Row) {
 }
 
 /// Last lines, each with its text.
-static ENDS: [(End, &[u8]); 8] = [
-    (End::Horizon(0), b"end 0\n"),
-    (End::Horizon(8), b"end 8\n"),
-    (End::Horizon(1_000_000_000_000), b"end 1000000000000\n"),
-    (End::Horizon(u64::MAX), b"end 18446744073709551615\n"),
+static ENDS: [(RunEnd, &[u8]); 8] = [
+    (RunEnd::Horizon(0), b"end 0\n"),
+    (RunEnd::Horizon(8), b"end 8\n"),
+    (RunEnd::Horizon(1_000_000_000_000), b"end 1000000000000\n"),
+    (RunEnd::Horizon(u64::MAX), b"end 18446744073709551615\n"),
     (
-        End::Stop(StopMark {
+        RunEnd::Stop(StopMark {
             tick: 0,
             resource: 0,
             reason: Reason::Steps,
@@ -189,7 +189,7 @@ static ENDS: [(End, &[u8]); 8] = [
         b"stop 0 R1 steps\n",
     ),
     (
-        End::Stop(StopMark {
+        RunEnd::Stop(StopMark {
             tick: 7,
             resource: 1,
             reason: Reason::Divide,
@@ -197,7 +197,7 @@ static ENDS: [(End, &[u8]); 8] = [
         b"stop 7 CELLAR_2 divide\n",
     ),
     (
-        End::Stop(StopMark {
+        RunEnd::Stop(StopMark {
             tick: 999_999_999_999,
             resource: 0,
             reason: Reason::Range,
@@ -205,7 +205,7 @@ static ENDS: [(End, &[u8]); 8] = [
         b"stop 999999999999 R1 range\n",
     ),
     (
-        End::Stop(StopMark {
+        RunEnd::Stop(StopMark {
             tick: u64::MAX,
             resource: 1,
             reason: Reason::Steps,
@@ -214,7 +214,7 @@ static ENDS: [(End, &[u8]); 8] = [
     ),
 ];
 
-fn expect_end(rt: &impl Abort, alloc: Global, system: &System, end: End, text: &[u8]) {
+fn expect_end(rt: &impl Abort, alloc: Global, system: &System, end: RunEnd, text: &[u8]) {
     assert!(rt; ends_in(system, &end));
     let mut out = Vec::new(alloc);
     write_last(&mut out, system, end).expect(rt, "written");

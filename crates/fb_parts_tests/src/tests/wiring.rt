@@ -2,38 +2,38 @@
 //! And one in which the second component is connected at a port with a high number alone.
 
 use fb_fabric::wiring::Wiring;
-use fb_names::numbers::{End, NetworkNumbers, Wire};
+use fb_names::numbers::{NetworkNumbers, Wire, WireEnd};
 use fb_types::items::Items;
 use std::alloc::Global;
 use std::mem::forget;
 use std::process::Abort;
 
 /// The first port at the boundary.
-const BOUNDARY: End = End {
+const BOUNDARY: WireEnd = WireEnd {
     component: None,
     port: 0,
 };
 
 /// The first port of the first component.
-const FIRST: End = End {
+const FIRST: WireEnd = WireEnd {
     component: Some(0),
     port: 0,
 };
 
 /// The third port of the second component.
-const THIRD_OF_SECOND: End = End {
+const THIRD_OF_SECOND: WireEnd = WireEnd {
     component: Some(1),
     port: 2,
 };
 
 /// A port of the second component with a high number.
-const FAR_OF_SECOND: End = End {
+const FAR_OF_SECOND: WireEnd = WireEnd {
     component: Some(1),
     port: 1_000_000,
 };
 
 /// The port before that one, which is not connected.
-const NEXT_TO_FAR: End = End {
+const NEXT_TO_FAR: WireEnd = WireEnd {
     component: Some(1),
     port: 999_999,
 };
@@ -43,8 +43,8 @@ const NEXT_TO_FAR: End = End {
 type Network = (
     &'static [Wire],
     &'static [Wire],
-    &'static [(End, &'static [End])],
-    &'static [(End, Option<End>)],
+    &'static [(WireEnd, &'static [WireEnd])],
+    &'static [(WireEnd, Option<WireEnd>)],
 );
 
 /// Events from the boundary to the first component, and from there to both ends. Data from the first component to the

@@ -1,7 +1,7 @@
 use Rattle.std.proofs.Common.{Option, sym, ◌∙◌, subst}
 use Rattle.std.specs.Prelude.{slice_get}
 use Rattle.fb_check.specs.Directory.{IsFound}
-use Rattle.fb_check.specs.declared.directory_making.Inputs.{Inputs}
+use Rattle.fb_check.specs.declared.directory_making.TypeInputs.{TypeInputs}
 use Rattle.fb_check.proofs.Found.{ports_named, found_event, found_none, found_declared}
 use Rattle.fb_check.proofs.directory.inputs_named.Goals as goal
 
@@ -13,13 +13,13 @@ returns-in_err-place_of-in-None c =
 
 pub returns-in-Some : goal.returns-in-Some
 returns-in-Some c =
-    let P : Option Inputs → Type 0 = λ o. IsFound (ports_named c.args.library.now c.args.name.now) o in
+    let P : Option TypeInputs → Type 0 = λ o. IsFound (ports_named c.args.library.now c.args.name.now) o in
     subst P (sym (c.get.ensures.value ∙ (λ i. slice_get c.args.directory.now.event_blocks (c.place.ensures i))))
     (found_event c.args.library.now c.args.directory.now c.args.name.now c.in-Some.kind (sym c.kind_named.ensures ∙ c.in-Some.is) c.requires.directory)
 
 pub returns-in_ok-place_of-in-None : goal.returns-in_ok-place_of-in-None
 returns-in_ok-place_of-in-None c =
-    let P : Option Inputs → Type 0 = λ o. IsFound (ports_named c.args.library.now c.args.name.now) o in
+    let P : Option TypeInputs → Type 0 = λ o. IsFound (ports_named c.args.library.now c.args.name.now) o in
     subst P (sym c.get-in-None.ensures.value)
     (found_declared c.args.library.now c.args.directory.now c.args.name.now c.in_ok-place_of-in-None.field-0 (sym c.kind_named.ensures ∙ c.in-None.is)
     (sym (c.requires.types.place c.args.name.now) ∙ sym c.place_of.ensures ∙ c.in_ok-place_of-in-None.was) c.requires.directory)

@@ -5,7 +5,7 @@ use Rattle.std.proofs.lemmas.Bool.{true≢false}
 use Rattle.fb_types.specs.Repeated.{instance_names}
 use Rattle.fb_names.specs.Places.{place_in}
 use Rattle.fb_check.specs.Directory.{IsFound, ports_at_place}
-use Rattle.fb_check.specs.declared.directory_making.Inputs.{Inputs}
+use Rattle.fb_check.specs.declared.directory_making.TypeInputs.{TypeInputs}
 use Rattle.fb_check.proofs.Found.{unknown_instance}
 use Rattle.fb_check.proofs.Good.{found_at, no_event, no_instance, placed_at, set_twice}
 use Rattle.fb_check.proofs.Rows.{slots_none, taken_is}
@@ -25,7 +25,7 @@ returns-in_default-inputs_at c =
     let s = c.args.stimulus.now in
     let at = placed_at (instance_names lib.application.network) c.args.catalog.now.instances s.instance c.as_bytes.result.now c.place_of.result
     c.requires.catalog.1.instances c.as_bytes.ensures c.place_of.ensures in
-    let P : Option Inputs → Type 0 = λ o. IsFound (ports_at_place lib c.in-Some.place) o in
+    let P : Option TypeInputs → Type 0 = λ o. IsFound (ports_at_place lib c.in-Some.place) o in
     no_instance lib s (found_at lib s c.in-Some.place None (at ∙ c.in-Some.is, subst P (ap option_copied c.in_default-inputs_at.is) c.inputs_at.ensures))
 
 pub returns-in_default-event_place : goal.returns-in_default-event_place
@@ -35,7 +35,7 @@ returns-in_default-event_place c =
     let at = placed_at (instance_names lib.application.network) c.args.catalog.now.instances s.instance c.as_bytes.result.now c.place_of.result
     c.requires.catalog.1.instances c.as_bytes.ensures c.place_of.ensures in
     let x = c.in-Some-inputs_at.inputs.now in
-    let P : Option Inputs → Type 0 = λ o. IsFound (ports_at_place lib c.in-Some.place) o in
+    let P : Option TypeInputs → Type 0 = λ o. IsFound (ports_at_place lib c.in-Some.place) o in
     no_event lib s x (found_at lib s c.in-Some.place (Some x) (at ∙ c.in-Some.is, subst P (ap option_copied c.in-Some-inputs_at.is) c.inputs_at.ensures))
     (ap is_some (ap (place_in x.events) (sym c.as_bytes-2.ensures) ∙ sym c.event_place.ensures ∙ c.in_default-event_place.is))
 
@@ -50,7 +50,7 @@ returns-in-None c =
     let at = placed_at (instance_names lib.application.network) c.args.catalog.now.instances s.instance c.as_bytes.result.now c.place_of.result
     c.requires.catalog.1.instances c.as_bytes.ensures c.place_of.ensures in
     let x = c.in-Some-inputs_at.inputs.now in
-    let P : Option Inputs → Type 0 = λ o. IsFound (ports_at_place lib c.in-Some.place) o in
+    let P : Option TypeInputs → Type 0 = λ o. IsFound (ports_at_place lib c.in-Some.place) o in
     slots_none lib d s x c.in-Some.place c.in-Some-event_place.event c.requires.directory
     (at ∙ c.in-Some.is, subst P (ap option_copied c.in-Some-inputs_at.is) c.inputs_at.ensures)
     (ap (place_in x.events) (sym c.as_bytes-2.ensures) ∙ sym c.event_place.ensures ∙ c.in-Some-event_place.is)
@@ -64,7 +64,7 @@ returns-in-Some-2 c =
     let at = placed_at (instance_names lib.application.network) c.args.catalog.now.instances s.instance c.as_bytes.result.now c.place_of.result
     c.requires.catalog.1.instances c.as_bytes.ensures c.place_of.ensures in
     let x = c.in-Some-inputs_at.inputs.now in
-    let P : Option Inputs → Type 0 = λ o. IsFound (ports_at_place lib c.in-Some.place) o in
+    let P : Option TypeInputs → Type 0 = λ o. IsFound (ports_at_place lib c.in-Some.place) o in
     taken_is lib d s x _ c.in-Some.place c.in-Some-event_place.event c.requires.directory
     (at ∙ c.in-Some.is, subst P (ap option_copied c.in-Some-inputs_at.is) c.inputs_at.ensures)
     (ap (place_in x.events) (sym c.as_bytes-2.ensures) ∙ sym c.event_place.ensures ∙ c.in-Some-event_place.is)

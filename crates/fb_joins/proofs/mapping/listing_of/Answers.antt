@@ -1,6 +1,6 @@
 use Rattle.std.proofs.Common.{List, sym, ◌∙◌, subst}
 use Rattle.std.proofs.lemmas.List.{take_all}
-use Rattle.fb_types.specs.declared.deploy.Resource.{Resource}
+use Rattle.fb_types.specs.declared.deploy.ResourceEntry.{ResourceEntry}
 use Rattle.fb_joins.proofs.Listing.{IsHeld, held_more, held_resource, held_twice, holdings, listing_from_held}
 use Rattle.fb_joins.proofs.mapping.listing_of.Goals as goal
 
@@ -22,5 +22,5 @@ loop-number-preserved c =
 
 pub returns : goal.returns
 returns c =
-    let P : List Resource → Type 0 = λ rs. IsHeld (holdings 0 rs) c.loop-number.listing in
+    let P : List ResourceEntry → Type 0 = λ rs. IsHeld (holdings 0 rs) c.loop-number.listing in
     listing_from_held c.args.resources.now _ (subst P (take_all c.loop-number.number c.args.resources.now c.loop-number-test.false) c.loop-number.invariant)

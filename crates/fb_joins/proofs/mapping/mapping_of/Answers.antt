@@ -1,7 +1,7 @@
 use Rattle.std.proofs.Common.{List, ◌∙◌, subst}
 use Rattle.std.proofs.lemmas.List.{take_all}
 use Rattle.fb_types.specs.declared.library.Instance.{Instance}
-use Rattle.fb_types.specs.declared.deploy.Resource.{Resource}
+use Rattle.fb_types.specs.declared.deploy.ResourceEntry.{ResourceEntry}
 use Rattle.fb_joins.specs.Mapping.{IsListing}
 use Rattle.fb_joins.proofs.Mapped.{AreListed, all_mapped, all_listed, listed_more, listed_found, listing_some, not_listed_at}
 use Rattle.fb_joins.proofs.mapping.mapping_of.Goals as goal
@@ -22,6 +22,6 @@ loop-instance-preserved c =
 pub returns : goal.returns
 returns c =
     let P : List Instance → Type 0 = λ is. AreListed is c.in-Some.listing in
-    let L : List Resource → Type 0 = λ rs. IsListing rs c.in-Some.listing in
+    let L : List ResourceEntry → Type 0 = λ rs. IsListing rs c.in-Some.listing in
     all_listed c.args.library.now c.args.plan.now c.in-Some.listing c.if-plan.false (subst L c.as_slice.ensures (listing_some _ _ _ c.in_ok-listing.ensures c.in-Some.is))
     (subst P (take_all c.loop-instance.instance-index _ c.loop-instance-test.false ∙ c.as_slice-instance-items.ensures) c.loop-instance.invariant)

@@ -6,14 +6,14 @@ use Rattle.fb_names.proofs.repeats.has_connection_twice.Goals as goal
 
 pub returns-then-not-branch : goal.returns-then-not-branch
 returns-then-not-branch c = (
-  λ _. seen_twice_of_part pair_cmp pair_ports (λ (x : Connection). (port_in [] x.from, port_in [] x.to)) _ _ _ _ (c.end_of.result, c.end_of-in-loop-connection.result) _
-      c.loop-connection-test.true c.connection-item.is (λ i. (c.end_of.ensures i, c.end_of-in-loop-connection.ensures i)) c.loop-connection.invariant
+  λ _. seen_twice_of_part pair_cmp pair_ports (λ (x : Connection). (port_in [] x.from, port_in [] x.to)) _ _ _ _ (c.end_names.result, c.end_names-in-loop-connection.result) _
+      c.loop-connection-test.true c.connection-item.is (λ i. (c.end_names.ensures i, c.end_names-in-loop-connection.ensures i)) c.loop-connection.invariant
       c.in_ok-insert.ensures.added c.if-not-branch.true,
   λ _. refl,
 )
 
 pub loop-connection-preserved : goal.loop-connection-preserved
 loop-connection-preserved c =
-    seen_more_of_part pair_cmp pair_ports (λ (x : Connection). (port_in [] x.from, port_in [] x.to)) _ _ _ _ _ (c.end_of.result, c.end_of-in-loop-connection.result) _ pair_cmp-exact
-    c.loop-connection-test.true c.connection-item.is (λ i. (c.end_of.ensures i, c.end_of-in-loop-connection.ensures i)) c.loop-connection.invariant
+    seen_more_of_part pair_cmp pair_ports (λ (x : Connection). (port_in [] x.from, port_in [] x.to)) _ _ _ _ _ (c.end_names.result, c.end_names-in-loop-connection.result) _ pair_cmp-exact
+    c.loop-connection-test.true c.connection-item.is (λ i. (c.end_names.ensures i, c.end_names-in-loop-connection.ensures i)) c.loop-connection.invariant
     c.in_ok-insert.ensures.added c.if-not-branch.false c.in_ok-insert.ensures.updates.0

@@ -2,7 +2,7 @@ use Rattle.std.proofs.Common.{◌<◌, ℕ, length, sym, subst, arith}
 use Rattle.std.proofs.lemmas.List.{length-map}
 use Rattle.fb_types.specs.Headline.{system_of}
 use Rattle.fb_types.specs.Numbers.{path_at}
-use Rattle.fb_types.specs.declared.deploy.Resource.{Resource}
+use Rattle.fb_types.specs.declared.deploy.ResourceEntry.{ResourceEntry}
 use Rattle.fb_wave.proofs.Bounds.{resource_named}
 use Rattle.fb_wave.proofs.ports.holder_of.Goals as goal
 
@@ -11,7 +11,7 @@ overflow_cast-result c =
     let sys = system_of c.args.system.now in
     let within = resource_named c.args.system.now (path_at sys c.args.port.instance) c.facts.ensures.limits in
     let few = c.facts.ensures.limits.few_resources in
-    let count = length-map c.args.system.now.plan.resources (λ (r : Resource). r.name) in
+    let count = length-map c.args.system.now.plan.resources (λ (r : ResourceEntry). r.name) in
     omega (arith, within, few, count, c.resource.ensures)
 
 pub returns-clause-within : goal.returns-clause-within

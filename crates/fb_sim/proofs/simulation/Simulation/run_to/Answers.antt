@@ -6,7 +6,7 @@ use Rattle.fb_sim.specs.declared.drive.Finish.{Finish}
 use Rattle.fb_sim.specs.declared.drive.Finish.TheVariants.{AtEnd, AtMark}
 use Rattle.fb_sim.specs.declared.outcome.Outcome.TheVariants.{End, Stop}
 use Rattle.fb_sim.specs.declared.state.Phase.TheVariants as going
-use Rattle.fb_sim.specs.declared.state.State.{State}
+use Rattle.fb_sim.specs.declared.state.SessionState.{SessionState}
 use Rattle.fb_sim.proofs.AdvanceIs.{onward, advanced_end, advanced_stop, broken_on, short_stop, fails_on, goes_on}
 use Rattle.fb_sim.proofs.SessionIs.{on_way, ahead_of, stopped_of}
 use Rattle.fb_sim.proofs.Seen.{seen}
@@ -42,7 +42,7 @@ invariant_of-self g c =
       some_workers = c.self.invariant.some_workers;
       few_workers = c.self.invariant.few_workers;
       early = c.requires.early;
-      at = subst (λ (s : State). IsAtTick v.inputs v.steps c.args.to s) (sym c.put.ensures) (ahead_of v.inputs v.steps c.args.to c.in-AtEnd.core _ ran.1);
+      at = subst (λ (s : SessionState). IsAtTick v.inputs v.steps c.args.to s) (sym c.put.ensures) (ahead_of v.inputs v.steps c.args.to c.in-AtEnd.core _ ran.1);
     }
 
 pub returns-in-AtEnd : goal.returns-in-AtEnd
@@ -55,7 +55,7 @@ returns-in-AtEnd g c =
     subst (λ (f : Finish). RunsOn v.inputs (onward v c.args.to) way.lines old new (Ok (f, c.in_ok-finish.written))) c.in-AtEnd.is (c.in_ok-finish.ensures way.lines way.come) in
     let s = c.args.self.now in
     let gone = advanced_end (record v { phase = going.Running }) c.args.to way.later way.lines way.was old new c.in-AtEnd.core c.in_ok-finish.written ran in
-    subst (λ (x : State). AdvancesOn (record s { phase = going.Running }) (record v { to = c.args.to; phase = phase_of x }) c.args.to old new (Ok (End c.args.to))) (sym c.put.ensures)
+    subst (λ (x : SessionState). AdvancesOn (record s { phase = going.Running }) (record v { to = c.args.to; phase = phase_of x }) c.args.to old new (Ok (End c.args.to))) (sym c.put.ensures)
     (goes_on v s (record v { to = c.args.to; phase = going.Running }) c.self.view_is c.args.to old new (End c.args.to) gone)
 
 pub close-requires : goal.close-requires
@@ -95,7 +95,7 @@ invariant_of-self-in-AtMark g c =
       some_workers = c.self.invariant.some_workers;
       few_workers = c.self.invariant.few_workers;
       early = c.requires.early;
-      at = subst (λ (s : State). IsAtTick v.inputs v.steps c.args.to s) (sym c.put-in-AtMark.ensures) (stopped_of v.inputs v.steps c.args.to c.in-AtMark.mark _ ran.1.1);
+      at = subst (λ (s : SessionState). IsAtTick v.inputs v.steps c.args.to s) (sym c.put-in-AtMark.ensures) (stopped_of v.inputs v.steps c.args.to c.in-AtMark.mark _ ran.1.1);
     }
 
 pub returns-in_ok-close-in-AtMark : goal.returns-in_ok-close-in-AtMark
@@ -110,5 +110,5 @@ returns-in_ok-close-in-AtMark g c =
     subst (λ (f : Finish). RunsOn v.inputs (onward v c.args.to) way.lines old mid (Ok (f, c.in_ok-finish.written))) c.in-AtMark.is (c.in_ok-finish.ensures way.lines way.come) in
     let s = c.args.self.now in
     let gone = advanced_stop (record v { phase = going.Running }) c.args.to way.later way.lines way.was old mid new mark c.in_ok-finish.written ran c.in_ok-close-in-AtMark.ensures.whole in
-    subst (λ (x : State). AdvancesOn (record s { phase = going.Running }) (record v { to = c.args.to; phase = phase_of x }) c.args.to old new (Ok (Stop mark))) (sym c.put-in-AtMark.ensures)
+    subst (λ (x : SessionState). AdvancesOn (record s { phase = going.Running }) (record v { to = c.args.to; phase = phase_of x }) c.args.to old new (Ok (Stop mark))) (sym c.put-in-AtMark.ensures)
     (goes_on v s (record v { to = c.args.to; phase = going.Stopped mark }) c.self.view_is c.args.to old new (Stop mark) gone)

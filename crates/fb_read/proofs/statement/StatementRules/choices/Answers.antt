@@ -5,7 +5,7 @@ use Rattle.fb_read.specs.Parser.{sees}
 use Rattle.fb_read.specs.Statements.{nested_statement, choices, elsif, several, several_from}
 use Rattle.fb_read.proofs.Turns.{one_more, no_more}
 use Rattle.fb_read.proofs.Adding.{item_of, fault_of}
-use Rattle.fb_read.proofs.statement.Rules.choices.Goals as goal
+use Rattle.fb_read.proofs.statement.StatementRules.choices.Goals as goal
 
 pub returns-in_err-found : goal.returns-in_err-found
 unfolding choices

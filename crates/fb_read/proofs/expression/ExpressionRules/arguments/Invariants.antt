@@ -1,6 +1,6 @@
 use Rattle.std.proofs.Common.{◌≡◌, ◌-◌}
 use Rattle.fb_read.specs.Expressions.{nested_expression, arguments, arguments_from}
-use Rattle.fb_read.proofs.expression.Rules.arguments.Given as goal
+use Rattle.fb_read.proofs.expression.ExpressionRules.arguments.Given as goal
 
 abbrev pub invariant-loop-turn : goal.invariant-loop-turn
 invariant-loop-turn g l = arguments l.self.below (nested_expression l.self.below) l.fn.cursor ≡ arguments_from l.self.below (nested_expression l.self.below) (l._turn-end - l._turn) l.found l.depth l.cursor

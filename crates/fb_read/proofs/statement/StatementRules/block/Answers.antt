@@ -3,7 +3,7 @@ use Rattle.std.proofs.lemmas.Grind.{common_steps}
 use Rattle.fb_read.specs.Statements.{nested_statement, block, begins_statement, several, several_from}
 use Rattle.fb_read.proofs.Turns.{one_more, no_more}
 use Rattle.fb_read.proofs.Adding.{item_of, fault_of}
-use Rattle.fb_read.proofs.statement.Rules.block.Goals as goal
+use Rattle.fb_read.proofs.statement.StatementRules.block.Goals as goal
 
 pub loop-turn-init : goal.loop-turn-init
 unfolding block several

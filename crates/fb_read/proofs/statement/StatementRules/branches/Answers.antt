@@ -3,7 +3,7 @@ use Rattle.std.proofs.lemmas.Grind.{common_steps}
 use Rattle.fb_read.specs.Statements.{nested_statement, branches, branch, begins_label, several, several_from}
 use Rattle.fb_read.proofs.Turns.{one_more, no_more}
 use Rattle.fb_read.proofs.Adding.{item_of, fault_of}
-use Rattle.fb_read.proofs.statement.Rules.branches.Goals as goal
+use Rattle.fb_read.proofs.statement.StatementRules.branches.Goals as goal
 
 pub returns-in_err-found : goal.returns-in_err-found
 unfolding branches

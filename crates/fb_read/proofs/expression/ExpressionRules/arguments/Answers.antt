@@ -2,7 +2,7 @@ use Rattle.std.proofs.Common.{rules, arith}
 use Rattle.std.proofs.lemmas.Grind.{common_steps}
 use Rattle.fb_read.specs.Expressions.{nested_expression, arguments, arguments_from}
 use Rattle.fb_read.proofs.Turns.{one_more, no_more}
-use Rattle.fb_read.proofs.expression.Rules.arguments.Goals as goal
+use Rattle.fb_read.proofs.expression.ExpressionRules.arguments.Goals as goal
 
 pub returns-then-not-begins_expression : goal.returns-then-not-begins_expression
 unfolding arguments

@@ -1,6 +1,6 @@
 use Rattle.std.proofs.Common.{◌≡◌, ◌-◌}
 use Rattle.fb_read.specs.Expressions.{nested_expression, level_at, climb}
-use Rattle.fb_read.proofs.expression.Rules.+level.Given as goal
+use Rattle.fb_read.proofs.expression.ExpressionRules.+level.Given as goal
 
 abbrev pub decreases-level : goal.decreases-level
 decreases-level g l = l.level

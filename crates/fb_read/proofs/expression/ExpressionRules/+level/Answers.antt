@@ -7,7 +7,7 @@ use Rattle.fb_read.specs.Operators.{next_operator}
 use Rattle.fb_read.specs.Expressions.{nested_expression, level_at, climb}
 use Rattle.fb_read.proofs.Turns.{one_more, no_more, deeper}
 use Rattle.fb_read.proofs.Joins.{joined_more}
-use Rattle.fb_read.proofs.expression.Rules.+level.Goals as goal
+use Rattle.fb_read.proofs.expression.ExpressionRules.+level.Goals as goal
 
 level_above : (below : ℕ) (inner : ℕ → Parser Nested) (n : ℕ) (ts : Tokens) → 0 < n
     → level_at below inner n ts ≡ and_then (level_at below inner (n - 1) ts) (λ first rest. climb below inner n (inner (n - 1)) (length rest) first rest)
