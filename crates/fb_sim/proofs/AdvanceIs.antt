@@ -19,8 +19,8 @@ use Rattle.fb_sim.specs.declared.outcome.Outcome.{Outcome}
 use Rattle.fb_sim.specs.declared.outcome.Outcome.TheVariants.{End, Stop}
 use Rattle.fb_sim.specs.declared.outcome.RunError.{RunError}
 use Rattle.fb_sim.specs.declared.outcome.RunError.TheVariants.{Refused, Memory, Write, BadOption, Failed}
-use Rattle.fb_sim.specs.declared.state.Phase.{Phase}
-use Rattle.fb_sim.specs.declared.state.Phase.TheVariants as going
+use Rattle.fb_sim.specs.declared.state.Stage.{Stage}
+use Rattle.fb_sim.specs.declared.state.Stage.TheVariants as going
 use Rattle.fb_sim.proofs.Texts.{lines_text-append, part-after, part-before}
 
 module _ (s : Session) (to : ℕ) (ls out : List Line) (was : AreAll s.inputs s.steps s.to ls (AtHorizon s.to)) where
@@ -71,7 +71,7 @@ abbrev pub onward : Session → ℕ → Options
 onward s to = record { horizon = to; steps = s.steps; workers = s.workers; form = s.form }
 
 module _ (s : Session) (to : ℕ) (later : s.to < to) (ls : List Line) (was : AreAll s.inputs s.steps s.to ls (AtHorizon s.to)) (old : Option (List ℕ)) where
-  pub advanced_end : (new : Option (List ℕ)) (core : Core) (n : ℕ) → RunsOn s.inputs (onward s to) ls old new (Ok (AtEnd core, n)) → HasAdvanced s (record s { to = to; phase = going.Running }) to old new (End to)
+  pub advanced_end : (new : Option (List ℕ)) (core : Core) (n : ℕ) → RunsOn s.inputs (onward s to) ls old new (Ok (AtEnd core, n)) → HasAdvanced s (record s { to = to; stage = going.Running }) to old new (End to)
   advanced_end new core n r = record {
     later = later;
     bytes = text_of s.inputs s.form r.0 ++ stop_line (system_of s.inputs) (AtHorizon to);
@@ -81,7 +81,7 @@ module _ (s : Session) (to : ℕ) (later : s.to < to) (ls : List Line) (was : Ar
   }
 
   pub advanced_stop : (mid new : Option (List ℕ)) (mark : StopMark) (n : ℕ) → RunsOn s.inputs (onward s to) ls old mid (Ok (AtMark mark, n)) → Appends mid new (last_line (system_of s.inputs) (AtStop mark.tick mark.resource mark.reason))
-      → HasAdvanced s (record s { to = to; phase = going.Stopped mark }) to old new (Stop mark)
+      → HasAdvanced s (record s { to = to; stage = going.Stopped mark }) to old new (Stop mark)
   advanced_stop mid new mark n r got =
       let end = AtStop mark.tick mark.resource mark.reason in
       record {
@@ -94,7 +94,7 @@ module _ (s : Session) (to : ℕ) (later : s.to < to) (ls : List Line) (was : Ar
 
   -- the last line of a stop can't be written
   pub short_stop : (mid new : Option (List ℕ)) (mark : StopMark) (n : ℕ) → RunsOn s.inputs (onward s to) ls old mid (Ok (AtMark mark, n)) → (e : RunError)
-      → IsShort mid new (last_line (system_of s.inputs) (AtStop mark.tick mark.resource mark.reason)) n e → AdvancesOn s (record s { phase = going.Failed }) to old new (Err e)
+      → IsShort mid new (last_line (system_of s.inputs) (AtStop mark.tick mark.resource mark.reason)) n e → AdvancesOn s (record s { stage = going.Failed }) to old new (Err e)
   short_stop mid new mark n r (Write k) p =
       let end = AtStop mark.tick mark.resource mark.reason in
       record {
@@ -111,7 +111,7 @@ module _ (s : Session) (to : ℕ) (later : s.to < to) (ls : List Line) (was : Ar
   short_stop mid new mark n r Failed bad = absurd bad
 
   -- a round finds no memory, or can't write
-  pub broken_on : (new : Option (List ℕ)) (e : RunError) → RunsOn s.inputs (onward s to) ls old new (Err e) → AdvancesOn s (record s { phase = going.Failed }) to old new (Err e)
+  pub broken_on : (new : Option (List ℕ)) (e : RunError) → RunsOn s.inputs (onward s to) ls old new (Err e) → AdvancesOn s (record s { stage = going.Failed }) to old new (Err e)
   broken_on new Memory r =
       let f = next_begin s to ls r.0 was r.1 in
       record { later = later; bytes = text_of s.inputs s.form r.0; rest = f.rest; end = f.end; is_next = f.next; got = r.2; now = refl }
@@ -144,22 +144,22 @@ passed_on s t to old new e h (Ok x) bad = absurd bad
 passed_on s t to old new e h (Err f) is = subst (λ (x : RunError). AdvancesOn s t to old new (Err x)) (sym is) h
 
 -- A call that fails leaves the simulation as it was when its core had been taken out.
-pub fails_on : (v s : Session) → v ≡ s → s.phase ≡ going.Failed → (to : ℕ) (old new : Option (List ℕ)) (e : RunError) → AdvancesOn (record v { phase = going.Running }) (record v { phase = going.Failed }) to old new (Err e)
-    → (r : Result Outcome RunError) → IsErrAnd r (λ f. f ≡ e) → AdvancesOn (record s { phase = going.Running }) s to old new r
+pub fails_on : (v s : Session) → v ≡ s → s.stage ≡ going.Failed → (to : ℕ) (old new : Option (List ℕ)) (e : RunError) → AdvancesOn (record v { stage = going.Running }) (record v { stage = going.Failed }) to old new (Err e)
+    → (r : Result Outcome RunError) → IsErrAnd r (λ f. f ≡ e) → AdvancesOn (record s { stage = going.Running }) s to old new r
 fails_on v s same failed to old new e h r is =
-    let t : record s { phase = going.Failed } ≡ s = ap (λ (p : Phase). record s { phase = p }) (sym failed) in
-    let a : AdvancesOn (record s { phase = going.Running }) (record s { phase = going.Failed }) to old new (Err e) =
-    subst (λ (x : Session). AdvancesOn (record x { phase = going.Running }) (record x { phase = going.Failed }) to old new (Err e)) same h in
-    passed_on (record s { phase = going.Running }) s to old new e (subst (λ (x : Session). AdvancesOn (record s { phase = going.Running }) x to old new (Err e)) t a) r is
+    let t : record s { stage = going.Failed } ≡ s = ap (λ (p : Stage). record s { stage = p }) (sym failed) in
+    let a : AdvancesOn (record s { stage = going.Running }) (record s { stage = going.Failed }) to old new (Err e) =
+    subst (λ (x : Session). AdvancesOn (record x { stage = going.Running }) (record x { stage = going.Failed }) to old new (Err e)) same h in
+    passed_on (record s { stage = going.Running }) s to old new e (subst (λ (x : Session). AdvancesOn (record s { stage = going.Running }) x to old new (Err e)) t a) r is
 
-pub goes_on : (v s t : Session) → v ≡ s → (to : ℕ) (old new : Option (List ℕ)) (o : Outcome) → HasAdvanced (record v { phase = going.Running }) t to old new o → AdvancesOn (record s { phase = going.Running }) t to old new (Ok o)
-goes_on v s t same to old new o h = inl (subst (λ (x : Session). HasAdvanced (record x { phase = going.Running }) t to old new o) same h)
+pub goes_on : (v s t : Session) → v ≡ s → (to : ℕ) (old new : Option (List ℕ)) (o : Outcome) → HasAdvanced (record v { stage = going.Running }) t to old new o → AdvancesOn (record s { stage = going.Running }) t to old new (Ok o)
+goes_on v s t same to old new o h = inl (subst (λ (x : Session). HasAdvanced (record x { stage = going.Running }) t to old new o) same h)
 
 -- the error of the last line
-pub unfinished : (v s : Session) → v ≡ s → v.phase ≡ going.Running → (old new : Option (List ℕ)) (e : RunError) → IsShort old new (last_line (system_of v.inputs) (AtHorizon v.to)) 0 e
+pub unfinished : (v s : Session) → v ≡ s → v.stage ≡ going.Running → (old new : Option (List ℕ)) (e : RunError) → IsShort old new (last_line (system_of v.inputs) (AtHorizon v.to)) 0 e
     → (r : Result Outcome RunError) → IsErrAnd r (λ f. f ≡ e) → Finishes s old new r
 unfinished v s same running old new e h r is =
-    subst (λ (x : Session). Finishes x old new r) same (subst (λ (p : Phase). FinishesBy p v old new r) (sym running) (given r is))
+    subst (λ (x : Session). Finishes x old new r) same (subst (λ (p : Stage). FinishesBy p v old new r) (sym running) (given r is))
   where
     given : (q : Result Outcome RunError) → IsErrAnd q (λ f. f ≡ e) → FinishesOn v old new q
     given (Ok x) bad = absurd bad

@@ -23,7 +23,7 @@ use Rattle.fb_sim.specs.declared.outcome.Outcome.{Outcome}
 use Rattle.fb_sim.specs.declared.outcome.Outcome.TheVariants.{End, Stop}
 use Rattle.fb_sim.specs.declared.outcome.RunError.{RunError}
 use Rattle.fb_sim.specs.declared.outcome.RunError.TheVariants.{Refused, Memory, Write, BadOption, Failed}
-use Rattle.fb_sim.specs.declared.state.Phase.TheVariants as going
+use Rattle.fb_sim.specs.declared.state.Stage.TheVariants as going
 use Rattle.fb_sim.proofs.Texts.{lines_text-append, part-after, part-before}
 use Rattle.fb_sim.specs.Reports.{Came, Comes, GoesOn, HasCome, HasTold, Hears, feeds, hundredth, report_text, session}
 use Rattle.fb_sim.specs.declared.told.ToldTally.{ToldTally}
@@ -252,7 +252,7 @@ module _ (i : Inputs) (o : Options) (first out quiet err : Option (List ℕ)) (n
   pub came_stop : count ≤ 100 → next ≤ o.horizon → (t : Session) (mid : Option (List ℕ)) (m : ToldTally) (mark : StopMark) → GoesOn (session i o now) t next out mid n m (Ok (Stop mark))
       → Comes i o t first mid quiet err (suc count) m (Ok (Stop mark))
   came_stop few early t mid m mark r = (
-    ap (λ (s : Session). s.phase) r.3,
+    ap (λ (s : Session). s.stage) r.3,
     record {
       bytes = c.text ++ r.0;
       got = Appends-trans first out mid c.text r.0 c.got r.2;

@@ -15,7 +15,7 @@ use Rattle.fb_sim.specs.declared.outcome.Outcome.{Outcome}
 use Rattle.fb_sim.specs.declared.outcome.Outcome.TheVariants.{End, Stop}
 use Rattle.fb_sim.specs.declared.outcome.RunError.{RunError}
 use Rattle.fb_sim.specs.declared.outcome.RunError.TheVariants.{Refused, Memory, Write, BadOption, Failed}
-use Rattle.fb_sim.specs.declared.state.Phase.{Phase}
+use Rattle.fb_sim.specs.declared.state.Stage.{Stage}
 use Rattle.fb_sim.proofs.Texts.{part-after}
 use Rattle.fb_sim.specs.Reports.{Came, Comes, Ends, Fails, HasCome, HasTold, Hears, Tells, hundredth, is_at_end, session}
 use Rattle.fb_sim.specs.declared.told.ToldTally.{ToldTally}
@@ -69,8 +69,8 @@ module _ (i : Inputs) (o : Options) (t : Session) (first mid quiet err : Option 
   at_last : (new : Option (List ℕ)) (r : Result Outcome RunError) → t ≡ session i o (hundredth o.horizon 100) → Finishes t mid new r → Finishes (session i o o.horizon) mid new r
   at_last new r at f = subst (λ (s : Session). Finishes s mid new r) (at ∙ ap (session i o) (hundredth_last o.horizon)) f
 
-  stopped : (new : Option (List ℕ)) (r : Result Outcome RunError) (p : Phase) → t.phase ≡ p → Finishes t mid new r → FinishesBy p t mid new r
-  stopped new r p at f = subst (λ (q : Phase). FinishesBy q t mid new r) at f
+  stopped : (new : Option (List ℕ)) (r : Result Outcome RunError) (p : Stage) → t.stage ≡ p → Finishes t mid new r → FinishesBy p t mid new r
+  stopped new r p at f = subst (λ (q : Stage). FinishesBy q t mid new r) at f
 
   pub ends_well : (x : Outcome) → Comes i o t first mid quiet err 100 m (Ok x) → (new : Option (List ℕ)) (y : Outcome) → Finishes t mid new (Ok y) → Ends i o first new (Ok y)
   ends_well (End h) c new y f = ended i o first mid quiet err m c.0 new y (at_last new (Ok y) c.1 f)

@@ -12,8 +12,8 @@ use Rattle.fb_sim.specs.Given.{Given}
 use Rattle.fb_sim.specs.Serial as serial
 use Rattle.fb_sim.specs.Serial.{Declares, IsRightly}
 use Rattle.fb_sim.specs.Sessions.{Session}
-use Rattle.fb_sim.specs.declared.state.Phase.{Phase}
-use Rattle.fb_sim.specs.declared.state.Phase.TheVariants as going
+use Rattle.fb_sim.specs.declared.state.Stage.{Stage}
+use Rattle.fb_sim.specs.declared.state.Stage.TheVariants as going
 use Rattle.fb_sim.specs.declared.outcome.Outcome.{Outcome}
 use Rattle.fb_sim.specs.declared.outcome.Outcome.TheVariants.{End, Stop}
 use Rattle.fb_sim.specs.declared.outcome.RunError.{RunError}
@@ -31,7 +31,7 @@ pub record AreOptions (steps workers : ℕ) : Type 0 where
 pub record IsOpened (given : Given) (steps workers : ℕ) (form : Form) (s : Session) : Type 0 where
   pub within : AreOptions steps workers
   pub declared : Declares given s.inputs
-  pub opened : s ≡ record { inputs = s.inputs; steps = steps; workers = workers; form = form; to = 0; phase = going.Running }
+  pub opened : s ≡ record { inputs = s.inputs; steps = steps; workers = workers; form = form; to = 0; stage = going.Running }
 
 abbrev pub FailsToOpen : Given → (steps workers : ℕ) → RunError → Type 0
 FailsToOpen given steps workers BadOption = AreOptions steps workers → ⊥
@@ -58,9 +58,9 @@ pub record IsNext (s : Session) (to : ℕ) (bytes : List ℕ) (end : Ending) : T
   pub ending : end ≡ ending_of to takings
   pub text : bytes ≡ lines_text s.form (system_of s.inputs) rest ++ stop_line (system_of s.inputs) end
 
-abbrev pub phase_after : Outcome → Phase
-phase_after (End h) = going.Running
-phase_after (Stop mark) = going.Stopped mark
+abbrev pub stage_after : Outcome → Stage
+stage_after (End h) = going.Running
+stage_after (Stop mark) = going.Stopped mark
 
 -- it has advanced, and the writer got the text
 pub record HasAdvanced (s t : Session) (to : ℕ) (old new : Option (List ℕ)) (o : Outcome) : Type 0 where
@@ -68,7 +68,7 @@ pub record HasAdvanced (s t : Session) (to : ℕ) (old new : Option (List ℕ)) 
   pub bytes : List ℕ
   pub is_next : IsNext s to bytes (serial.ending_of o)
   pub got : Appends old new bytes
-  pub now : t ≡ record s { to = to; phase = phase_after o }
+  pub now : t ≡ record s { to = to; stage = stage_after o }
 
 -- it has failed, and the writer got some first bytes of the text
 pub record HasBroken (s t : Session) (to : ℕ) (old new : Option (List ℕ)) : Type 0 where
@@ -78,7 +78,7 @@ pub record HasBroken (s t : Session) (to : ℕ) (old new : Option (List ℕ)) : 
   pub end : Ending
   pub is_next : IsNext s to (bytes ++ rest) end
   pub got : Appends old new bytes
-  pub now : t ≡ record s { phase = going.Failed }
+  pub now : t ≡ record s { stage = going.Failed }
 
 -- the same, with the count of these bytes
 pub record HasNotWritten (s t : Session) (to : ℕ) (old new : Option (List ℕ)) (n : ℕ) : Type 0 where
@@ -87,7 +87,7 @@ pub record HasNotWritten (s t : Session) (to : ℕ) (old new : Option (List ℕ)
   pub end : Ending
   pub is_next : IsNext s to bytes end
   pub got : IsPartWritten old new bytes n
-  pub now : t ≡ record s { phase = going.Failed }
+  pub now : t ≡ record s { stage = going.Failed }
 
 -- From a simulation that goes on.
 abbrev pub AdvancesOn : (s t : Session) (to : ℕ) → (old new : Option (List ℕ)) → Result Outcome RunError → Type 0
@@ -102,7 +102,7 @@ AdvancesOn s t to old new (Err Failed) = ⊥
 abbrev pub Stays : (s t : Session) → (old new : Option (List ℕ)) → Type 0
 Stays s t old new = (t ≡ s) × (new ≡ old)
 
-abbrev pub AdvancesBy : Phase → (s t : Session) (to : ℕ) → (old new : Option (List ℕ)) → Result Outcome RunError → Type 0
+abbrev pub AdvancesBy : Stage → (s t : Session) (to : ℕ) → (old new : Option (List ℕ)) → Result Outcome RunError → Type 0
 AdvancesBy going.Running s t to old new r = AdvancesOn s t to old new r
 AdvancesBy (going.Stopped mark) s t to old new r = (r ≡ Ok (Stop mark)) × Stays s t old new
 AdvancesBy going.Failed s t to old new r = (r ≡ Err Failed) × Stays s t old new
@@ -110,7 +110,7 @@ AdvancesBy going.Failed s t to old new r = (r ≡ Err Failed) × Stays s t old n
 -- A tick past the last one is no tick to advance to, before all else.
 pub record Advances (s t : Session) (to : ℕ) (old new : Option (List ℕ)) (r : Result Outcome RunError) : Type 0 where
   pub bad : 10 ^ 12 < to → (r ≡ Err BadOption) × Stays s t old new
-  pub by : to ≤ 10 ^ 12 → AdvancesBy s.phase s t to old new r
+  pub by : to ≤ 10 ^ 12 → AdvancesBy s.stage s t to old new r
 
 -- ---- Ending
 
@@ -122,10 +122,10 @@ FinishesOn s old new (Err (Refused r)) = ⊥
 FinishesOn s old new (Err BadOption) = ⊥
 FinishesOn s old new (Err Failed) = ⊥
 
-abbrev pub FinishesBy : Phase → Session → (old new : Option (List ℕ)) → Result Outcome RunError → Type 0
+abbrev pub FinishesBy : Stage → Session → (old new : Option (List ℕ)) → Result Outcome RunError → Type 0
 FinishesBy going.Running s old new r = FinishesOn s old new r
 FinishesBy (going.Stopped mark) s old new r = (r ≡ Ok (Stop mark)) × (new ≡ old)
 FinishesBy going.Failed s old new r = (r ≡ Err Failed) × (new ≡ old)
 
 abbrev pub Finishes : Session → (old new : Option (List ℕ)) → Result Outcome RunError → Type 0
-Finishes s old new r = FinishesBy s.phase s old new r
+Finishes s old new r = FinishesBy s.stage s old new r

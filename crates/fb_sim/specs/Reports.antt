@@ -5,7 +5,7 @@ use Rattle.fb_types.specs.Headline.{Inputs, IsTrace, system_of, stimuli_of}
 use Rattle.fb_types.specs.Simulation.{Taken, IsSimulation, Ending, AtHorizon, AtStop, ending_of, lines_of}
 use Rattle.fb_types.specs.Text.{lines_text}
 use Rattle.fb_trace.specs.Progress.{IsPartWritten, bounded}
-use Rattle.fb_sim.specs.Advances.{IsNext, phase_after}
+use Rattle.fb_sim.specs.Advances.{IsNext, stage_after}
 use Rattle.fb_sim.specs.Given.{Given}
 use Rattle.fb_sim.specs.Rounds.{IsShort}
 use Rattle.fb_sim.specs.Serial as serial
@@ -16,7 +16,7 @@ use Rattle.fb_sim.specs.declared.outcome.Outcome.{Outcome}
 use Rattle.fb_sim.specs.declared.outcome.Outcome.TheVariants.{End, Stop}
 use Rattle.fb_sim.specs.declared.outcome.RunError.{RunError}
 use Rattle.fb_sim.specs.declared.outcome.RunError.TheVariants.{Refused, Memory, Write, BadOption, Failed}
-use Rattle.fb_sim.specs.declared.state.Phase.TheVariants as going
+use Rattle.fb_sim.specs.declared.state.Stage.TheVariants as going
 use Rattle.fb_sim.specs.declared.told.ToldTally.{ToldTally}
 
 -- ---- What standard error hears
@@ -89,7 +89,7 @@ Counted n m text = (m.bytes ≡ bounded (n.bytes + length text)) × (m.lines ≡
 -- The text of the way to the later tick was written, or a part of it, or memory was wanting.
 abbrev pub GoesOn : (s t : Session) (to : ℕ) → (old new : Option (List ℕ)) → (n m : ToldTally) → Result Outcome RunError → Type 0
 GoesOn s t to old new n m (Ok o) =
-    (text : List ℕ) × IsNext s to text (serial.ending_of o) × Appends old new text × (t ≡ record s { to = to; phase = phase_after o }) × Counted n m text
+    (text : List ℕ) × IsNext s to text (serial.ending_of o) × Appends old new text × (t ≡ record s { to = to; stage = stage_after o }) × Counted n m text
 GoesOn s t to old new n m (Err Memory) = (new ≡ old) × (m ≡ n)
 GoesOn s t to old new n m (Err (Write k)) = (text : List ℕ) × (end : Ending) × IsNext s to text end × IsShort old new text n.bytes (Write k) × (m ≡ n)
 GoesOn s t to old new n m (Err (Refused r)) = ⊥
@@ -108,7 +108,7 @@ in_memory Failed = Failed
 
 -- the simulation of the inputs, at a tick
 abbrev pub session : Inputs → Options → ℕ → Session
-session i o to = record { inputs = i; steps = o.steps; workers = o.workers; form = o.form; to = to; phase = going.Running }
+session i o to = record { inputs = i; steps = o.steps; workers = o.workers; form = o.form; to = to; stage = going.Running }
 
 -- It was told at some of the first hundredths, and standard error took it where it says so.
 pub record HasTold (i : Inputs) (o : Options) (quiet err : Option (List ℕ)) (heard : Bool) : Type 0 where
@@ -162,7 +162,7 @@ Fails i o old new Failed = ⊥
 abbrev pub Comes : (i : Inputs) (o : Options) (t : Session) (first out quiet err : Option (List ℕ)) (count : ℕ) (m : ToldTally) → Result Outcome RunError → Type 0
 Comes i o t first out quiet err count m (Ok (End h)) = Came i o first out quiet err count m × (t ≡ session i o (hundredth o.horizon count))
 Comes i o t first out quiet err count m (Ok (Stop mark)) =
-    (t.phase ≡ going.Stopped mark) × HasWritten i o first out (AtStop mark.tick mark.resource mark.reason) × HasTold i o quiet err m.is_heard
+    (t.stage ≡ going.Stopped mark) × HasWritten i o first out (AtStop mark.tick mark.resource mark.reason) × HasTold i o quiet err m.is_heard
 Comes i o t first out quiet err count m (Err e) = Fails i o first out e × HasTold i o quiet err m.is_heard
 
 -- what a run has written in the end

@@ -13,9 +13,9 @@ use Rattle.fb_system.specs.contracts.system.System as system
 use Rattle.fb_laws.specs.Finality.{core_of}
 use Rattle.fb_window.specs.declared.cores.Core.{Core}
 use Rattle.fb_sim.specs.Rounds.{HasCome, AreAll}
-use Rattle.fb_sim.specs.contracts.state.Phase as phase_row
-use Rattle.fb_sim.specs.declared.state.Phase.{Phase}
-use Rattle.fb_sim.specs.declared.state.Phase.TheVariants as going
+use Rattle.fb_sim.specs.contracts.state.Stage as stage_row
+use Rattle.fb_sim.specs.declared.state.Stage.{Stage}
+use Rattle.fb_sim.specs.declared.state.Stage.TheVariants as going
 use Rattle.fb_sim.specs.declared.state.SessionState.{SessionState}
 use Rattle.fb_sim.specs.declared.state.SessionState.TheVariants as state
 
@@ -26,21 +26,21 @@ pub record Session : Type 0 where
   pub workers : ℕ
   pub form : Form
   pub to : ℕ
-  pub phase : Phase
+  pub stage : Stage
 
 -- a session is stored as its six parts
 abbrev pub session_code : Coded Session
 session_code =
-    code_by (Inputs × (ℕ × (ℕ × (Form × (ℕ × Phase)))))
-    (coded× system.the_row.coded (coded× coded_ℕ (coded× coded_ℕ (coded× form.the_row.coded (coded× coded_ℕ phase_row.the_row.coded)))))
-    (λ s. (s.inputs, (s.steps, (s.workers, (s.form, (s.to, s.phase))))))
-    (λ p. record { inputs = p.0; steps = p.1.0; workers = p.1.1.0; form = p.1.1.1.0; to = p.1.1.1.1.0; phase = p.1.1.1.1.1 })
+    code_by (Inputs × (ℕ × (ℕ × (Form × (ℕ × Stage)))))
+    (coded× system.the_row.coded (coded× coded_ℕ (coded× coded_ℕ (coded× form.the_row.coded (coded× coded_ℕ stage_row.the_row.coded)))))
+    (λ s. (s.inputs, (s.steps, (s.workers, (s.form, (s.to, s.stage))))))
+    (λ p. record { inputs = p.0; steps = p.1.0; workers = p.1.1.0; form = p.1.1.1.0; to = p.1.1.1.1.0; stage = p.1.1.1.1.1 })
     (λ _. refl)
 
-abbrev pub phase_of : SessionState → Phase
-phase_of (state.Open core) = going.Running
-phase_of (state.Stopped mark) = going.Stopped mark
-phase_of state.Failed = going.Failed
+abbrev pub stage_of : SessionState → Stage
+stage_of (state.Open core) = going.Running
+stage_of (state.Stopped mark) = going.Stopped mark
+stage_of state.Failed = going.Failed
 
 -- the core, where there is one
 abbrev pub core_in : SessionState → Option Core

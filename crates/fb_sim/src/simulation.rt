@@ -3,14 +3,14 @@
 ghost use Rattle.std.specs.Prelude.{◌≡◌, ◌^◌, ◌<◌, ◌≤◌, IfOk, IfErr};
 ghost use Rattle.fb_sim.specs.Advances.{Advances, AdvancesOn, Finishes, IsOpened, FailsToOpen};
 ghost use Rattle.fb_sim.specs.Sessions.{IsAhead};
-ghost use Rattle.fb_sim.specs.declared.state.Phase.TheVariants as going;
+ghost use Rattle.fb_sim.specs.declared.state.Stage.TheVariants as going;
 
 use crate::drive::{Finish, run_on};
 use crate::options::{Inputs, Options};
 use crate::outcome::{Outcome, RunError};
 use crate::reading::open;
 use crate::run::{close, open_core};
-use crate::state::{Phase, SessionState};
+use crate::state::{SessionState, Stage};
 use fb_phase::Gate;
 use fb_system::system::System;
 use fb_trace::last::RunEnd;
@@ -39,13 +39,13 @@ pub struct Simulation {
 }
 
 impl Model for Simulation {
-    ghost use Rattle.fb_sim.specs.Sessions.{Session, session_code, phase_of, IsSession};
+    ghost use Rattle.fb_sim.specs.Sessions.{Session, session_code, stage_of, IsSession};
 
     ghost Value = { Session };
 
     ghost coded = { session_code };
 
-    ghost view = { λ s. record { inputs = s.system; steps = s.steps; workers = s.workers; form = s.form; to = s.to; phase = phase_of s.state } };
+    ghost view = { λ s. record { inputs = s.system; steps = s.steps; workers = s.workers; form = s.form; to = s.to; stage = stage_of s.state } };
 
     ghost invariant = { λ s. IsSession s.system s.steps s.workers s.to s.state };
 }
@@ -106,11 +106,11 @@ impl Simulation {
         if to > MOST_TICKS {
             return Err(RunError::BadOption);
         }
-        match self.state.phase() {
-            Phase::Failed => Err(RunError::Failed),
-            Phase::Stopped(mark) => Ok(Outcome::Stop(mark)),
-            Phase::Running if to <= self.to => Ok(Outcome::End(self.to)),
-            Phase::Running => match self.state.take() {
+        match self.state.stage() {
+            Stage::Failed => Err(RunError::Failed),
+            Stage::Stopped(mark) => Ok(Outcome::Stop(mark)),
+            Stage::Running if to <= self.to => Ok(Outcome::End(self.to)),
+            Stage::Running => match self.state.take() {
                 Some(core) => self.run_to(rt, core, to, out, gate),
                 None => unreachable!(),
             },
@@ -129,8 +129,8 @@ impl Simulation {
         requires ahead { IsAhead self.old.inputs self.old.steps self.old.to core }
         requires later { self.old.to < to }
         requires early { to ≤ 10 ^ 12 }
-        requires out { self.old.phase ≡ going.Failed }
-        ensures { AdvancesOn (record self.old { phase = going.Running }) self.new to (W.contents out.old) (W.contents out.new) result }
+        requires out { self.old.stage ≡ going.Failed }
+        ensures { AdvancesOn (record self.old { stage = going.Running }) self.new to (W.contents out.old) (W.contents out.new) result }
     {
         self.system.facts();
         let options = Options {
@@ -162,10 +162,10 @@ impl Simulation {
     pub fn finish<W: Write>(self, out: &mut W) -> Result<Outcome, RunError>
         ensures { Finishes self (W.contents out.old) (W.contents out.new) result }
     {
-        match self.state.phase() {
-            Phase::Failed => Err(RunError::Failed),
-            Phase::Stopped(mark) => Ok(Outcome::Stop(mark)),
-            Phase::Running => {
+        match self.state.stage() {
+            Stage::Failed => Err(RunError::Failed),
+            Stage::Stopped(mark) => Ok(Outcome::Stop(mark)),
+            Stage::Running => {
                 close(out, &self.system, RunEnd::Horizon(self.to), 0)?;
                 Ok(Outcome::End(self.to))
             }

@@ -1,7 +1,7 @@
 //! How far a simulation is.
 
 ghost use Rattle.std.specs.Prelude.{◌≡◌};
-ghost use Rattle.fb_sim.specs.Sessions.{core_in, phase_of};
+ghost use Rattle.fb_sim.specs.Sessions.{core_in, stage_of};
 ghost use Rattle.fb_sim.specs.declared.state.SessionState.TheVariants.{Failed};
 
 use fb_types::run::StopMark;
@@ -21,7 +21,7 @@ pub(crate) enum SessionState {
 
 /// How far a simulation is, as contracts see it.
 #[derive(Clone, Copy, Debug, PartialEq, Eq)]
-pub enum Phase {
+pub enum Stage {
     /// It goes on.
     Running,
     /// A resource has stopped.
@@ -32,13 +32,13 @@ pub enum Phase {
 
 impl SessionState {
     /// How far it is, without the core.
-    pub(crate) fn phase(&self) -> Phase
-        ensures { result ≡ phase_of self.now }
+    pub(crate) fn stage(&self) -> Stage
+        ensures { result ≡ stage_of self.now }
     {
         match self {
-            SessionState::Open(_) => Phase::Running,
-            SessionState::Stopped(mark) => Phase::Stopped(*mark),
-            SessionState::Failed => Phase::Failed,
+            SessionState::Open(_) => Stage::Running,
+            SessionState::Stopped(mark) => Stage::Stopped(*mark),
+            SessionState::Failed => Stage::Failed,
         }
     }
 

@@ -5,7 +5,7 @@ ghost use Rattle.std.specs.Io.KnownBytes.{Appends};
 ghost use Rattle.fb_laws.specs.Sound.{AreGood};
 ghost use Rattle.fb_sim.specs.Serial.{AreWithin, Writes, ending_of};
 ghost use Rattle.fb_sim.specs.Rounds.{FailsRun, IsShort, behind};
-ghost use Rattle.fb_sim.specs.declared.state.Phase.TheVariants as going;
+ghost use Rattle.fb_sim.specs.declared.state.Stage.TheVariants as going;
 ghost use Rattle.fb_sim.specs.Reports.{AreReports, Came, Comes, Counted, Ends, GoesOn, Hears, Tells, hundredth, in_memory, is_at_end, report_text, session};
 
 use crate::options::{Inputs, Options};
@@ -81,7 +81,7 @@ fn go_on<R: Threads + Wait + Sync, W: Write>(
     out: &mut W,
     tally: &mut ToldTally,
 ) -> Result<Outcome, RunError>
-    requires running { simulation.old.phase ≡ going.Running }
+    requires running { simulation.old.stage ≡ going.Running }
     requires later { simulation.old.to < to }
     requires early { to ≤ 10 ^ 12 }
     ensures { GoesOn simulation.old simulation.new to (W.contents out.old) (W.contents out.new) tally.old tally.new result }

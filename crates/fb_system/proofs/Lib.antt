@@ -1,6 +1,6 @@
 mod Seen
 mod Holding
-mod Seats
+mod Ranks
 mod WithPlaces
 mod Stimuli
 mod Beginning

@@ -11,17 +11,17 @@ use Rattle.fb_types.specs.declared.library.Instance.{Instance}
 use Rattle.fb_types.specs.declared.deploy.Plan.{Plan}
 use Rattle.fb_names.specs.declared.numbers.LinkEnds.{LinkEnds}
 
--- for each instance of the application the resource that holds it and its seat there, and the resources of each link
+-- for each instance of the application the resource that holds it and its rank there, and the resources of each link
 pub record Linked : Type 0 where
   pub holders : List ℕ
-  pub seats : List ℕ
+  pub ranks : List ℕ
   pub ends : List LinkEnds
 
 -- for each instance of the application, the resource that holds it
 abbrev pub holders_of : Library → Plan → List ℕ
 holders_of lib plan = map (λ i. holder plan i.name) lib.application.network.instances
 
--- ---- Seats
+-- ---- Ranks
 
 abbrev pub lies_with : Plan → Name → Instance → Bool
 lies_with plan n i = nat_eq (holder plan i.name) (holder plan n)
@@ -31,21 +31,21 @@ before plan instances place None = 0
 before plan instances place (Some i) = length (filter (lies_with plan i.name) (take place instances))
 
 -- how many instances of the application lie in the same resource and stand before the one at a place
-abbrev pub seat : Library → Plan → ℕ → ℕ
-seat lib plan place = let instances = lib.application.network.instances in before plan instances place (slice_get instances place)
+abbrev pub rank : Library → Plan → ℕ → ℕ
+rank lib plan place = let instances = lib.application.network.instances in before plan instances place (slice_get instances place)
 
 abbrev pub with_holder_before : List ℕ → ℕ → Option ℕ → ℕ
 with_holder_before holders place None = 0
 with_holder_before holders place (Some r) = length (filter (λ h. nat_eq h r) (take place holders))
 
 -- .. of a list of holders, how many before the one at a place are the same
-abbrev pub seat_among : List ℕ → ℕ → ℕ
-seat_among holders place = with_holder_before holders place (slice_get holders place)
+abbrev pub rank_among : List ℕ → ℕ → ℕ
+rank_among holders place = with_holder_before holders place (slice_get holders place)
 
 -- ---- What is looked up
 
-abbrev pub seat_at : Linked → ℕ → ℕ
-seat_at x place = unwrap_or (slice_get x.seats place) 0
+abbrev pub rank_at : Linked → ℕ → ℕ
+rank_at x place = unwrap_or (slice_get x.ranks place) 0
 
 abbrev pub holder_at : Linked → ℕ → ℕ
 holder_at x instance = unwrap_or (slice_get x.holders instance) 0
@@ -78,7 +78,7 @@ pub record AreWays (ends : List LinkEnds) (ways : BTreeMap (ℕ × ℕ) ℕ) : T
 -- The numbers are those of the application's instances, and of the deployment's resources and links.
 pub record IsLinked (lib : Library) (plan : Plan) (x : Linked) : Type 0 where
   pub holders : (i : ℕ) (n : Instance) → slice_get lib.application.network.instances i ≡ Some n → holder_at x i ≡ holder plan n.name
-  pub seats : (place : ℕ) → seat_at x place ≡ seat lib plan place
+  pub ranks : (place : ℕ) → rank_at x place ≡ rank lib plan place
   pub links : (r s : ℕ) → r < length plan.resources → s < length plan.resources → link_at x r s ≡ link_between plan r s
   pub senders : (l : ℕ) → sender_at x l ≡ end_of (λ y. y.from) plan l
   pub receivers : (l : ℕ) → receiver_at x l ≡ end_of (λ y. y.to) plan l

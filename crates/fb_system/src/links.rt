@@ -1,11 +1,11 @@
-//! Which resource holds an instance of the application, at which seat, and which link leads from one resource to another.
+//! Which resource holds an instance of the application, at which rank, and which link leads from one resource to another.
 
 ghost use Rattle.std.specs.Prelude.{◌≡◌, ◌≤◌, ℕ, length, slice_get, unwrap_or, IfOk};
 ghost use Rattle.fb_types.specs.Repeated.{NameTwice};
 ghost use Rattle.fb_types.specs.declared.deploy.Plan.{Plan};
 ghost use Rattle.fb_types.specs.declared.library.Library.{Library};
 ghost use Rattle.fb_names.specs.Numbers.{IsResolved};
-ghost use Rattle.fb_system.specs.Linking.{AreWays, IsLinked, holder_at, holders_of, link_at, receiver_at, seat_among, seat_at, sender_at};
+ghost use Rattle.fb_system.specs.Linking.{AreWays, IsLinked, holder_at, holders_of, link_at, receiver_at, rank_among, rank_at, sender_at};
 
 use fb_names::numbers::{LinkEnds, Resolved};
 use fb_types::items::Items;
@@ -16,14 +16,14 @@ use std::marker::Model;
 /// The number of a link, by the resource that sends and the resource that receives.
 type Ways = BTreeMap<(usize, usize), usize, Global>;
 
-/// The resources of instances and of links, by number. Contracts see the resource that holds each instance, its seat
+/// The resources of instances and of links, by number. Contracts see the resource that holds each instance, its rank
 /// there, and the resources of each link.
 #[derive(Drop)]
 pub struct Links {
     /// For each instance of the application, the resource that holds it.
     holders: Items<usize>,
     /// For each instance of the application, how many before it lie in the same resource.
-    seats: Items<u32>,
+    ranks: Items<u32>,
     /// For each link, its resources.
     ends: Items<LinkEnds>,
     ways: Ways,
@@ -34,7 +34,7 @@ impl Model for Links {
 
     ghost Value = { Linked };
 
-    ghost view = { λ l. record { holders = l.holders; seats = l.seats; ends = l.ends } };
+    ghost view = { λ l. record { holders = l.holders; ranks = l.ranks; ends = l.ends } };
 
     ghost invariant = { λ l. AreWays l.ends l.ways };
 }
@@ -54,18 +54,18 @@ fn ways_of(alloc: Global, links: &[LinkEnds]) -> Result<Ways, AllocError>
 }
 
 /// For each holder, how many before it are the same. An application has at most 4,096 instances.
-fn seats_of(alloc: Global, holders: &[usize]) -> Result<Items<u32>, AllocError>
+fn ranks_of(alloc: Global, holders: &[usize]) -> Result<Items<u32>, AllocError>
     requires { length holders.now ≤ 4096 }
-    ensures { IfOk result (λ seats. (place : ℕ) → unwrap_or (slice_get seats place) 0 ≡ seat_among holders.now place) }
+    ensures { IfOk result (λ ranks. (place : ℕ) → unwrap_or (slice_get ranks place) 0 ≡ rank_among holders.now place) }
 {
     let mut counts = BTreeMap::new(alloc);
-    let mut seats = Items::new(alloc);
+    let mut ranks = Items::new(alloc);
     for holder in holders {
-        let seat = counts.get(holder).copied().unwrap_or(0);
-        seats.push(seat)?;
-        counts.insert(*holder, seat + 1)?;
+        let rank = counts.get(holder).copied().unwrap_or(0);
+        ranks.push(rank)?;
+        counts.insert(*holder, rank + 1)?;
     }
-    Ok(seats)
+    Ok(ranks)
 }
 
 impl Links {
@@ -76,10 +76,10 @@ impl Links {
     {
         let ends = Items::from_slice(alloc, numbers.links.as_slice())?;
         let ways = ways_of(alloc, ends.as_slice())?;
-        let seats = seats_of(alloc, holders.as_slice())?;
+        let ranks = ranks_of(alloc, holders.as_slice())?;
         Ok(Links {
             holders,
-            seats,
+            ranks,
             ends,
             ways,
         })
@@ -94,10 +94,10 @@ impl Links {
 
     /// How many instances of the application before the one at a place lie in the same resource. A place that no instance has
     /// gives 0.
-    pub fn seat(&self, instance: usize) -> u32
-        ensures { result ≡ seat_at self.now instance }
+    pub fn rank(&self, instance: usize) -> u32
+        ensures { result ≡ rank_at self.now instance }
     {
-        self.seats.value(instance).unwrap_or(0)
+        self.ranks.value(instance).unwrap_or(0)
     }
 
     /// The link that leads from one resource to another, by their places from 0, or `None` where there is none.

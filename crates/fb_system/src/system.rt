@@ -11,7 +11,7 @@ ghost use Rattle.fb_system.specs.Stimuli.{IsStimulusAt, initial_inputs, initial_
 ghost use Rattle.fb_types.specs.Text.{path_text};
 ghost use Rattle.fb_fabric.specs.Layouts.{AreComponents, AreNumbers, IsParent, route_to};
 ghost use Rattle.fb_names.specs.Numbers.{kind_of_number};
-ghost use Rattle.fb_system.specs.Linking.{seat};
+ghost use Rattle.fb_system.specs.Linking.{rank};
 ghost use Rattle.fb_system.specs.Ports.{IsPort, IsSource, IsTarget, IsVariable, variable_of};
 ghost use Rattle.fb_system.specs.Systems.{inputs_of, IsGiven, StandFor};
 
@@ -233,11 +233,11 @@ impl System {
         }
     }
 
-    /// The seat of the instance of the application at a place of its text: how many before it lie in the same resource.
-    pub fn seat(&self, place: u32) -> u32
-        ensures { result ≡ seat self.now.library self.now.plan place }
+    /// The rank of the instance of the application at a place of its text: how many before it lie in the same resource.
+    pub fn rank(&self, place: u32) -> u32
+        ensures { result ≡ rank self.now.library self.now.plan place }
     {
-        self.whole.links.seat(place as usize)
+        self.whole.links.rank(place as usize)
     }
 
     /// How many resources there are, at most 256.

@@ -19,8 +19,8 @@ use Rattle.fb_types.proofs.Options.{and_then_parts}
 use Rattle.fb_fabric.specs.Layouts.{path_of, place_at, route_to}
 use Rattle.fb_tree.specs.Blocks.{components_of, own_of}
 use Rattle.fb_tree.specs.Trees.{block_at, own_at}
-use Rattle.fb_system.specs.Linking.{before, seat}
-use Rattle.fb_tree.specs.Worlds.{IsForest, StandsAt, StandsFor, route_in_tree, seated}
+use Rattle.fb_system.specs.Linking.{before, rank}
+use Rattle.fb_tree.specs.Worlds.{IsForest, StandsAt, StandsFor, route_in_tree, ranked}
 use Rattle.fb_tree.specs.declared.block.Block.{Block}
 use Rattle.fb_tree.specs.declared.resource.Forest.{Forest}
 use Rattle.fb_tree.specs.Opening.{AreDeep, AreGrown, CoversAll, Grown, IsTopIn, lies_in}
@@ -37,10 +37,10 @@ further blocks n (m ∷ route) b place h =
     let c = and_then_parts (λ (b : Block). block_at (components_of b) (m ∷ route)) (slice_get blocks n) b h in
     ap (option_and_then (λ (b : Block). block_at (components_of b) (m ∷ (route ++ place ∷ [])))) c.1 ∙ further (components_of c.0) m route b place c.2
 
-below_seated : (blocks : List Block) (f : ℕ → ℕ) (route : List ℕ) (b : Block) (place : ℕ) → block_at blocks (seated f route) ≡ Some b
-    → block_at blocks (seated f (route ++ place ∷ [])) ≡ slice_get (components_of b) place
-below_seated blocks f [] b place h = absurd (none-some b h)
-below_seated blocks f (n ∷ route) b place h = further blocks (f n) route b place h
+below_ranked : (blocks : List Block) (f : ℕ → ℕ) (route : List ℕ) (b : Block) (place : ℕ) → block_at blocks (ranked f route) ≡ Some b
+    → block_at blocks (ranked f (route ++ place ∷ [])) ≡ slice_get (components_of b) place
+below_ranked blocks f [] b place h = absurd (none-some b h)
+below_ranked blocks f (n ∷ route) b place h = further blocks (f n) route b place h
 
 -- ---- Names and places
 
@@ -61,7 +61,7 @@ found_place lib p net n x h found =
     some_is : (a b : Instance) → Some a ≡ Some b → a ≡ b
     some_is a b e = cc
 
--- ---- Seats
+-- ---- Ranks
 
 counted_mapped : {A : Type 0} (F : Path → Bool) (g : A → Path) (xs : List A) (n : ℕ) → length (filter (λ x. F (g x)) (take n xs)) ≡ length (filter F (take n (map g xs)))
 counted_mapped F g [] zero = refl
@@ -73,15 +73,15 @@ counted_mapped F g (x ∷ xs) (suc n) =
       | false ↦ counted_mapped F g xs n
     ]
 
-at_seat : (f : ℕ → Bool) (xs : List ℕ) (n x : ℕ) → slice_get xs n ≡ Some x → f x ≡ true → slice_get (filter f xs) (length (filter f (take n xs))) ≡ Some x
-at_seat f [] n x h t = absurd (none-some x h)
-at_seat f (y ∷ xs) zero x h t =
+at_rank : (f : ℕ → Bool) (xs : List ℕ) (n x : ℕ) → slice_get xs n ≡ Some x → f x ≡ true → slice_get (filter f xs) (length (filter f (take n xs))) ≡ Some x
+at_rank f [] n x h t = absurd (none-some x h)
+at_rank f (y ∷ xs) zero x h t =
     let e : y ≡ x = cc in
     ap (λ b. slice_get (cond b (y ∷ filter f xs) (filter f xs)) 0) (ap f e ∙ t) ∙ h
-at_seat f (y ∷ xs) (suc n) x h t =
+at_rank f (y ∷ xs) (suc n) x h t =
     elim (f y) as (λ b. slice_get (cond b (y ∷ filter f xs) (filter f xs)) (length (cond b (y ∷ filter f (take n xs)) (filter f (take n xs)))) ≡ Some x) [
-      | true ↦ at_seat f xs n x h t
-      | false ↦ at_seat f xs n x h t
+      | true ↦ at_rank f xs n x h t
+      | false ↦ at_rank f xs n x h t
     ]
 
 nat_itself : (m n : ℕ) → m ≡ n → nat_eq m n ≡ true
@@ -94,9 +94,9 @@ module _ (i : Inputs) (r : ℕ) (numbers : List ℕ) (blocks : List Block) (top 
   abbrev instances : List Instance
   instances = i.library.application.network.instances
 
-  seat_counts : (place : ℕ) (x : Instance) → slice_get instances place ≡ Some x → holder i.plan x.name ≡ r
-      → seat i.library i.plan place ≡ length (filter (lies_in (system_of i) r) (take place top.top))
-  seat_counts place x at holds =
+  rank_counts : (place : ℕ) (x : Instance) → slice_get instances place ≡ Some x → holder i.plan x.name ≡ r
+      → rank i.library i.plan place ≡ length (filter (lies_in (system_of i) r) (take place top.top))
+  rank_counts place x at holds =
       ap (before i.plan instances place) at
       ∙ ap (λ (s : ℕ). length (filter (λ (y : Instance). nat_eq (holder i.plan y.name) s) (take place instances))) holds
       ∙ counted_mapped in_resource (λ (y : Instance). y.name ∷ []) instances place
@@ -104,21 +104,21 @@ module _ (i : Inputs) (r : ℕ) (numbers : List ℕ) (blocks : List Block) (top 
       ∙ sym (counted_mapped in_resource (path_of i.library) top.top place)
 
   stands_top : (n : Name) (x : Instance) → instance_in i.library.application.network n ≡ Some x → holder i.plan n ≡ r
-      → (b : Block) × (slice_get blocks (seat i.library i.plan (place_at i.library [] n)) ≡ Some b) × Grown i 17 (n ∷ []) b
+      → (b : Block) × (slice_get blocks (rank i.library i.plan (place_at i.library [] n)) ≡ Some b) × Grown i 17 (n ∷ []) b
   stands_top n x found holds =
       let place = place_at i.library [] n in
       let at = found_place i.library [] i.library.application.network n x refl found in
       let k = instance_is i [] instances top.top place x top.are at.0 in
       let lies : lies_in (system_of i) r k.0 ≡ true = nat_itself _ _ (ap (resource_of i.plan) k.2 ∙ ap (holder i.plan) at.1 ∙ holds) in
-      let there : slice_get numbers (seat i.library i.plan place) ≡ Some k.0 =
-      ap (λ (ks : List ℕ). slice_get ks (seat i.library i.plan place)) top.is
-      ∙ ap (slice_get (filter (lies_in (system_of i) r) top.top)) (seat_counts place x at.0 (ap (holder i.plan) at.1 ∙ holds))
-      ∙ at_seat (lies_in (system_of i) r) top.top place k.0 k.1 lies in
-      let b = grown.grown (seat i.library i.plan place) k.0 there in
+      let there : slice_get numbers (rank i.library i.plan place) ≡ Some k.0 =
+      ap (λ (ks : List ℕ). slice_get ks (rank i.library i.plan place)) top.is
+      ∙ ap (slice_get (filter (lies_in (system_of i) r) top.top)) (rank_counts place x at.0 (ap (holder i.plan) at.1 ∙ holds))
+      ∙ at_rank (lies_in (system_of i) r) top.top place k.0 k.1 lies in
+      let b = grown.grown (rank i.library i.plan place) k.0 there in
       (b.0, b.1, subst (λ (p : Path). Grown i 17 p b.0) (k.2 ∙ ap (λ (m : Name). m ∷ []) at.1) b.2)
 
   stands_path : (p : Path) (n : Name) (x : Instance) (d : ℕ) → instance_at i.library (n ∷ p) ≡ Some x → resource_of i.plan (n ∷ p) ≡ r → length (n ∷ p) + d ≡ 18
-      → (b : Block) × (block_at blocks (seated (seat i.library i.plan) (route_to i.library (n ∷ p))) ≡ Some b) × Grown i d (n ∷ p) b
+      → (b : Block) × (block_at blocks (ranked (rank i.library i.plan) (route_to i.library (n ∷ p))) ≡ Some b) × Grown i d (n ∷ p) b
   stands_path [] n x d h lies deep =
       let b = stands_top n x h lies in
       let e : 17 ≡ d = omega (arith, deep) in
@@ -130,7 +130,7 @@ module _ (i : Inputs) (r : ℕ) (numbers : List ℕ) (blocks : List Block) (top 
       let at = found_place i.library (m ∷ p) net.0 n x net.1 net.2 in
       let c = b.2.1 net.0 net.1 (place_at i.library (m ∷ p) n) x at.0 in (
         c.0,
-        below_seated blocks (seat i.library i.plan) (route_to i.library (m ∷ p)) b.0 (place_at i.library (m ∷ p) n) b.1 ∙ c.1,
+        below_ranked blocks (rank i.library i.plan) (route_to i.library (m ∷ p)) b.0 (place_at i.library (m ∷ p) n) b.1 ∙ c.1,
         subst (λ (z : Name). Grown i d (z ∷ m ∷ p) c.0) at.1 c.2,
       )
 
@@ -151,7 +151,7 @@ module _ (i : Inputs) (r : ℕ) (numbers : List ℕ) (blocks : List Block) (top 
       (sym (ap (resource_of i.plan) net.path) ∙ lies) (omega (arith, short, long)) in
       record {
         own = own_of b.0;
-        stood = ap (λ (p : Path). own_at blocks (seated (seat i.library i.plan) (route_to i.library p))) net.path ∙ ap (option_map own_of) b.1;
+        stood = ap (λ (p : Path). own_at blocks (ranked (rank i.library i.plan) (route_to i.library p))) net.path ∙ ap (option_map own_of) b.1;
         stands =
             subst (λ (p : Path). StandsFor (system_of i) p (own_of b.0) (opening_block (system_of i) p)) (sym net.path)
             (own_stands (net.name ∷ net.outside) b.0 depth (omega (arith, short, long)) b.2);

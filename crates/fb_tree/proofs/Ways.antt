@@ -23,8 +23,8 @@ use Rattle.fb_fabric.proofs.Distinct.{AreOnce, below, paths_from}
 use Rattle.fb_types.proofs.ByPlace.{element_at, element_of_place, place_of_element}
 use Rattle.fb_fabric.proofs.Inside.{network_known}
 use Rattle.fb_fabric.proofs.Sites.{IsSite, all_once, inside_is, instance_is}
-use Rattle.fb_system.specs.Linking.{before, seat}
-use Rattle.fb_tree.specs.Worlds.{route_in_tree, seated}
+use Rattle.fb_system.specs.Linking.{before, rank}
+use Rattle.fb_tree.specs.Worlds.{route_in_tree, ranked}
 
 -- ---- Every path leads to an instance
 
@@ -90,7 +90,7 @@ module _ (lib : Library) (p : Path) (n m : Name) (s : Stands lib p n) (t : Stand
       sym s.is_instance ∙ ap (λ (net : Network). slice_get net.instances s.place) same_network ∙ ap (λ k. slice_get t.network.instances k) e ∙ t.is_instance in
       sym s.name ∙ ap (λ (i : Instance). i.name) (same_Some s.instance t.instance both) ∙ t.name
 
--- ---- Seats
+-- ---- Ranks
 
 -- how many before a place pass a test tells the place of one that passes it
 counted :
@@ -125,13 +125,13 @@ module _ (lib : Library) (plan : Plan) (n m : Name) (s : Stands lib [] n) (t : S
   lie_together : holder plan s.instance.name ≡ holder plan t.instance.name
   lie_together = ap (holder plan) s.name ∙ together ∙ sym (ap (holder plan) t.name)
 
-  -- the seat of an instance of a resource tells its place
-  same_by_seat : seat lib plan (place_at lib [] n) ≡ seat lib plan (place_at lib [] m) → s.place ≡ t.place
-  same_by_seat e =
+  -- the rank of an instance of a resource tells its place
+  same_by_rank : rank lib plan (place_at lib [] n) ≡ rank lib plan (place_at lib [] m) → s.place ≡ t.place
+  same_by_rank e =
       let is : List Instance = lib.application.network.instances in
       let count : (ℕ → ℕ → ℕ) = λ h k. length (filter (λ (i : Instance). nat_eq (holder plan i.name) h) (take k is)) in
-      let first : seat lib plan (place_at lib [] n) ≡ count (holder plan s.instance.name) s.place = ap (seat lib plan) s.is_place ∙ ap (before plan is s.place) first_at in
-      let second : seat lib plan (place_at lib [] m) ≡ count (holder plan t.instance.name) t.place = ap (seat lib plan) t.is_place ∙ ap (before plan is t.place) second_at in
+      let first : rank lib plan (place_at lib [] n) ≡ count (holder plan s.instance.name) s.place = ap (rank lib plan) s.is_place ∙ ap (before plan is s.place) first_at in
+      let second : rank lib plan (place_at lib [] m) ≡ count (holder plan t.instance.name) t.place = ap (rank lib plan) t.is_place ∙ ap (before plan is t.place) second_at in
       counted (λ (i : Instance). nat_eq (holder plan i.name) (holder plan s.instance.name)) is s.place t.place s.instance t.instance first_at second_at
       (eq-eqb (holder plan s.instance.name) (holder plan s.instance.name) refl) (ap (λ h. nat_eq h (holder plan s.instance.name)) (sym lie_together) ∙ eq-eqb (holder plan s.instance.name) (holder plan s.instance.name) refl)
       (sym first ∙ e ∙ second ∙ ap (λ h. count h t.place) (sym lie_together))
@@ -148,13 +148,13 @@ last_same (a ∷ more) (b ∷ bs) x y e =
     let r = last_same more bs x y rest in
     (ap (λ c. c ∷ more) first ∙ ap (λ cs. b ∷ cs) r.0, r.1)
 
-seated_last : (f : ℕ → ℕ) (xs : List ℕ) (y z : ℕ) → seated f ((xs ++ y ∷ []) ++ z ∷ []) ≡ seated f (xs ++ y ∷ []) ++ z ∷ []
-seated_last f [] y z = refl
-seated_last f (x ∷ xs) y z = refl
+ranked_last : (f : ℕ → ℕ) (xs : List ℕ) (y z : ℕ) → ranked f ((xs ++ y ∷ []) ++ z ∷ []) ≡ ranked f (xs ++ y ∷ []) ++ z ∷ []
+ranked_last f [] y z = refl
+ranked_last f (x ∷ xs) y z = refl
 
-seated_length : (f : ℕ → ℕ) (xs : List ℕ) → length (seated f xs) ≡ length xs
-seated_length f [] = refl
-seated_length f (x ∷ xs) = refl
+ranked_length : (f : ℕ → ℕ) (xs : List ℕ) → length (ranked f xs) ≡ length xs
+ranked_length f [] = refl
+ranked_length f (x ∷ xs) = refl
 
 route_length : (lib : Library) (p : Path) → length (route_to lib p) ≡ length p
 route_length lib [] = refl
@@ -169,11 +169,11 @@ above lib n m p x h =
 
 module _ (lib : Library) (plan : Plan) where
   abbrev in_tree : Path → List ℕ
-  in_tree p = seated (seat lib plan) (route_to lib p)
+  in_tree p = ranked (rank lib plan) (route_to lib p)
 
   as_long : (p q : Path) → in_tree p ≡ in_tree q → length p ≡ length q
   as_long p q e =
-      sym (seated_length (seat lib plan) (route_to lib p) ∙ route_length lib p) ∙ ap length e ∙ seated_length (seat lib plan) (route_to lib q) ∙ route_length lib q
+      sym (ranked_length (rank lib plan) (route_to lib p) ∙ route_length lib p) ∙ ap length e ∙ ranked_length (rank lib plan) (route_to lib q) ∙ route_length lib q
 
   same_path_by_route :
       (p q : Path) (x y : Instance) → instance_at lib p ≡ Some x → instance_at lib q ≡ Some y → in_tree p ≡ in_tree q → resource_of plan p ≡ resource_of plan q → p ≡ q
@@ -182,15 +182,15 @@ module _ (lib : Library) (plan : Plan) where
   same_path_by_route (n ∷ []) (m ∷ []) x y h g e r =
       let s = stands lib [] n x h in
       let t = stands lib [] m y g in
-      let seats : seat lib plan (place_at lib [] n) ≡ seat lib plan (place_at lib [] m) = (last_same [] [] (seat lib plan (place_at lib [] n)) (seat lib plan (place_at lib [] m)) e).1 in
-      ap (λ z. z ∷ []) (same_by_place lib [] n m s t (same_by_seat lib plan n m s t r seats))
+      let ranks : rank lib plan (place_at lib [] n) ≡ rank lib plan (place_at lib [] m) = (last_same [] [] (rank lib plan (place_at lib [] n)) (rank lib plan (place_at lib [] m)) e).1 in
+      ap (λ z. z ∷ []) (same_by_place lib [] n m s t (same_by_rank lib plan n m s t r ranks))
   same_path_by_route (n ∷ []) (m ∷ m' ∷ q) x y h g e r = let long = as_long (n ∷ []) (m ∷ m' ∷ q) e in absurd (omega (arith, long))
   same_path_by_route (n ∷ n' ∷ p) (m ∷ []) x y h g e r = let long = as_long (n ∷ n' ∷ p) (m ∷ []) e in absurd (omega (arith, long))
   same_path_by_route (n ∷ n' ∷ p) (m ∷ m' ∷ q) x y h g e r =
       let above_n = above lib n n' p x h in
       let above_m = above lib m m' q y g in
       let parts = last_same (in_tree (n' ∷ p)) (in_tree (m' ∷ q)) (place_at lib (n' ∷ p) n) (place_at lib (m' ∷ q) m)
-      (sym (seated_last (seat lib plan) (route_to lib p) (place_at lib p n') (place_at lib (n' ∷ p) n)) ∙ e ∙ seated_last (seat lib plan) (route_to lib q) (place_at lib q m') (place_at lib (m' ∷ q) m)) in
+      (sym (ranked_last (rank lib plan) (route_to lib p) (place_at lib p n') (place_at lib (n' ∷ p) n)) ∙ e ∙ ranked_last (rank lib plan) (route_to lib q) (place_at lib q m') (place_at lib (m' ∷ q) m)) in
       let rest : n' ∷ p ≡ m' ∷ q = same_path_by_route (n' ∷ p) (m' ∷ q) above_n.0 above_m.0 above_n.1 above_m.1 parts.0 r in
       let s = stands lib (n' ∷ p) n x h in
       let t = stands lib (n' ∷ p) m y (ap (λ (z : Path). instance_at lib (m ∷ z)) rest ∙ g) in

@@ -26,8 +26,8 @@ use Rattle.fb_tree.specs.Blocks.{inputs_in, inputs_of, node_with_inputs, node_wi
 use Rattle.fb_tree.specs.Changes.{Changes}
 use Rattle.fb_tree.specs.Changes as specs
 use Rattle.fb_tree.specs.Trees.{ChangedAlone, own_at}
-use Rattle.fb_system.specs.Linking.{seat}
-use Rattle.fb_tree.specs.Worlds.{InForest, IsForest, NodeStands, ShellStands, StandsAt, StandsFor, TakesSamples, ValuesStand, input_names, output_names, route_in_tree, seated}
+use Rattle.fb_system.specs.Linking.{rank}
+use Rattle.fb_tree.specs.Worlds.{InForest, IsForest, NodeStands, ShellStands, StandsAt, StandsFor, TakesSamples, ValuesStand, input_names, output_names, route_in_tree, ranked}
 use Rattle.fb_tree.specs.declared.block.Block.{Block}
 use Rattle.fb_tree.specs.declared.block.Block.TheOpen.{Block-F}
 use Rattle.fb_tree.specs.declared.block.Block.TheViews.{out-Block}
@@ -214,7 +214,7 @@ module _ (i : Inputs) (t : Forest) (w : World) (tree : IsForest i t w) (differ :
       let same : path_at (system_of i) j ≡ path_at (system_of i) k = same_path_is (path_at (system_of i) j) (path_at (system_of i) k) e in
       record {
         own = at_changed.own;
-        stood = ap (λ q. own_at new (seated (seat i.library i.plan) (route_to i.library q))) same ∙ at_changed.stood;
+        stood = ap (λ q. own_at new (ranked (rank i.library i.plan) (route_to i.library q))) same ∙ at_changed.stood;
         stands = subst (λ q. StandsFor (system_of i) q at_changed.own after) (sym same) at_changed.stands;
       }
   at_each j h lies_j false e =

@@ -21,7 +21,7 @@ use Rattle.fb_ecc.specs.Sound.{IsSound}
 use Rattle.fb_ecc.specs.declared.state.BasicState.{BasicState}
 use Rattle.fb_fabric.specs.Layouts.{route_to}
 use Rattle.fb_types.specs.declared.run.Place.{Place}
-use Rattle.fb_system.specs.Linking.{seat}
+use Rattle.fb_system.specs.Linking.{rank}
 use Rattle.fb_system.specs.Ports.{IsCompositeAt, IsSource, IsVariable, variable_of}
 use Rattle.fb_tree.specs.Blocks.{own_of}
 use Rattle.fb_tree.specs.Trees.{own_at}
@@ -92,13 +92,13 @@ StandsFor sys p x b = NodeStands sys p (sys.kind p) (out-Block x) b
 -- ---- The trees of one resource
 
 -- a route that begins with another place
-abbrev pub seated : (ℕ → ℕ) → List ℕ → List ℕ
-seated seat_of [] = []
-seated seat_of (place ∷ rest) = seat_of place ∷ rest
+abbrev pub ranked : (ℕ → ℕ) → List ℕ → List ℕ
+ranked rank_of [] = []
+ranked rank_of (place ∷ rest) = rank_of place ∷ rest
 
 -- the route of an instance in the trees of its resource
 abbrev pub route_in_tree : Inputs → (instance : ℕ) → List ℕ
-route_in_tree i k = seated (seat i.library i.plan) (route_to i.library (path_at (system_of i) k))
+route_in_tree i k = ranked (rank i.library i.plan) (route_to i.library (path_at (system_of i) k))
 
 -- The own part of a block among the trees stands for an instance.
 pub record StandsAt (i : Inputs) (blocks : List Block) (k : ℕ) (b : model.Block) : Type 0 where

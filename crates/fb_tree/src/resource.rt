@@ -48,7 +48,7 @@ pub fn route(system: &System, instance: u32) -> (u32, &[u32])
     system.facts();
     match system.route(instance) {
         [] => unreachable!(),
-        [place, rest @ ..] => (system.seat(*place), rest),
+        [place, rest @ ..] => (system.rank(*place), rest),
     }
 }
 

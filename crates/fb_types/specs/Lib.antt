@@ -4,6 +4,7 @@ pub mod Limits
 pub mod Names
 pub mod Syntax
 pub mod Values
+pub mod Held
 pub mod Bodies
 pub mod Blocks
 pub mod Charts

@@ -5,8 +5,8 @@
 //! most, and the worked examples have the traces that were worked out by hand.
 //!
 //! To be read in this order: `library`, `text`, `value`, `sort`, `function` and `name`, what is read; `deploy` and
-//! `latency`; `event_kind` and `event_ports`, the event blocks; `key` and `run`, what a simulation gives; `items`, `boxed`
-//! and `reference`; `laws`. The definitions stand in `specs/`.
+//! `latency`; `event_kind` and `event_ports`, the event blocks; `key`, `values` and `run`, what a simulation gives; `items`,
+//! `boxed` and `reference`; `laws`. The definitions stand in `specs/`.
 #![tactic(auto)]
 
 pub mod boxed;
@@ -25,3 +25,4 @@ pub mod run;
 pub mod sort;
 pub mod text;
 pub mod value;
+pub mod values;

@@ -7,6 +7,7 @@ ghost use Rattle.fb_types.specs.declared.run.Halt.TheVariants.{Memory, Stop};
 use crate::items::Items;
 use crate::key::Key;
 use crate::value::{Reason, Value};
+use crate::values::Values;
 use std::alloc::AllocError;
 
 /// A line of the trace: an event that was taken at an input of an instance, or emitted at an output.
@@ -21,7 +22,7 @@ pub struct Line {
     /// The place of the event among the event inputs, or outputs, of the instance's type.
     pub event: u32,
     /// The values of the variables WITH the event, in the order in which the variables are declared.
-    pub values: Items<Value>,
+    pub values: Values,
 }
 
 /// An event input of an instance, or an event output of a composite that is reached from inside.
@@ -80,7 +81,7 @@ pub enum Event {
 #[derive(Drop)]
 pub struct Emission {
     pub event: u32,
-    pub values: Items<Value>,
+    pub values: Values,
 }
 
 /// The emissions of a reaction, in order.

@@ -57,7 +57,7 @@ impl Home {
     }
 
     /// Takes in the next resource, which has rested at its place, or else comes back from the next job.
-    fn seat(
+    fn admit(
         &mut self,
         alloc: Global,
         rested: Option<Resource>,
@@ -115,7 +115,7 @@ pub(crate) fn come_home(
     let mut lists = pending.into_iter();
     let mut ran = dones.into_iter();
     for rested in resting {
-        home.seat(alloc, rested, &mut lists, &mut ran)?;
+        home.admit(alloc, rested, &mut lists, &mut ran)?;
     }
     Ok(home)
 }

@@ -20,8 +20,8 @@ loop-rested-preserved c =
     record {
       home = λ i limit bounds xs same jobs.
           let x = map_has resting_of xs n c.in-Some.rested (sym (ap (λ z. slice_get z n) same) ∙ at) in
-          subst (λ (k : ℕ). IsHomeTo i limit bounds xs c.args.pending.items k (into_iter_items c.seat.new.pending) (into_iter_items c.seat.new.dones) c.seat.new.self) (sym (push_counted done c.in-Some.rested n refl))
-          (c.in_ok-seat.ensures i limit bounds xs c.args.pending.items n x.0 x.1 x.2 (inv.home i limit bounds xs same jobs));
+          subst (λ (k : ℕ). IsHomeTo i limit bounds xs c.args.pending.items k (into_iter_items c.admit.new.pending) (into_iter_items c.admit.new.dones) c.admit.new.self) (sym (push_counted done c.in-Some.rested n refl))
+          (c.in_ok-admit.ensures i limit bounds xs c.args.pending.items n x.0 x.1 x.2 (inv.home i limit bounds xs same jobs));
       rest = append_assoc done (c.in-Some.rested ∷ []) (into_iter_items c.next.new.self) ∙ rest;
       len = let same = ap length step.0 in omega (arith, inv.len, step.1, same);
     }

@@ -1,11 +1,11 @@
 use Rattle.std.proofs.Common.{Ok, sym, subst}
 use Rattle.fb_sim.specs.Advances.{AdvancesOn}
 use Rattle.fb_sim.specs.Rounds.{RunsOn}
-use Rattle.fb_sim.specs.Sessions.{IsAtTick, phase_of}
+use Rattle.fb_sim.specs.Sessions.{IsAtTick, stage_of}
 use Rattle.fb_sim.specs.declared.drive.Finish.{Finish}
 use Rattle.fb_sim.specs.declared.drive.Finish.TheVariants.{AtEnd, AtMark}
 use Rattle.fb_sim.specs.declared.outcome.Outcome.TheVariants.{End, Stop}
-use Rattle.fb_sim.specs.declared.state.Phase.TheVariants as going
+use Rattle.fb_sim.specs.declared.state.Stage.TheVariants as going
 use Rattle.fb_sim.specs.declared.state.SessionState.{SessionState}
 use Rattle.fb_sim.proofs.AdvanceIs.{onward, advanced_end, advanced_stop, broken_on, short_stop, fails_on, goes_on}
 use Rattle.fb_sim.proofs.SessionIs.{on_way, ahead_of, stopped_of}
@@ -25,7 +25,7 @@ returns-in_err-finish g c =
     let e = c.in_err-finish.field-0.0 in
     let old = g.W.Write.contents c.args.out.now in
     let new = g.W.Write.contents c.run_on.new.out in
-    let broken = broken_on (record v { phase = going.Running }) c.args.to way.later way.lines way.was old new e (c.in_err-finish.ensures way.lines way.come) in
+    let broken = broken_on (record v { stage = going.Running }) c.args.to way.later way.lines way.was old new e (c.in_err-finish.ensures way.lines way.come) in
     fails_on v c.args.self.now c.self.view_is c.requires.out c.args.to old new e broken c.from_residual.result c.from_residual.ensures.1
 
 pub invariant_of-self : goal.invariant_of-self
@@ -54,9 +54,9 @@ returns-in-AtEnd g c =
     let ran : RunsOn v.inputs (onward v c.args.to) way.lines old new (Ok (AtEnd c.in-AtEnd.core, c.in_ok-finish.written)) =
     subst (λ (f : Finish). RunsOn v.inputs (onward v c.args.to) way.lines old new (Ok (f, c.in_ok-finish.written))) c.in-AtEnd.is (c.in_ok-finish.ensures way.lines way.come) in
     let s = c.args.self.now in
-    let gone = advanced_end (record v { phase = going.Running }) c.args.to way.later way.lines way.was old new c.in-AtEnd.core c.in_ok-finish.written ran in
-    subst (λ (x : SessionState). AdvancesOn (record s { phase = going.Running }) (record v { to = c.args.to; phase = phase_of x }) c.args.to old new (Ok (End c.args.to))) (sym c.put.ensures)
-    (goes_on v s (record v { to = c.args.to; phase = going.Running }) c.self.view_is c.args.to old new (End c.args.to) gone)
+    let gone = advanced_end (record v { stage = going.Running }) c.args.to way.later way.lines way.was old new c.in-AtEnd.core c.in_ok-finish.written ran in
+    subst (λ (x : SessionState). AdvancesOn (record s { stage = going.Running }) (record v { to = c.args.to; stage = stage_of x }) c.args.to old new (Ok (End c.args.to))) (sym c.put.ensures)
+    (goes_on v s (record v { to = c.args.to; stage = going.Running }) c.self.view_is c.args.to old new (End c.args.to) gone)
 
 pub close-requires : goal.close-requires
 close-requires g c =
@@ -78,7 +78,7 @@ returns-in_err-close-in-AtMark g c =
     let new = g.W.Write.contents c.close.new.out in
     let ran : RunsOn v.inputs (onward v c.args.to) way.lines old mid (Ok (AtMark c.in-AtMark.mark, c.in_ok-finish.written)) =
     subst (λ (f : Finish). RunsOn v.inputs (onward v c.args.to) way.lines old mid (Ok (f, c.in_ok-finish.written))) c.in-AtMark.is (c.in_ok-finish.ensures way.lines way.come) in
-    let broken = short_stop (record v { phase = going.Running }) c.args.to way.later way.lines way.was old mid new c.in-AtMark.mark c.in_ok-finish.written ran e c.in_err-close-in-AtMark.ensures.part in
+    let broken = short_stop (record v { stage = going.Running }) c.args.to way.later way.lines way.was old mid new c.in-AtMark.mark c.in_ok-finish.written ran e c.in_err-close-in-AtMark.ensures.part in
     fails_on v c.args.self.now c.self.view_is c.requires.out c.args.to old new e broken c.from_residual-in_err-close-in-AtMark.result c.from_residual-in_err-close-in-AtMark.ensures.1
 
 pub invariant_of-self-in-AtMark : goal.invariant_of-self-in-AtMark
@@ -109,6 +109,6 @@ returns-in_ok-close-in-AtMark g c =
     let ran : RunsOn v.inputs (onward v c.args.to) way.lines old mid (Ok (AtMark mark, c.in_ok-finish.written)) =
     subst (λ (f : Finish). RunsOn v.inputs (onward v c.args.to) way.lines old mid (Ok (f, c.in_ok-finish.written))) c.in-AtMark.is (c.in_ok-finish.ensures way.lines way.come) in
     let s = c.args.self.now in
-    let gone = advanced_stop (record v { phase = going.Running }) c.args.to way.later way.lines way.was old mid new mark c.in_ok-finish.written ran c.in_ok-close-in-AtMark.ensures.whole in
-    subst (λ (x : SessionState). AdvancesOn (record s { phase = going.Running }) (record v { to = c.args.to; phase = phase_of x }) c.args.to old new (Ok (Stop mark))) (sym c.put-in-AtMark.ensures)
-    (goes_on v s (record v { to = c.args.to; phase = going.Stopped mark }) c.self.view_is c.args.to old new (Stop mark) gone)
+    let gone = advanced_stop (record v { stage = going.Running }) c.args.to way.later way.lines way.was old mid new mark c.in_ok-finish.written ran c.in_ok-close-in-AtMark.ensures.whole in
+    subst (λ (x : SessionState). AdvancesOn (record s { stage = going.Running }) (record v { to = c.args.to; stage = stage_of x }) c.args.to old new (Ok (Stop mark))) (sym c.put-in-AtMark.ensures)
+    (goes_on v s (record v { to = c.args.to; stage = going.Stopped mark }) c.self.view_is c.args.to old new (Stop mark) gone)

@@ -3,7 +3,7 @@ use Rattle.fb_types.specs.EventPorts.{ArePortsOfKinds}
 use Rattle.fb_types.specs.declared.library.Library.{Library}
 use Rattle.fb_system.specs.Linking.{IsLinked}
 use Rattle.fb_system.proofs.Seen.{few_of, low_of, made, ok_read, ok_seen, once_of, view_made}
-use Rattle.fb_system.proofs.Seats.{holders_few}
+use Rattle.fb_system.proofs.Ranks.{holders_few}
 use Rattle.fb_system.proofs.system.System.of.Goals as goal
 
 pub of-links-requires : goal.of-links-requires

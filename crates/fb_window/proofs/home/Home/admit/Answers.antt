@@ -8,7 +8,7 @@ use Rattle.fb_resource.specs.declared.resource.WindowDone.TheVariants.{Ran}
 use Rattle.fb_window.specs.Homes.{IsHomeTo}
 use Rattle.fb_window.specs.Jobs.{resting_of}
 use Rattle.fb_window.proofs.HomeIs.{home_ran, home_rested, resting_none, resting_some}
-use Rattle.fb_window.proofs.home.Home.seat.Goals as goal
+use Rattle.fb_window.proofs.home.Home.admit.Goals as goal
 
 pub returns-in-Some-rested : goal.returns-in-Some-rested
 returns-in-Some-rested c = λ i limit bounds xs lists place x at rested home.

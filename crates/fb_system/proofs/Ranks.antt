@@ -1,4 +1,4 @@
--- The seats of the application's instances, one instance at a time.
+-- The ranks of the application's instances, one instance at a time.
 use Rattle.std.proofs.Common.{◌≡◌, ℕ, ◌<◌, ◌≤◌, ◌+◌, zero, suc, Bool, true, false, cond, nat_eq, List, [], ◌∷◌, ◌++◌, map, length, length-append, take, get_or, Option, Some, None, refl, sym, ◌∙◌, ap, inl, inr, arith}
 use Rattle.std.specs.Prelude.{flat_map, option_map, slice_get, unwrap_or}
 use Rattle.std.specs.List.{filter}
@@ -16,22 +16,22 @@ use Rattle.fb_types.specs.declared.deploy.Plan.{Plan}
 use Rattle.fb_types.specs.declared.library.Instance.{Instance}
 use Rattle.fb_types.specs.declared.library.Library.{Library}
 use Rattle.fb_fabric.proofs.Distinct.{paths_from}
-use Rattle.fb_system.specs.Linking.{before, holders_of, seat, seat_among, with_holder_before}
+use Rattle.fb_system.specs.Linking.{before, holders_of, rank, rank_among, with_holder_before}
 
 -- how many of the first n are this one
 abbrev pub counted : List ℕ → (holder n : ℕ) → ℕ
 counted holders r n = length (filter (λ h. nat_eq h r) (take n holders))
 
--- The seats of the first n, and how often each holder is among them.
-pub record SeatsSoFar (holders : List ℕ) (n : ℕ) (found : List ℕ) (counts : BTreeMap ℕ ℕ) : Type 0 where
+-- The ranks of the first n, and how often each holder is among them.
+pub record RanksSoFar (holders : List ℕ) (n : ℕ) (found : List ℕ) (counts : BTreeMap ℕ ℕ) : Type 0 where
   pub many : length found ≡ n
-  pub seats : (p : ℕ) → p < n → get_or found p 0 ≡ seat_among holders p
+  pub ranks : (p : ℕ) → p < n → get_or found p 0 ≡ rank_among holders p
   pub often : (r : ℕ) → unwrap_or (get nat_cmp counts r) 0 ≡ counted holders r n
 
-pub seats_none : (holders : List ℕ) (counts : BTreeMap ℕ ℕ) → counts.entries ≡ [] → SeatsSoFar holders 0 [] counts
-seats_none holders counts empty = record {
+pub ranks_none : (holders : List ℕ) (counts : BTreeMap ℕ ℕ) → counts.entries ≡ [] → RanksSoFar holders 0 [] counts
+ranks_none holders counts empty = record {
   many = refl;
-  seats = λ p h. absurd (omega (arith, h));
+  ranks = λ p h. absurd (omega (arith, h));
   often = λ r. ap (λ (o : Option ℕ). unwrap_or o 0) (ap (lookup (is_at (nat_cmp r))) empty) ∙ nothing holders r;
 }
   where
@@ -45,25 +45,25 @@ same_number m n h = grind (arith, nat_tests)
 is_eq-nat_cmp : (m n : ℕ) → is_eq (nat_cmp m n) ≡ nat_eq m n
 is_eq-nat_cmp m n = grind (arith, nat_tests)
 
-pub seats_next :
-    (holders : List ℕ) (n h s : ℕ) (seats : List ℕ) (counts more : BTreeMap ℕ ℕ) → slice_get holders n ≡ Some h → SeatsSoFar holders n seats counts
+pub ranks_next :
+    (holders : List ℕ) (n h s : ℕ) (ranks : List ℕ) (counts more : BTreeMap ℕ ℕ) → slice_get holders n ≡ Some h → RanksSoFar holders n ranks counts
     → s ≡ unwrap_or (get nat_cmp counts h) 0
     → ((q : ℕ) → get nat_cmp more q ≡ cond (is_eq (nat_cmp h q)) (Some (s + 1)) (get nat_cmp counts q))
-    → SeatsSoFar holders (n + 1) (seats ++ s ∷ []) more
-seats_next holders n h s seats counts more at soFar is updates =
+    → RanksSoFar holders (n + 1) (ranks ++ s ∷ []) more
+ranks_next holders n h s ranks counts more at soFar is updates =
     let value : s ≡ counted holders h n = is ∙ soFar.often h in
-    let here : seat_among holders n ≡ counted holders h n = ap (with_holder_before holders n) at in
+    let here : rank_among holders n ≡ counted holders h n = ap (with_holder_before holders n) at in
     let inside = slice_get_within holders n h at in
     record {
-      many = length-append seats (s ∷ []) ∙ ap (λ m. m + 1) soFar.many;
-      seats = λ p lt.
+      many = length-append ranks (s ∷ []) ∙ ap (λ m. m + 1) soFar.many;
+      ranks = λ p lt.
           elim (cases_lt p n) [
             | inl less ↦
-                (let l : p < length seats = (let m = soFar.many in omega (arith, m, less)) in
-                get_or_append_left seats (s ∷ []) 0 p l ∙ soFar.seats p less)
+                (let l : p < length ranks = (let m = soFar.many in omega (arith, m, less)) in
+                get_or_append_left ranks (s ∷ []) 0 p l ∙ soFar.ranks p less)
             | inr past ↦
-                (let e : p ≡ length seats = (let m = soFar.many in omega (arith, m, past, lt)) in
-                ap (λ q. get_or (seats ++ s ∷ []) q 0) e ∙ get_or-append_seam seats s [] 0 ∙ value ∙ sym here ∙ ap (seat_among holders) (sym (e ∙ soFar.many)))
+                (let e : p ≡ length ranks = (let m = soFar.many in omega (arith, m, past, lt)) in
+                ap (λ q. get_or (ranks ++ s ∷ []) q 0) e ∙ get_or-append_seam ranks s [] 0 ∙ value ∙ sym here ∙ ap (rank_among holders) (sym (e ∙ soFar.many)))
           ];
       often = λ q.
           let test = λ (x : ℕ). nat_eq x q in
@@ -79,16 +79,16 @@ seats_next holders n h s seats counts more at soFar is updates =
           ∙ sym grown;
     }
 
--- all have their seats
-pub seats_all :
-    (holders : List ℕ) (n : ℕ) (seats : List ℕ) (counts : BTreeMap ℕ ℕ) → length holders ≤ n → SeatsSoFar holders n seats counts
-    → (place : ℕ) → unwrap_or (slice_get seats place) 0 ≡ seat_among holders place
-seats_all holders n seats counts all soFar place =
+-- all have their ranks
+pub ranks_all :
+    (holders : List ℕ) (n : ℕ) (ranks : List ℕ) (counts : BTreeMap ℕ ℕ) → length holders ≤ n → RanksSoFar holders n ranks counts
+    → (place : ℕ) → unwrap_or (slice_get ranks place) 0 ≡ rank_among holders place
+ranks_all holders n ranks counts all soFar place =
     elim (cases_lt place n) [
-      | inl less ↦ unwrap_or-slice_get seats place 0 ∙ soFar.seats place less
+      | inl less ↦ unwrap_or-slice_get ranks place 0 ∙ soFar.ranks place less
       | inr past ↦
           (let m = soFar.many in
-          ap (λ (o : Option ℕ). unwrap_or o 0) (slice_get_past seats place (omega (arith, m, past)))
+          ap (λ (o : Option ℕ). unwrap_or o 0) (slice_get_past ranks place (omega (arith, m, past)))
           ∙ sym (ap (with_holder_before holders place) (slice_get_past holders place (omega (arith, all, past)))))
     ]
 
@@ -106,8 +106,8 @@ counted_below test (x ∷ xs) (suc n) =
     ]
 
 pub few_counted :
-    (holders : List ℕ) (n h s : ℕ) (seats : List ℕ) (counts : BTreeMap ℕ ℕ) → SeatsSoFar holders n seats counts → s ≡ unwrap_or (get nat_cmp counts h) 0 → s ≤ n
-few_counted holders n h s seats counts soFar is =
+    (holders : List ℕ) (n h s : ℕ) (ranks : List ℕ) (counts : BTreeMap ℕ ℕ) → RanksSoFar holders n ranks counts → s ≡ unwrap_or (get nat_cmp counts h) 0 → s ≤ n
+few_counted holders n h s ranks counts soFar is =
     let e = is ∙ soFar.often h in
     let below = counted_below (λ x. nat_eq x h) holders n in omega (arith, e, below)
 
@@ -125,12 +125,12 @@ counted_map {A} f r (x ∷ xs) (suc n) =
       | false ↦ rest
     ]
 
--- the seat among the holders of all instances is that of the instance
-pub seat_of_instance : (lib : Library) (plan : Plan) (holders : List ℕ) (place : ℕ) → holders ≡ holders_of lib plan → seat_among holders place ≡ seat lib plan place
-seat_of_instance lib plan holders place held =
+-- the rank among the holders of all instances is that of the instance
+pub rank_of_instance : (lib : Library) (plan : Plan) (holders : List ℕ) (place : ℕ) → holders ≡ holders_of lib plan → rank_among holders place ≡ rank lib plan place
+rank_of_instance lib plan holders place held =
     let is = lib.application.network.instances in
     let of : Instance → ℕ = λ i. holder plan i.name in
-    ap (λ hs. seat_among hs place) held
+    ap (λ hs. rank_among hs place) held
     ∙ ap (with_holder_before (map of is) place) (slice_get-map of is place)
     ∙ (elim (slice_get is place) as (λ o. with_holder_before (map of is) place (option_map of o) ≡ before plan is place o) [
       | None ↦ refl
