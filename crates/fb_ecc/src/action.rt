@@ -18,7 +18,8 @@ use fb_types::items::Items;
 use fb_types::library::BasicType;
 use fb_types::reference::Reference;
 use fb_types::run::{Emission, Emits, Halt};
-use fb_types::value::{Reason, Value};
+use fb_types::value::Reason;
+use fb_types::values::Values;
 use std::alloc::{AllocError, Global};
 
 /// What the variables hold, in their order.
@@ -26,10 +27,10 @@ fn shown_values(
     alloc: Global,
     variables: &[Reference],
     frame: &Frame,
-) -> Result<Items<Value>, AllocError>
+) -> Result<Values, AllocError>
     ensures { IfOk result (λ values. values ≡ map (values_of frame.now) variables.now) }
 {
-    let mut values = Items::new(alloc);
+    let mut values = Values::new(alloc);
     for variable in variables {
         values.push(frame.value(variable))?;
     }

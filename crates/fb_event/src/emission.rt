@@ -6,9 +6,9 @@ ghost use Rattle.fb_event.specs.Emissions.{values_of, emission_at};
 ghost use Rattle.fb_event.specs.Reactions.{IsEventOutput, IsWellFormed};
 
 use crate::state::EventBlock;
-use fb_types::items::Items;
 use fb_types::run::{Emission, Emits};
 use fb_types::value::Value;
+use fb_types::values::Values;
 use std::alloc::{AllocError, Global};
 
 /// Emits the events at these places in order, each with the values of all data outputs: of the fourteen
@@ -37,18 +37,18 @@ fn emit(block: EventBlock, event: u32, emits: &mut Emits) -> Result<(), AllocErr
     emits.push(Emission { event, values })
 }
 
-/// The values of the data outputs. A list that is empty takes no memory.
-fn outputs(block: EventBlock, alloc: Global) -> Result<Items<Value>, AllocError>
+/// The values of the data outputs.
+fn outputs(block: EventBlock, alloc: Global) -> Result<Values, AllocError>
     ensures { IfOk result (λ values. values ≡ values_of block) }
 {
     match block {
-        EventBlock::SetReset(q) | EventBlock::DataLatch(q) => Items::from_slice(
+        EventBlock::SetReset(q) | EventBlock::DataLatch(q) => Values::from_slice(
             alloc,
             &[Value::Bool(q)],
         ),
         EventBlock::CountUp { count, reached } => {
-            Items::from_slice(alloc, &[Value::Bool(reached), Value::Whole(count as i128)])
+            Values::from_slice(alloc, &[Value::Bool(reached), Value::Whole(count as i128)])
         }
-        _ => Ok(Items::new(alloc)),
+        _ => Ok(Values::new(alloc)),
     }
 }

@@ -31,7 +31,7 @@ use fb_types::items::Items;
 use fb_types::key::Key;
 use fb_types::library::{BasicType, BlockType};
 use fb_types::run::{Emission, Emits, Halt, Target};
-use fb_types::value::Value;
+use fb_types::values::Values;
 use std::alloc::AllocError;
 
 /// An event block or a composite takes an event at an event input: it keeps what the variables WITH the event sample,
@@ -138,7 +138,7 @@ fn tell(
     system: &System,
     key: &Key,
     at: Target,
-    values: Items<Value>,
+    values: Values,
     emits: Emits,
 ) -> Result<(), AllocError>
     requires place { MayArrive system.now key.now at forest.old outbox.old }

@@ -18,6 +18,7 @@ use fb_types::items::Items;
 use fb_types::key::Key;
 use fb_types::run::{Carried, Emission, Emits, Line, Place, Target};
 use fb_types::value::Value;
+use fb_types::values::Values;
 use std::alloc::{AllocError, Global};
 
 /// What an event puts out that goes to a target: a local event where the target lies in the same resource, else a
@@ -86,7 +87,7 @@ pub fn write_taken(
     system: &System,
     key: &Key,
     at: Target,
-    values: Items<Value>,
+    values: Values,
 ) -> Result<(), AllocError>
     requires port { IsPort (system_of system.now) at }
     requires line { BelongsTo (system_of system.now) (record { key = key.now; taken = true; instance = at.instance; event = at.event; values = values }) }

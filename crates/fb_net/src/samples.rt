@@ -7,9 +7,8 @@ ghost use Rattle.fb_net.specs.Samples.{AreSampled, AreShown, names_in, names_out
 
 use fb_system::system::System;
 use fb_tree::resource::Forest;
-use fb_types::items::Items;
 use fb_types::run::{Place, Target};
-use fb_types::value::Value;
+use fb_types::values::Values;
 use std::alloc::{AllocError, Global};
 
 /// What the data inputs WITH an event input sample, in the order in which they are declared. The instance lies in the
@@ -19,13 +18,13 @@ pub fn sampled_values(
     forest: &Forest,
     system: &System,
     at: Target,
-) -> Result<Items<Value>, AllocError>
+) -> Result<Values, AllocError>
     requires port { IsPort (system_of system.now) at }
     requires input { at.is_output ≡ false }
     ensures sampled { IfOk result (AreSampled system.now forest.now at) }
     ensures counted { IfOk result (λ vs. length vs ≡ length (names_in (system_of system.now) at)) }
 {
-    let mut values = Items::new(alloc);
+    let mut values = Values::new(alloc);
     for place in system.inputs_with(at.instance, at.event) {
         let input = Place {
             instance: at.instance,
@@ -44,14 +43,14 @@ pub fn shown_values(
     forest: &Forest,
     system: &System,
     at: Target,
-) -> Result<Items<Value>, AllocError>
+) -> Result<Values, AllocError>
     requires port { IsPort (system_of system.now) at }
     requires output { at.is_output ≡ true }
     requires composite { IsCompositeAt (system_of system.now) at.instance }
     ensures shown { IfOk result (AreShown system.now forest.now at) }
     ensures counted { IfOk result (λ vs. length vs ≡ length (names_out (system_of system.now) at)) }
 {
-    let mut values = Items::new(alloc);
+    let mut values = Values::new(alloc);
     for place in system.outputs_with(at.instance, at.event) {
         let output = Place {
             instance: at.instance,

@@ -13,10 +13,9 @@ use crate::ports::{Port, holder_of};
 use crate::table::{Guess, PortTable};
 use crate::values::values_of;
 use fb_system::system::System;
-use fb_types::items::Items;
 use fb_types::key::Key;
 use fb_types::run::{Form, Line};
-use fb_types::value::Value;
+use fb_types::values::Values;
 use std::alloc::{AllocError, Global};
 
 /// The class and the parts of a key.
@@ -60,7 +59,7 @@ fn port_values(
     system: &System,
     port: Port,
     text: &[u8],
-) -> Result<Option<Items<Value>>, AllocError>
+) -> Result<Option<Values>, AllocError>
     requires { IsPortOf (system_of system.now) port }
     ensures { IfOk result (λ o. IfSome o (AreValuesOf (system_of system.now) port text.now)) }
 {

@@ -7,9 +7,9 @@ ghost use Rattle.fb_wave.specs.Reading.{AreRead, AreUnread, HasNoDigits, IsBound
 
 use crate::number::{narrow, natural};
 use crate::words::{behind, cut};
-use fb_types::items::Items;
 use fb_types::library::Variable;
 use fb_types::value::{Ty, Value};
+use fb_types::values::Values;
 use std::alloc::{AllocError, Global};
 
 /// The number below 2^64 that a text is.
@@ -88,11 +88,11 @@ pub(crate) fn values_of(
     variables: &[Variable],
     places: &[u32],
     text: &[u8],
-) -> Result<Option<Items<Value>>, AllocError>
+) -> Result<Option<Values>, AllocError>
     requires { All (λ k. k < length variables.now) places.now }
     ensures { IfOk result (λ o. MatchOption o (AreUnread variables.now places.now text.now) (AreRead variables.now places.now text.now)) }
 {
-    let mut values = Items::new(alloc);
+    let mut values = Values::new(alloc);
     let mut rest = text;
     for place in places {
         let Some(bound) = binding(&variables[*place as usize], rest) else {

@@ -21,10 +21,10 @@ fn belongs(system: &System, line: &Line) -> bool
     let event = line.event as usize;
     if line.taken {
         event < ports.event_inputs.len()
-            && line.values.len() == system.inputs_with(line.instance, line.event).len()
+            && line.values.as_slice().len() == system.inputs_with(line.instance, line.event).len()
     } else {
         event < ports.event_outputs.len()
-            && line.values.len() == system.outputs_with(line.instance, line.event).len()
+            && line.values.as_slice().len() == system.outputs_with(line.instance, line.event).len()
     }
 }
 

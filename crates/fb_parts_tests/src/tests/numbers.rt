@@ -4,10 +4,10 @@ use super::belonging::{all_belong, ends_in};
 use super::chain::{accepted, expect_text};
 use fb_system::system::System;
 use fb_trace::last::{RunEnd, write_last};
-use fb_types::items::Items;
 use fb_types::key::Key;
 use fb_types::run::{Form, Line, StopMark};
 use fb_types::value::{Reason, Value};
+use fb_types::values::Values;
 use fb_window::let_go::let_system_go;
 use std::alloc::Global;
 use std::mem::forget;
@@ -164,7 +164,7 @@ fn expect_line(rt: &impl Abort, alloc: Global, system: &System, row: &Row) {
         taken: true,
         instance: 0,
         event: row.event,
-        values: Items::from_slice(alloc, row.values).expect(rt, "memory"),
+        values: Values::from_slice(alloc, row.values).expect(rt, "memory"),
     };
     let mut lines = Vec::new(alloc);
     lines.push(line).expect(rt, "memory");

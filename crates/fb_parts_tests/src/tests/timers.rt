@@ -10,6 +10,7 @@ use fb_types::event_kind::EventKind;
 use fb_types::items::Items;
 use fb_types::run::{Emission, Emits, TimerAsk};
 use fb_types::value::Value;
+use fb_types::values::Values;
 use std::alloc::Global;
 use std::mem::forget;
 use std::process::Abort;
@@ -70,7 +71,7 @@ fn the_longest_cycle_fits(rt: HostRuntime) {
     let mut emits: Emits = Items::new(rt.alloc());
     let before = Emission {
         event: 77,
-        values: Items::new(rt.alloc()),
+        values: Values::new(rt.alloc()),
     };
     emits.push(before).expect(&rt, "memory");
     let mut ask = TimerAsk::At(77);
