@@ -2,9 +2,7 @@
 use Rattle.std.specs.Prelude.{ℕ, List, Option, Some, None, slice_get, option_and_then, ◌≡◌, Bool, true, option_map}
 use Rattle.fb_types.specs.Blocks.{ports_of}
 use Rattle.fb_types.specs.Flat.{kind_of}
-use Rattle.fb_types.specs.Names.{Name}
 use Rattle.fb_types.specs.Repeated.{Placed, internals_of}
-use Rattle.fb_types.specs.Unknown.{event_ins, event_outs, data_ins, data_outs}
 use Rattle.fb_types.specs.declared.library.BasicType.{BasicType}
 use Rattle.fb_types.specs.declared.library.BlockType.TheVariants as block
 use Rattle.fb_types.specs.declared.library.BlockType.{BlockType}
@@ -12,7 +10,6 @@ use Rattle.fb_types.specs.declared.library.Connection.{Connection}
 use Rattle.fb_types.specs.declared.library.Instance.{Instance}
 use Rattle.fb_types.specs.declared.library.Library.{Library}
 use Rattle.fb_types.specs.declared.library.Network.{Network}
-use Rattle.fb_types.specs.declared.library.Ports.{Ports}
 use Rattle.fb_types.specs.declared.library.Variable.{Variable}
 use Rattle.fb_why_kinds.specs.declared.networks.PlacedNetwork.{PlacedNetwork}
 use Rattle.fb_why_kinds.specs.declared.place.FlowKind.TheVariants.{Events, Data}
