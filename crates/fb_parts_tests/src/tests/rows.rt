@@ -1,7 +1,7 @@
 //! Systems whose rounds were worked out by hand.
 
 use super::chain::accepted;
-use super::hand::{FALLING, Plan, RISING, SHUFFLED, run_by_hand};
+use super::hand::{FALLING, HandPlan, RISING, SHUFFLED, run_by_hand};
 use fb_system::system::System;
 use fb_types::run::Form;
 use fb_window::let_go::let_system_go;
@@ -314,7 +314,7 @@ static ORDERS: [u64; 3] = [RISING, FALLING, SHUFFLED];
 
 /// The rounds of a row, whose jobs are run in an order.
 fn expect_rounds<R: Abort>(rt: &R, alloc: Global, system: &System, row: &Row, order: u64) {
-    let plan = Plan {
+    let plan = HandPlan {
         horizon: row.horizon,
         steps: row.steps,
         form: row.form,
