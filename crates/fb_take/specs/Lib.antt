@@ -1,4 +1,6 @@
+pub mod Arrivals
 pub mod Counts
+pub mod Exchanges
 pub mod Openings
 pub mod Posts
 pub mod Takings

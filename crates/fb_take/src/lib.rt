@@ -1,4 +1,4 @@
-//! The taking of one event in its resource.
+//! The taking of one event in its resource, and the messages that takings send to others.
 //!
 //! All that makes an event one of a run lies here, and nothing of which event comes next: how a resource begins, what
 //! one taking does to its blocks, its counts and its agenda, and which messages it gives. A message never goes straight
@@ -7,12 +7,16 @@
 //!
 //! What is promised above: `take::take` takes an event as the definitions say (`IsTakenHere`), from every state that the
 //! blocks and counts may stand for, also where the resource stops; and `open::open_agenda` and `open::open_agendas` put
-//! exactly the events of the opening on the agendas (`IsOpened`).
+//! exactly the events of the opening on the agendas (`IsOpened`). Of a message that is sent on a link, `arrivals` has the
+//! tick of its arrival, and the least tick at which one can arrive that is sent from a tick on; messages may overtake
+//! each other. `exchange` has the messages of all outboxes by receiver, in the order of their keys.
 //!
 //! To be read in this order: `meter`, what is counted in a tick; `queues`, where events come from and go to; `take`, the
-//! taking; `post`, what a taking puts out; `open`, the beginning.
+//! taking; `arrivals`; `post`, what a taking puts out; `open`, the beginning; `exchange`.
 #![tactic(auto)]
 
+pub mod arrivals;
+pub mod exchange;
 pub mod meter;
 pub mod open;
 mod post;

@@ -11,8 +11,8 @@ ghost use Rattle.fb_net.specs.Outs.{out_of};
 ghost use Rattle.fb_take.specs.Posts.{ArePosted, CountsAre, IsMessage, IsPostable, IsPut, message_of};
 ghost use Rattle.fb_take.specs.Waiting.{IsInOrder};
 
+use crate::arrivals::arrival;
 use fb_agenda::agenda::Agenda;
-use fb_link::arrivals::arrival;
 use fb_net::outbox::{Out, Sending};
 use fb_system::system::System;
 use fb_types::key::Key;

@@ -1,22 +1,22 @@
 -- Messages that come to resources one after another.
-use Rattle.std.proofs.Common.{◌≡◌, ◌≢◌, ℕ, ◌<◌, false, Some, List, [], ◌∷◌, ◌++◌, map, length, refl, sym, ap, ◌∙◌, subst, ⊎_elim, arith, All, append-nil, inl, inr, ◌⊎◌}
+use Rattle.std.proofs.Common.{◌≡◌, ◌≢◌, ℕ, ◌<◌, Some, List, [], ◌∷◌, ◌++◌, map, length, refl, sym, ap, ◌∙◌, subst, arith, All, inl, inr, ◌⊎◌}
 use Rattle.std.specs.Prelude.{slice_get, slice_set}
 use Rattle.std.specs.List.{filter}
-use Rattle.std.proofs.lemmas.Bool.{cases_eq, cond-true, cond-false, eq-eqb, ne_eqb, eqb-false}
+use Rattle.std.proofs.lemmas.Bool.{cases_eq}
 use Rattle.std.proofs.lemmas.List.{length-set}
-use Rattle.std.proofs.lemmas.List.Elements.{All-nil, All-cons, All-head, All-tail, filter-append}
+use Rattle.std.proofs.lemmas.List.Elements.{All-nil, All-cons, All-head, All-tail}
 use Rattle.fb_types.specs.Headline.{Inputs, system_of}
-use Rattle.fb_types.specs.Keys.{or_else, found, same_key}
-use Rattle.fb_types.specs.Machines.{Local, Each}
+use Rattle.fb_types.specs.Keys.{or_else, found}
+use Rattle.fb_types.specs.Machines.{Local}
 use Rattle.fb_types.specs.Parts.{machine}
 use Rattle.fb_types.specs.Systems.{System}
 use Rattle.fb_types.specs.declared.key.Key.{Key}
 use Rattle.fb_types.specs.declared.run.Message.{Message}
-use Rattle.fb_types.proofs.Lookups.{found-append, or_else_assoc, same_cases}
-use Rattle.fb_take.specs.Posts.{arriving}
-use Rattle.fb_link.specs.Exchanges.{goes_to, key_of, keyed, receiver_of}
-use Rattle.fb_link.proofs.Keyed.{found_kept}
-use Rattle.fb_link.proofs.Lists.{set_here, set_apart}
+use Rattle.fb_types.proofs.Lookups.{found-append, or_else_assoc}
+use Rattle.fb_take.specs.Posts.{arriving, receiver_of}
+use Rattle.fb_take.specs.Exchanges.{goes_to}
+use Rattle.fb_take.proofs.Dealt.{goes, stays}
+use Rattle.fb_take.proofs.Lists.{set_here, set_apart}
 use Rattle.fb_resource.specs.Resources.{HasReceived, IsFor, StandsFor, with_messages}
 use Rattle.fb_resource.specs.declared.resource.Inner.{Inner}
 use Rattle.fb_window.specs.Mails.{AreGiven}
@@ -75,17 +75,6 @@ received_more ms m x y z f g = record {
 pub given_none : (sys : System) (xs : List Inner) → AreGiven sys [] xs xs
 given_none sys xs = record { counted = refl; each = λ r x e. (x, e, received_none x) }
 
-goes : (sys : System) (ms : List Message) (m : Message) (r : ℕ) → receiver_of sys m ≡ r → filter (goes_to sys r) (ms ++ m ∷ []) ≡ filter (goes_to sys r) ms ++ m ∷ []
-goes sys ms m r e =
-    filter-append (goes_to sys r) ms (m ∷ [])
-    ∙ ap (λ z. filter (goes_to sys r) ms ++ z) (cond-true (goes_to sys r m) (m ∷ []) [] (eq-eqb (receiver_of sys m) r e))
-
-stays : (sys : System) (ms : List Message) (m : Message) (r : ℕ) → receiver_of sys m ≢ r → filter (goes_to sys r) (ms ++ m ∷ []) ≡ filter (goes_to sys r) ms
-stays sys ms m r n =
-    filter-append (goes_to sys r) ms (m ∷ [])
-    ∙ ap (λ z. filter (goes_to sys r) ms ++ z) (cond-false (goes_to sys r m) (m ∷ []) [] (ne_eqb (receiver_of sys m) r n))
-    ∙ append-nil (filter (goes_to sys r) ms)
-
 -- what is at another place of a list in which one element was set
 pub set_other : {A : Type 0} (xs : List A) (i j : ℕ) (x y : A) → j ≢ i → slice_get xs j ≡ Some y → slice_get (slice_set xs i x) j ≡ Some y
 set_other xs i j x y apart e =
@@ -114,25 +103,12 @@ given_more sys ms m xs ys r y z g at to h = record {
         let was : p.0 ≡ y = one_at ys r p.0 y (subst (λ (n : ℕ). slice_get ys n ≡ Some p.0) same p.1) at in (
           z,
           subst (λ (n : ℕ). slice_get (slice_set ys r z) n ≡ Some z) (sym same) (set_same ys r z (is_at ys r y at)),
-          subst (λ (ns : List Message). HasReceived ns x z) (sym (goes sys ms m q (to ∙ sym same)))
+          subst (λ (ns : List Message). HasReceived ns x z) (sym (goes sys ms m q (same ∙ sym to)))
               (received_more (filter (goes_to sys q) ms) m x y z (subst (λ (u : Inner). HasReceived (filter (goes_to sys q) ms) x u) was p.2) h),
         )
     go q x e (inr apart) =
         let p = g.each q x e in (
           p.0,
           set_other ys r q z p.0 apart p.1,
-          subst (λ (ns : List Message). HasReceived ns x p.0) (sym (stays sys ms m q (λ f. apart (sym f ∙ to)))) p.2,
+          subst (λ (ns : List Message). HasReceived ns x p.0) (sym (stays sys ms m q (λ f. apart (f ∙ to)))) p.2,
         )
-
--- ---- Under keys
-
-each_all : {X : Type 0} (P : X → Type 0) (xs : List X) → ((x : X) → P x) → Each P xs
-each_all P [] f = tt
-each_all P (x ∷ xs) f = (f x, each_all P xs f)
-
--- under a key of a resource stands among the messages to it what stands among all
-pub found_to : (sys : System) (r : ℕ) (ms : List Message) (k : Key) → k.resource ≡ r → found k (keyed sys (filter (goes_to sys r) ms)) ≡ found k (keyed sys ms)
-found_to sys r ms k e = sym (found_kept (key_of sys) k (goes_to sys r) ms (each_all _ ms (λ m n. elsewhere m n)))
-  where
-    elsewhere : (m : Message) → goes_to sys r m ≡ false → same_key (key_of sys m) k ≡ false
-    elsewhere m n = ⊎_elim (λ s. absurd (eqb-false (receiver_of sys m) r n (ap (λ z. z.resource) s ∙ e))) (λ s. s) (same_cases (key_of sys m) k)

@@ -26,8 +26,9 @@ use Rattle.fb_net.specs.Events.{event_of}
 use Rattle.fb_laws.specs.Sound.{AreGood, IsSound}
 use Rattle.fb_laws.proofs.Accepting.{sound_of}
 use Rattle.fb_take.specs.Posts.{IsMessage, arriving, receiver_of}
-use Rattle.fb_link.specs.Exchanges.{goes_to}
-use Rattle.fb_link.proofs.Lists.{set_each}
+use Rattle.fb_take.specs.Exchanges.{goes_to}
+use Rattle.fb_take.proofs.Lists.{set_each}
+use Rattle.fb_take.proofs.Exchanged.{found_to}
 use Rattle.fb_laws.specs.Facts.{IsLawful}
 use Rattle.fb_resource.specs.Resources.{HasRun, IsFor, IsOf, RanTo}
 use Rattle.fb_laws.specs.Worlds.{World, IsCounted, IsOpening}
@@ -55,7 +56,7 @@ use Rattle.fb_laws.proofs.Keeps.{Inv}
 use Rattle.fb_laws.proofs.Phasing.{IsRound, all_turned, after_append, is_round, other_steps, own_steps}
 use Rattle.fb_laws.proofs.Places.{has_at, is_at as is_at_place, one_at}
 use Rattle.fb_laws.proofs.Reached.{inv_after, runs_after}
-use Rattle.fb_window.proofs.Receives.{found_to, set_other, set_same}
+use Rattle.fb_window.proofs.Receives.{set_other, set_same}
 use Rattle.fb_window.proofs.Rounds.{schedule_rest}
 use Rattle.fb_window.proofs.Standings.{is_least}
 use Rattle.fb_laws.proofs.Start as start

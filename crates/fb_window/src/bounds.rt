@@ -14,9 +14,9 @@ ghost use Rattle.fb_window.specs.Reaching.{OfEachCore};
 ghost use Rattle.fb_window.specs.Settling.{AreLegal};
 
 use crate::cores::{Bounds, Core, MAX_RESOURCES};
-use fb_link::arrivals::earliest;
 use fb_resource::resource::Resource;
 use fb_system::system::System;
+use fb_take::arrivals::earliest;
 
 impl Core {
     /// How far each resource may run: to the greatest bound at which no message can reach it later from below, as far

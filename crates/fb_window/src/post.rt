@@ -4,12 +4,12 @@ ghost use Rattle.std.specs.Prelude.{◌≡◌, ◌<◌, ℕ, [], true, All, IfOk
 ghost use Rattle.std.specs.Global.{Vec};
 ghost use Rattle.fb_types.specs.Headline.{system_of};
 ghost use Rattle.fb_types.specs.declared.run.Message as model;
-ghost use Rattle.fb_link.specs.Exchanges.{all_of};
+ghost use Rattle.fb_take.specs.Exchanges.{all_of};
 ghost use Rattle.fb_window.specs.Mails.{AreDelivered, ArePosted};
 
-use fb_link::exchange::exchange;
 use fb_resource::resource::Resource;
 use fb_system::system::System;
+use fb_take::exchange::exchange;
 use fb_types::run::Message;
 use std::alloc::{AllocError, Global};
 

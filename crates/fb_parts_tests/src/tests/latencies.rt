@@ -1,7 +1,7 @@
 //! A table of latencies, by which a message overtakes another: the least ticks at which one can arrive that is sent from a tick on, which
 //! were worked out by hand.
 
-use fb_link::arrivals::{arrival, earliest};
+use fb_take::arrivals::{arrival, earliest};
 use fb_types::items::Items;
 use fb_types::latency::{Entry, Latency};
 use std::mem::forget;

@@ -8,8 +8,9 @@ use Rattle.std.proofs.lemmas.List.Elements.{filter-append}
 use Rattle.std.proofs.lemmas.Option.{slice_get_within}
 use Rattle.fb_types.specs.Systems.{System}
 use Rattle.fb_types.specs.declared.run.Message.{Message}
-use Rattle.fb_link.specs.Exchanges.{receiver_of, goes_to, all_of, AreDealt, AreFor, AreSorted}
-use Rattle.fb_link.proofs.Lists.{set_each}
+use Rattle.fb_take.specs.Posts.{receiver_of}
+use Rattle.fb_take.specs.Exchanges.{goes_to, all_of, AreDealt, AreFor, AreSorted}
+use Rattle.fb_take.proofs.Lists.{set_each}
 
 abbrev Boxes : Type 0
 Boxes = List (Vec Message Global)
@@ -17,12 +18,13 @@ Boxes = List (Vec Message Global)
 pub all_snoc : (boxes : Boxes) (box : Vec Message Global) → all_of (boxes ++ box ∷ []) ≡ all_of boxes ++ box.items
 all_snoc boxes box = flat_map-append (λ (b : Vec Message Global). b.items) boxes (box ∷ []) ∙ ap (λ z. all_of boxes ++ z) (append-nil box.items)
 
-goes : (sys : System) (all : List Message) (m : Message) (r : ℕ) → r ≡ receiver_of sys m → filter (goes_to sys r) (all ++ m ∷ []) ≡ filter (goes_to sys r) all ++ m ∷ []
+-- the messages for a resource, of all and one more
+pub goes : (sys : System) (all : List Message) (m : Message) (r : ℕ) → r ≡ receiver_of sys m → filter (goes_to sys r) (all ++ m ∷ []) ≡ filter (goes_to sys r) all ++ m ∷ []
 goes sys all m r e =
     filter-append (goes_to sys r) all (m ∷ [])
     ∙ ap (λ z. filter (goes_to sys r) all ++ z) (cond-true (goes_to sys r m) (m ∷ []) [] (eq-eqb (receiver_of sys m) r (sym e)))
 
-stays : (sys : System) (all : List Message) (m : Message) (r : ℕ) → r ≢ receiver_of sys m → filter (goes_to sys r) (all ++ m ∷ []) ≡ filter (goes_to sys r) all
+pub stays : (sys : System) (all : List Message) (m : Message) (r : ℕ) → r ≢ receiver_of sys m → filter (goes_to sys r) (all ++ m ∷ []) ≡ filter (goes_to sys r) all
 stays sys all m r n =
     filter-append (goes_to sys r) all (m ∷ [])
     ∙ ap (λ z. filter (goes_to sys r) all ++ z) (cond-false (goes_to sys r m) (m ∷ []) [] (ne_eqb (receiver_of sys m) r (λ e. n (sym e))))

@@ -2,7 +2,7 @@ use Rattle.std.proofs.Common.{◌≡◌, ℕ, [], length, Some, Vec}
 use Rattle.std.specs.Prelude.{slice_get}
 use Rattle.std.specs.declared.alloc.Global.{Global}
 use Rattle.fb_types.specs.declared.run.Message.{Message}
-use Rattle.fb_link.proofs.exchange.empty_lists.Given as goal
+use Rattle.fb_take.proofs.exchange.empty_lists.Given as goal
 
 abbrev pub invariant-loop : goal.invariant-loop
 invariant-loop l = record {

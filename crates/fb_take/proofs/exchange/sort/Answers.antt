@@ -1,8 +1,8 @@
 use Rattle.std.proofs.Common.{rules}
 use Rattle.std.proofs.lemmas.List.Sorted.{answers_always}
 use Rattle.std.proofs.lemmas.Result.{on_ok_weaker}
-use Rattle.fb_link.proofs.Exchanged.{place_of, sorted}
-use Rattle.fb_link.proofs.exchange.sort.Goals as goal
+use Rattle.fb_take.proofs.Exchanged.{place_of, sorted}
+use Rattle.fb_take.proofs.exchange.sort.Goals as goal
 
 pub returns : goal.returns
 returns c =

@@ -1,7 +1,7 @@
 use Rattle.std.proofs.Common.{◌∙◌, arith}
-use Rattle.fb_link.proofs.Tables.{latency_taken, latency_kept, latency_all, latency_within}
-use Rattle.fb_link.proofs.arrivals.latency_at.Goals as goal
-use Rattle.fb_link.proofs.arrivals.latency_at.Goals.{then-entry-sent, else-entry-sent}
+use Rattle.fb_take.proofs.LatencyTables.{latency_taken, latency_kept, latency_all, latency_within}
+use Rattle.fb_take.proofs.arrivals.latency_at.Goals as goal
+use Rattle.fb_take.proofs.arrivals.latency_at.Goals.{then-entry-sent, else-entry-sent}
 
 pub loop-entry-preserved : goal.loop-entry-preserved
 loop-entry-preserved c =

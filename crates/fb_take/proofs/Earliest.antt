@@ -7,8 +7,8 @@ use Rattle.std.proofs.lemmas.List.Elements.{All-nil, All-more, All-weaker}
 use Rattle.fb_types.specs.declared.latency.Entry.{Entry}
 use Rattle.fb_types.specs.Latencies.{IsLatencyTable}
 use Rattle.fb_types.specs.Flat.{latency_at}
-use Rattle.fb_link.specs.Arrivals.{arrival_at, IsEarliest}
-use Rattle.fb_link.proofs.Tables.{NoEarlier, latency_within, latency_place, arrival_least}
+use Rattle.fb_take.specs.Arrivals.{arrival_at, IsEarliest}
+use Rattle.fb_take.proofs.LatencyTables.{NoEarlier, latency_within, latency_place, arrival_least}
 
 -- the least arrival of the message that is sent at a tick, and of those that are sent as one of these entries begins later
 pub record IsEarliestOf (es table : List Entry) (from tick : ℕ) : Type 0 where

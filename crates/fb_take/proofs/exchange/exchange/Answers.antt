@@ -3,9 +3,9 @@ use Rattle.std.specs.Vec.Iter.{into_iter_items}
 use Rattle.std.proofs.lemmas.List.{length-set}
 use Rattle.std.proofs.lemmas.Option.{slice_get_read}
 use Rattle.fb_types.specs.Headline.{system_of}
-use Rattle.fb_link.specs.Exchanges.{all_of, AreDealt}
-use Rattle.fb_link.proofs.Dealt.{all_snoc, sorted_all, sorted_more}
-use Rattle.fb_link.proofs.exchange.exchange.Goals as goal
+use Rattle.fb_take.specs.Exchanges.{all_of, AreDealt}
+use Rattle.fb_take.proofs.Dealt.{all_snoc, sorted_all, sorted_more}
+use Rattle.fb_take.proofs.exchange.exchange.Goals as goal
 
 pub loop-outbox-preserved : goal.loop-outbox-preserved
 loop-outbox-preserved c =

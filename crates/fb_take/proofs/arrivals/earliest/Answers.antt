@@ -1,7 +1,7 @@
 use Rattle.std.proofs.Common.{◌∙◌}
-use Rattle.fb_link.proofs.Earliest.{earliest_none, earliest_taken, earliest_kept, earliest_all, earliest_within}
-use Rattle.fb_link.proofs.arrivals.earliest.Goals as goal
-use Rattle.fb_link.proofs.arrivals.earliest.Goals.{then-from-entry, else-from-entry}
+use Rattle.fb_take.proofs.Earliest.{earliest_none, earliest_taken, earliest_kept, earliest_all, earliest_within}
+use Rattle.fb_take.proofs.arrivals.earliest.Goals as goal
+use Rattle.fb_take.proofs.arrivals.earliest.Goals.{then-from-entry, else-from-entry}
 
 pub loop-entry-init : goal.loop-entry-init
 loop-entry-init c = earliest_none _ _ _ c.arrival-least.ensures.value

@@ -15,8 +15,9 @@ use Rattle.fb_types.specs.Systems.{System}
 use Rattle.fb_types.specs.declared.key.Key.{Key}
 use Rattle.fb_types.specs.declared.run.Message.{Message}
 use Rattle.fb_types.proofs.Lookups.{cmp_equal, same_cases}
-use Rattle.fb_link.specs.Exchanges.{receiver_of, key_of, goes_to, keyed, AreSorted}
-use Rattle.fb_link.proofs.Keyed.{found_kept, found_stable, keys_rise}
+use Rattle.fb_take.specs.Posts.{key_of, receiver_of}
+use Rattle.fb_take.specs.Exchanges.{goes_to, keyed, AreSorted}
+use Rattle.fb_take.proofs.Keyed.{found_kept, found_stable, keys_rise}
 use Rattle.fb_types.proofs.EachLaws.{each_map}
 
 -- the parts of a key in which the messages for one resource differ
@@ -51,6 +52,13 @@ each_all : {X : Type 0} (P : X → Type 0) (xs : List X) → ((x : X) → P x) �
 each_all P [] f = tt
 each_all P (x ∷ xs) f = (f x, each_all P xs f)
 
+-- under a key of a resource stands among the messages to it what stands among all
+pub found_to : (sys : System) (r : ℕ) (ms : List Message) (k : Key) → k.resource ≡ r → found k (keyed sys (filter (goes_to sys r) ms)) ≡ found k (keyed sys ms)
+found_to sys r ms k e = sym (found_kept (key_of sys) k (goes_to sys r) ms (each_all _ ms (λ m n. elsewhere m n)))
+  where
+    elsewhere : (m : Message) → goes_to sys r m ≡ false → same_key (key_of sys m) k ≡ false
+    elsewhere m n = ⊎_elim (λ s. absurd (eqb-false (receiver_of sys m) r n (ap (λ z. z.resource) s ∙ e))) (λ s. s) (same_cases (key_of sys m) k)
+
 -- what a stable sort by these parts makes of the messages for a resource
 pub sorted : (xs ys : List Message) → IsPermutation xs ys → IsSortedByKey place_of place_cmp ys → IsStableByKey place_of place_cmp xs ys → AreSorted xs ys
 sorted xs ys moved up stable sys r all e =
@@ -64,9 +72,5 @@ sorted xs ys moved up stable sys r all e =
       last = λ k h.
           found_stable (key_of sys) less (λ m. receiver_of sys m ≡ r) (agrees sys r) xs ys mine same stable k
           ∙ ap (λ z. found k (keyed sys z)) e
-          ∙ sym (found_kept (key_of sys) k (goes_to sys r) all (each_all _ all (λ m n. elsewhere m k n h)));
+          ∙ found_to sys r all k h;
     }
-  where
-    elsewhere : (m : Message) (k : Key) → goes_to sys r m ≡ false → k.resource ≡ r → same_key (key_of sys m) k ≡ false
-    elsewhere m k n h =
-        ⊎_elim (λ s. absurd (eqb-false (receiver_of sys m) r n (ap (λ z. z.resource) s ∙ h))) (λ s. s) (same_cases (key_of sys m) k)

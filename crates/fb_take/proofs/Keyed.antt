@@ -12,7 +12,7 @@ use Rattle.fb_types.specs.Machines.{Each}
 use Rattle.fb_types.specs.declared.key.Key.{Key}
 use Rattle.fb_types.proofs.KeyLaws.{key_cmp_total}
 use Rattle.fb_types.proofs.Lookups.{or_else_none, same_cases}
-use Rattle.fb_link.specs.Exchanges.{KeysRise}
+use Rattle.fb_take.specs.Exchanges.{KeysRise}
 
 -- what is found where each element is passed through a function
 pub found_map : {X A B : Type 0} (key : X → Key) (f : X → A) (g : A → B) (k : Key) (xs : List X)

@@ -4,7 +4,7 @@ ghost use Rattle.std.specs.Prelude.{◌≡◌, ◌<◌, ◌++◌, ℕ, [], All, 
 ghost use Rattle.std.specs.declared.alloc.Global as global;
 ghost use Rattle.fb_types.specs.Headline.{system_of};
 ghost use Rattle.fb_types.specs.declared.run.Message as model;
-ghost use Rattle.fb_link.specs.Exchanges.{all_of, AreDealt, AreFor, AreSorted};
+ghost use Rattle.fb_take.specs.Exchanges.{all_of, AreDealt, AreFor, AreSorted};
 
 use fb_system::system::System;
 use fb_types::run::Message;

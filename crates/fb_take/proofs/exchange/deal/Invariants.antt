@@ -2,8 +2,8 @@ use Rattle.std.proofs.Common.{◌≡◌, ◌++◌, List, length}
 use Rattle.std.specs.Vec.Iter.{into_iter_items, into_iter_len}
 use Rattle.fb_types.specs.Headline.{system_of}
 use Rattle.fb_types.specs.declared.run.Message.{Message}
-use Rattle.fb_link.specs.Exchanges.{AreDealt}
-use Rattle.fb_link.proofs.exchange.deal.Given as goal
+use Rattle.fb_take.specs.Exchanges.{AreDealt}
+use Rattle.fb_take.proofs.exchange.deal.Given as goal
 
 abbrev pub invariant-loop-message : goal.invariant-loop-message
 invariant-loop-message l = record {

@@ -2,7 +2,7 @@
 
 ghost use Rattle.std.specs.Prelude.{◌≡◌, ◌+◌, ◌^◌, ◌<◌, ◌≤◌};
 ghost use Rattle.fb_types.specs.Flat as spec;
-ghost use Rattle.fb_link.specs.Arrivals.{arrival_at, IsEarliest};
+ghost use Rattle.fb_take.specs.Arrivals.{arrival_at, IsEarliest};
 
 use fb_types::latency::Latency;
 

@@ -6,9 +6,9 @@ use Rattle.std.proofs.lemmas.Option.{slice_get_read}
 use Rattle.fb_types.specs.Headline.{system_of}
 use Rattle.fb_types.specs.Numbers.{path_at}
 use Rattle.fb_laws.proofs.Accepting.{sound_of}
-use Rattle.fb_link.specs.Exchanges.{AreDealt}
-use Rattle.fb_link.proofs.Dealt.{dealt_more}
-use Rattle.fb_link.proofs.exchange.deal.Goals as goal
+use Rattle.fb_take.specs.Exchanges.{AreDealt}
+use Rattle.fb_take.proofs.Dealt.{dealt_more}
+use Rattle.fb_take.proofs.exchange.deal.Goals as goal
 
 pub index_mut-requires : goal.index_mut-requires
 index_mut-requires c =

@@ -1,9 +1,9 @@
 use Rattle.std.proofs.Common.{◌≡◌, ◌++◌, length}
 use Rattle.std.specs.Vec.Iter.{into_iter_items, into_iter_len}
 use Rattle.fb_types.specs.Headline.{system_of}
-use Rattle.fb_link.specs.Exchanges.{all_of, AreDealt}
-use Rattle.fb_link.proofs.Dealt.{AreSortedTo}
-use Rattle.fb_link.proofs.exchange.exchange.Given as goal
+use Rattle.fb_take.specs.Exchanges.{all_of, AreDealt}
+use Rattle.fb_take.proofs.Dealt.{AreSortedTo}
+use Rattle.fb_take.proofs.exchange.exchange.Given as goal
 
 abbrev pub invariant-loop-outbox : goal.invariant-loop-outbox
 invariant-loop-outbox l = record {

@@ -3,21 +3,14 @@ use Rattle.std.specs.Prelude.{◌≡◌, ℕ, ◌==◌, Bool, List, [], ◌∷�
 use Rattle.std.specs.List.{filter}
 use Rattle.std.specs.List.Sorted.{IsPermutation}
 use Rattle.std.specs.declared.alloc.Global.{Global}
-use Rattle.fb_types.specs.Keys.{Precedes, found, message_key}
+use Rattle.fb_types.specs.Keys.{Precedes, found}
 use Rattle.fb_types.specs.Machines.{Each}
-use Rattle.fb_types.specs.Numbers.{path_at}
 use Rattle.fb_types.specs.Systems.{System}
 use Rattle.fb_types.specs.declared.key.Key.{Key}
 use Rattle.fb_types.specs.declared.run.Message.{Message}
+use Rattle.fb_take.specs.Posts.{key_of, receiver_of}
 
--- the resource that a message is for
-abbrev pub receiver_of : System → Message → ℕ
-receiver_of sys m = sys.resource (path_at sys m.target.instance)
-
--- the key under which a message waits there
-abbrev pub key_of : System → Message → Key
-key_of sys m = message_key m.arrives (receiver_of sys m) m.link m.number
-
+-- whether a message is for a resource
 abbrev pub goes_to : System → (resource : ℕ) → Message → Bool
 goes_to sys r m = receiver_of sys m == r
 

@@ -1,2 +1,0 @@
-pub mod Arrivals
-pub mod Exchanges
