@@ -1,3 +1,13 @@
 mod Reading
 mod Verdicts
 mod Parts
+mod Tables
+mod Listed
+mod Once
+mod Parted
+mod Linked
+mod Carried
+mod Served
+mod Marks
+mod Circles
+mod Applying

@@ -18,7 +18,7 @@ use Rattle.fb_types.specs.Unknown.{NameUnknown}
 use Rattle.fb_types.specs.declared.deploy.Plan.{Plan}
 use Rattle.fb_types.specs.declared.deploy.Stimulus.{Stimulus}
 use Rattle.fb_types.specs.declared.library.Library.{Library}
-use Rattle.fb_why.specs.Causes.{IsCause}
+use Rattle.fb_why.specs.Causes.{IsCause, excess_number}
 use Rattle.fb_why_kinds.specs.Unknown.{IsUnknownAt}
 use Rattle.fb_why.specs.declared.cause.Cause.TheVariants as cause
 use Rattle.fb_why.specs.declared.cause.Cause.{Cause}
@@ -28,12 +28,12 @@ use Rattle.fb_why.specs.declared.cause.Flaw.TheVariants as flaw
 use Rattle.fb_why.specs.declared.cause.Flaw.{Flaw}
 use Rattle.fb_why.specs.declared.spot.Spot.TheVariants as spot
 use Rattle.fb_why.specs.declared.spot.Spot.{Spot}
-use Rattle.fb_why_names.specs.Heights.{IsTooHighAt}
-use Rattle.fb_why_names.specs.Sources.{IsJoinedAt}
-use Rattle.fb_why_names.specs.Twice.{IsTwiceAt}
-use Rattle.fb_why_names.specs.Unlinked.{IsUnlinkedAt}
-use Rattle.fb_why_names.specs.Unmapped.{IsUnmappedAt}
-use Rattle.fb_why_names.specs.Unserved.{IsUnservedAt}
+use Rattle.fb_why.specs.Heights.{IsTooHighAt}
+use Rattle.fb_why.specs.Sources.{IsJoinedAt}
+use Rattle.fb_why.specs.Twice.{IsTwiceAt}
+use Rattle.fb_why.specs.Unlinked.{IsUnlinkedAt}
+use Rattle.fb_why.specs.Unmapped.{IsUnmappedAt}
+use Rattle.fb_why.specs.Unserved.{IsUnservedAt}
 use Rattle.fb_why_bytes.specs.Rows as rows
 use Rattle.fb_why_bytes.specs.Rows.{AreTaken}
 use Rattle.fb_why_bytes.specs.Tables as tables
@@ -156,13 +156,9 @@ ExceedsAt excess.Stimulus lib stimuli (spot.Stimulus p) = IsBadAt lib stimuli p
 ExceedsAt excess.Limit lib stimuli (spot.Limit l) = IsOver lib stimuli l
 ExceedsAt _ lib stimuli _ = ⊥
 
-abbrev pub excess_fault : Excess → ℕ
-excess_fault excess.Stimulus = 29
-excess_fault excess.Limit = 30
-
 -- The refusal is not the first that applies.
 abbrev pub ExceedsNowhere : Excess → Library → Plan → List Stimulus → Type 0
-ExceedsNowhere excess lib plan stimuli = ¬ (IsLeastFault (excess_fault excess) lib plan stimuli)
+ExceedsNowhere excess lib plan stimuli = ¬ (IsLeastFault (excess_number excess) lib plan stimuli)
 
 -- All were read, and the refusal applies to them at this place.
 pub record TellsExcess (excess : Excess) (declaration : List ℕ) (deploy stimuli : Option (List ℕ)) (place : Spot) : Type 0 where

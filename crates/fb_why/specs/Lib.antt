@@ -3,3 +3,11 @@ pub mod Causes
 pub mod Findings
 pub mod Stimuli
 pub mod Trials
+pub mod Pairs
+pub mod Unmapped
+pub mod Twice
+pub mod Sources
+pub mod Unlinked
+pub mod Unserved
+pub mod Heights
+pub mod Applies

@@ -6,7 +6,19 @@ ghost use Rattle.fb_why.specs.Findings.{AppliesAt, AppliesNowhere};
 ghost use Rattle.fb_why.specs.declared.cause.Flaw.TheVariants as flaw;
 
 use crate::cause::Flaw;
+use crate::heights::too_high_place;
+use crate::sources::joined_place;
 use crate::spot::{Finding, Spot};
+use crate::tell_heights::tell_too_high;
+use crate::tell_joined::tell_joined;
+use crate::tell_twice::tell_twice;
+use crate::tell_unlinked::tell_unlinked;
+use crate::tell_unmapped::tell_unmapped;
+use crate::tell_unserved::tell_unserved;
+use crate::twice::twice_place;
+use crate::unlinked::unlinked_place;
+use crate::unmapped::unmapped_place;
+use crate::unserved::unserved_place;
 use fb_types::deploy::Plan;
 use fb_types::library::Library;
 use fb_why_kinds::misfits::misfit_place;
@@ -14,18 +26,6 @@ use fb_why_kinds::misjoins::misjoin_place;
 use fb_why_kinds::tell_kinds::{tell_misfit, tell_misjoin};
 use fb_why_kinds::tell_unknown::tell_unknown;
 use fb_why_kinds::unknown::unknown_place;
-use fb_why_names::heights::too_high_place;
-use fb_why_names::sources::joined_place;
-use fb_why_names::tell_heights::tell_too_high;
-use fb_why_names::tell_joined::tell_joined;
-use fb_why_names::tell_twice::tell_twice;
-use fb_why_names::tell_unlinked::tell_unlinked;
-use fb_why_names::tell_unmapped::tell_unmapped;
-use fb_why_names::tell_unserved::tell_unserved;
-use fb_why_names::twice::twice_place;
-use fb_why_names::unlinked::unlinked_place;
-use fb_why_names::unmapped::unmapped_place;
-use fb_why_names::unserved::unserved_place;
 use std::alloc::{AllocError, Global};
 
 /// What is given twice.

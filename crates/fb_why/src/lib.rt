@@ -5,10 +5,19 @@
 //! only where the refusal does not apply, or the bytes can't be read; of E29 and E30 only where that is not what the inputs are
 //! refused for. Of the texts nothing is promised.
 //!
-//! To be read in this order: `explain` and `table`; `cause` and `spot`, what is refused by which number, and where; `place`, where
-//! stimuli don't fit an application, and limits; `verdict`, the least fault; `trial`, by which the check itself judges a part of a
-//! stimulus; `stimulus`, `limit` and `tell`. Then `refused`, `declared` and `fed`, places of bytes, of what they declare and of
-//! stimuli; `finding`, which reads the bytes once more, behind a refusal alone.
+//! Of these places the crate has itself those for which names, connections and the mapping are looked through:
+//! `twice::twice_place` gives a place at which something is given twice (E20), `sources::joined_place` two data connections that
+//! lead to one port (E24), `heights::too_high_place` a composite type that holds itself or is too high, with the instance through
+//! which it does (E25), `unmapped::unmapped_place` an instance that is not mapped to one resource (E26),
+//! `unlinked::unlinked_place` a connection between two resources that have no link (E27), and `unserved::unserved_place` a data
+//! connection between two resources that no event serves (E28); each gives none exactly where there is no such place.
+//!
+//! To be read in this order: `explain` and `table`; `cause` and `spot`, what is refused by which number, and where. Then names,
+//! connections and the mapping: `pair`, what stands twice in a list; `twice`, `sources`, `heights`, `unmapped`, `unlinked` and
+//! `unserved`; `laws`; the modules `tell_..`, a place as a text. Then stimuli and limits: `place`, where stimuli don't fit an
+//! application, and limits; `verdict`, the least fault; `trial`, by which the check itself judges a part of a stimulus; `stimulus`,
+//! `limit` and `tell`. Then `refused`, `declared` and `fed`, places of bytes, of what they declare and of stimuli; `finding`, which
+//! reads the bytes once more, behind a refusal alone.
 #![tactic(auto)]
 
 pub mod cause;
@@ -16,12 +25,26 @@ mod declared;
 pub mod explain;
 mod fed;
 pub mod finding;
+pub mod heights;
+pub mod laws;
 mod limit;
+pub mod pair;
 pub mod place;
 mod refused;
+pub mod sources;
 pub mod spot;
 mod stimulus;
 pub mod table;
 mod tell;
+mod tell_heights;
+mod tell_joined;
+mod tell_twice;
+mod tell_unlinked;
+mod tell_unmapped;
+mod tell_unserved;
 mod trial;
+pub mod twice;
+pub mod unlinked;
+pub mod unmapped;
+mod unserved;
 mod verdict;

@@ -1,14 +1,14 @@
 //! Where a refusal applies, of any number.
 
+use crate::heights::Descent;
 use crate::place::{Limit, StimulusPlace};
+use crate::sources::Joined;
+use crate::twice::GivenTwice;
+use crate::unlinked::Unlinked;
+use crate::unmapped::Unmapped;
 use fb_why_bytes::place::{DeployPlace, StimuliPlace};
 use fb_why_bytes::text_place::TextPlace;
 use fb_why_kinds::place::{Misfit, Misjoin, UnknownName};
-use fb_why_names::heights::Descent;
-use fb_why_names::sources::Joined;
-use fb_why_names::twice::GivenTwice;
-use fb_why_names::unlinked::Unlinked;
-use fb_why_names::unmapped::Unmapped;
 
 /// A place at which a refusal applies.
 #[derive(Clone, Copy)]

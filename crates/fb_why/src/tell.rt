@@ -1,10 +1,10 @@
-//! The texts that tell such places.
+//! The texts that tell of stimuli that do not fit, and of limits that are passed.
 
 use crate::place::{Limit, StimulusFault, StimulusPlace};
 use fb_types::deploy::{Setting, Stimulus};
 use fb_types::library::{Connection, Library};
 use fb_types::name::Name;
-use fb_types::value::Value;
+use fb_why_kinds::words::Text;
 use std::alloc::{AllocError, Global};
 
 /// What stands behind a place, as in 1st.
@@ -25,55 +25,44 @@ pub fn tell_stimulus(
     stimuli: &[Stimulus],
     place: StimulusPlace,
 ) -> Result<String, AllocError> {
-    let mut text = String::new(alloc);
-    push_stimulus(alloc, &mut text, library, stimuli, place)?;
-    Ok(text)
+    let mut text = Text::new(alloc);
+    push_stimulus(&mut text, library, stimuli, place)?;
+    Ok(text.into_string())
 }
 
 /// Which limit is passed.
 pub fn tell_limit(alloc: Global, limit: Limit) -> Result<String, AllocError> {
-    let mut text = String::new(alloc);
-    text.push_str(match limit {
+    let mut text = Text::new(alloc);
+    text.words(match limit {
         Limit::Instances => "application: there are more than 4,096 instances, components included",
         Limit::Stimuli => "stimuli: there are more than 100,000 rows",
     })?;
-    Ok(text)
+    Ok(text.into_string())
 }
 
 fn push_stimulus(
-    alloc: Global,
-    text: &mut String,
+    text: &mut Text,
     library: &Library,
     stimuli: &[Stimulus],
     place: StimulusPlace,
 ) -> Result<(), AllocError> {
-    text.push_str("stimuli: ")?;
-    push_place(alloc, text, place.row)?;
-    text.push_str(" row behind the heading: ")?;
+    push_place(text, "stimuli: ", place.row)?;
+    text.words(" row behind the heading: ")?;
     match stimuli.get(place.row) {
-        Some(stimulus) => push_fault(alloc, text, library, stimulus, place.fault),
+        Some(stimulus) => push_fault(text, library, stimulus, place.fault),
         None => Ok(()),
     }
 }
 
-/// Adds a place that is counted from 0, as in 1st for 0.
-fn push_place(alloc: Global, text: &mut String, place: usize) -> Result<(), AllocError> {
+/// Words, and behind them a place that is counted from 0, as in 1st for 0.
+fn push_place(text: &mut Text, words: &str, place: usize) -> Result<(), AllocError> {
     let counted = place.saturating_add(1);
-    let digits = format!(in alloc; "{counted}")?;
-    text.push_str(digits.as_str())?;
-    text.push_str(ending(counted))
-}
-
-fn push_name(text: &mut String, name: &Name) -> Result<(), AllocError> {
-    for byte in name.as_bytes() {
-        text.push(char::from(*byte))?;
-    }
-    Ok(())
+    text.numbered(words, counted as i128)?;
+    text.words(ending(counted))
 }
 
 fn push_fault(
-    alloc: Global,
-    text: &mut String,
+    text: &mut Text,
     library: &Library,
     stimulus: &Stimulus,
     fault: StimulusFault,
@@ -81,27 +70,23 @@ fn push_fault(
     match fault {
         StimulusFault::Event => push_event(text, library, stimulus),
         StimulusFault::Setting(place) => match stimulus.settings.get(place) {
-            Some(setting) => push_setting(alloc, text, library, stimulus, setting),
+            Some(setting) => push_setting(text, library, stimulus, setting),
             None => Ok(()),
         },
         StimulusFault::Twice => push_twice(text, stimulus),
     }
 }
 
-fn push_event(text: &mut String, library: &Library, stimulus: &Stimulus) -> Result<(), AllocError> {
+fn push_event(text: &mut Text, library: &Library, stimulus: &Stimulus) -> Result<(), AllocError> {
     let instances = library.application.network.instances.as_slice();
     for instance in instances {
         if instance.name.is(&stimulus.instance) {
-            text.push_str("instance ")?;
-            push_name(text, &instance.name)?;
-            text.push_str(" : ")?;
-            push_name(text, &instance.block_type)?;
-            text.push_str(" has no event input ")?;
-            return push_name(text, &stimulus.event);
+            text.named("instance ", &instance.name)?;
+            text.named(" : ", &instance.block_type)?;
+            return text.named(" has no event input ", &stimulus.event);
         }
     }
-    text.push_str("there is no instance ")?;
-    push_name(text, &stimulus.instance)
+    text.named("there is no instance ", &stimulus.instance)
 }
 
 /// Whether a data connection leads to the variable of the instance.
@@ -123,43 +108,30 @@ fn is_connected(library: &Library, instance: &Name, variable: &Name) -> bool {
 }
 
 fn push_setting(
-    alloc: Global,
-    text: &mut String,
+    text: &mut Text,
     library: &Library,
     stimulus: &Stimulus,
     setting: &Setting,
 ) -> Result<(), AllocError> {
-    push_name(text, &setting.variable)?;
-    text.push_str("=")?;
-    push_value(alloc, text, setting.value)?;
+    text.name(&setting.variable)?;
+    text.words("=")?;
+    text.value(setting.value)?;
     if is_connected(library, &stimulus.instance, &setting.variable) {
-        return text.push_str(": a data connection leads to the variable");
+        return text.words(": a data connection leads to the variable");
     }
-    text.push_str(": no data input that goes WITH ")?;
-    push_name(text, &stimulus.event)?;
-    text.push_str(" has this name and holds this value")
-}
-
-fn push_value(alloc: Global, text: &mut String, value: Value) -> Result<(), AllocError> {
-    match value {
-        Value::Bool(true) => text.push_str("TRUE"),
-        Value::Bool(false) => text.push_str("FALSE"),
-        Value::Whole(number) => {
-            let digits = format!(in alloc; "{number}")?;
-            text.push_str(digits.as_str())
-        }
-    }
+    text.named(": no data input that goes WITH ", &stimulus.event)?;
+    text.words(" has this name and holds this value")
 }
 
 /// Tells the first variable that is set twice.
-fn push_twice(text: &mut String, stimulus: &Stimulus) -> Result<(), AllocError> {
+fn push_twice(text: &mut Text, stimulus: &Stimulus) -> Result<(), AllocError> {
     let settings = stimulus.settings.as_slice();
     for (place, setting) in settings.iter().enumerate() {
         let before = settings.iter().take(place);
         for other in before {
             if other.variable.is(&setting.variable) {
-                push_name(text, &setting.variable)?;
-                return text.push_str(" is set twice");
+                text.name(&setting.variable)?;
+                return text.words(" is set twice");
             }
         }
     }

@@ -1,6 +1,6 @@
 -- Data connections that lead out of a range, and declarations that have none.
-use Rattle.std.proofs.Common.{◌≡◌, Bool, true, false, not, List, Option, Some, None, refl, subst, sym, ◌∙◌, ap}
-use Rattle.std.specs.Prelude.{MatchOption, option_and_then}
+use Rattle.std.proofs.Common.{◌≡◌, Bool, true, false, not, List, Option, Some, None, refl, sym, ◌∙◌, ap}
+use Rattle.std.specs.Prelude.{option_and_then}
 use Rattle.std.specs.List.{find, list_all}
 use Rattle.std.proofs.lemmas.Bool.{true≢false}
 use Rattle.fb_types.specs.Blocks.{Kind, ports_of}
@@ -95,10 +95,6 @@ misjoined_at lib at n is m =
       to = ends.to;
       out = ends.out;
     }
-
--- where nothing is answered
-pub none_answer : {A : Type 0} (o : Option A) (N : Type 0) (P : A → Type 0) → o ≡ None → N → MatchOption o N P
-none_answer {A} o N P e h = subst (λ (o : Option A). MatchOption o N P) (sym e) h
 
 -- ---- All data connections
 

@@ -1,11 +1,11 @@
-mod NetworkPlaces
+pub mod NetworkPlaces
 mod BlockPlaces
 mod TypePorts
 mod DeploymentPlaces
 mod AllPlaces
 mod NetworkTests
 mod Joins
-mod Typed
+pub mod Typed
 mod Bodies
 mod Placed
 mod Parts

@@ -6,7 +6,7 @@ use Rattle.std.specs.Option.{option_copied}
 use Rattle.std.proofs.lemmas.List.Folds.{list_any-append}
 use Rattle.std.proofs.lemmas.Option.{same_Some}
 use Rattle.fb_types.specs.Names.{Name, same_name}
-use Rattle.fb_types.specs.Blocks.{Kind, Event, among, named, event_blocks, event_block_named, ports_of, ports_of_event_block}
+use Rattle.fb_types.specs.Blocks.{among, named, event_blocks, event_block_named, ports_of, ports_of_event_block}
 use Rattle.fb_types.specs.EventPorts.{ArePortsOfKinds, kind_place}
 use Rattle.fb_types.specs.Flat.{kind_of, type_name, type_named}
 use Rattle.fb_types.specs.Repeated.{block_type_names}
@@ -16,9 +16,7 @@ use Rattle.fb_types.specs.declared.library.Library.{Library}
 use Rattle.fb_types.specs.declared.library.Ports.{Ports}
 use Rattle.fb_types.proofs.NameLaws.{find-named, any-named}
 use Rattle.fb_names.specs.Types.{ports_of_block}
-
-abbrev type_from : Library → Name → Option (Name × EventKind) → Option Kind
-type_from lib n o = elim o [ Some e ↦ Some (Event e.1) | None ↦ option_map kind_of (named type_name n lib.blocks) ]
+use Rattle.fb_why_kinds.proofs.Typed.{declared_type, type_from}
 
 pub event_ports_are :
     (lib : Library) (all : List Ports) (n : Name) (k : EventKind) → ArePortsOfKinds all → event_block_named n ≡ Some k
@@ -27,13 +25,6 @@ event_ports_are lib all n k are h =
     elim (named (λ e. e.0) n event_blocks) as (λ o. option_map (λ e. e.1) o ≡ Some k → slice_get all (kind_place k) ≡ option_map ports_of (type_from lib n o)) [
       | None ↦ λ h. absurd (cc)
       | Some e ↦ λ h. are k ∙ ap (λ (k : EventKind). Some (ports_of_event_block k)) (sym (same_Some e.1 k h))
-    ] h
-
-pub declared_type : (lib : Library) (n : Name) → event_block_named n ≡ None → type_named lib n ≡ option_map kind_of (named type_name n lib.blocks)
-declared_type lib n h =
-    elim (named (λ e. e.0) n event_blocks) as (λ o. option_map (λ e. e.1) o ≡ None → type_from lib n o ≡ option_map kind_of (named type_name n lib.blocks)) [
-      | None ↦ λ h. refl
-      | Some e ↦ λ h. absurd (cc)
     ] h
 
 ports_of_kind : (o : Option BlockType) → option_map ports_of_block o ≡ option_map ports_of (option_map kind_of o)

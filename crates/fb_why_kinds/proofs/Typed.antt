@@ -38,7 +38,7 @@ type_back n (z ∷ zs) ys h =
 
 -- ---- Types
 
-abbrev type_from : Library → Name → Option (Name × EventKind) → Option Kind
+abbrev pub type_from : Library → Name → Option (Name × EventKind) → Option Kind
 type_from lib n o = elim o [ Some e ↦ Some (Event e.1) | None ↦ option_map kind_of (named type_name n lib.blocks) ]
 
 pub event_type : (lib : Library) (n : Name) (k : EventKind) → event_block_named n ≡ Some k → flat.type_named lib n ≡ Some (Event k)

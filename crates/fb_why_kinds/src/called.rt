@@ -5,11 +5,11 @@ ghost use Rattle.std.specs.List.{list_any};
 ghost use Rattle.fb_types.specs.Names.{same_name};
 
 use fb_types::deploy::ResourceEntry;
-use fb_types::library::{Algorithm, EventPort, Instance, State, Variable};
+use fb_types::library::{Algorithm, BlockType, EventPort, Instance, Parameter, State, Variable};
 use fb_types::name::Name;
 
 /// What has a name.
-pub(crate) trait Called {
+pub trait Called {
     ghost use Rattle.std.specs.Prelude.{List, ℕ};
 
     ghost called: { Self → List ℕ };
@@ -17,6 +17,14 @@ pub(crate) trait Called {
     /// Its name.
     fn name(&self) -> &Name
         ensures { result.now ≡ called self.now };
+}
+
+impl Called for Name {
+    ghost called = { λ n. n };
+
+    fn name(&self) -> &Name {
+        self
+    }
 }
 
 impl Called for EventPort {
@@ -59,11 +67,29 @@ impl Called for Instance {
     }
 }
 
+impl Called for Parameter {
+    ghost called = { λ x. x.name };
+
+    fn name(&self) -> &Name {
+        &self.name
+    }
+}
+
 impl Called for ResourceEntry {
     ghost called = { λ r. r.name };
 
     fn name(&self) -> &Name {
         &self.name
+    }
+}
+
+impl Called for BlockType {
+    ghost use Rattle.fb_types.specs.Flat.{type_name};
+
+    ghost called = { type_name };
+
+    fn name(&self) -> &Name {
+        self.type_name()
     }
 }
 

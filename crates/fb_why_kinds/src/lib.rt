@@ -9,11 +9,12 @@
 //!
 //! To be read in this order: `place`; `called`, `lookup`, `networks`, `blocks`, `charts`, `mentions` and `deployment`, where names are looked
 //! for; `unknown`. Then `types`, what names stand for; `misjoins`; `sorts`, kinds of expressions; `statements`, `parameters` and
-//! `misfits`; `laws`. Last `words`, `tell_sites`, `tell_unknown` and `tell_kinds`, a place as a text.
+//! `misfits`; `laws`. Last `words`, `tell_sites`, `tell_unknown` and `tell_kinds`, a place as a text. What has a name (`called`) and a
+//! text that grows (`words`) serve `fb_why` too.
 #![tactic(auto)]
 
 mod blocks;
-mod called;
+pub mod called;
 mod charts;
 mod deployment;
 pub mod laws;
@@ -27,8 +28,8 @@ pub mod place;
 mod sorts;
 mod statements;
 pub mod tell_kinds;
-mod tell_sites;
+pub mod tell_sites;
 pub mod tell_unknown;
 mod types;
 pub mod unknown;
-mod words;
+pub mod words;

@@ -7,7 +7,11 @@ use fb_types::library::{BasicType, BlockType, Instance, Library};
 use std::alloc::AllocError;
 
 /// Words for a block type.
-pub fn push_block(text: &mut Text, library: &Library, block: usize) -> Result<(), AllocError> {
+pub(crate) fn push_block(
+    text: &mut Text,
+    library: &Library,
+    block: usize,
+) -> Result<(), AllocError> {
     match library.blocks.get(block) {
         Some(block) => text.named("block type ", block.type_name()),
         None => Ok(()),
@@ -15,7 +19,7 @@ pub fn push_block(text: &mut Text, library: &Library, block: usize) -> Result<()
 }
 
 /// Words for a block type, which is returned if it is a basic one.
-pub fn push_basic<'a>(
+pub(crate) fn push_basic<'a>(
     text: &mut Text,
     library: &'a Library,
     block: usize,
@@ -28,7 +32,7 @@ pub fn push_basic<'a>(
 }
 
 /// Words for the network of a site.
-pub fn push_site(text: &mut Text, library: &Library, site: Site) -> Result<(), AllocError> {
+pub(crate) fn push_site(text: &mut Text, library: &Library, site: Site) -> Result<(), AllocError> {
     match site {
         Site::Application => text.named("application ", &library.application.name),
         Site::Inside(block) => push_block(text, library, block),
@@ -36,7 +40,7 @@ pub fn push_site(text: &mut Text, library: &Library, site: Site) -> Result<(), A
 }
 
 /// The network of a site, with the composite type around it.
-pub fn scope_of(library: &Library, site: Site) -> Option<PlacedNetwork> {
+pub(crate) fn scope_of(library: &Library, site: Site) -> Option<PlacedNetwork> {
     match site {
         Site::Application => Some(PlacedNetwork {
             composite: None,

@@ -14,21 +14,25 @@ pub struct Text {
 }
 
 impl Text {
+    /// An empty text.
     pub fn new(alloc: Global) -> Text {
         Text {
             all: String::new(alloc),
         }
     }
 
+    /// What it has grown to.
     pub fn into_string(self) -> String {
         let Text { all } = self;
         all
     }
 
+    /// Words, as they are.
     pub fn words(&mut self, words: &str) -> Result<(), AllocError> {
         self.all.push_str(words)
     }
 
+    /// A name.
     pub fn name(&mut self, name: &Name) -> Result<(), AllocError> {
         for byte in name.as_bytes() {
             self.all.push(char::from(*byte))?;

@@ -5,7 +5,8 @@ use Rattle.fb_types.specs.declared.library.BlockType.{BlockType}
 use Rattle.fb_why_kinds.specs.declared.place.Site.TheVariants.{Application, Inside}
 use Rattle.fb_why_kinds.specs.Misjoins.{are_joined_inside}
 use Rattle.fb_why_kinds.specs.Sites.{network_inside}
-use Rattle.fb_why_kinds.proofs.Joins.{misjoined_at, none_answer, none_out}
+use Rattle.fb_why_kinds.proofs.Joins.{misjoined_at, none_out}
+use Rattle.fb_why_kinds.proofs.NetworkPlaces.{none_answer}
 use Rattle.fb_why_kinds.proofs.misjoins.misjoin_place.Goals as goal
 
 pub returns-in-Some : goal.returns-in-Some

@@ -1,0 +1,20 @@
+use Rattle.std.proofs.Common.{List, map, subst}
+use Rattle.std.proofs.lemmas.Option.{MatchOption-at_none}
+use Rattle.fb_types.specs.Names.{Name}
+use Rattle.fb_types.specs.Repeated.{Twice}
+use Rattle.fb_types.specs.declared.library.Parameter.{Parameter}
+use Rattle.fb_why.specs.Pairs.{IsPair}
+use Rattle.fb_types.proofs.LoopSteps.{all_next, all_of_taken}
+use Rattle.fb_why.proofs.Once.{IsInstanceOnce}
+use Rattle.fb_why.proofs.twice.parameter_pair.Goals as goal
+
+pub loop-place-preserved : goal.loop-place-preserved
+loop-place-preserved c =
+    let names : List Parameter → List Name = λ xs. map (λ (x : Parameter). x.name) xs in
+    let xs : List Parameter = c.as_slice.result.now in
+    all_next IsInstanceOnce c.args.instances.now c.loop-place.place c.index-instances-place.result c.loop-place-test.true c.index-instances-place.is c.loop-place.invariant
+    (subst (λ (xs : List Parameter). ¬ (Twice (map (λ (x : Parameter). x.name) xs))) c.as_slice.ensures
+    (MatchOption-at_none (¬ (Twice (names xs))) (IsPair (names xs)) c.in_default.is c.in_ok-pair.ensures))
+
+pub returns : goal.returns
+returns c = all_of_taken IsInstanceOnce c.args.instances.now c.loop-place.place c.loop-place-test.false c.loop-place.invariant

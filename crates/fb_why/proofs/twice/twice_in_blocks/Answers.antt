@@ -1,0 +1,16 @@
+use Rattle.std.proofs.lemmas.Option.{MatchOption-at_none}
+use Rattle.fb_types.specs.declared.library.BlockType.{BlockType}
+use Rattle.fb_names.specs.GivenTwice.{BlockTwice}
+use Rattle.fb_why.specs.Twice.{IsTwiceInBlock}
+use Rattle.fb_types.proofs.LoopSteps.{all_next, all_of_taken}
+use Rattle.fb_why.proofs.Once.{IsBlockOnce}
+use Rattle.fb_why.proofs.twice.twice_in_blocks.Goals as goal
+
+pub loop-place-preserved : goal.loop-place-preserved
+loop-place-preserved c =
+    let t : BlockType = c.index-blocks-place.result in
+    all_next IsBlockOnce c.args.blocks.now c.loop-place.place t c.loop-place-test.true c.index-blocks-place.is c.loop-place.invariant
+    (MatchOption-at_none (¬ (BlockTwice t)) (IsTwiceInBlock t) c.in_default.is c.in_ok-found.ensures)
+
+pub returns : goal.returns
+returns c = all_of_taken IsBlockOnce c.args.blocks.now c.loop-place.place c.loop-place-test.false c.loop-place.invariant

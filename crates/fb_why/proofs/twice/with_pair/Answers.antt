@@ -1,0 +1,17 @@
+use Rattle.std.proofs.Common.{List, subst}
+use Rattle.std.proofs.lemmas.Option.{MatchOption-at_none}
+use Rattle.fb_types.specs.Names.{Name}
+use Rattle.fb_types.specs.Repeated.{Twice}
+use Rattle.fb_why.specs.Pairs.{IsPair}
+use Rattle.fb_types.proofs.LoopSteps.{all_next, all_of_taken}
+use Rattle.fb_why.proofs.Once.{IsWithOnce}
+use Rattle.fb_why.proofs.twice.with_pair.Goals as goal
+
+pub loop-place-preserved : goal.loop-place-preserved
+loop-place-preserved c =
+    let ns : List Name = c.as_slice.result.now in
+    all_next IsWithOnce c.args.events.now c.loop-place.place c.index-events-place.result c.loop-place-test.true c.index-events-place.is c.loop-place.invariant
+    (subst (λ (ns : List Name). ¬ (Twice ns)) c.as_slice.ensures (MatchOption-at_none (¬ (Twice ns)) (IsPair ns) c.in_default.is c.in_ok-pair.ensures))
+
+pub returns : goal.returns
+returns c = all_of_taken IsWithOnce c.args.events.now c.loop-place.place c.loop-place-test.false c.loop-place.invariant

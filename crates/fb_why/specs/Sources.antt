@@ -1,0 +1,37 @@
+-- Where two data connections lead to one port (E24; IEC 61499-1, 5.3).
+use Rattle.std.specs.Prelude.{◌≡◌, ℕ, List, [], map, Some, slice_get}
+use Rattle.fb_types.specs.Names.{Port}
+use Rattle.fb_types.specs.Flat.{port_in}
+use Rattle.fb_types.specs.Repeated.{Twice}
+use Rattle.fb_types.specs.declared.library.BlockType.{BlockType}
+use Rattle.fb_types.specs.declared.library.BlockType.TheVariants as block
+use Rattle.fb_types.specs.declared.library.Connection.{Connection}
+use Rattle.fb_types.specs.declared.library.Library.{Library}
+use Rattle.fb_why.specs.Pairs.{IsPair}
+use Rattle.fb_why.specs.declared.sources.Joined.{Joined}
+use Rattle.fb_why.specs.declared.sources.Joined.TheVariants as joined
+
+-- the ports to which connections lead
+abbrev pub targets : List Connection → List Port
+targets cs = map (λ c. port_in [] c.to) cs
+
+-- what two data connections inside a block type lead to
+abbrev pub TargetTwice : BlockType → Type 0
+TargetTwice (block.Basic t) = ⊥
+TargetTwice (block.Composite t) = Twice (targets t.network.data_connections)
+
+abbrev pub IsParted : BlockType → Type 0
+IsParted t = ¬ (TargetTwice t)
+
+abbrev pub IsJoinedInside : BlockType → ℕ × ℕ → Type 0
+IsJoinedInside (block.Basic t) r = ⊥
+IsJoinedInside (block.Composite t) r = IsPair (targets t.network.data_connections) r
+
+-- the block type at the place has two such connections
+abbrev pub IsJoinedIn : List BlockType → (place : ℕ) → ℕ × ℕ → Type 0
+IsJoinedIn ts k r = (t : BlockType) × (slice_get ts k ≡ Some t) × IsJoinedInside t r
+
+-- The two data connections lead to one port.
+abbrev pub IsJoinedAt : Library → Joined → Type 0
+IsJoinedAt lib (joined.Application r) = IsPair (targets lib.application.network.data_connections) r
+IsJoinedAt lib (joined.Inside k r) = IsJoinedIn lib.blocks k r

@@ -1,0 +1,34 @@
+-- Where a connection between two resources has no link (E27; links are this project's profile).
+use Rattle.std.specs.Prelude.{◌≡◌, ℕ, List, [], Bool, ◌&&◌, ◌||◌, nat_eq, Some, None, slice_get}
+use Rattle.std.specs.List.{list_any}
+use Rattle.fb_types.specs.Names.{Name, Port, same_name}
+use Rattle.fb_types.specs.Flat.{port_in, resource_of, link_between, name_of_resource}
+use Rattle.fb_types.specs.Mapped.{IsCut, event_pairs_of, data_pairs_of}
+use Rattle.fb_types.specs.declared.library.Connection.{Connection}
+use Rattle.fb_types.specs.declared.library.Library.{Library}
+use Rattle.fb_types.specs.declared.deploy.Link.{Link}
+use Rattle.fb_types.specs.declared.deploy.Plan.{Plan}
+use Rattle.fb_why.specs.declared.unlinked.Unlinked.{Unlinked}
+use Rattle.fb_why.specs.declared.unlinked.Unlinked.TheVariants as place
+
+-- the link leads from the one resource to the other
+abbrev pub is_joining : (from to : Name) → Link → Bool
+is_joining from to l = same_name l.from from && same_name l.to to
+
+abbrev pub are_linked : Plan → (from to : ℕ) → Bool
+are_linked plan r s = nat_eq r s || list_any (is_joining (name_of_resource plan r) (name_of_resource plan s)) plan.links
+
+-- the ends lie in one resource, or there is a link for them
+abbrev pub is_linked : Plan → Connection → Bool
+is_linked plan c = are_linked plan (resource_of plan (port_in [] c.from).at) (resource_of plan (port_in [] c.to).at)
+
+-- The connection stands there, its ends lie in two resources, and there is no link.
+pub record IsUnlinked (plan : Plan) (pairs : List (Port × Port)) (k : ℕ) : Type 0 where
+  pub stands : Port × Port
+  pub found : slice_get pairs k ≡ Some stands
+  pub cut : IsCut plan stands
+  pub none : link_between plan (resource_of plan stands.0.at) (resource_of plan stands.1.at) ≡ None
+
+abbrev pub IsUnlinkedAt : Library → Plan → Unlinked → Type 0
+IsUnlinkedAt lib plan (place.Event k) = IsUnlinked plan (event_pairs_of lib) k
+IsUnlinkedAt lib plan (place.Data k) = IsUnlinked plan (data_pairs_of lib) k

@@ -1,0 +1,35 @@
+-- Where an instance of the application is not mapped to one resource (E26; IEC 61499-1, 7).
+use Rattle.std.specs.Prelude.{◌≡◌, ℕ, List, Bool, Some, Contains, slice_get}
+use Rattle.std.specs.Borrow.{Bor}
+use Rattle.std.specs.List.{list_any}
+use Rattle.fb_types.specs.Names.{Name, same_name}
+use Rattle.fb_types.specs.Mapped.{mapped}
+use Rattle.fb_types.specs.Repeated.{Twice}
+use Rattle.fb_types.specs.declared.library.Instance.{Instance}
+use Rattle.fb_types.specs.declared.library.Library.{Library}
+use Rattle.fb_types.specs.declared.deploy.Plan.{Plan}
+use Rattle.fb_why.specs.Pairs.{IsPair}
+use Rattle.fb_why.specs.declared.unmapped.Unmapped.{Unmapped}
+use Rattle.fb_why.specs.declared.unmapped.Unmapped.TheVariants.{Unlisted, Again}
+
+abbrev pub is_listed : List (Bor Name) → Instance → Bool
+is_listed ns i = list_any (λ n. same_name i.name n.now) ns
+
+-- The instance stands at the place, and has none of the names.
+pub record IsUnlisted (ns : List Name) (is : List Instance) (place : ℕ) : Type 0 where
+  pub instance : Instance
+  pub stands : slice_get is place ≡ Some instance
+  pub unlisted : ¬ (Contains ns instance.name)
+
+abbrev pub IsUnmappedAmong : List Name → List Instance → Unmapped → Type 0
+IsUnmappedAmong ns is (Unlisted k) = IsUnlisted ns is k
+IsUnmappedAmong ns is (Again r) = IsPair ns r
+
+-- The names differ, and each instance has one of them.
+pub record AllListed (ns : List Name) (is : List Instance) : Type 0 where
+  pub once : ¬ (Twice ns)
+  pub listed : (i : Instance) → Contains is i → Contains ns i.name
+
+-- An instance of the application is not mapped there, or a name is mapped twice.
+abbrev pub IsUnmappedAt : Library → Plan → Unmapped → Type 0
+IsUnmappedAt lib plan u = IsUnmappedAmong (mapped lib plan) lib.application.network.instances u

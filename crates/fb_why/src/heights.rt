@@ -1,0 +1,223 @@
+//! Composite types that hold themselves, or have a height over 16 (E25).
+
+ghost use Rattle.std.specs.Prelude.{◌≡◌, ⊤, IfOk, IsTrue, MatchOption, All, None, Some, map, position, slice_get};
+ghost use Rattle.fb_types.specs.Names.{same_name};
+ghost use Rattle.fb_types.specs.Flat.{type_name};
+ghost use Rattle.fb_types.specs.Joined.{TooHigh};
+ghost use Rattle.fb_types.specs.declared.library.BlockType.{BlockType};
+ghost use Rattle.fb_why.specs.Heights as spec;
+ghost use Rattle.fb_why.specs.Heights.{IsTooHighAt};
+
+use fb_types::event_ports::kind_named;
+use fb_types::library::{BlockType, Instance, Library};
+use fb_types::name::Name;
+use fb_why_kinds::called::Called;
+use std::alloc::{AllocError, Global};
+
+/// How many steps may lead down from a composite type. One that holds no composite type has height 1, and a height may
+/// be 16. So an instance from whose type as many lead down makes its holder too high.
+const MOST_STEPS: usize = 15;
+
+/// A composite type and an instance inside it, by their places, through which it leads too far down.
+#[derive(Clone, Copy)]
+pub enum Descent {
+    /// It leads to itself.
+    Circle(usize, usize),
+    /// It has a height over 16.
+    Height(usize, usize),
+}
+
+fn place_among(blocks: &[BlockType], name: &Name) -> Option<usize>
+    ensures { result ≡ position (λ t. same_name (type_name t) name.now) blocks.now }
+{
+    blocks.iter().position(|block| block.name().is(name))
+}
+
+/// The place of the block type for which a name stands.
+fn place_of_type(library: &Library, name: &Name) -> Option<usize>
+    ensures { result ≡ spec.place_of_type library.now name.now }
+{
+    if kind_named(name.as_bytes()).is_some() {
+        return None;
+    }
+    place_among(library.blocks.as_slice(), name)
+}
+
+fn is_marked(library: &Library, marks: &[bool], instance: &Instance) -> bool
+    ensures { result ≡ spec.is_marked library.now marks.now instance.now }
+{
+    match place_of_type(library, &instance.block_type) {
+        Some(place) => marks.get(place).copied().unwrap_or(false),
+        None => false,
+    }
+}
+
+fn marked_among(library: &Library, marks: &[bool], instances: &[Instance]) -> Option<usize>
+    ensures { result ≡ position (spec.is_marked library.now marks.now) instances.now }
+{
+    instances
+        .iter()
+        .position(|instance| is_marked(library, marks, instance))
+}
+
+/// The first instance inside that is of a marked type.
+fn marked_in(library: &Library, marks: &[bool], block: &BlockType) -> Option<usize>
+    ensures { result ≡ spec.marked_in library.now marks.now block.now }
+{
+    match block {
+        BlockType::Basic(_) => None,
+        BlockType::Composite(composite) => {
+            marked_among(library, marks, composite.network.instances.as_slice())
+        }
+    }
+}
+
+fn is_composite(block: &BlockType) -> bool
+    ensures { result ≡ spec.is_composite block.now }
+{
+    match block {
+        BlockType::Basic(_) => false,
+        BlockType::Composite(_) => true,
+    }
+}
+
+/// Marks all composite types.
+fn mark_all(alloc: Global, blocks: &[BlockType]) -> Result<Vec<bool>, AllocError>
+    ensures { IfOk result (λ v. v.items ≡ map spec.is_composite blocks.now) }
+{
+    let mut marks = Vec::new(alloc);
+    for block in blocks {
+        marks.push(is_composite(block))?;
+    }
+    Ok(marks)
+}
+
+/// Marks the composite types that have an instance of a type that is marked.
+fn mark_again(alloc: Global, library: &Library, marks: &[bool]) -> Result<Vec<bool>, AllocError>
+    ensures { IfOk result (λ v. v.items ≡ map (spec.holds_marked library.now marks.now) library.now.blocks) }
+{
+    library
+        .blocks
+        .as_slice()
+        .iter()
+        .map(|block| marked_in(library, marks, block).is_some())
+        .collect(alloc)
+}
+
+/// The marks after so many rounds. At first each composite type is marked, and so after a number of rounds each from
+/// which as many steps lead down.
+fn marks_after(alloc: Global, library: &Library, rounds: usize) -> Result<Vec<bool>, AllocError>
+    ensures { IfOk result (λ v. v.items ≡ spec.marks_after rounds library.now) }
+{
+    let mut marks = mark_all(alloc, library.blocks.as_slice())?;
+    for _round in 0..rounds {
+        marks = mark_again(alloc, library, &marks)?;
+    }
+    Ok(marks)
+}
+
+/// The first composite type with an instance of a marked type, and this.
+fn first_holder(library: &Library, blocks: &[BlockType], marks: &[bool]) -> Option<(usize, usize)>
+    ensures { MatchOption result (All (λ t. spec.marked_in library.now marks.now t ≡ None) blocks.now) (λ r. (t : BlockType) × (slice_get blocks.now r.0 ≡ Some t) × (spec.marked_in library.now marks.now t ≡ Some r.1)) }
+{
+    for (place, block) in blocks.iter().enumerate() {
+        if let Some(instance) = marked_in(library, marks, block) {
+            return Some((place, instance));
+        }
+    }
+    None
+}
+
+/// The place of the type of an instance inside.
+fn type_inside(library: &Library, block: &BlockType, instance: usize) -> Option<usize>
+    ensures { result ≡ spec.type_inside library.now block.now instance }
+{
+    match block {
+        BlockType::Basic(_) => None,
+        BlockType::Composite(composite) => {
+            let instance = composite.network.instances.get(instance)?;
+            place_of_type(library, &instance.block_type)
+        }
+    }
+}
+
+/// The place of the type of the first instance inside a block type that is of a marked type.
+fn below(library: &Library, marks: &[bool], place: usize) -> Option<usize>
+    ensures { result ≡ spec.below library.now marks.now place }
+{
+    let block = library.blocks.get(place)?;
+    let instance = marked_in(library, marks, block)?;
+    type_inside(library, block, instance)
+}
+
+/// Whether steps to first marked instances lead from the one block type down to the other. So a circle is not found that
+/// is longer than the steps that are tried, or that such a step leaves: its types are told as too high.
+#[tactic(auto, using(crate::proofs::Circles::leads_itself))]
+fn leads_to(library: &Library, marks: &[bool], from: usize, to: usize) -> bool
+    ensures { IsTrue result → spec.LeadsTo library.now from to }
+{
+    let mut place = from;
+    for _step in 0..MOST_STEPS {
+        if place == to {
+            return true;
+        }
+        match below(library, marks, place) {
+            Some(next) => place = next,
+            None => return false,
+        }
+    }
+    false
+}
+
+/// Whether the type of an instance inside the block type leads back to this.
+fn leads_back(
+    library: &Library,
+    marks: &[bool],
+    place: usize,
+    block: &BlockType,
+    instance: usize,
+) -> bool
+    ensures { IsTrue result → spec.LeadsBack library.now place block.now instance }
+{
+    match type_inside(library, block, instance) {
+        Some(inside) => leads_to(library, marks, inside, place),
+        None => false,
+    }
+}
+
+/// A composite type that holds itself, with the instance through which it does, if one is found.
+fn first_circle(library: &Library, blocks: &[BlockType], marks: &[bool]) -> Option<(usize, usize)>
+    ensures { MatchOption result ⊤ (λ r. spec.IsRound library.now blocks.now marks.now r) }
+{
+    for (place, block) in blocks.iter().enumerate() {
+        if let Some(instance) = marked_in(library, marks, block) {
+            if leads_back(library, marks, place, block, instance) {
+                return Some((place, instance));
+            }
+        }
+    }
+    None
+}
+
+fn descent_by(library: &Library, marks: &[bool]) -> Option<Descent>
+    requires { marks.now ≡ spec.marks_after 15 library.now }
+    ensures { MatchOption result (¬ (TooHigh library.now)) (IsTooHighAt library.now) }
+{
+    let blocks = library.blocks.as_slice();
+    if let Some((block, instance)) = first_circle(library, blocks, marks) {
+        return Some(Descent::Circle(block, instance));
+    }
+    match first_holder(library, blocks, marks) {
+        Some((block, instance)) => Some(Descent::Height(block, instance)),
+        None => None,
+    }
+}
+
+/// A composite type that holds itself at any depth or has a height over 16, with the instance through which it does, if
+/// there is one.
+pub fn too_high_place(alloc: Global, library: &Library) -> Result<Option<Descent>, AllocError>
+    ensures { IfOk result (λ o. MatchOption o (¬ (TooHigh library.now)) (IsTooHighAt library.now)) }
+{
+    let marks = marks_after(alloc, library, MOST_STEPS)?;
+    Ok(descent_by(library, &marks))
+}

@@ -1,0 +1,163 @@
+//! The first thing of a list that stood in it before.
+
+ghost use Rattle.std.specs.Prelude.{◌≡◌, ◌++◌, [], map, IfOk};
+ghost use Rattle.fb_types.specs.Flat.{pairs_in};
+ghost use Rattle.fb_names.specs.Ends.{link_ends};
+ghost use Rattle.fb_names.specs.Places.{names_in};
+ghost use Rattle.fb_why.specs.Pairs.{Paired};
+ghost use Rattle.fb_why.specs.Sources.{targets};
+
+use fb_names::repeats::{EndNames, end_names};
+use fb_types::deploy::Link;
+use fb_types::library::Connection;
+use fb_types::name::Name;
+use fb_why_kinds::called::Called;
+use std::alloc::{AllocError, Global};
+use std::collections::BTreeMap;
+
+/// The places in a list, from 0, of two that are the same, the earlier one first.
+pub type Repeat = (usize, usize);
+
+/// Adds the names of a list, in its order.
+pub(crate) fn push_names<'a, T: Called>(
+    names: &mut Vec<&'a Name>,
+    items: &'a [T],
+) -> Result<(), AllocError>
+    ensures { IfOk result (λ _. names_in names.new.items ≡ names_in names.old.items ++ map T.called items.now) }
+{
+    for item in items {
+        names.push(item.name())?;
+    }
+    Ok(())
+}
+
+/// Names with the places where they stand.
+type Names<'a> = BTreeMap<&'a [u8], usize, Global>;
+
+/// Notes names in a table, up to one that is noted there.
+fn note_names<'a>(seen: &mut Names<'a>, names: &[&'a Name]) -> Result<Option<Repeat>, AllocError>
+    requires { seen.old.entries ≡ [] }
+    ensures { IfOk result (Paired (names_in names.now)) }
+{
+    for (second, name) in names.iter().enumerate() {
+        if let Some(first) = seen.insert(name.as_bytes(), second)? {
+            return Ok(Some((first, second)));
+        }
+    }
+    Ok(None)
+}
+
+/// The first name that stood before, with the place where it did.
+pub(crate) fn name_pair(alloc: Global, names: &[&Name]) -> Result<Option<Repeat>, AllocError>
+    ensures { IfOk result (Paired (names_in names.now)) }
+{
+    let mut seen = BTreeMap::new(alloc);
+    note_names(&mut seen, names)
+}
+
+/// The same of the names of a list.
+pub(crate) fn called_pair<T: Called>(
+    alloc: Global,
+    items: &[T],
+) -> Result<Option<Repeat>, AllocError>
+    ensures { IfOk result (Paired (map T.called items.now)) }
+{
+    let mut names = Vec::new(alloc);
+    push_names(&mut names, items)?;
+    name_pair(alloc, names.as_slice())
+}
+
+/// The same of a list of names.
+pub(crate) fn listed_pair(alloc: Global, names: &[Name]) -> Result<Option<Repeat>, AllocError>
+    ensures { IfOk result (Paired names.now) }
+{
+    called_pair(alloc, names)
+}
+
+/// Connections with the places where they stand.
+type Connections<'a> = BTreeMap<(EndNames<'a>, EndNames<'a>), usize, Global>;
+
+/// Notes connections in a table, up to one that is noted there.
+fn note_connections<'a>(
+    seen: &mut Connections<'a>,
+    connections: &'a [Connection],
+) -> Result<Option<Repeat>, AllocError>
+    requires { seen.old.entries ≡ [] }
+    ensures { IfOk result (Paired (pairs_in [] connections.now)) }
+{
+    for (second, connection) in connections.iter().enumerate() {
+        let ends = (end_names(&connection.from), end_names(&connection.to));
+        if let Some(first) = seen.insert(ends, second)? {
+            return Ok(Some((first, second)));
+        }
+    }
+    Ok(None)
+}
+
+/// The first connection that stood before, with the place where it did.
+pub(crate) fn connection_pair(
+    alloc: Global,
+    connections: &[Connection],
+) -> Result<Option<Repeat>, AllocError>
+    ensures { IfOk result (Paired (pairs_in [] connections.now)) }
+{
+    let mut seen = BTreeMap::new(alloc);
+    note_connections(&mut seen, connections)
+}
+
+/// The names of two resources with the place of the link from the one to the other.
+type LinkPlaces<'a> = BTreeMap<(&'a [u8], &'a [u8]), usize, Global>;
+
+/// Notes links in a table, up to one whose resources are noted there.
+fn note_links<'a>(
+    seen: &mut LinkPlaces<'a>,
+    links: &'a [Link],
+) -> Result<Option<Repeat>, AllocError>
+    requires { seen.old.entries ≡ [] }
+    ensures { IfOk result (Paired (map link_ends links.now)) }
+{
+    for (second, link) in links.iter().enumerate() {
+        if let Some(first) = seen.insert((link.from.as_bytes(), link.to.as_bytes()), second)? {
+            return Ok(Some((first, second)));
+        }
+    }
+    Ok(None)
+}
+
+/// The first link that goes from and to the same resources as one before, with the place of that one.
+pub(crate) fn link_pair(alloc: Global, links: &[Link]) -> Result<Option<Repeat>, AllocError>
+    ensures { IfOk result (Paired (map link_ends links.now)) }
+{
+    let mut seen = BTreeMap::new(alloc);
+    note_links(&mut seen, links)
+}
+
+/// Ports with the places of the connections that lead to them.
+type Targets<'a> = BTreeMap<EndNames<'a>, usize, Global>;
+
+/// Notes where connections lead in a table, up to one whose port is noted there.
+fn note_targets<'a>(
+    seen: &mut Targets<'a>,
+    connections: &'a [Connection],
+) -> Result<Option<Repeat>, AllocError>
+    requires { seen.old.entries ≡ [] }
+    ensures { IfOk result (Paired (targets connections.now)) }
+{
+    for (second, connection) in connections.iter().enumerate() {
+        if let Some(first) = seen.insert(end_names(&connection.to), second)? {
+            return Ok(Some((first, second)));
+        }
+    }
+    Ok(None)
+}
+
+/// The first connection that leads to the port of one before, with the place of that one.
+pub(crate) fn target_pair(
+    alloc: Global,
+    connections: &[Connection],
+) -> Result<Option<Repeat>, AllocError>
+    ensures { IfOk result (Paired (targets connections.now)) }
+{
+    let mut seen = BTreeMap::new(alloc);
+    note_targets(&mut seen, connections)
+}

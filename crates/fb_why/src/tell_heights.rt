@@ -1,0 +1,48 @@
+//! The text that tells of a composite type that holds itself, or is too high (E25).
+
+use crate::heights::Descent;
+use fb_types::library::{BlockType, CompositeType, Library};
+use fb_why_kinds::tell_sites::push_instance;
+use fb_why_kinds::words::Text;
+use std::alloc::{AllocError, Global};
+
+/// The line that tells which composite type leads too far down, and through which of its instances.
+pub fn tell_too_high(
+    alloc: Global,
+    library: &Library,
+    place: Descent,
+) -> Result<String, AllocError> {
+    let mut text = Text::new(alloc);
+    push_descent(&mut text, library, place)?;
+    Ok(text.into_string())
+}
+
+fn push_descent(text: &mut Text, library: &Library, place: Descent) -> Result<(), AllocError> {
+    let (block, instance) = match place {
+        Descent::Circle(block, instance) => (block, instance),
+        Descent::Height(block, instance) => (block, instance),
+    };
+    let Some(BlockType::Composite(composite)) = library.blocks.get(block) else {
+        return Ok(());
+    };
+    push_inside(text, composite, instance)?;
+    match place {
+        Descent::Circle(_, _) => {
+            text.named(": ", &composite.name)?;
+            text.words(" holds itself through it")
+        }
+        Descent::Height(_, _) => text.words(": composites nest more than 16 deep through it"),
+    }
+}
+
+fn push_inside(
+    text: &mut Text,
+    composite: &CompositeType,
+    instance: usize,
+) -> Result<(), AllocError> {
+    text.named("block type ", &composite.name)?;
+    match composite.network.instances.get(instance) {
+        Some(instance) => push_instance(text, instance),
+        None => Ok(()),
+    }
+}

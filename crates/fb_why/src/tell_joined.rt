@@ -1,0 +1,44 @@
+//! The text that tells of two data connections that lead to one port (E24).
+
+use crate::pair::Repeat;
+use crate::sources::Joined;
+use fb_types::library::{BlockType, Library, Network};
+use fb_why_kinds::words::Text;
+use std::alloc::{AllocError, Global};
+
+/// The line that tells which two data connections lead to one port.
+pub fn tell_joined(alloc: Global, library: &Library, place: Joined) -> Result<String, AllocError> {
+    let mut text = Text::new(alloc);
+    push_joined(&mut text, library, place)?;
+    Ok(text.into_string())
+}
+
+fn push_joined(text: &mut Text, library: &Library, place: Joined) -> Result<(), AllocError> {
+    match place {
+        Joined::Application(pair) => {
+            text.named("application ", &library.application.name)?;
+            push_pair(text, &library.application.network, pair)
+        }
+        Joined::Inside(place, pair) => match library.blocks.get(place) {
+            Some(BlockType::Composite(composite)) => {
+                text.named("block type ", &composite.name)?;
+                push_pair(text, &composite.network, pair)
+            }
+            _ => Ok(()),
+        },
+    }
+}
+
+fn push_pair(
+    text: &mut Text,
+    network: &Network,
+    (first, second): Repeat,
+) -> Result<(), AllocError> {
+    if let Some(connection) = network.data_connections.get(first) {
+        text.connection(": data connections ", connection)?;
+    }
+    if let Some(connection) = network.data_connections.get(second) {
+        text.connection(" and ", connection)?;
+    }
+    text.words(" lead to one port")
+}

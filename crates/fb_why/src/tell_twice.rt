@@ -1,0 +1,235 @@
+//! The text that tells of what is given twice (E20).
+
+use crate::pair::Repeat;
+use crate::twice::{GivenTwice, InBlock, InNetwork};
+use fb_types::deploy::Plan;
+use fb_types::library::{BlockType, EventPort, Instance, Library, Network};
+use fb_types::name::Name;
+use fb_why_kinds::called::Called;
+use fb_why_kinds::tell_sites::push_instance;
+use fb_why_kinds::words::Text;
+use std::alloc::{AllocError, Global};
+
+const AGAIN: &str = " is given twice";
+
+/// The line that tells what is given twice.
+pub fn tell_twice(
+    alloc: Global,
+    library: &Library,
+    plan: &Plan,
+    given: GivenTwice,
+) -> Result<String, AllocError> {
+    let mut text = Text::new(alloc);
+    push_given(&mut text, library, plan, given)?;
+    Ok(text.into_string())
+}
+
+fn push_given(
+    text: &mut Text,
+    library: &Library,
+    plan: &Plan,
+    given: GivenTwice,
+) -> Result<(), AllocError> {
+    match given {
+        GivenTwice::EventBlock(place) => push_event_block(text, library, place),
+        GivenTwice::Type(pair) => push_again(text, "block type ", library.blocks.as_slice(), pair),
+        GivenTwice::Block(place, found) => push_block(text, library, place, found),
+        GivenTwice::Application(found) => {
+            text.named("application ", &library.application.name)?;
+            push_in_network(text, &library.application.network, found)
+        }
+        GivenTwice::Resource(pair) => push_again(
+            text,
+            "resource ",
+            plan.resources.as_slice(),
+            pair,
+        ),
+        GivenTwice::Link(pair) => push_link(text, plan, pair),
+    }
+}
+
+fn push_event_block(text: &mut Text, library: &Library, place: usize) -> Result<(), AllocError> {
+    match library.blocks.get(place) {
+        Some(block) => {
+            text.named("block type ", block.name())?;
+            text.words(": an event block has this name")
+        }
+        None => Ok(()),
+    }
+}
+
+fn push_block(
+    text: &mut Text,
+    library: &Library,
+    place: usize,
+    found: InBlock,
+) -> Result<(), AllocError> {
+    match library.blocks.get(place) {
+        Some(block) => {
+            text.named("block type ", block.name())?;
+            push_in_block(text, block, found)
+        }
+        None => Ok(()),
+    }
+}
+
+fn push_link(text: &mut Text, plan: &Plan, (_, place): Repeat) -> Result<(), AllocError> {
+    match plan.links.get(place) {
+        Some(link) => {
+            text.named("link from ", &link.from)?;
+            text.named(" to ", &link.to)?;
+            text.words(AGAIN)
+        }
+        None => Ok(()),
+    }
+}
+
+/// What stands at the second of two places has the name of the first.
+fn push_again<T: Called>(
+    text: &mut Text,
+    words: &str,
+    items: &[T],
+    (_, place): Repeat,
+) -> Result<(), AllocError> {
+    match items.get(place) {
+        Some(item) => {
+            text.named(words, item.name())?;
+            text.words(AGAIN)
+        }
+        None => Ok(()),
+    }
+}
+
+fn push_in_network(text: &mut Text, network: &Network, found: InNetwork) -> Result<(), AllocError> {
+    match found {
+        InNetwork::Instance(pair) => {
+            push_again(text, ": instance ", network.instances.as_slice(), pair)
+        }
+        InNetwork::Parameter(place, pair) => match network.instances.get(place) {
+            Some(instance) => push_parameter(text, instance, pair),
+            None => Ok(()),
+        },
+        InNetwork::Connection((_, place)) => match network.event_connections.get(place) {
+            Some(connection) => {
+                text.connection(": event connection ", connection)?;
+                text.words(AGAIN)
+            }
+            None => Ok(()),
+        },
+    }
+}
+
+fn push_parameter(text: &mut Text, instance: &Instance, pair: Repeat) -> Result<(), AllocError> {
+    push_instance(text, instance)?;
+    push_again(text, ", parameter ", instance.parameters.as_slice(), pair)
+}
+
+fn push_in_block(text: &mut Text, block: &BlockType, found: InBlock) -> Result<(), AllocError> {
+    match found {
+        InBlock::Port(pair) => push_ports(text, block, pair),
+        InBlock::WithInput(place, pair) => {
+            let events = block.ports().event_inputs.as_slice();
+            push_with(text, ": event input ", events.get(place), pair)
+        }
+        InBlock::WithOutput(place, pair) => {
+            let events = block.ports().event_outputs.as_slice();
+            push_with(text, ": event output ", events.get(place), pair)
+        }
+        _ => push_inside(text, block, found),
+    }
+}
+
+fn push_with(
+    text: &mut Text,
+    words: &str,
+    event: Option<&EventPort>,
+    pair: Repeat,
+) -> Result<(), AllocError> {
+    match event {
+        Some(event) => {
+            text.named(words, &event.name)?;
+            push_again(text, " WITH ", event.with.as_slice(), pair)
+        }
+        None => Ok(()),
+    }
+}
+
+fn push_inside(text: &mut Text, block: &BlockType, found: InBlock) -> Result<(), AllocError> {
+    match (block, found) {
+        (BlockType::Basic(basic), InBlock::State(pair)) => {
+            push_again(text, ": state ", basic.states.as_slice(), pair)
+        }
+        (BlockType::Basic(basic), InBlock::Algorithm(pair)) => {
+            push_again(text, ": algorithm ", basic.algorithms.as_slice(), pair)
+        }
+        (BlockType::Composite(composite), InBlock::Inside(found)) => {
+            push_in_network(text, &composite.network, found)
+        }
+        _ => Ok(()),
+    }
+}
+
+/// The name at a place of a list, or how far on the place is behind its end.
+fn name_at<T: Called>(items: &[T], place: usize) -> Result<&Name, usize> {
+    match items.get(place) {
+        Some(item) => Ok(item.name()),
+        None => Err(place.saturating_sub(items.len())),
+    }
+}
+
+/// The sort and the name of what stands at a place among the ports of a block type.
+fn port_at(block: &BlockType, place: usize) -> Result<(&'static str, &Name), usize> {
+    let ports = block.ports();
+    let place = match name_at(ports.event_inputs.as_slice(), place) {
+        Ok(name) => return Ok(("an event input", name)),
+        Err(place) => place,
+    };
+    let place = match name_at(ports.event_outputs.as_slice(), place) {
+        Ok(name) => return Ok(("an event output", name)),
+        Err(place) => place,
+    };
+    let place = match name_at(ports.inputs.as_slice(), place) {
+        Ok(name) => return Ok(("a data input", name)),
+        Err(place) => place,
+    };
+    match name_at(ports.outputs.as_slice(), place) {
+        Ok(name) => Ok(("a data output", name)),
+        Err(place) => Err(place),
+    }
+}
+
+/// The same of ports and internal variables.
+fn variable_at(block: &BlockType, place: usize) -> Option<(&'static str, &Name)> {
+    let place = match port_at(block, place) {
+        Ok(found) => return Some(found),
+        Err(place) => place,
+    };
+    match block {
+        BlockType::Basic(basic) => {
+            let variable = basic.internals.get(place)?;
+            Some(("an internal variable", &variable.name))
+        }
+        BlockType::Composite(_) => None,
+    }
+}
+
+fn push_ports(
+    text: &mut Text,
+    block: &BlockType,
+    (first, second): Repeat,
+) -> Result<(), AllocError> {
+    let Some((sort, name)) = variable_at(block, first) else {
+        return Ok(());
+    };
+    text.named(": ", name)?;
+    text.words(AGAIN)?;
+    text.words(", as ")?;
+    text.words(sort)?;
+    match variable_at(block, second) {
+        Some((sort, _)) => {
+            text.words(" and as ")?;
+            text.words(sort)
+        }
+        None => Ok(()),
+    }
+}

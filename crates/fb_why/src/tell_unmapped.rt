@@ -1,0 +1,70 @@
+//! The text that tells of an instance that is not mapped to one resource (E26).
+
+use crate::pair::Repeat;
+use crate::unmapped::Unmapped;
+use fb_types::deploy::{Plan, ResourceEntry};
+use fb_types::library::Library;
+use fb_types::name::Name;
+use fb_why_kinds::words::Text;
+use std::alloc::{AllocError, Global};
+
+/// The line that tells where an instance is not mapped to one resource.
+pub fn tell_unmapped(
+    alloc: Global,
+    library: &Library,
+    plan: &Plan,
+    place: Unmapped,
+) -> Result<String, AllocError> {
+    let mut text = Text::new(alloc);
+    push_unmapped(&mut text, library, plan, place)?;
+    Ok(text.into_string())
+}
+
+fn push_unmapped(
+    text: &mut Text,
+    library: &Library,
+    plan: &Plan,
+    place: Unmapped,
+) -> Result<(), AllocError> {
+    text.named("application ", &library.application.name)?;
+    match place {
+        Unmapped::Unlisted(place) => match library.application.network.instances.get(place) {
+            Some(instance) => {
+                text.named(": instance ", &instance.name)?;
+                text.words(": no resource lists it")
+            }
+            None => Ok(()),
+        },
+        Unmapped::Again(pair) => push_again(text, plan, pair),
+    }
+}
+
+/// The resource and the name at a place of the lists of all resources behind each other.
+fn listed_at(plan: &Plan, place: usize) -> Option<(&ResourceEntry, &Name)> {
+    let mut rest = place;
+    for resource in plan.resources.as_slice() {
+        let names = resource.instances.as_slice();
+        if rest < names.len() {
+            return Some((resource, &names[rest]));
+        }
+        rest -= names.len();
+    }
+    None
+}
+
+fn push_again(text: &mut Text, plan: &Plan, (first, second): Repeat) -> Result<(), AllocError> {
+    let Some((one, name)) = listed_at(plan, first) else {
+        return Ok(());
+    };
+    text.named(": instance ", name)?;
+    match listed_at(plan, second) {
+        Some((other, _)) if !one.name.is(&other.name) => {
+            text.named(": resource ", &one.name)?;
+            text.named(" lists it, and so does resource ", &other.name)
+        }
+        _ => {
+            text.named(": resource ", &one.name)?;
+            text.words(" lists it twice")
+        }
+    }
+}

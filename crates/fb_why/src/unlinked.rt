@@ -1,0 +1,120 @@
+//! Connections between two resources that have no link (E27).
+
+ghost use Rattle.std.specs.Prelude.{◌≡◌, ◌&&◌, MatchOption, [], Some, true, false, position, slice_get, unwrap_or};
+ghost use Rattle.std.specs.List.{list_all, list_any};
+ghost use Rattle.fb_types.specs.Blocks.{among};
+ghost use Rattle.fb_types.specs.Names.{same_name};
+ghost use Rattle.fb_types.specs.Flat as spec;
+ghost use Rattle.fb_types.specs.Flat.{name_of_resource, port_in};
+ghost use Rattle.fb_types.specs.Mapped.{NoLink};
+ghost use Rattle.fb_types.specs.declared.library.Connection.{Connection};
+ghost use Rattle.fb_why.specs.Unlinked.{IsUnlinkedAt, is_joining, is_linked};
+
+use fb_types::deploy::{Link, Plan, ResourceEntry};
+use fb_types::library::{Connection, Library, PortName};
+use fb_types::name::Name;
+
+/// A connection of the application between two resources that have no link, by its place among those of its sort.
+#[derive(Clone, Copy)]
+pub enum Unlinked {
+    Event(usize),
+    Data(usize),
+}
+
+fn lists(resource: &ResourceEntry, name: &Name) -> bool
+    ensures { result ≡ among resource.now.instances name.now }
+{
+    resource
+        .instances
+        .as_slice()
+        .iter()
+        .any(|listed| name.is(listed))
+}
+
+fn place_of_holder(resources: &[ResourceEntry], name: &Name) -> Option<usize>
+    ensures { result ≡ position (λ r. among r.instances name.now) resources.now }
+{
+    resources.iter().position(|resource| lists(resource, name))
+}
+
+/// The resource that holds an instance of the application, by its place from 0.
+fn holder(plan: &Plan, name: &Name) -> usize
+    ensures { result ≡ spec.holder plan.now name.now }
+{
+    if plan.holds_all {
+        return 0;
+    }
+    place_of_holder(plan.resources.as_slice(), name).unwrap_or(0)
+}
+
+/// The resource in which an end of a connection of the application lies, by its place from 0.
+pub(crate) fn resource_of(plan: &Plan, end: &PortName) -> usize
+    ensures { result ≡ spec.resource_of plan.now (port_in [] end.now).at }
+{
+    match &end.component {
+        Some(component) => holder(plan, component),
+        None => 0,
+    }
+}
+
+/// The name of the resource at a place.
+fn name_of(plan: &Plan, resource: usize) -> &[u8]
+    ensures { result.now ≡ name_of_resource plan.now resource }
+{
+    match plan.resources.get(resource) {
+        Some(resource) => resource.name.as_bytes(),
+        None => &[],
+    }
+}
+
+fn is_joining(link: &Link, from: &[u8], to: &[u8]) -> bool
+    ensures { result ≡ is_joining from.now to.now link.now }
+{
+    link.from.as_bytes() == from && link.to.as_bytes() == to
+}
+
+fn has_link(links: &[Link], from: &[u8], to: &[u8]) -> bool
+    ensures { result ≡ list_any (is_joining from.now to.now) links.now }
+{
+    links.iter().any(|link| is_joining(link, from, to))
+}
+
+/// Whether the ends of a connection lie in one resource, or there is a link for it.
+fn is_linked(plan: &Plan, connection: &Connection) -> bool
+    ensures { result ≡ is_linked plan.now connection.now }
+{
+    let from = resource_of(plan, &connection.from);
+    let to = resource_of(plan, &connection.to);
+    from == to
+        || has_link(
+            plan.links.as_slice(),
+            name_of(plan, from),
+            name_of(plan, to),
+        )
+}
+
+/// The first connection that has no link.
+fn first_unlinked(plan: &Plan, connections: &[Connection]) -> Option<usize>
+    ensures { MatchOption result (list_all (is_linked plan.now) connections.now ≡ true) (λ k. (c : Connection) × (slice_get connections.now k ≡ Some c) × (is_linked plan.now c ≡ false)) }
+{
+    for (place, connection) in connections.iter().enumerate() {
+        if !is_linked(plan, connection) {
+            return Some(place);
+        }
+    }
+    None
+}
+
+/// A connection of the application between two resources that have no link, if there is one.
+pub fn unlinked_place(library: &Library, plan: &Plan) -> Option<Unlinked>
+    ensures { MatchOption result (¬ (NoLink library.now plan.now)) (IsUnlinkedAt library.now plan.now) }
+{
+    let network = &library.application.network;
+    if let Some(place) = first_unlinked(plan, network.event_connections.as_slice()) {
+        return Some(Unlinked::Event(place));
+    }
+    match first_unlinked(plan, network.data_connections.as_slice()) {
+        Some(place) => Some(Unlinked::Data(place)),
+        None => None,
+    }
+}

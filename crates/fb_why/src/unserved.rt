@@ -1,0 +1,158 @@
+//! Data connections between two resources that no event serves (E28).
+
+ghost use Rattle.std.specs.Prelude.{◌≡◌, ◌&&◌, MatchOption, [], Some, true, false, slice_get};
+ghost use Rattle.std.specs.List.{list_all, list_any};
+ghost use Rattle.fb_types.specs.Names.{same_name};
+ghost use Rattle.fb_types.specs.Blocks.{among, outputs_with, ports_of_event_block, variable_names};
+ghost use Rattle.fb_types.specs.Flat.{kind_at, port_in, type_named};
+ghost use Rattle.fb_types.specs.Mapped.{NoEvent};
+ghost use Rattle.fb_types.specs.declared.library.Connection.{Connection};
+ghost use Rattle.fb_why.specs.Unserved.{IsUnservedAt, begin_together, brings, carries, is_served};
+
+use crate::unlinked::resource_of;
+use fb_types::deploy::Plan;
+use fb_types::event_kind::EventKind;
+use fb_types::event_ports::kind_named;
+use fb_types::library::{
+    Connection, EventPort, Library, PortName, Ports, block_named, has_variable, instance_named,
+};
+use fb_types::name::Name;
+
+/// Whether a variable is WITH an event.
+fn lists(event: &EventPort, variable: &Name) -> bool
+    ensures { result ≡ among event.now.with variable.now }
+{
+    event
+        .with
+        .as_slice()
+        .iter()
+        .any(|listed| variable.is(listed))
+}
+
+/// Whether an event of this name has a variable WITH it.
+fn has_event(events: &[EventPort], event: &Name, variable: &Name) -> bool
+    ensures { result ≡ list_any (λ p. same_name p.name event.now && among p.with variable.now) events.now }
+{
+    events
+        .iter()
+        .any(|port| port.name.is(event) && lists(port, variable))
+}
+
+/// Whether an output event of an interface has a variable WITH it.
+fn ports_carry(ports: &Ports, event: &Name, variable: &Name) -> bool
+    ensures { result ≡ among (outputs_with ports.now event.now) variable.now }
+{
+    has_variable(ports.outputs.as_slice(), variable)
+        && has_event(ports.event_outputs.as_slice(), event, variable)
+}
+
+fn is_text(name: &Name, text: &[u8]) -> bool
+    ensures { result ≡ same_name name.now text.now }
+{
+    name.as_bytes() == text
+}
+
+/// The same of an event block.
+fn event_block_carries(kind: EventKind, event: &Name, variable: &Name) -> bool
+    ensures { result ≡ among (outputs_with (ports_of_event_block kind) event.now) variable.now }
+{
+    match kind {
+        EventKind::SetReset | EventKind::DataLatch => {
+            is_text(variable, b"Q") && is_text(event, b"EO")
+        }
+        EventKind::CountUp => {
+            (is_text(variable, b"Q") || is_text(variable, b"CV"))
+                && (is_text(event, b"CUO") || is_text(event, b"RO"))
+        }
+        _ => false,
+    }
+}
+
+/// The same of the type that a name stands for.
+fn type_carries(library: &Library, name: &Name, event: &Name, variable: &Name) -> bool
+    ensures { result ≡ carries (type_named library.now name.now) event.now variable.now }
+{
+    match kind_named(name.as_bytes()) {
+        Some(kind) => event_block_carries(kind, event, variable),
+        None => match block_named(library.blocks.as_slice(), name) {
+            Some(block) => ports_carry(block.ports(), event, variable),
+            None => false,
+        },
+    }
+}
+
+/// Whether an output event of the block at an end of a connection of the application has the variable there WITH it.
+fn end_carries(library: &Library, end: &PortName, event: &Name) -> bool
+    ensures { result ≡ carries (kind_at library.now (port_in [] end.now).at) event.now end.now.port }
+{
+    let instances = library.application.network.instances.as_slice();
+    match &end.component {
+        Some(component) => match instance_named(instances, component) {
+            Some(instance) => type_carries(library, &instance.block_type, event, &end.port),
+            None => false,
+        },
+        None => false,
+    }
+}
+
+fn begin_together(one: &Connection, other: &Connection) -> bool
+    ensures { result ≡ begin_together one.now other.now }
+{
+    match (&one.from.component, &other.from.component) {
+        (Some(one), Some(other)) => one.is(other),
+        (None, None) => true,
+        _ => false,
+    }
+}
+
+/// Whether an event comes with data: from the same block, WITH the variable, to the same resource.
+fn brings(library: &Library, plan: &Plan, connection: &Connection, event: &Connection) -> bool
+    ensures { result ≡ brings library.now plan.now connection.now event.now }
+{
+    begin_together(event, connection)
+        && end_carries(library, &connection.from, &event.from.port)
+        && resource_of(plan, &event.to) == resource_of(plan, &connection.to)
+}
+
+fn has_bringer(
+    library: &Library,
+    plan: &Plan,
+    connection: &Connection,
+    events: &[Connection],
+) -> bool
+    ensures { result ≡ list_any (brings library.now plan.now connection.now) events.now }
+{
+    events
+        .iter()
+        .any(|event| brings(library, plan, connection, event))
+}
+
+/// Whether the ends of a data connection lie in one resource, or an event serves it.
+fn is_served(library: &Library, plan: &Plan, connection: &Connection) -> bool
+    ensures { result ≡ is_served library.now plan.now connection.now }
+{
+    let events = library.application.network.event_connections.as_slice();
+    resource_of(plan, &connection.from) == resource_of(plan, &connection.to)
+        || has_bringer(library, plan, connection, events)
+}
+
+/// The first data connection that no event serves.
+fn first_unserved(library: &Library, plan: &Plan, connections: &[Connection]) -> Option<usize>
+    ensures { MatchOption result (list_all (is_served library.now plan.now) connections.now ≡ true) (λ k. (c : Connection) × (slice_get connections.now k ≡ Some c) × (is_served library.now plan.now c ≡ false)) }
+{
+    for (place, connection) in connections.iter().enumerate() {
+        if !is_served(library, plan, connection) {
+            return Some(place);
+        }
+    }
+    None
+}
+
+/// The place among its data connections of one of the application between two resources that no event serves, if there
+/// is one.
+pub fn unserved_place(library: &Library, plan: &Plan) -> Option<usize>
+    ensures { MatchOption result (¬ (NoEvent library.now plan.now)) (IsUnservedAt library.now plan.now) }
+{
+    let network = &library.application.network;
+    first_unserved(library, plan, network.data_connections.as_slice())
+}

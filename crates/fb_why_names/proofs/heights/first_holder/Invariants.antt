@@ -1,7 +1,0 @@
-use Rattle.std.proofs.Common.{take}
-use Rattle.std.specs.Prelude.{All}
-use Rattle.fb_why_names.proofs.Marks.{HoldsNone}
-use Rattle.fb_why_names.proofs.heights.first_holder.Given as goal
-
-abbrev pub invariant-loop-place : goal.invariant-loop-place
-invariant-loop-place l = All (HoldsNone l.library l.marks) (take l.place l.blocks)

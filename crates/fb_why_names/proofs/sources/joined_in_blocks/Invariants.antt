@@ -1,7 +1,0 @@
-use Rattle.std.proofs.Common.{take}
-use Rattle.std.specs.Prelude.{All}
-use Rattle.fb_why_names.specs.Sources.{IsParted}
-use Rattle.fb_why_names.proofs.sources.joined_in_blocks.Given as goal
-
-abbrev pub invariant-loop-place : goal.invariant-loop-place
-invariant-loop-place l = All IsParted (take l.place l.blocks)

@@ -1,7 +1,0 @@
-use Rattle.std.proofs.Common.{◌≡◌, drop}
-use Rattle.std.specs.List.{list_all}
-use Rattle.fb_why_names.specs.Unmapped.{is_listed}
-use Rattle.fb_why_names.proofs.unmapped.first_unlisted.Given as goal
-
-abbrev pub invariant-loop-place : goal.invariant-loop-place
-invariant-loop-place l = list_all (is_listed l.names) l.instances ≡ list_all (is_listed l.names) (drop l.place l.instances)
