@@ -17,17 +17,12 @@ use fb_st::meter::StepMeter;
 use fb_types::items::Items;
 use fb_types::library::BasicType;
 use fb_types::reference::Reference;
-use fb_types::run::{Emission, Emits, Halt};
+use fb_types::run::{Emission, Emits, Halt, Values};
 use fb_types::value::Reason;
-use fb_types::values::Values;
 use std::alloc::{AllocError, Global};
 
 /// What the variables hold, in their order.
-fn shown_values(
-    alloc: Global,
-    variables: &[Reference],
-    frame: &Frame,
-) -> Result<Values, AllocError>
+fn shown_values(alloc: Global, variables: &[Reference], frame: &Frame) -> Result<Values, AllocError>
     ensures { IfOk result (λ values. values ≡ map (values_of frame.now) variables.now) }
 {
     let mut values = Values::new(alloc);

@@ -6,9 +6,8 @@ ghost use Rattle.fb_event.specs.Emissions.{values_of, emission_at};
 ghost use Rattle.fb_event.specs.Reactions.{IsEventOutput, IsWellFormed};
 
 use crate::state::EventBlock;
-use fb_types::run::{Emission, Emits};
+use fb_types::run::{Emission, Emits, Values};
 use fb_types::value::Value;
-use fb_types::values::Values;
 use std::alloc::{AllocError, Global};
 
 /// Emits the events at these places in order, each with the values of all data outputs: of the fourteen

@@ -27,11 +27,9 @@ use fb_st::meter::StepMeter;
 use fb_system::system::System;
 use fb_tree::resource::Forest;
 use fb_types::event_kind::EventKind;
-use fb_types::items::Items;
 use fb_types::key::Key;
 use fb_types::library::{BasicType, BlockType};
-use fb_types::run::{Emission, Emits, Halt, Target};
-use fb_types::values::Values;
+use fb_types::run::{Emission, Emits, Halt, Target, Values};
 use std::alloc::AllocError;
 
 /// An event block or a composite takes an event at an event input: it keeps what the variables WITH the event sample,
@@ -80,7 +78,7 @@ fn arrive_event(
     ensures kept { IsKept system.now forest.old forest.new }
 {
     take_samples(forest, outbox, system, key, at)?;
-    let mut emits = Items::new(*outbox.lines.allocator());
+    let mut emits = Emits::new(*outbox.lines.allocator());
     outbox.timer = react_event(forest, system, kind, at, key.tick, &mut emits)?;
     emit_all(forest, outbox, system, key, at.instance, emits)
 }
@@ -126,7 +124,7 @@ fn leave(
     let alloc = *outbox.lines.allocator();
     let values = shown_values(alloc, forest, system, at)?;
     let event = at.event;
-    let mut emits = Items::new(alloc);
+    let mut emits = Emits::new(alloc);
     emits.push(Emission { event, values })?;
     emit_all(forest, outbox, system, key, at.instance, emits)
 }
@@ -183,7 +181,7 @@ fn arrive_basic(
 {
     let alloc = *outbox.lines.allocator();
     let values = sampled_values(alloc, forest, system, at)?;
-    let mut emits = Items::new(alloc);
+    let mut emits = Emits::new(alloc);
     let end = react_basic(
         forest,
         system,

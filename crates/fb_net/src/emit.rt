@@ -14,11 +14,11 @@ ghost use Rattle.fb_net.specs.Steps.{IsKept, MayEmit};
 use crate::outbox::{Out, Outbox, Sending};
 use fb_system::system::System;
 use fb_tree::resource::Forest;
+use fb_types::few::Held;
 use fb_types::items::Items;
 use fb_types::key::Key;
-use fb_types::run::{Carried, Emission, Emits, Line, Place, Target};
+use fb_types::run::{Carried, Emission, Emits, Line, Place, Target, Values};
 use fb_types::value::Value;
-use fb_types::values::Values;
 use std::alloc::{AllocError, Global};
 
 /// What an event puts out that goes to a target: a local event where the target lies in the same resource, else a
@@ -192,6 +192,28 @@ fn emit_one(
     Ok(())
 }
 
+/// Emits several output events of an instance in their order.
+fn emit_several(
+    forest: &mut Forest,
+    outbox: &mut Outbox,
+    system: &System,
+    key: &Key,
+    instance: u32,
+    emissions: Vec<Emission>,
+) -> Result<(), AllocError>
+    requires place { MayEmit system.now key.now instance forest.old outbox.old }
+    requires emissions { All (IsEmission (ports_at (system_of system.now) (path_at (system_of system.now) instance))) emissions.items }
+    ensures emitted { OnOk result (HasEmitted system.now key.now instance forest.old outbox.old emissions.items forest.new outbox.new) }
+
+    // Also where memory runs out.
+    ensures kept { IsKept system.now forest.old forest.new }
+{
+    for emission in emissions {
+        emit_one(forest, outbox, system, key, instance, emission)?;
+    }
+    Ok(())
+}
+
 /// Emits output events of an instance in their order: their variables are published, each has a line, and each goes
 /// where its connections lead. The error is that memory runs out; each instance has its block then too.
 pub fn emit_all(
@@ -210,8 +232,9 @@ pub fn emit_all(
     // Also where memory runs out.
     ensures kept { IsKept system.now forest.old forest.new }
 {
-    for emission in emits.into_vec() {
-        emit_one(forest, outbox, system, key, instance, emission)?;
+    match emits.into_held() {
+        Held::Nothing => Ok(()),
+        Held::One(emission) => emit_one(forest, outbox, system, key, instance, emission),
+        Held::Several(emissions) => emit_several(forest, outbox, system, key, instance, emissions),
     }
-    Ok(())
 }

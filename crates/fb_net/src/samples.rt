@@ -7,8 +7,7 @@ ghost use Rattle.fb_net.specs.Samples.{AreSampled, AreShown, names_in, names_out
 
 use fb_system::system::System;
 use fb_tree::resource::Forest;
-use fb_types::run::{Place, Target};
-use fb_types::values::Values;
+use fb_types::run::{Place, Target, Values};
 use std::alloc::{AllocError, Global};
 
 /// What the data inputs WITH an event input sample, in the order in which they are declared. The instance lies in the

@@ -21,9 +21,8 @@ use fb_st::meter::StepMeter;
 use fb_system::system::System;
 use fb_tree::resource::Forest;
 use fb_types::event_kind::EventKind;
-use fb_types::items::Items;
 use fb_types::key::Key;
-use fb_types::run::{Event, Halt, Message};
+use fb_types::run::{Emits, Event, Halt, Message};
 use std::alloc::AllocError;
 
 /// Takes a stimulus, which sets slots before its event arrives.
@@ -86,7 +85,7 @@ fn expire(
     // Also where memory runs out.
     ensures kept { IsKept system.now forest.old forest.new }
 {
-    let mut emits = Items::new(*outbox.lines.allocator());
+    let mut emits = Emits::new(*outbox.lines.allocator());
     outbox.timer = expire_event(forest, system, kind, instance, key.tick, &mut emits)?;
     emit_all(forest, outbox, system, key, instance, emits)
 }

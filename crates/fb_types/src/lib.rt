@@ -5,7 +5,7 @@
 //! most, and the worked examples have the traces that were worked out by hand.
 //!
 //! To be read in this order: `library`, `text`, `value`, `sort`, `function` and `name`, what is read; `deploy` and
-//! `latency`; `event_kind` and `event_ports`, the event blocks; `key`, `values` and `run`, what a simulation gives; `items`,
+//! `latency`; `event_kind` and `event_ports`, the event blocks; `key` and `run`, what a simulation gives; `items`, `few`,
 //! `boxed` and `reference`; `laws`. The definitions stand in `specs/`.
 #![tactic(auto)]
 
@@ -13,6 +13,7 @@ pub mod boxed;
 pub mod deploy;
 pub mod event_kind;
 pub mod event_ports;
+pub mod few;
 pub mod function;
 pub mod items;
 pub mod key;
@@ -25,4 +26,3 @@ pub mod run;
 pub mod sort;
 pub mod text;
 pub mod value;
-pub mod values;

@@ -4,11 +4,14 @@
 ghost use Rattle.std.specs.Prelude.{◌≡◌};
 ghost use Rattle.fb_types.specs.declared.run.Halt.TheVariants.{Memory, Stop};
 
+use crate::few::Few;
 use crate::items::Items;
 use crate::key::Key;
 use crate::value::{Reason, Value};
-use crate::values::Values;
 use std::alloc::AllocError;
+
+/// The values that go with an event.
+pub type Values = Few<Value>;
 
 /// A line of the trace: an event that was taken at an input of an instance, or emitted at an output.
 #[derive(Drop)]
@@ -85,7 +88,7 @@ pub struct Emission {
 }
 
 /// The emissions of a reaction, in order.
-pub type Emits = Items<Emission>;
+pub type Emits = Few<Emission>;
 
 /// What a reaction asks of the timer of its event block.
 #[derive(Clone, Copy, Debug, PartialEq, Eq)]

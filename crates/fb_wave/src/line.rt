@@ -14,8 +14,7 @@ use crate::table::{Guess, PortTable};
 use crate::values::values_of;
 use fb_system::system::System;
 use fb_types::key::Key;
-use fb_types::run::{Form, Line};
-use fb_types::values::Values;
+use fb_types::run::{Form, Line, Values};
 use std::alloc::{AllocError, Global};
 
 /// The class and the parts of a key.

@@ -8,8 +8,8 @@ ghost use Rattle.fb_wave.specs.Reading.{AreRead, AreUnread, HasNoDigits, IsBound
 use crate::number::{narrow, natural};
 use crate::words::{behind, cut};
 use fb_types::library::Variable;
+use fb_types::run::Values;
 use fb_types::value::{Ty, Value};
-use fb_types::values::Values;
 use std::alloc::{AllocError, Global};
 
 /// The number below 2^64 that a text is.

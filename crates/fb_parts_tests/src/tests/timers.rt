@@ -7,10 +7,9 @@ ghost use Rattle.fb_event.specs.Reactions.{FitTheirTypes};
 use fb_event::reaction::{expire, react};
 use fb_event::state::EventState;
 use fb_types::event_kind::EventKind;
-use fb_types::items::Items;
-use fb_types::run::{Emission, Emits, TimerAsk};
+use fb_types::few::Held;
+use fb_types::run::{Emission, Emits, TimerAsk, Values};
 use fb_types::value::Value;
-use fb_types::values::Values;
 use std::alloc::Global;
 use std::mem::forget;
 use std::process::Abort;
@@ -44,7 +43,7 @@ fn asked(
     event: u32,
     tick: u64,
 ) -> TimerAsk {
-    let mut emits: Emits = Items::new(alloc);
+    let mut emits = Emits::new(alloc);
     let mut ask = TimerAsk::At(77);
     assert!(rt; tick <= LATEST);
     let fit = fit(state.kind(), &LONGEST);
@@ -68,7 +67,7 @@ fn the_longest_cycle_fits(rt: HostRuntime) {
     let mut state = EventState::new(EventKind::Cycle);
     let first = asked(&rt, rt.alloc(), &mut state, START, 0);
     assert!(rt; first == TimerAsk::At(9_223_372_036_854_775_807));
-    let mut emits: Emits = Items::new(rt.alloc());
+    let mut emits = Emits::new(rt.alloc());
     let before = Emission {
         event: 77,
         values: Values::new(rt.alloc()),
@@ -77,9 +76,12 @@ fn the_longest_cycle_fits(rt: HostRuntime) {
     let mut ask = TimerAsk::At(77);
     expire(&mut state, LATEST, &mut emits, &mut ask).expect(&rt, "memory");
     assert!(rt; ask == LAST);
-    match emits.as_slice() {
+    let Held::Several(emitted) = emits.into_held() else {
+        panic!(rt; "two emissions");
+    };
+    match emitted.as_slice() {
         [before, new] => assert!(rt; before.event == 77 && new.event == 0 && new.values.is_empty()),
         _ => panic!(rt; "two emissions"),
     }
-    forget(emits);
+    forget(emitted);
 }

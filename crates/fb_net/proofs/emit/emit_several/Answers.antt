@@ -2,7 +2,7 @@ use Rattle.std.proofs.Common.{◌++◌, ◌∷◌, [], ◌∙◌, List, length, 
 use Rattle.fb_types.specs.declared.run.Emission.{Emission}
 use Rattle.fb_net.proofs.Emitting.{one_more_emitted}
 use Rattle.fb_net.proofs.Wholes.{kept-then}
-use Rattle.fb_net.proofs.emit.emit_all.Goals as goal
+use Rattle.fb_net.proofs.emit.emit_several.Goals as goal
 
 pub loop-emission-preserved : goal.loop-emission-preserved
 loop-emission-preserved c =

@@ -1,0 +1,127 @@
+//! Lists that mostly have one element.
+
+ghost use Rattle.std.specs.Prelude.{◌≡◌, [], ◌∷◌, ◌++◌, ◌↔◌, IsTrue, IfOk, OnOk, OnErr};
+ghost use Rattle.fb_types.specs.Held.{all_held};
+
+use crate::value::Value;
+use std::alloc::{AllocError, Global};
+use std::marker::Model;
+use std::mem::replace;
+use std::slice::from_ref;
+
+/// For how many elements there is room where a second one comes.
+const ROOM: usize = 4;
+
+/// Where the elements of a list stand.
+#[derive(Drop)]
+pub enum Held<T> {
+    Nothing,
+    /// In place.
+    One(T),
+    /// On the heap.
+    Several(Vec<T>),
+}
+
+/// A list of which one element alone stands in place: it needs memory of its own for a second one. Contracts see its
+/// elements alone.
+#[derive(Drop)]
+pub struct Few<T> {
+    held: Held<T>,
+    alloc: Global,
+}
+
+impl<T> Model for Few<T> {
+    ghost use Rattle.std.specs.Prelude.{List};
+    ghost use Rattle.std.specs.Coded.{coded_list};
+    ghost use Rattle.fb_types.specs.Held.{all_held};
+
+    ghost Value = { List T };
+
+    ghost coded = { coded_list T.code };
+
+    ghost view = { λ l. all_held l.held };
+}
+
+impl<T> Few<T> {
+    /// The empty list, which takes no memory.
+    pub fn new(alloc: Global) -> Few<T>
+        ensures { result ≡ [] }
+    {
+        Few {
+            held: Held::Nothing,
+            alloc,
+        }
+    }
+
+    /// The allocator of the list.
+    pub fn allocator(&self) -> Global {
+        self.alloc
+    }
+
+    /// The elements, and where they stand.
+    pub fn into_held(self) -> Held<T>
+        ensures { all_held result ≡ self }
+    {
+        let Few { held, alloc: _ } = self;
+        held
+    }
+
+    pub fn is_empty(&self) -> bool
+        ensures { IsTrue result ↔ (self.now ≡ []) }
+    {
+        match &self.held {
+            Held::Nothing => true,
+            Held::One(_) => false,
+            Held::Several(items) => items.is_empty(),
+        }
+    }
+}
+
+impl<T: Drop> Few<T> {
+    /// Adds an element at the end.
+    pub fn push(&mut self, item: T) -> Result<(), AllocError>
+        ensures ok { OnOk result (self.new ≡ self.old ++ item ∷ []) }
+        ensures err { OnErr result (self.new ≡ self.old) }
+    {
+        match &mut self.held {
+            Held::Nothing => self.held = Held::One(item),
+            Held::One(_) => {
+                let mut items = Vec::with_capacity(self.alloc, ROOM)?;
+                if let Held::One(first) = replace(&mut self.held, Held::Nothing) {
+                    items.push_reserved(first);
+                }
+                items.push_reserved(item);
+                self.held = Held::Several(items);
+            }
+            Held::Several(items) => items.push(item)?,
+        }
+        Ok(())
+    }
+}
+
+impl<T: Copy> Few<T> {
+    /// A copy of the elements of a slice.
+    pub fn from_slice(alloc: Global, items: &[T]) -> Result<Few<T>, AllocError>
+        ensures { IfOk result (λ l. l ≡ items.now) }
+    {
+        let held = match items {
+            [] => Held::Nothing,
+            [item] => Held::One(*item),
+            _ => Held::Several(Vec::from_slice(alloc, items)?),
+        };
+        Ok(Few { held, alloc })
+    }
+}
+
+impl Few<Value> {
+    /// The values, which are known to be small enough for a slice of one.
+    pub fn as_slice(&self) -> &[Value]
+        ensures { result.now ≡ self.now }
+    {
+        match &self.held {
+            Held::Nothing => &[],
+            Held::One(item) => from_ref(item),
+            Held::Several(items) => items.as_slice(),
+        }
+    }
+}
