@@ -1,6 +1,6 @@
 -- The arrival of an event at an event block or a composite is what the model makes of it.
 use Rattle.std.proofs.Common.{◌≡◌, ◌≤◌, ℕ, true, false, List, [], ◌∷◌, ◌++◌, length, map, refl, sym, ap, subst, ◌∙◌, arith}
-use Rattle.std.specs.Prelude.{Some}
+use Rattle.std.specs.Prelude.{All, Some}
 use Rattle.std.proofs.lemmas.List.{append-nil}
 use Rattle.fb_types.specs.Blocks.{Event, Bound, Emission, bound, outputs_with, ports_of, ports_of_event_block, variable_names}
 use Rattle.fb_types.specs.EventBlocks as blocks
@@ -21,7 +21,9 @@ use Rattle.fb_types.specs.declared.run.Target.{Target}
 use Rattle.fb_types.specs.declared.run.TimerAsk.{TimerAsk}
 use Rattle.fb_types.specs.declared.value.Value.{Value}
 use Rattle.fb_types.proofs.NameLaws.{same_name-itself}
+use Rattle.fb_system.specs.Lines.{IsEmission}
 use Rattle.fb_net.specs.Outs.{Stands, out_of}
+use Rattle.fb_net.specs.declared.outbox.Out.{Out}
 use Rattle.fb_net.specs.declared.outbox.Outbox.{Outbox}
 use Rattle.fb_event.specs.Reactions.{FitTheirTypes}
 use Rattle.fb_net.specs.Leaves.{EventCame, HasTypedInputs, taken_reaction}
@@ -72,6 +74,12 @@ inputs-typed i k at w is typed =
     (one_fits its.inputs its.outputs vars (one_input k) (typed.blocks p (Event k) is).variables)
 
 -- ---- Event blocks
+
+-- what fits the interface of an event block fits that of its instance
+pub ports-of_event : (i : Inputs) (kind : EventKind) (n : ℕ) → (system_of i).kind (path_at (system_of i) n) ≡ Some (Event kind) → (es : List run.Emission)
+    → All (IsEmission (ports_of_event_block kind)) es → All (IsEmission (ports_at (system_of i) (path_at (system_of i) n))) es
+ports-of_event i kind n is es fit =
+    subst (λ (x : Ports). All (IsEmission x) es) (sym (ports-of_kind (system_of i) (path_at (system_of i) n) (Event kind) is)) fit
 
 -- an event block reacts to an event at a port
 abbrev reacting_at : System → Key → EventKind → Port → World → ℕ → Outcome
@@ -145,12 +153,16 @@ module _ (i : Inputs) (k : Key) (kind : EventKind) (at : Target) (is : (system_o
 
 -- ---- Composites
 
+-- what goes out of a composite that an event enters, behind what went out before
+abbrev pub sent-of : Inputs → (resource : ℕ) → Target → (before after : List Out) → Type 0
+sent-of i r at before after =
+    map (out_of (system_of i)) after ≡ map (out_of (system_of i)) before
+    ++ spread (system_of i) r (map (carried_of (system_of i)) []) ((system_of i).targets (port_of (system_of i) at))
+
 -- An event has gone on inside.
 pub enters : (i : Inputs) (k : Key) (at : Target) (old mid : Forest) (x y z : Outbox) → ComesTo i (sampling i k at) old x mid y → IsReady i k mid y
     → z.lines.items ≡ y.lines.items → z.timer ≡ y.timer
-    → map (out_of (system_of i)) z.outs.items ≡ map (out_of (system_of i)) y.outs.items
-    ++ spread (system_of i) mid.resource (map (carried_of (system_of i)) []) ((system_of i).targets (port_of (system_of i) at))
-    → ComesTo i (entering i k at) old x mid z
+    → sent-of i mid.resource at y.outs.items z.outs.items → ComesTo i (entering i k at) old x mid z
 enters i k at old mid x y z taken ready lines timer sent w left h =
     let sys = system_of i in
     let s = taken w left h in

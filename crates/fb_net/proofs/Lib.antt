@@ -2,7 +2,8 @@ pub mod Arriving
 pub mod Charting
 pub mod Crossing
 pub mod Sampling
-pub mod Taking
+pub mod ByEvent
+pub mod Same
 pub mod Wholes
 pub mod Changing
 pub mod Reading

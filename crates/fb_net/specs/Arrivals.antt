@@ -1,5 +1,5 @@
 -- What the arrival of an event at a port of an instance comes to (IEC 61499-1, 5.2.2 and 5.3.2; crossings and timers are this project's profile).
-use Rattle.std.specs.Prelude.{◌≡◌, ◌<◌, ℕ, List, [], ◌∷◌, map, length, Option, Some, None, Result, Ok, Err}
+use Rattle.std.specs.Prelude.{◌≡◌, ℕ, List, [], ◌∷◌, map, Option, Some, None, Result, Ok, Err}
 use Rattle.fb_types.specs.Blocks.{Emission, Event, ports_of}
 use Rattle.fb_types.specs.EventBlocks as blocks
 use Rattle.fb_types.specs.Headline.{Inputs, system_of}
@@ -24,7 +24,6 @@ use Rattle.fb_laws.specs.Typed.{AreTyped}
 -- An event of the resource may be taken under the key: nothing goes out yet.
 pub record IsReady (i : Inputs) (k : Key) (f : Forest) (x : Outbox) : Type 0 where
   pub resource : k.resource ≡ f.resource
-  pub named : k.resource < length (system_of i).resource_names
   pub outs : AreOuts (system_of i) f.resource x
   pub none : x.outs.items ≡ []
   pub keeps : x.timer ≡ Keep

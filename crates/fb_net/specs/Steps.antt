@@ -1,54 +1,107 @@
 -- What each step of the taking of an event stands on, and what it leaves.
-use Rattle.std.specs.Prelude.{◌≡◌, ◌<◌, ◌≤◌, ◌^◌, ℕ, Result, length}
+use Rattle.std.specs.Prelude.{◌≡◌, ◌<◌, ◌≤◌, ℕ, List, true, Result, length, map}
 use Rattle.fb_types.specs.Headline.{Inputs, system_of}
-use Rattle.fb_types.specs.Reactions.{World}
-use Rattle.fb_types.specs.declared.key.Key.{Key}
+use Rattle.fb_types.specs.Numbers.{emission_of, line_of, path_at, ports_at}
+use Rattle.fb_types.specs.Reactions.{Outcome, World}
+use Rattle.fb_types.specs.Systems.{System}
+use Rattle.fb_types.specs.declared.library.Ports.{Ports}
+use Rattle.fb_types.specs.declared.run.Emission.{Emission}
+use Rattle.fb_types.specs.declared.run.Event.{Event}
 use Rattle.fb_types.specs.declared.run.Halt.{Halt}
 use Rattle.fb_types.specs.declared.run.Target.{Target}
-use Rattle.fb_types.specs.declared.run.Event.{Event}
+use Rattle.fb_types.specs.declared.value.Value.{Value}
 use Rattle.fb_laws.specs.Typed.{IsTypedEvent}
-use Rattle.fb_net.specs.Arrivals.{IsReady, StandTyped}
+use Rattle.fb_net.specs.Arrivals.{Arrives, ComesTo, HasReacted, IsReady, StandTyped, Tells}
+use Rattle.fb_net.specs.Emitting.{EmitsSo, HasEmitted}
 use Rattle.fb_net.specs.Events.{HasTaken, IsEventIn, Remembered, event_of}
 use Rattle.fb_net.specs.Outs.{AreOuts}
-use Rattle.fb_net.specs.declared.outbox.Outbox.{Outbox}
+use Rattle.fb_net.specs.declared.taking.Taking.{Taking}
 use Rattle.fb_system.specs.Ports.{IsPort}
 use Rattle.fb_tree.specs.Worlds.{InForest, IsForest}
 use Rattle.fb_tree.specs.declared.resource.Forest.{Forest}
 
+abbrev pub system_in : Taking → System
+system_in t = system_of t.system.now
+
+-- the interface of an instance
+abbrev pub ports_in : Taking → (instance : ℕ) → Ports
+ports_in t k = ports_at (system_in t) (path_at (system_in t) k)
+
 -- ---- Before
 
+-- An event may be taken: nothing goes out yet.
+abbrev pub MayBegin : Taking → Type 0
+MayBegin t = IsReady t.system.now t.key.now t.forest.now t.outbox.now
+
 -- An instance of the resource may put out under a key of the resource.
-pub record MayEmit (i : Inputs) (k : Key) (instance : ℕ) (f : Forest) (x : Outbox) : Type 0 where
-  pub number : instance < length (system_of i).paths
-  pub here : InForest i f instance
-  pub resource : k.resource ≡ f.resource
-  pub named : k.resource < length (system_of i).resource_names
-  pub outs : AreOuts (system_of i) f.resource x
+pub record MayEmit (t : Taking) (instance : ℕ) : Type 0 where
+  pub number : instance < length (system_in t).paths
+  pub here : InForest t.system.now t.forest.now instance
+  pub resource : t.key.now.resource ≡ t.forest.now.resource
+  pub outs : AreOuts (system_in t) t.forest.now.resource t.outbox.now
 
 -- An event may be taken at a port of an instance of the resource.
-pub record MayArrive (i : Inputs) (k : Key) (at : Target) (f : Forest) (x : Outbox) : Type 0 where
-  pub port : IsPort (system_of i) at
-  pub here : InForest i f at.instance
-  pub ready : IsReady i k f x
+pub record MayArrive (t : Taking) (at : Target) : Type 0 where
+  pub port : IsPort (system_in t) at
+  pub here : InForest t.system.now t.forest.now at.instance
+  pub ready : MayBegin t
 
--- An event of the resource may be taken, in a tick that is at most 10^12.
-pub record MayTake (i : Inputs) (k : Key) (e : Event) (f : Forest) (x : Outbox) : Type 0 where
-  pub event : IsEventIn i f.resource e
-  pub ready : IsReady i k f x
-  pub early : k.tick ≤ 10 ^ 12
-  pub belongs : StandTyped i f
-  pub typed : IsTypedEvent (system_of i) (event_of i e)
+-- An event of the resource may be taken.
+pub record MayTake (t : Taking) (e : Event) : Type 0 where
+  pub event : IsEventIn t.system.now t.forest.now.resource e
+  pub ready : MayBegin t
+  pub belongs : StandTyped t.system.now t.forest.now
+  pub typed : IsTypedEvent (system_in t) (event_of t.system.now e)
 
 -- ---- After
 
--- However a step ends, also where memory runs out, the blocks are of the same resource, and each instance has its block.
-pub record IsKept (i : Inputs) (old new : Forest) : Type 0 where
+-- All that was put out belongs to the system.
+abbrev pub ArePutOut : Taking → Taking → Type 0
+ArePutOut old new = AreOuts (system_in old) new.forest.now.resource new.outbox.now
+
+-- A step has come to what the model makes of it.
+abbrev pub HasDone : (World → ℕ → Outcome) → Taking → Taking → Type 0
+HasDone step old new = ComesTo old.system.now step old.forest.now old.outbox.now new.forest.now new.outbox.now
+
+-- An event has arrived at a port, and this is how the reaction ended.
+abbrev pub HasArrived : Taking → Target → (left : ℕ) → Result (Unit {0}) Halt → Taking → (after : ℕ) → Type 0
+HasArrived old at left end new after =
+    HasReacted old.system.now (Arrives old.system.now old.key.now at left) old.forest.now old.outbox.now end new.forest.now after new.outbox.now
+
+-- An instance has emitted, whatever was put out before.
+abbrev pub EmitsAll : Taking → (instance : ℕ) → List Emission → Taking → Type 0
+EmitsAll old k es new = EmitsSo old.system.now old.key.now k old.forest.now old.outbox.now es new.forest.now new.outbox.now
+
+-- .. and all that was put out belongs to the system
+abbrev pub EmitsWell : Taking → (instance : ℕ) → List Emission → Taking → Type 0
+EmitsWell old k es new = HasEmitted old.system.now old.key.now k old.forest.now old.outbox.now es new.forest.now new.outbox.now
+
+-- A basic block has told the event that it took, with the values that it sampled, and what it emits.
+abbrev pub HasTold : Taking → Target → List Value → List Emission → Taking → Type 0
+HasTold old at values es new =
+    Tells old.system.now old.key.now at.instance
+    (line_of (system_in old) (record { key = old.key.now; taken = true; instance = at.instance; event = at.event; values = values }))
+    (map (emission_of (ports_in old at.instance)) es) old.forest.now old.outbox.now new.forest.now new.outbox.now
+
+-- The blocks are of the same resource, and each instance has its block.
+pub record AreKept (i : Inputs) (old new : Forest) : Type 0 where
   pub resource : new.resource ≡ old.resource
   pub whole : (w : World) → IsForest i old w → (v : World) × IsForest i new v
 
+-- However a step ends, also where memory runs out: the taking is of the same system and key, and lends what it lent.
+pub record IsSame (old new : Taking) : Type 0 where
+  pub system : new.system.now ≡ old.system.now
+  pub key : new.key.now ≡ old.key.now
+  pub forest : new.forest.ghost_name ≡ old.forest.ghost_name
+  pub outbox : new.outbox.ghost_name ≡ old.outbox.ghost_name
+
+-- .. and its blocks are kept
+abbrev pub IsKept : Taking → Taking → Type 0
+IsKept old new = AreKept old.system.now old.forest.now new.forest.now
+
 -- An event was taken: what it came to, what it puts out, and how many steps are left.
-pub record WasTaken (i : Inputs) (k : Key) (e : Event) (old : Forest) (before : Outbox) (left : ℕ) (end : Result (Unit {0}) Halt) (new : Forest) (after : ℕ) (x : Outbox) : Type 0 where
-  pub taken : HasTaken i k e old before left end new after x
-  pub outs : Remembered end (AreOuts (system_of i) new.resource x)
+pub record WasTaken (old : Taking) (e : Event) (left : ℕ) (end : Result (Unit {0}) Halt) (new : Taking) (after : ℕ) : Type 0 where
+  pub taken : HasTaken old.system.now old.key.now e old.forest.now old.outbox.now left end new.forest.now after new.outbox.now
+  pub outs : Remembered end (ArePutOut old new)
   pub fewer : after ≤ left
-  pub kept : IsKept i old new
+  pub kept : IsKept old new

@@ -7,11 +7,12 @@ ghost use Rattle.fb_types.specs.Reactions.{spread};
 ghost use Rattle.fb_system.specs.Lines.{BelongsTo, IsEmission};
 ghost use Rattle.fb_system.specs.Ports.{IsCarried, IsPort, IsTarget};
 ghost use Rattle.fb_tree.specs.Changes.{Changes};
-ghost use Rattle.fb_net.specs.Emitting.{EmitsSo, GoesTo, HasEmitted, carried_by, outputs_at, outputs_shown};
-ghost use Rattle.fb_net.specs.Outs.{AreOuts, IsOut, out_of};
-ghost use Rattle.fb_net.specs.Steps.{IsKept, MayEmit};
+ghost use Rattle.fb_net.specs.Emitting.{GoesTo, carried_by, outputs_at, outputs_shown};
+ghost use Rattle.fb_net.specs.Outs.{IsOut, out_of};
+ghost use Rattle.fb_net.specs.Steps.{ArePutOut, EmitsAll, EmitsWell, IsKept, IsSame, MayEmit, ports_in};
 
 use crate::outbox::{Out, Outbox, Sending};
+use crate::taking::Taking;
 use fb_system::system::System;
 use fb_tree::resource::Forest;
 use fb_types::few::Held;
@@ -150,91 +151,81 @@ fn carried_values(
         .collect(alloc)
 }
 
-/// Emits one output event.
-fn emit_one(
-    forest: &mut Forest,
-    outbox: &mut Outbox,
-    system: &System,
-    key: &Key,
-    instance: u32,
-    emission: Emission,
-) -> Result<(), AllocError>
-    requires place { MayEmit system.now key.now instance forest.old outbox.old }
-    requires emission { IsEmission (ports_at (system_of system.now) (path_at (system_of system.now) instance)) emission }
-    ensures emitted { OnOk result (HasEmitted system.now key.now instance forest.old outbox.old (emission ∷ []) forest.new outbox.new) }
+impl Taking<'_> {
+    /// Emits one output event.
+    fn emit_one(&mut self, instance: u32, emission: Emission) -> Result<(), AllocError>
+        requires place { MayEmit self.old instance }
+        requires emission { IsEmission (ports_in self.old instance) emission }
+        ensures emitted { OnOk result (EmitsWell self.old instance (emission ∷ []) self.new) }
 
-    // Also where memory runs out.
-    ensures kept { IsKept system.now forest.old forest.new }
-{
-    let Emission { event, values } = emission;
-    let places = system.outputs_with(instance, event);
-    publish_all(forest, system, instance, places, values.as_slice());
-    let from = Target {
-        instance,
-        event,
-        is_output: true,
-    };
-    send_out(
-        &mut outbox.outs,
-        forest,
-        system,
-        from,
-        places,
-        values.as_slice(),
-    )?;
-    outbox.lines.push(Line {
-        key: *key,
-        taken: false,
-        instance,
-        event,
-        values,
-    })?;
-    Ok(())
-}
-
-/// Emits several output events of an instance in their order.
-fn emit_several(
-    forest: &mut Forest,
-    outbox: &mut Outbox,
-    system: &System,
-    key: &Key,
-    instance: u32,
-    emissions: Vec<Emission>,
-) -> Result<(), AllocError>
-    requires place { MayEmit system.now key.now instance forest.old outbox.old }
-    requires emissions { All (IsEmission (ports_at (system_of system.now) (path_at (system_of system.now) instance))) emissions.items }
-    ensures emitted { OnOk result (HasEmitted system.now key.now instance forest.old outbox.old emissions.items forest.new outbox.new) }
-
-    // Also where memory runs out.
-    ensures kept { IsKept system.now forest.old forest.new }
-{
-    for emission in emissions {
-        emit_one(forest, outbox, system, key, instance, emission)?;
+        // Also where memory runs out.
+        ensures kept { IsKept self.old self.new }
+        ensures same { IsSame self.old self.new }
+    {
+        let Emission { event, values } = emission;
+        let places = self.system.outputs_with(instance, event);
+        publish_all(
+            self.forest,
+            self.system,
+            instance,
+            places,
+            values.as_slice(),
+        );
+        let from = Target {
+            instance,
+            event,
+            is_output: true,
+        };
+        send_out(
+            &mut self.outbox.outs,
+            self.forest,
+            self.system,
+            from,
+            places,
+            values.as_slice(),
+        )?;
+        self.outbox.lines.push(Line {
+            key: *self.key,
+            taken: false,
+            instance,
+            event,
+            values,
+        })?;
+        Ok(())
     }
-    Ok(())
-}
 
-/// Emits output events of an instance in their order: their variables are published, each has a line, and each goes
-/// where its connections lead. The error is that memory runs out; each instance has its block then too.
-pub fn emit_all(
-    forest: &mut Forest,
-    outbox: &mut Outbox,
-    system: &System,
-    key: &Key,
-    instance: u32,
-    emits: Emits,
-) -> Result<(), AllocError>
-    requires place { MayEmit system.now key.now instance forest.old outbox.old }
-    requires emissions { All (IsEmission (ports_at (system_of system.now) (path_at (system_of system.now) instance))) emits }
-    ensures emitted { OnOk result (EmitsSo system.now key.now instance forest.old outbox.old emits forest.new outbox.new) }
-    ensures outs { OnOk result (AreOuts (system_of system.now) forest.new.resource outbox.new) }
+    /// Emits several output events of an instance in their order.
+    fn emit_several(&mut self, instance: u32, emissions: Vec<Emission>) -> Result<(), AllocError>
+        requires place { MayEmit self.old instance }
+        requires emissions { All (IsEmission (ports_in self.old instance)) emissions.items }
+        ensures emitted { OnOk result (EmitsWell self.old instance emissions.items self.new) }
 
-    // Also where memory runs out.
-    ensures kept { IsKept system.now forest.old forest.new }
-{
-    match emits.into_held() {
-        Held::Nothing => Ok(()),
-        Held::One(emission) => emit_one(forest, outbox, system, key, instance, emission),
-        Held::Several(emissions) => emit_several(forest, outbox, system, key, instance, emissions),
+        // Also where memory runs out.
+        ensures kept { IsKept self.old self.new }
+        ensures same { IsSame self.old self.new }
+    {
+        for emission in emissions {
+            self.emit_one(instance, emission)?;
+        }
+        Ok(())
+    }
+
+    /// Emits output events of an instance in their order: their variables are published, each has a line, and each goes
+    /// where its connections lead. The error is that memory runs out; each instance has its block then too.
+    pub fn emit_all(&mut self, instance: u32, emits: Emits) -> Result<(), AllocError>
+        requires place { MayEmit self.old instance }
+        requires emissions { All (IsEmission (ports_in self.old instance)) emits }
+        ensures emitted { OnOk result (EmitsAll self.old instance emits self.new) }
+        ensures outs { OnOk result (ArePutOut self.old self.new) }
+
+        // Also where memory runs out.
+        ensures kept { IsKept self.old self.new }
+        ensures same { IsSame self.old self.new }
+    {
+        match emits.into_held() {
+            Held::Nothing => Ok(()),
+            Held::One(emission) => self.emit_one(instance, emission),
+            Held::Several(emissions) => self.emit_several(instance, emissions),
+        }
     }
 }

@@ -2,134 +2,107 @@
 
 ghost use Rattle.std.specs.Prelude.{◌≡◌, ◌<◌, ◌≤◌, ◌^◌, ℕ, None, OnOk, Some, length};
 ghost use Rattle.fb_types.specs.Blocks as model;
-ghost use Rattle.fb_types.specs.Headline.{system_of};
 ghost use Rattle.fb_types.specs.Numbers.{path_at};
-ghost use Rattle.fb_net.specs.Outs.{AreOuts};
-ghost use Rattle.fb_net.specs.Leaves.{IsOne};
-ghost use Rattle.fb_tree.specs.Worlds.{InForest};
-ghost use Rattle.fb_net.specs.Arrivals.{ComesTo, IsReady, expiring};
+ghost use Rattle.fb_net.specs.Arrivals.{expiring};
 ghost use Rattle.fb_net.specs.Events.{Came};
-ghost use Rattle.fb_net.specs.Steps.{IsKept, MayTake, WasTaken};
+ghost use Rattle.fb_net.specs.Leaves.{IsOne};
+ghost use Rattle.fb_net.specs.Steps.{ArePutOut, HasDone, IsKept, IsSame, MayBegin, MayTake, WasTaken, system_in};
+ghost use Rattle.fb_tree.specs.Worlds.{InForest};
 
-use crate::arrive::arrive;
 use crate::bring::{hold_carried, set_slots};
-use crate::emit::emit_all;
 use crate::event_blocks::expire_event;
-use crate::outbox::Outbox;
+use crate::taking::Taking;
 use fb_names::numbers::TypeNumber;
 use fb_st::meter::StepMeter;
-use fb_system::system::System;
-use fb_tree::resource::Forest;
 use fb_types::event_kind::EventKind;
-use fb_types::key::Key;
 use fb_types::run::{Emits, Event, Halt, Message};
 use std::alloc::AllocError;
 
-/// Takes a stimulus, which sets slots before its event arrives.
-///
-/// # Errors
-/// As `arrive`.
-fn take_stimulus(
-    forest: &mut Forest,
-    outbox: &mut Outbox,
-    system: &System,
-    key: &Key,
-    row: u32,
-    meter: &mut StepMeter,
-) -> Result<(), Halt>
-    requires { MayTake system.now key.now (Event.Stimulus row) forest.old outbox.old }
-    ensures { WasTaken system.now key.now (Event.Stimulus row) forest.old outbox.old meter.old.left result forest.new meter.new.left outbox.new }
-{
-    let stimulus = system.stimulus(row);
-    set_slots(forest, system, stimulus.target.instance, stimulus.sets);
-    arrive(forest, outbox, system, key, stimulus.target, meter)
-}
-
-/// Takes a message, whose values are held before its event arrives.
-///
-/// # Errors
-/// As `arrive`.
-fn take_arrival(
-    forest: &mut Forest,
-    outbox: &mut Outbox,
-    system: &System,
-    key: &Key,
-    message: &Message,
-    meter: &mut StepMeter,
-) -> Result<(), Halt>
-    requires { MayTake system.now key.now (Event.Arrival message.now) forest.old outbox.old }
-    ensures { WasTaken system.now key.now (Event.Arrival message.now) forest.old outbox.old meter.old.left result forest.new meter.new.left outbox.new }
-{
-    hold_carried(forest, system, message.values.as_slice());
-    arrive(forest, outbox, system, key, message.target, meter)
-}
-
-/// The timer of an event block goes off, in a tick that is at most 10^12.
-fn expire(
-    forest: &mut Forest,
-    outbox: &mut Outbox,
-    system: &System,
-    kind: EventKind,
-    key: &Key,
-    instance: u32,
-) -> Result<(), AllocError>
-    requires instance { instance < length (system_of system.now).paths }
-    requires kind { (system_of system.now).kind (path_at (system_of system.now) instance) ≡ Some (model.Event kind) }
-    requires here { InForest system.now forest.old instance }
-    requires one { IsOne system.now forest.old instance }
-    requires ready { IsReady system.now key.now forest.old outbox.old }
-    requires early { key.now.tick ≤ 10 ^ 12 }
-    ensures expired { OnOk result (ComesTo system.now (expiring system.now key.now kind instance) forest.old outbox.old forest.new outbox.new) }
-    ensures outs { OnOk result (AreOuts (system_of system.now) forest.new.resource outbox.new) }
-
-    // Also where memory runs out.
-    ensures kept { IsKept system.now forest.old forest.new }
-{
-    let mut emits = Emits::new(*outbox.lines.allocator());
-    outbox.timer = expire_event(forest, system, kind, instance, key.tick, &mut emits)?;
-    emit_all(forest, outbox, system, key, instance, emits)
-}
-
-/// Takes the timer of an instance. Nothing happens where it is no event block.
-fn take_timer(
-    forest: &mut Forest,
-    outbox: &mut Outbox,
-    system: &System,
-    key: &Key,
-    instance: u32,
-) -> Result<(), AllocError>
-    requires { MayTake system.now key.now (Event.Timer instance) forest.old outbox.old }
-    ensures taken { OnOk result ((left : ℕ) → Came system.now key.now (Event.Timer instance) forest.old outbox.old left None forest.new left outbox.new) }
-    ensures outs { OnOk result (AreOuts (system_of system.now) forest.new.resource outbox.new) }
-
-    // Also where memory runs out.
-    ensures kept { IsKept system.now forest.old forest.new }
-{
-    match system.kind(instance) {
-        TypeNumber::Event(kind) => expire(forest, outbox, system, kind, key, instance),
-        TypeNumber::Declared(_) => Ok(()),
+impl Taking<'_> {
+    /// Takes a stimulus, which sets slots before its event arrives.
+    ///
+    /// # Errors
+    /// As `arrive`.
+    fn take_stimulus(&mut self, row: u32, meter: &mut StepMeter) -> Result<(), Halt>
+        requires { MayTake self.old (Event.Stimulus row) }
+        ensures taken { WasTaken self.old (Event.Stimulus row) meter.old.left result self.new meter.new.left }
+        ensures same { IsSame self.old self.new }
+    {
+        let stimulus = self.system.stimulus(row);
+        let at = stimulus.target;
+        set_slots(self.forest, self.system, at.instance, stimulus.sets);
+        self.arrive(at, meter)
     }
-}
 
-/// Takes an event, whatever it is.
-///
-/// # Errors
-/// As `arrive`.
-pub(crate) fn take_event(
-    forest: &mut Forest,
-    outbox: &mut Outbox,
-    system: &System,
-    key: &Key,
-    event: &Event,
-    meter: &mut StepMeter,
-) -> Result<(), Halt>
-    requires { MayTake system.now key.now event.now forest.old outbox.old }
-    ensures { WasTaken system.now key.now event.now forest.old outbox.old meter.old.left result forest.new meter.new.left outbox.new }
-{
-    match event {
-        Event::Stimulus(row) => take_stimulus(forest, outbox, system, key, *row, meter),
-        Event::Timer(instance) => Ok(take_timer(forest, outbox, system, key, *instance)?),
-        Event::Arrival(message) => take_arrival(forest, outbox, system, key, message, meter),
-        Event::Local(target) => arrive(forest, outbox, system, key, *target, meter),
+    /// Takes a message, whose values are held before its event arrives.
+    ///
+    /// # Errors
+    /// As `arrive`.
+    fn take_arrival(&mut self, message: &Message, meter: &mut StepMeter) -> Result<(), Halt>
+        requires { MayTake self.old (Event.Arrival message.now) }
+        ensures taken { WasTaken self.old (Event.Arrival message.now) meter.old.left result self.new meter.new.left }
+        ensures same { IsSame self.old self.new }
+    {
+        hold_carried(self.forest, self.system, message.values.as_slice());
+        self.arrive(message.target, meter)
+    }
+
+    /// The timer of an event block goes off.
+    fn expire(&mut self, kind: EventKind, instance: u32) -> Result<(), AllocError>
+        requires instance { instance < length (system_in self.old).paths }
+        requires kind { (system_in self.old).kind (path_at (system_in self.old) instance) ≡ Some (model.Event kind) }
+        requires here { InForest self.old.system.now self.old.forest.now instance }
+        requires one { IsOne self.old.system.now self.old.forest.now instance }
+        requires ready { MayBegin self.old }
+        ensures expired { OnOk result (HasDone (expiring self.old.system.now self.old.key.now kind instance) self.old self.new) }
+        ensures outs { OnOk result (ArePutOut self.old self.new) }
+
+        // Also where memory runs out.
+        ensures kept { IsKept self.old self.new }
+        ensures same { IsSame self.old self.new }
+    {
+        let mut emits = Emits::new(*self.outbox.lines.allocator());
+        self.outbox.timer = expire_event(
+            self.forest,
+            self.system,
+            kind,
+            instance,
+            self.key.tick,
+            &mut emits,
+        )?;
+        self.emit_all(instance, emits)
+    }
+
+    /// Takes the timer of an instance. Nothing happens where it is no event block.
+    fn take_timer(&mut self, instance: u32) -> Result<(), AllocError>
+        requires { MayTake self.old (Event.Timer instance) }
+        ensures taken { OnOk result ((left : ℕ) → Came self.old.system.now self.old.key.now (Event.Timer instance) self.old.forest.now self.old.outbox.now left None self.new.forest.now left self.new.outbox.now) }
+        ensures outs { OnOk result (ArePutOut self.old self.new) }
+
+        // Also where memory runs out.
+        ensures kept { IsKept self.old self.new }
+        ensures same { IsSame self.old self.new }
+    {
+        match self.system.kind(instance) {
+            TypeNumber::Event(kind) => self.expire(kind, instance),
+            TypeNumber::Declared(_) => Ok(()),
+        }
+    }
+
+    /// Takes an event, whatever it is.
+    ///
+    /// # Errors
+    /// As `arrive`.
+    pub fn take_event(&mut self, event: &Event, meter: &mut StepMeter) -> Result<(), Halt>
+        requires { MayTake self.old event.now }
+        ensures taken { WasTaken self.old event.now meter.old.left result self.new meter.new.left }
+        ensures same { IsSame self.old self.new }
+    {
+        match event {
+            Event::Stimulus(row) => self.take_stimulus(*row, meter),
+            Event::Timer(instance) => Ok(self.take_timer(*instance)?),
+            Event::Arrival(message) => self.take_arrival(message, meter),
+            Event::Local(target) => self.arrive(*target, meter),
+        }
     }
 }

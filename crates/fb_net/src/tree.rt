@@ -12,7 +12,7 @@ ghost use Rattle.fb_laws.specs.Typed.{AreTyped, IsTypedEvent};
 ghost use Rattle.fb_net.specs.Events.{HasTaken, IsEventIn, Remembered, event_of};
 
 use crate::outbox::Outbox;
-use crate::take::take_event;
+use crate::taking::Taking;
 use fb_st::meter::StepMeter;
 use fb_system::system::System;
 use fb_tree::resource::Forest;
@@ -83,6 +83,12 @@ impl Tree {
         // Also where memory runs out.
         ensures whole { (w : World) × IsForest system.now self.new w }
     {
-        take_event(&mut self.forest, outbox, system, key, event, meter)
+        let mut taking = Taking {
+            system,
+            key,
+            forest: &mut self.forest,
+            outbox,
+        };
+        taking.take_event(event, meter)
     }
 }

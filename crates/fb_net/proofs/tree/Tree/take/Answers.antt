@@ -6,4 +6,4 @@ use Rattle.fb_net.proofs.tree.Tree.take.Goals as goal
 pub returns-clause-whole : goal.returns-clause-whole
 returns-clause-whole c =
     let w = c.requires.belongs.0 in
-    c.take_event.ensures.kept.whole w (subst (λ (f : Forest). IsForest c.args.system.now f w) (sym c.self.view_is) c.requires.belongs.1)
+    c.take_event.ensures.taken.kept.whole w (subst (λ (f : Forest). IsForest c.args.system.now f w) (sym c.self.view_is) c.requires.belongs.1)

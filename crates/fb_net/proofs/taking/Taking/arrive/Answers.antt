@@ -10,46 +10,46 @@ use Rattle.std.specs.Option.{option_map}
 use Rattle.fb_laws.proofs.Accepted.{accepted_typed}
 use Rattle.fb_net.specs.Arrivals.{Arrives, entering, leaving, reacting}
 use Rattle.fb_net.proofs.Crossing.{composite-enters, composite-leaves, done-reacted, event-arrives, reacting-left, reacting-stop}
-use Rattle.fb_net.proofs.arrive.arrive.Goals as goal
+use Rattle.fb_net.proofs.taking.Taking.arrive.Goals as goal
 
 pub arrive_event-requires-clause-sound : goal.arrive_event-requires-clause-sound
-arrive_event-requires-clause-sound c = (accepted_typed c.args.system.now c.facts.ensures.accepted).system
+arrive_event-requires-clause-sound c = (accepted_typed c.args.self.now.system.now c.facts.ensures.accepted).system
 
 pub returns-in_ok-arrive_event-in-Event-clause-reacted : goal.returns-in_ok-arrive_event-in-Event-clause-reacted
 returns-in_ok-arrive_event-in-Event-clause-reacted c =
-    let i = c.args.system.now in
-    let k = c.args.key.now in
+    let i = c.args.self.now.system.now in
+    let k = c.args.self.now.key.now in
     let at = c.args.at in
     let kind = c.in-Event.kind in
     let left = c.args.meter.now.left in
-    done-reacted i (reacting i k kind at) (Arrives i k at left) c.args.forest.now c.arrive_event.new.forest c.args.outbox.now c.arrive_event.new.outbox left
+    done-reacted i (reacting i k kind at) (Arrives i k at left) c.args.self.now.forest.now c.arrive_event.new.self.forest.now c.args.self.now.outbox.now c.arrive_event.new.self.outbox.now left
     (event-arrives i k kind at (sym c.in-Event.ensures) left) (reacting-stop i k kind at left) (reacting-left i k kind at left)
     c.in_ok-arrive_event-in-Event.ensures.reacted
 
 pub returns-in_ok-leave-in-Some-Composite-clause-reacted : goal.returns-in_ok-leave-in-Some-Composite-clause-reacted
 returns-in_ok-leave-in-Some-Composite-clause-reacted c =
-    let i = c.args.system.now in
-    let k = c.args.key.now in
+    let i = c.args.self.now.system.now in
+    let k = c.args.self.now.key.now in
     let at = c.args.at in
     let left = c.args.meter.now.left in
     let t = c.in-Some-Composite.field-0-0 in
     let declared : slice_get i.library.blocks c.in-Declared.place ≡ Some (block.Composite t) =
     ap (λ (l : Library). slice_get l.blocks c.in-Declared.place) (sym c.library.ensures) ∙ sym c.in-Some-Composite.ensures.value ∙ ap Some c.in-Some-Composite.field-0-is in
     let is : (system_of i).kind (path_at (system_of i) at.instance) ≡ Some (Composite t) = sym c.in-Declared.ensures ∙ ap (option_map kind_of) declared in
-    done-reacted i (leaving i k at) (Arrives i k at left) c.args.forest.now c.leave.new.forest c.args.outbox.now c.leave.new.outbox left
+    done-reacted i (leaving i k at) (Arrives i k at left) c.args.self.now.forest.now c.leave.new.self.forest.now c.args.self.now.outbox.now c.leave.new.self.outbox.now left
     (composite-leaves i k at t is c.requires.target.port c.facts.ensures.accepted c.in-Declared.place declared c.if-at.true left) (λ w. refl) (λ w. refl)
     c.in_ok-leave-in-Some-Composite.ensures.left
 
 pub returns-in_ok-enter-in-Some-Composite-clause-reacted : goal.returns-in_ok-enter-in-Some-Composite-clause-reacted
 returns-in_ok-enter-in-Some-Composite-clause-reacted c =
-    let i = c.args.system.now in
-    let k = c.args.key.now in
+    let i = c.args.self.now.system.now in
+    let k = c.args.self.now.key.now in
     let at = c.args.at in
     let left = c.args.meter.now.left in
     let t = c.in-Some-Composite.field-0-0 in
     let declared : slice_get i.library.blocks c.in-Declared.place ≡ Some (block.Composite t) =
     ap (λ (l : Library). slice_get l.blocks c.in-Declared.place) (sym c.library.ensures) ∙ sym c.in-Some-Composite.ensures.value ∙ ap Some c.in-Some-Composite.field-0-is in
     let is : (system_of i).kind (path_at (system_of i) at.instance) ≡ Some (Composite t) = sym c.in-Declared.ensures ∙ ap (option_map kind_of) declared in
-    done-reacted i (entering i k at) (Arrives i k at left) c.args.forest.now c.enter.new.forest c.args.outbox.now c.enter.new.outbox left
+    done-reacted i (entering i k at) (Arrives i k at left) c.args.self.now.forest.now c.enter.new.self.forest.now c.args.self.now.outbox.now c.enter.new.self.outbox.now left
     (composite-enters i k at t is c.requires.target.port c.if-at.false left) (λ w. refl) (λ w. refl)
     c.in_ok-enter-in-Some-Composite.ensures.entered

@@ -41,7 +41,7 @@ use Rattle.fb_laws.specs.Typed.{AreTyped, IsTypedEvent}
 use Rattle.fb_laws.proofs.Kept.{held_typed, slots_typed}
 use Rattle.fb_net.specs.Arrivals.{Arrives, ComesTo, HasReacted, IsReady, ReactedIn, StandTyped, expiring, lines_in}
 use Rattle.fb_net.specs.Events.{Came, HasTaken, event_of, stimulated}
-use Rattle.fb_net.specs.Steps.{IsKept}
+use Rattle.fb_net.specs.Steps.{AreKept}
 use Rattle.fb_net.proofs.Crossing.{answered-left, answered-stop}
 use Rattle.fb_net.proofs.Sampling.{ports-of_kind}
 
@@ -127,7 +127,7 @@ module _ (i : Inputs) (k : Key) (row : ℕ) (s : StimulusAt) (is : IsStimulusAt 
   brought : (w : World) → IsForest i old w → IsForest i mid (with_slots p sets w)
   brought w h = changes.stands w h lies
 
-  pub stimulus-kept : IsKept i old mid
+  pub stimulus-kept : AreKept i old mid
   stimulus-kept = record { resource = changes.resource; whole = λ w h. (with_slots p sets w, brought w h) }
 
   pub stimulus-typed : StandTyped i old → IsTypedEvent sys (event_of i (waits.Stimulus row)) → StandTyped i mid

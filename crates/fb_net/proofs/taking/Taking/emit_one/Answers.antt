@@ -9,24 +9,24 @@ use Rattle.fb_net.specs.Outs.{out_of}
 use Rattle.fb_net.specs.declared.outbox.Outbox.{Outbox}
 use Rattle.fb_net.proofs.Emitting.{Doing, are_carried, has_emitted}
 use Rattle.fb_net.proofs.Wholes.{kept-changed}
-use Rattle.fb_net.proofs.emit.emit_one.Goals as goal
+use Rattle.fb_net.proofs.taking.Taking.emit_one.Goals as goal
 
 pub send_out-requires-clause-carried : goal.send_out-requires-clause-carried
 send_out-requires-clause-carried c =
-    are_carried (system_of c.args.system.now) c.args.instance c.outputs_with-places.result.now c.as_slice-2.result.now c.requires.place.number c.outputs_with-places.ensures.within
+    are_carried (system_of c.args.self.now.system.now) c.args.instance c.outputs_with-places.result.now c.as_slice-2.result.now c.requires.place.number c.outputs_with-places.ensures.within
 
 pub returns-clause-emitted : goal.returns-clause-emitted
 returns-clause-emitted c =
-    let i = c.args.system.now in
+    let i = c.args.self.now.system.now in
     let sys = system_of i in
     let k = c.args.instance in
     let e = c.args.emission in
     let places = c.outputs_with-places.result.now in
-    let f = c.args.forest.now in
+    let f = c.args.self.now.forest.now in
     let g = c.publish_all.new.forest in
-    let x = c.args.outbox.now in
+    let x = c.args.self.now.outbox.now in
     let y : Outbox = record { lines = c.push.new.self; outs = c.send_out.new.outs; timer = x.timer } in
-    let done : Doing i c.args.key.now k f x e g y = record {
+    let done : Doing i c.args.self.now.key.now k f x e g y = record {
       places = places;
       stand = c.outputs_with-places.ensures;
       published = subst (λ (vs : List Value). Changes i f k (outputs_shown (outputs_at sys k places vs)) g) c.as_slice.ensures c.publish_all.ensures;
@@ -37,13 +37,13 @@ returns-clause-emitted c =
       lines = c.in_ok-push.ensures.items;
       timer = refl;
     } in
-    has_emitted i c.args.key.now k f x e g y done c.requires.place.number c.requires.place.here c.requires.place.resource c.requires.place.named c.requires.emission c.requires.place.outs
+    has_emitted i c.args.self.now.key.now k f x e g y done c.requires.place.number c.requires.place.here c.requires.place.resource c.args.self.now.named c.requires.emission c.requires.place.outs
 
 pub returns-in_err-send_out-clause-kept : goal.returns-in_err-send_out-clause-kept
-returns-in_err-send_out-clause-kept c = kept-changed c.args.system.now c.args.forest.now c.publish_all.new.forest c.args.instance _ c.publish_all.ensures c.requires.place.here
+returns-in_err-send_out-clause-kept c = kept-changed c.args.self.now.system.now c.args.self.now.forest.now c.publish_all.new.forest c.args.instance _ c.publish_all.ensures c.requires.place.here
 
 pub returns-in_err-push-clause-kept : goal.returns-in_err-push-clause-kept
-returns-in_err-push-clause-kept c = kept-changed c.args.system.now c.args.forest.now c.publish_all.new.forest c.args.instance _ c.publish_all.ensures c.requires.place.here
+returns-in_err-push-clause-kept c = kept-changed c.args.self.now.system.now c.args.self.now.forest.now c.publish_all.new.forest c.args.instance _ c.publish_all.ensures c.requires.place.here
 
 pub returns-clause-kept : goal.returns-clause-kept
-returns-clause-kept c = kept-changed c.args.system.now c.args.forest.now c.publish_all.new.forest c.args.instance _ c.publish_all.ensures c.requires.place.here
+returns-clause-kept c = kept-changed c.args.self.now.system.now c.args.self.now.forest.now c.publish_all.new.forest c.args.instance _ c.publish_all.ensures c.requires.place.here

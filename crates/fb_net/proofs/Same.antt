@@ -1,0 +1,43 @@
+-- A taking goes on after a step of it, of the same system and under the same key.
+use Rattle.std.proofs.Common.{◌<◌, ◌++◌, ◌∷◌, [], ℕ, List, length, sym, ap, subst, ◌∙◌}
+use Rattle.fb_types.specs.Headline.{Inputs, system_of}
+use Rattle.fb_types.specs.declared.key.Key.{Key}
+use Rattle.fb_types.specs.declared.run.Emission.{Emission}
+use Rattle.fb_net.specs.Emitting.{HasEmitted}
+use Rattle.fb_net.specs.Outs.{AreOuts}
+use Rattle.fb_net.specs.Steps.{AreKept, EmitsWell, IsKept, IsSame, MayEmit, system_in}
+use Rattle.fb_net.specs.declared.taking.Taking.{Taking}
+use Rattle.fb_net.proofs.Emitting.{one_more_emitted}
+use Rattle.fb_net.proofs.Wholes.{kept-then}
+use Rattle.fb_tree.specs.Worlds.{InForest}
+
+-- what is said of system and key before holds after
+pub still : (P : Inputs → Key → Type 0) (a b : Taking) → IsSame a b → P a.system.now a.key.now → P b.system.now b.key.now
+still P a b same h = subst (λ (k : Key). P b.system.now k) (sym same.key) (subst (λ (i : Inputs). P i a.key.now) (sym same.system) h)
+
+-- what is said of them after held before
+pub already : (P : Inputs → Key → Type 0) (a b : Taking) → IsSame a b → P b.system.now b.key.now → P a.system.now a.key.now
+already P a b same h = subst (λ (k : Key). P a.system.now k) same.key (subst (λ (i : Inputs). P i b.key.now) same.system h)
+
+-- one step after the other
+pub kept-after : (a b c : Taking) → IsSame a b → IsKept a b → IsKept b c → IsKept a c
+kept-after a b c same first next =
+    kept-then a.system.now a.forest.now b.forest.now c.forest.now first
+    (already (λ (i : Inputs) (k : Key). AreKept i b.forest.now c.forest.now) a b same next)
+
+pub emitted-after : (a b c : Taking) (n : ℕ) (es : List Emission) (e : Emission) → IsSame a b → EmitsWell a n es b → EmitsWell b n (e ∷ []) c
+    → EmitsWell a n (es ++ e ∷ []) c
+emitted-after a b c n es e same first next =
+    one_more_emitted a.system.now a.key.now n a.forest.now b.forest.now c.forest.now a.outbox.now b.outbox.now c.outbox.now es e first
+    (already (λ (i : Inputs) (k : Key). HasEmitted i k n b.forest.now b.outbox.now (e ∷ []) c.forest.now c.outbox.now) a b same next)
+
+pub may-emit-again : (a b : Taking) (n : ℕ) (es : List Emission) → IsSame a b → MayEmit a n → EmitsWell a n es b → MayEmit b n
+may-emit-again a b n es same may emitted = record {
+  number = still (λ (i : Inputs) (k : Key). n < length (system_of i).paths) a b same may.number;
+  here = still (λ (i : Inputs) (k : Key). InForest i b.forest.now n) a b same (may.here ∙ sym emitted.resource);
+  resource = ap (λ (k : Key). k.resource) same.key ∙ may.resource ∙ sym emitted.resource;
+  outs = outs-again a b n es same emitted;
+}
+  where
+    outs-again : (a b : Taking) (n : ℕ) (es : List Emission) → IsSame a b → EmitsWell a n es b → AreOuts (system_in b) b.forest.now.resource b.outbox.now
+    outs-again a b n es same emitted = still (λ (i : Inputs) (k : Key). AreOuts (system_of i) b.forest.now.resource b.outbox.now) a b same emitted.outs

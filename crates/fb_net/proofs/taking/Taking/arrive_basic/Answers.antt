@@ -1,0 +1,30 @@
+use Rattle.std.proofs.Common.{List, subst}
+use Rattle.fb_types.specs.declared.value.Value.{Value}
+use Rattle.fb_net.specs.Leaves.{ChartEnded}
+use Rattle.fb_net.proofs.Charting.{chart-reacts}
+use Rattle.fb_net.proofs.Wholes.{kept-same, kept-then, kept-world}
+use Rattle.fb_net.proofs.taking.Taking.arrive_basic.Goals as goal
+
+pub returns-clause-reacted : goal.returns-clause-reacted
+returns-clause-reacted c =
+    let i = c.args.self.now.system.now in
+    let end = c.react_basic-end in
+    let ended = subst (λ (vs : List Value). ChartEnded i c.args.self.now.forest.now c.args.at c.args.block.now vs c.args.meter.now.left end.result end.new.forest end.new.meter.left end.new.emits)
+    c.as_slice.ensures end.ensures.reacted in
+    chart-reacts i c.args.self.now.key.now c.args.at c.args.block.now c.requires.kind c.requires.input c.args.self.now.forest.now end.new.forest c.tell.new.self.forest.now
+    c.args.self.now.outbox.now c.tell.new.self.outbox.now c.requires.place.ready c.requires.place.here c.in_ok-values.values c.in_ok-values.ensures.sampled c.args.meter.now.left end.new.meter.left end.new.emits
+    c.in_ok-tell.ensures.told end.result ended
+
+pub returns-in_err-values-clause-kept : goal.returns-in_err-values-clause-kept
+returns-in_err-values-clause-kept c =
+    kept-same c.args.self.now.system.now c.args.self.now.forest.now
+
+pub returns-clause-kept : goal.returns-clause-kept
+returns-clause-kept c =
+    let end = c.react_basic-end in
+    kept-then c.args.self.now.system.now c.args.self.now.forest.now end.new.forest c.tell.new.self.forest.now (kept-world c.args.self.now.system.now c.args.self.now.forest.now end.new.forest end.ensures.resource end.ensures.whole) c.tell.ensures.kept
+
+pub returns-in_err-tell-clause-kept : goal.returns-in_err-tell-clause-kept
+returns-in_err-tell-clause-kept c =
+    let end = c.react_basic-end in
+    kept-then c.args.self.now.system.now c.args.self.now.forest.now end.new.forest c.tell.new.self.forest.now (kept-world c.args.self.now.system.now c.args.self.now.forest.now end.new.forest end.ensures.resource end.ensures.whole) c.tell.ensures.kept

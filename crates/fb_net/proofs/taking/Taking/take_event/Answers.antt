@@ -1,0 +1,31 @@
+use Rattle.std.proofs.Common.{Ok, arith, sym, subst}
+use Rattle.fb_types.specs.declared.run.Event.{Event}
+use Rattle.fb_net.specs.Steps.{WasTaken}
+use Rattle.fb_net.proofs.ByEvent.{local-taken}
+use Rattle.fb_net.proofs.taking.Taking.take_event.Goals as goal
+
+pub returns-in_ok-take_timer-in-Timer-clause-taken : goal.returns-in_ok-take_timer-in-Timer-clause-taken
+returns-in_ok-take_timer-in-Timer-clause-taken c =
+    let left = c.args.meter.now.left in
+    let done = c.take_timer in
+    subst (λ (e : Event). WasTaken c.args.self.now e left (Ok tt) done.new.self left) (sym c.in-Timer.is)
+    (record {
+      taken = c.in_ok-take_timer-in-Timer.ensures.taken left;
+      outs = c.in_ok-take_timer-in-Timer.ensures.outs;
+      fewer = omega arith;
+      kept = done.ensures.kept;
+    })
+
+pub returns-in-Local-clause-taken : goal.returns-in-Local-clause-taken
+returns-in-Local-clause-taken c =
+    let i = c.args.self.now.system.now in
+    let k = c.args.self.now.key.now in
+    let left = c.args.meter.now.left in
+    let done = c.arrive in
+    subst (λ (e : Event). WasTaken c.args.self.now e left done.result done.new.self done.new.meter.left) (sym c.in-Local.is)
+    (record {
+      taken = local-taken i k c.in-Local.target c.args.self.now.forest.now done.new.self.forest.now c.args.self.now.outbox.now done.new.self.outbox.now left done.new.meter.left done.result done.ensures.reacted;
+      outs = done.ensures.outs;
+      fewer = done.ensures.fewer;
+      kept = done.ensures.kept;
+    })

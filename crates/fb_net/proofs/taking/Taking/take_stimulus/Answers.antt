@@ -1,0 +1,24 @@
+use Rattle.fb_net.proofs.ByEvent.{stimulus-kept, stimulus-taken, stimulus-typed}
+use Rattle.fb_net.proofs.Wholes.{kept-then}
+use Rattle.fb_net.proofs.taking.Taking.take_stimulus.Goals as goal
+
+pub arrive-requires-clause-typed : goal.arrive-requires-clause-typed
+arrive-requires-clause-typed c =
+    stimulus-typed c.args.self.now.system.now c.args.self.now.key.now c.args.row c.stimulus-stimulus.result c.stimulus-stimulus.ensures c.args.self.now.forest.now c.set_slots.new.forest
+    c.set_slots.ensures c.requires.event.here c.requires.belongs c.requires.typed
+
+pub returns-clause-taken : goal.returns-clause-taken
+returns-clause-taken c =
+    let i = c.args.self.now.system.now in
+    let f = c.args.self.now.forest.now in
+    let mid = c.set_slots.new.forest in
+    let row = c.stimulus-stimulus in
+    let done = c.arrive in
+    record {
+      taken =
+          stimulus-taken i c.args.self.now.key.now c.args.row row.result row.ensures f mid c.set_slots.ensures c.requires.event.here done.new.self.forest.now
+          c.args.self.now.outbox.now done.new.self.outbox.now c.args.meter.now.left done.new.meter.left done.result done.ensures.reacted;
+      outs = done.ensures.outs;
+      fewer = done.ensures.fewer;
+      kept = kept-then i f mid done.new.self.forest.now (stimulus-kept i c.args.self.now.key.now c.args.row row.result row.ensures f mid c.set_slots.ensures c.requires.event.here) done.ensures.kept;
+    }

@@ -1,0 +1,22 @@
+//! One event on its way through its resource.
+
+ghost use Rattle.std.specs.Prelude.{◌<◌, ◌≤◌, ◌^◌, length};
+ghost use Rattle.fb_types.specs.Headline.{system_of};
+
+use crate::outbox::Outbox;
+use fb_system::system::System;
+use fb_tree::resource::Forest;
+use fb_types::key::Key;
+
+/// The taking of one event: the system and the key of the event, which stay, the blocks of the resource, and what is
+/// put out. Its methods are the steps of the taking, by what the event is, what it comes to, and what is emitted.
+#[derive(Drop)]
+pub(crate) struct Taking<'a> {
+    pub system: &'a System,
+    pub key: &'a Key,
+    pub forest: &'a mut Forest,
+    pub outbox: &'a mut Outbox,
+    // The key names a resource of the deployment, and its tick is at most 10^12.
+    ghost named: { key.now.resource < length (system_of system.now).resource_names },
+    ghost early: { key.now.tick ≤ 10 ^ 12 },
+}
