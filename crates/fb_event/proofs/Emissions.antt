@@ -17,7 +17,7 @@ use Rattle.fb_event.specs.Reactions.{IsEventOutput, IsWellFormed, emissions_of, 
 use Rattle.fb_event.specs.State.{State}
 use Rattle.fb_event.specs.Step.{Performs}
 use Rattle.fb_event.specs.declared.step.Step.{Step}
-use Rattle.fb_event.specs.declared.state.EventBlock.{EventBlock}
+use Rattle.fb_event.specs.declared.state.KindState.{KindState}
 
 -- every event output is WITH all data outputs
 outputs_with-all : (k : EventKind) (place : ℕ) → IsEventOutput k place
@@ -32,7 +32,7 @@ outputs_with-all CountUp (suc (suc place)) h = absurd (omega arith)
 outputs_with-all _ place h = refl
 
 -- an event output with the values of all data outputs is a well-formed emission
-emission_at-IsWellFormed : (b : EventBlock) (place : ℕ) → IsEventOutput (state_of b).kind place
+emission_at-IsWellFormed : (b : KindState) (place : ℕ) → IsEventOutput (state_of b).kind place
     → IsWellFormed (state_of b).kind (emission_at b place)
 emission_at-IsWellFormed b place h =
     (h, length-map _ _ ∙ sym (ap length (outputs_with-all (state_of b).kind place h)))
@@ -43,7 +43,7 @@ pair_up-map vars [] = refl
 pair_up-map vars (n ∷ ns) = rw (pair_up-map vars ns)
 
 -- what an emission by number stands for
-emission_of-emission_at : (b : EventBlock) (place : ℕ) → IsEventOutput (state_of b).kind place
+emission_of-emission_at : (b : KindState) (place : ℕ) → IsEventOutput (state_of b).kind place
     → emission_of (ports_of_event_block (state_of b).kind) (emission_at b place)
     ≡ record {
       event = event_at (ports_of_event_block (state_of b).kind).event_outputs place;
@@ -52,7 +52,7 @@ emission_of-emission_at : (b : EventBlock) (place : ℕ) → IsEventOutput (stat
 emission_of-emission_at b place h = rw (outputs_with-all (state_of b).kind place h) (rw (pair_up-map (output_of (state_of b).memory) _))
 
 -- what emissions by number stand for, by the state of the block
-meanings-emission_at : (b : EventBlock) (places : List ℕ) → All (IsEventOutput (state_of b).kind) places
+meanings-emission_at : (b : KindState) (places : List ℕ) → All (IsEventOutput (state_of b).kind) places
     → meanings (state_of b).kind (map (emission_at b) places)
     ≡ emissions (ports_of_event_block (state_of b).kind) (output_of (state_of b).memory)
     (map (event_at (ports_of_event_block (state_of b).kind).event_outputs) places)
@@ -63,7 +63,7 @@ meanings-emission_at b (place ∷ places) h =
     rw (emission_of-emission_at b place here) (rw (meanings-emission_at b places rest))
 
 -- .. and so for a block in a known state
-meanings-state : (b : EventBlock) (s : State) → state_of b ≡ s → (places : List ℕ) → All (IsEventOutput s.kind) places
+meanings-state : (b : KindState) (s : State) → state_of b ≡ s → (places : List ℕ) → All (IsEventOutput s.kind) places
     → meanings s.kind (map (emission_at b) places)
     ≡ emissions (ports_of_event_block s.kind) (output_of s.memory) (map (event_at (ports_of_event_block s.kind).event_outputs) places)
 meanings-state b s e places =
@@ -72,7 +72,7 @@ meanings-state b s e places =
     e (meanings-emission_at b places)
 
 -- a well-formed list stays so where an event output is emitted
-pub push-IsWellFormed : (b : EventBlock) (emits : List run.Emission) (place : ℕ) → All (IsWellFormed (state_of b).kind) emits
+pub push-IsWellFormed : (b : KindState) (emits : List run.Emission) (place : ℕ) → All (IsWellFormed (state_of b).kind) emits
     → IsEventOutput (state_of b).kind place → All (IsWellFormed (state_of b).kind) (emits ++ emission_at b place ∷ [])
 push-IsWellFormed b emits place all here = All-push (IsWellFormed (state_of b).kind) _ _ all (emission_at-IsWellFormed b place here)
 

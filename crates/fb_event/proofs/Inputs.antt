@@ -13,8 +13,8 @@ use Rattle.fb_event.specs.State.{State}
 use Rattle.fb_event.specs.Block.{state_of, IsInTime}
 use Rattle.fb_event.specs.Reactions.{FitTheirTypes, reaction_to, first_value}
 use Rattle.fb_event.specs.Step.{reaction_with}
-use Rattle.fb_event.specs.declared.state.EventBlock.{EventBlock}
-use Rattle.fb_event.specs.declared.state.EventBlock.TheVariants.{Delay, Cycle}
+use Rattle.fb_event.specs.declared.state.KindState.{KindState}
+use Rattle.fb_event.specs.declared.state.KindState.TheVariants.{Delay, Cycle}
 
 -- a reaction reads the first data input alone
 pub reaction_to-first : (s : State) (event tick : ℕ) (inputs : List Value) → reaction_to s event tick inputs ≡ reaction_with s event tick (first_value inputs)
@@ -30,7 +30,7 @@ in_time : (z : ℤ) → IsTrue (in_range Time z) → z <ℤ pos (2 ^ 63)
 in_time z h = grind (arith, ints, h)
 
 -- what fits TIME is in its range
-pub first_value-IsInTime : (b : EventBlock) (inputs : List Value) → FitTheirTypes (ports_of_event_block (state_of b).kind).inputs inputs → IsInTime b (first_value inputs)
+pub first_value-IsInTime : (b : KindState) (inputs : List Value) → FitTheirTypes (ports_of_event_block (state_of b).kind).inputs inputs → IsInTime b (first_value inputs)
 first_value-IsInTime (Delay t) [] h = search rules
 first_value-IsInTime (Delay t) (value.Bool b ∷ vs) h = search rules
 first_value-IsInTime (Delay t) (value.Whole z ∷ vs) h = in_time z h.0

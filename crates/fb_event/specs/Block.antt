@@ -8,8 +8,8 @@ use Rattle.fb_types.specs.declared.event_kind.EventKind.TheVariants as kind
 use Rattle.fb_event.specs.State.{State}
 use Rattle.fb_event.specs.declared.state.Timer.{Timer}
 use Rattle.fb_event.specs.declared.state.Timer.TheVariants as timer
-use Rattle.fb_event.specs.declared.state.EventBlock.{EventBlock}
-use Rattle.fb_event.specs.declared.state.EventBlock.TheVariants.{Restart, Split, Merge, Rendezvous, Permit, Select, Switch, Delay, Cycle, SetReset, DataLatch, RisingEdge, FallingEdge, CountUp}
+use Rattle.fb_event.specs.declared.state.KindState.{KindState}
+use Rattle.fb_event.specs.declared.state.KindState.TheVariants.{Restart, Split, Merge, Rendezvous, Permit, Select, Switch, Delay, Cycle, SetReset, DataLatch, RisingEdge, FallingEdge, CountUp}
 
 -- an event block of this kind that remembers this
 abbrev pub state : EventKind → Memory → State
@@ -21,7 +21,7 @@ memory_of_timer timer.Idle = Idle
 memory_of_timer (timer.Running time) = Running time
 
 -- what a block of the program stands for
-abbrev pub state_of : EventBlock → State
+abbrev pub state_of : KindState → State
 state_of Restart = state kind.Restart Idle
 state_of Split = state kind.Split Idle
 state_of Merge = state kind.Merge Idle
@@ -43,13 +43,13 @@ IsTimeInRange timer.Idle = Unit {0}
 IsTimeInRange (timer.Running time) = time < 2 ^ 63
 
 -- a block whose timer, if it has one and it runs, has a time in range
-abbrev pub IsInRange : EventBlock → Type 0
+abbrev pub IsInRange : KindState → Type 0
 IsInRange (Delay t) = IsTimeInRange t
 IsInRange (Cycle t) = IsTimeInRange t
 IsInRange _ = Unit {0}
 
 -- an input that a timer is set by has the range of TIME
-abbrev pub IsInTime : EventBlock → Value → Type 0
+abbrev pub IsInTime : KindState → Value → Type 0
 IsInTime (Delay t) dt = whole dt <ℤ pos (2 ^ 63)
 IsInTime (Cycle t) dt = whole dt <ℤ pos (2 ^ 63)
 IsInTime _ dt = Unit {0}

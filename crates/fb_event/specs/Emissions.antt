@@ -5,12 +5,12 @@ use Rattle.fb_types.specs.EventBlocks.{output_of}
 use Rattle.fb_types.specs.declared.run.Emission.{Emission}
 use Rattle.fb_types.specs.declared.value.Value.{Value}
 use Rattle.fb_event.specs.Block.{state_of}
-use Rattle.fb_event.specs.declared.state.EventBlock.{EventBlock}
+use Rattle.fb_event.specs.declared.state.KindState.{KindState}
 
 -- the values of the data outputs
-abbrev pub values_of : EventBlock → List Value
+abbrev pub values_of : KindState → List Value
 values_of b = let s = state_of b in map (output_of s.memory) (variable_names (ports_of_event_block s.kind).outputs)
 
 -- the event output at a place, with the values of all data outputs
-abbrev pub emission_at : EventBlock → ℕ → Emission
+abbrev pub emission_at : KindState → ℕ → Emission
 emission_at b place = record { event = place; values = values_of b }

@@ -5,7 +5,7 @@ ghost use Rattle.fb_event.specs.Block.{state_of};
 ghost use Rattle.fb_event.specs.Emissions.{values_of, emission_at};
 ghost use Rattle.fb_event.specs.Reactions.{IsEventOutput, IsWellFormed};
 
-use crate::state::EventBlock;
+use crate::state::KindState;
 use fb_types::run::{Emission, Emits, Values};
 use fb_types::value::Value;
 use std::alloc::{AllocError, Global};
@@ -13,7 +13,7 @@ use std::alloc::{AllocError, Global};
 /// Emits the events at these places in order, each with the values of all data outputs: of the fourteen
 /// blocks, those that have data outputs emit no event without them.
 pub(crate) fn emit_all(
-    block: EventBlock,
+    block: KindState,
     events: &[u32],
     emits: &mut Emits,
 ) -> Result<(), AllocError>
@@ -28,7 +28,7 @@ pub(crate) fn emit_all(
     Ok(())
 }
 
-fn emit(block: EventBlock, event: u32, emits: &mut Emits) -> Result<(), AllocError>
+fn emit(block: KindState, event: u32, emits: &mut Emits) -> Result<(), AllocError>
     ensures ok { OnOk result (emits.new ≡ emits.old ++ emission_at block event ∷ []) }
     ensures err { OnErr result (emits.new ≡ emits.old) }
 {
@@ -37,15 +37,15 @@ fn emit(block: EventBlock, event: u32, emits: &mut Emits) -> Result<(), AllocErr
 }
 
 /// The values of the data outputs.
-fn outputs(block: EventBlock, alloc: Global) -> Result<Values, AllocError>
+fn outputs(block: KindState, alloc: Global) -> Result<Values, AllocError>
     ensures { IfOk result (λ values. values ≡ values_of block) }
 {
     match block {
-        EventBlock::SetReset(q) | EventBlock::DataLatch(q) => Values::from_slice(
+        KindState::SetReset(q) | KindState::DataLatch(q) => Values::from_slice(
             alloc,
             &[Value::Bool(q)],
         ),
-        EventBlock::CountUp { count, reached } => {
+        KindState::CountUp { count, reached } => {
             Values::from_slice(alloc, &[Value::Bool(reached), Value::Whole(count as i128)])
         }
         _ => Ok(Values::new(alloc)),

@@ -16,7 +16,7 @@ pub(crate) enum Timer {
 
 /// An event block of each kind, with what it remembers.
 #[derive(Clone, Copy, Debug, PartialEq, Eq)]
-pub(crate) enum EventBlock {
+pub(crate) enum KindState {
     Restart,
     Split,
     Merge,
@@ -42,7 +42,7 @@ pub(crate) enum EventBlock {
 /// An event block: its kind, and what it remembers from one reaction to the next.
 #[derive(Clone, Debug, Drop)]
 pub struct EventState {
-    pub(crate) block: EventBlock,
+    pub(crate) block: KindState,
 }
 
 impl Model for EventState {
@@ -64,23 +64,23 @@ impl EventState {
         ensures memory { result.memory ≡ memory_at_start kind }
     {
         let block = match kind {
-            EventKind::Restart => EventBlock::Restart,
-            EventKind::Split => EventBlock::Split,
-            EventKind::Merge => EventBlock::Merge,
-            EventKind::Rendezvous => EventBlock::Rendezvous {
+            EventKind::Restart => KindState::Restart,
+            EventKind::Split => KindState::Split,
+            EventKind::Merge => KindState::Merge,
+            EventKind::Rendezvous => KindState::Rendezvous {
                 first: false,
                 second: false,
             },
-            EventKind::Permit => EventBlock::Permit,
-            EventKind::Select => EventBlock::Select,
-            EventKind::Switch => EventBlock::Switch,
-            EventKind::Delay => EventBlock::Delay(Timer::Idle),
-            EventKind::Cycle => EventBlock::Cycle(Timer::Idle),
-            EventKind::SetReset => EventBlock::SetReset(false),
-            EventKind::DataLatch => EventBlock::DataLatch(false),
-            EventKind::RisingEdge => EventBlock::RisingEdge(false),
-            EventKind::FallingEdge => EventBlock::FallingEdge(false),
-            EventKind::CountUp => EventBlock::CountUp {
+            EventKind::Permit => KindState::Permit,
+            EventKind::Select => KindState::Select,
+            EventKind::Switch => KindState::Switch,
+            EventKind::Delay => KindState::Delay(Timer::Idle),
+            EventKind::Cycle => KindState::Cycle(Timer::Idle),
+            EventKind::SetReset => KindState::SetReset(false),
+            EventKind::DataLatch => KindState::DataLatch(false),
+            EventKind::RisingEdge => KindState::RisingEdge(false),
+            EventKind::FallingEdge => KindState::FallingEdge(false),
+            EventKind::CountUp => KindState::CountUp {
                 count: 0,
                 reached: false,
             },
@@ -103,7 +103,7 @@ impl EventState {
     }
 }
 
-impl EventBlock {
+impl KindState {
     ghost use Rattle.fb_event.specs.Block.{state_of};
 
     /// The kind of the block.
@@ -111,20 +111,20 @@ impl EventBlock {
         ensures { result ≡ (state_of self.now).kind }
     {
         match self {
-            EventBlock::Restart => EventKind::Restart,
-            EventBlock::Split => EventKind::Split,
-            EventBlock::Merge => EventKind::Merge,
-            EventBlock::Rendezvous { .. } => EventKind::Rendezvous,
-            EventBlock::Permit => EventKind::Permit,
-            EventBlock::Select => EventKind::Select,
-            EventBlock::Switch => EventKind::Switch,
-            EventBlock::Delay(_) => EventKind::Delay,
-            EventBlock::Cycle(_) => EventKind::Cycle,
-            EventBlock::SetReset(_) => EventKind::SetReset,
-            EventBlock::DataLatch(_) => EventKind::DataLatch,
-            EventBlock::RisingEdge(_) => EventKind::RisingEdge,
-            EventBlock::FallingEdge(_) => EventKind::FallingEdge,
-            EventBlock::CountUp { .. } => EventKind::CountUp,
+            KindState::Restart => EventKind::Restart,
+            KindState::Split => EventKind::Split,
+            KindState::Merge => EventKind::Merge,
+            KindState::Rendezvous { .. } => EventKind::Rendezvous,
+            KindState::Permit => EventKind::Permit,
+            KindState::Select => EventKind::Select,
+            KindState::Switch => EventKind::Switch,
+            KindState::Delay(_) => EventKind::Delay,
+            KindState::Cycle(_) => EventKind::Cycle,
+            KindState::SetReset(_) => EventKind::SetReset,
+            KindState::DataLatch(_) => EventKind::DataLatch,
+            KindState::RisingEdge(_) => EventKind::RisingEdge,
+            KindState::FallingEdge(_) => EventKind::FallingEdge,
+            KindState::CountUp { .. } => EventKind::CountUp,
         }
     }
 }

@@ -7,7 +7,7 @@ ghost use Rattle.fb_event.specs.Block.{state_of, IsInRange, IsInTime, IsTimeInRa
 ghost use Rattle.fb_event.specs.Reactions.{expiry_of};
 ghost use Rattle.fb_event.specs.Step.{IsTimerAfter, Performs, reaction_with, timed_with};
 
-use crate::state::{EventBlock, Timer};
+use crate::state::{KindState, Timer};
 use fb_types::run::TimerAsk;
 use fb_types::value::Value;
 
@@ -30,14 +30,14 @@ const R_OF_COUNT_UP: u32 = 1;
 /// it asks of its timer.
 #[derive(Clone, Copy)]
 pub(crate) struct Step {
-    pub block: EventBlock,
+    pub block: KindState,
     pub emits: &'static [u32],
     pub ask: TimerAsk,
 }
 
 impl Step {
     /// Nothing is emitted, and the timer stays as it is.
-    fn silent(block: EventBlock) -> Step
+    fn silent(block: KindState) -> Step
         ensures block { result.block ≡ block }
         ensures emits { result.emits.now ≡ [] }
         ensures ask { result.ask ≡ TimerAsk.Keep }
@@ -46,7 +46,7 @@ impl Step {
     }
 
     /// The event outputs at these places are emitted, in order. The timer stays as it is.
-    fn emitting(block: EventBlock, emits: &'static [u32]) -> Step
+    fn emitting(block: KindState, emits: &'static [u32]) -> Step
         ensures block { result.block ≡ block }
         ensures emits { result.emits.now ≡ emits.now }
         ensures ask { result.ask ≡ TimerAsk.Keep }
@@ -59,7 +59,7 @@ impl Step {
     }
 
     /// The first event output is emitted if the condition holds. The timer stays as it is.
-    fn emitting_if(condition: bool, block: EventBlock) -> Step
+    fn emitting_if(condition: bool, block: KindState) -> Step
         ensures block { result.block ≡ block }
         ensures emits { result.emits.now ≡ (if condition then 0 ∷ [] else []) }
         ensures ask { result.ask ≡ TimerAsk.Keep }
@@ -74,64 +74,64 @@ impl Step {
 
 /// The reaction to the event input at a place, with the value of the data input, if the block has one.
 #[tactic(auto, using(crate::proofs::Events::places_of_events))]
-pub(crate) fn reaction(block: EventBlock, event: u32, tick: u64, input: Value) -> Step
+pub(crate) fn reaction(block: KindState, event: u32, tick: u64, input: Value) -> Step
     requires early { tick ≤ 10 ^ 12 }
     requires running { IsInRange block }
     requires in_range { IsInTime block input }
     ensures { Performs (state_of block) (reaction_with (state_of block) event tick input) result }
 {
     match block {
-        EventBlock::Restart => Step::silent(block),
-        EventBlock::Split => Step::emitting(block, &[0, 1]),
-        EventBlock::Merge => Step::emitting(block, &[0]),
-        EventBlock::Rendezvous { first, second } => rendezvous(first, second, event),
-        EventBlock::Permit => Step::emitting_if(is_true(input), block),
-        EventBlock::Select => Step::emitting_if((event == EI0_OF_SELECT) != is_true(input), block),
-        EventBlock::Switch => Step::emitting(block, if is_true(input) { &[1] } else { &[0] }),
-        EventBlock::Delay(timer) => {
+        KindState::Restart => Step::silent(block),
+        KindState::Split => Step::emitting(block, &[0, 1]),
+        KindState::Merge => Step::emitting(block, &[0]),
+        KindState::Rendezvous { first, second } => rendezvous(first, second, event),
+        KindState::Permit => Step::emitting_if(is_true(input), block),
+        KindState::Select => Step::emitting_if((event == EI0_OF_SELECT) != is_true(input), block),
+        KindState::Switch => Step::emitting(block, if is_true(input) { &[1] } else { &[0] }),
+        KindState::Delay(timer) => {
             let (timer, ask) = timed(timer, event, tick, input);
             Step {
                 ask,
-                ..Step::silent(EventBlock::Delay(timer))
+                ..Step::silent(KindState::Delay(timer))
             }
         }
-        EventBlock::Cycle(timer) => {
+        KindState::Cycle(timer) => {
             let (timer, ask) = timed(timer, event, tick, input);
             Step {
                 ask,
-                ..Step::silent(EventBlock::Cycle(timer))
+                ..Step::silent(KindState::Cycle(timer))
             }
         }
-        EventBlock::SetReset(q) => {
+        KindState::SetReset(q) => {
             let set = event == S_OF_SET_RESET;
-            Step::emitting_if(q != set, EventBlock::SetReset(set))
+            Step::emitting_if(q != set, KindState::SetReset(set))
         }
-        EventBlock::DataLatch(q) => {
+        KindState::DataLatch(q) => {
             let d = is_true(input);
-            Step::emitting_if(q != d, EventBlock::DataLatch(d))
+            Step::emitting_if(q != d, KindState::DataLatch(d))
         }
-        EventBlock::RisingEdge(before) => {
+        KindState::RisingEdge(before) => {
             let now = is_true(input);
-            Step::emitting_if(!before && now, EventBlock::RisingEdge(now))
+            Step::emitting_if(!before && now, KindState::RisingEdge(now))
         }
-        EventBlock::FallingEdge(before) => {
+        KindState::FallingEdge(before) => {
             let now = is_true(input);
-            Step::emitting_if(before && !now, EventBlock::FallingEdge(now))
+            Step::emitting_if(before && !now, KindState::FallingEdge(now))
         }
-        EventBlock::CountUp { count, reached } => count_up(count, reached, event, input),
+        KindState::CountUp { count, reached } => count_up(count, reached, event, input),
     }
 }
 
 /// The reaction to the timer.
-pub(crate) fn expiry(block: EventBlock, tick: u64) -> Step
+pub(crate) fn expiry(block: KindState, tick: u64) -> Step
     requires early { tick ≤ 10 ^ 12 }
     requires running { IsInRange block }
     ensures { Performs (state_of block) (expiry_of (state_of block) tick) result }
 {
     match block {
-        EventBlock::Restart => Step::emitting(block, &[0]),
-        EventBlock::Delay(_) => Step::emitting(EventBlock::Delay(Timer::Idle), &[0]),
-        EventBlock::Cycle(Timer::Running(time)) => Step {
+        KindState::Restart => Step::emitting(block, &[0]),
+        KindState::Delay(_) => Step::emitting(KindState::Delay(Timer::Idle), &[0]),
+        KindState::Cycle(Timer::Running(time)) => Step {
             block,
             emits: &[0],
             ask: TimerAsk::At(tick + time),
@@ -142,11 +142,11 @@ pub(crate) fn expiry(block: EventBlock, tick: u64) -> Step
 
 /// E_REND emits EO when both events have come, and R clears both marks.
 fn rendezvous(first: bool, second: bool, event: u32) -> Step
-    ensures { let before = EventBlock.Rendezvous first second in
+    ensures { let before = KindState.Rendezvous first second in
         Performs (state_of before) (reaction_with (state_of before) event 0 (Value.Bool false)) result }
 {
     if event == R_OF_RENDEZVOUS {
-        return Step::silent(EventBlock::Rendezvous {
+        return Step::silent(KindState::Rendezvous {
             first: false,
             second: false,
         });
@@ -155,14 +155,14 @@ fn rendezvous(first: bool, second: bool, event: u32) -> Step
     let second = second || event == EI2_OF_RENDEZVOUS;
     if first && second {
         Step::emitting(
-            EventBlock::Rendezvous {
+            KindState::Rendezvous {
                 first: false,
                 second: false,
             },
             &[0],
         )
     } else {
-        Step::silent(EventBlock::Rendezvous { first, second })
+        Step::silent(KindState::Rendezvous { first, second })
     }
 }
 
@@ -187,12 +187,12 @@ fn timed(timer: Timer, event: u32, tick: u64, input: Value) -> (Timer, TimerAsk)
 
 /// E_CTU counts up to 65535, and R sets it to 0.
 fn count_up(count: u16, reached: bool, event: u32, input: Value) -> Step
-    ensures { let before = EventBlock.CountUp count reached in
+    ensures { let before = KindState.CountUp count reached in
         Performs (state_of before) (reaction_with (state_of before) event 0 input) result }
 {
     if event == R_OF_COUNT_UP {
         return Step::emitting(
-            EventBlock::CountUp {
+            KindState::CountUp {
                 count: 0,
                 reached: false,
             },
@@ -200,11 +200,11 @@ fn count_up(count: u16, reached: bool, event: u32, input: Value) -> Step
         );
     }
     if count == u16::MAX {
-        return Step::silent(EventBlock::CountUp { count, reached });
+        return Step::silent(KindState::CountUp { count, reached });
     }
     let count = count + 1;
     let reached = whole(input) <= count as i128;
-    Step::emitting(EventBlock::CountUp { count, reached }, &[0])
+    Step::emitting(KindState::CountUp { count, reached }, &[0])
 }
 
 /// A time in ticks. Below 1 it counts as 1.

@@ -13,11 +13,13 @@ use std::alloc::Global;
 use toml::Table;
 
 /// The greatest length of the bytes. A byte order mark counts.
-const MOST_BYTES: usize = 1_048_576;
+pub const MOST_BYTES: usize = 1_048_576;
 
-const MOST_RESOURCES: usize = 256;
+/// The greatest number of resources.
+pub const MOST_RESOURCES: usize = 256;
 
-const MOST_LINKS: usize = 1_024;
+/// The greatest number of links.
+pub const MOST_LINKS: usize = 1_024;
 
 /// The deployment, where its numbers are within their limits.
 #[tactic(auto, unfolding(crate::specs::Deployments::judged))]

@@ -15,7 +15,7 @@ mod keyword;
 mod number;
 mod row;
 pub mod stimuli;
-mod table;
+pub mod table;
 mod text;
 
 pub use deployment::read_deploy;

@@ -16,17 +16,17 @@ use fb_types::items::Items;
 use std::alloc::Global;
 
 /// The greatest length of the bytes. A byte order mark counts.
-const MOST_BYTES: usize = 16_777_216;
+pub const MOST_BYTES: usize = 16_777_216;
 
 /// The greatest number of stimuli.
-const MOST_ROWS: usize = 100_000;
+pub const MOST_ROWS: usize = 100_000;
 
 /// The greatest tick of a stimulus.
 const MOST_TICK: u128 = 1_000_000_000_000;
 
-/// The fields of a record of three.
+/// The tick, the event and the values of a record: the fields of one of three.
 #[tactic(auto, using(crate::proofs::Fields::three_fields), unfolding(crate::specs::Stimuli::three))]
-fn three(row: &ByteRecord) -> Option<(&[u8], &[u8], &[u8])>
+pub fn columns(row: &ByteRecord) -> Option<(&[u8], &[u8], &[u8])>
     ensures { option_map (λ f. (f.0.now, f.1.now, f.2.now)) result ≡ spec.three (fields_of row.now) }
 {
     if row.len() != 3 {
@@ -39,7 +39,7 @@ fn three(row: &ByteRecord) -> Option<(&[u8], &[u8], &[u8])>
 fn is_head(row: &ByteRecord) -> bool
     ensures { result ≡ spec.is_head (fields_of row.now) }
 {
-    match three(row) {
+    match columns(row) {
         Some((tick, event, values)) => {
             tick == b"tick".as_slice()
                 && event == b"event".as_slice()
@@ -50,7 +50,7 @@ fn is_head(row: &ByteRecord) -> bool
 }
 
 /// Whether the record is `tick,event,values`. It is freed here, so that no caller holds it at its exits.
-fn heads(row: ByteRecord) -> bool
+pub fn heads(row: ByteRecord) -> bool
     ensures { result ≡ spec.is_head (fields_of row) }
 {
     is_head(&row)
@@ -61,7 +61,7 @@ fn heads(row: ByteRecord) -> bool
 fn stimulus_of(alloc: Global, before: usize, row: &ByteRecord) -> Result<Stimulus, InputError>
     ensures { Answers (λ s. s) (spec.stimulus before (fields_of row.now)) result }
 {
-    let Some((tick, event, values)) = three(row) else {
+    let Some((tick, event, values)) = columns(row) else {
         return Err(InputError::Row);
     };
     let Some(draft) = draft_of(alloc, event, values)? else {

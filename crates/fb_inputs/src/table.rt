@@ -16,9 +16,10 @@ const MOST_TICKS: i64 = 1_000_000;
 const MOST_START: i64 = 1_000_000_000_000;
 
 /// The greatest number of entries of a table.
-const MOST_ENTRIES: usize = 64;
+pub const MOST_ENTRIES: usize = 64;
 
-fn is_latency(ticks: i64) -> bool
+/// Whether a latency is within 1 to 1,000,000 ticks.
+pub fn is_latency(ticks: i64) -> bool
     ensures { result ≡ spec.is_latency ticks }
 {
     1 <= ticks && ticks <= MOST_TICKS
@@ -30,7 +31,8 @@ fn has_latencies(table: &[LatencyDraft]) -> bool
     table.iter().all(|p| is_latency(p.ticks))
 }
 
-fn is_after(last: u64, start: i64) -> bool
+/// Whether an entry may begin at a tick behind one that begins at `last`.
+pub fn is_after(last: u64, start: i64) -> bool
     ensures { result ≡ spec.is_after last start }
 {
     0 <= start && last < start.unsigned_abs() && start <= MOST_START
@@ -73,21 +75,21 @@ fn is_short(table: &[LatencyDraft]) -> bool
 }
 
 /// Whether all latencies are within 1 to 1,000,000 ticks.
-pub fn all_have_latencies(links: &[LinkDraft]) -> bool
+pub(crate) fn all_have_latencies(links: &[LinkDraft]) -> bool
     ensures { result ≡ spec.all_tables spec.has_latencies links.now }
 {
     links.iter().all(|l| has_latencies(l.table.as_slice()))
 }
 
 /// Whether all tables rise from tick 0.
-pub fn all_rise(links: &[LinkDraft]) -> bool
+pub(crate) fn all_rise(links: &[LinkDraft]) -> bool
     ensures { result ≡ spec.all_tables spec.rises links.now }
 {
     links.iter().all(|l| rises(l.table.as_slice()))
 }
 
 /// Whether no table has too many entries.
-pub fn all_are_short(links: &[LinkDraft]) -> bool
+pub(crate) fn all_are_short(links: &[LinkDraft]) -> bool
     ensures { result ≡ spec.all_tables spec.is_short links.now }
 {
     links.iter().all(|l| is_short(l.table.as_slice()))
@@ -120,7 +122,7 @@ fn latency_of(alloc: Global, table: &[LatencyDraft]) -> Result<Latency, AllocErr
 }
 
 /// The links whose tables were judged.
-pub fn links_of(alloc: Global, drafts: Items<LinkDraft>) -> Result<Items<Link>, AllocError>
+pub(crate) fn links_of(alloc: Global, drafts: Items<LinkDraft>) -> Result<Items<Link>, AllocError>
     requires latencies { spec.all_tables spec.has_latencies drafts ≡ true }
     requires rising { spec.all_tables spec.rises drafts ≡ true }
     requires short { spec.all_tables spec.is_short drafts ≡ true }

@@ -5,7 +5,7 @@ ghost use Rattle.fb_types.specs.Headline.{system_of};
 ghost use Rattle.fb_system.specs.Ports.{IsVariable, variable_of};
 ghost use Rattle.fb_tree.specs.Opening.{Covers, CoversAll, CoversPlaces, KeepsCovers};
 
-use crate::resource::Held;
+use crate::resource::HeldCopies;
 use fb_system::system::System;
 use fb_types::run::Place;
 use fb_types::value::Value;
@@ -31,7 +31,7 @@ fn hold(
     system: &System,
     resource: usize,
     to: Place,
-    held: &mut Held,
+    held: &mut HeldCopies,
 ) -> Result<(), AllocError>
     requires { IsVariable (system_of system.now) to }
     ensures covered { OnOk result (Covers system.now resource held.new to) }
@@ -55,7 +55,7 @@ fn hold_places(
     resource: usize,
     instance: u32,
     is_output: bool,
-    held: &mut Held,
+    held: &mut HeldCopies,
 ) -> Result<(), AllocError>
     requires { instance < length (system_of system.now).paths }
     ensures covered { OnOk result (CoversPlaces system.now resource held.new instance is_output) }
@@ -83,7 +83,11 @@ fn hold_places(
 
 /// The copies of the variables of other resources to which those of a resource are connected, each with what the
 /// variable begins with.
-pub(crate) fn held_of(alloc: Global, system: &System, resource: usize) -> Result<Held, AllocError>
+pub(crate) fn held_of(
+    alloc: Global,
+    system: &System,
+    resource: usize,
+) -> Result<HeldCopies, AllocError>
     ensures { IfOk result (CoversAll system.now resource) }
 {
     system.facts();

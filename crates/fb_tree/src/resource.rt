@@ -24,7 +24,7 @@ use std::alloc::Global;
 use std::collections::BTreeMap;
 
 /// Values of variables of other resources, by instance, place, and whether it is an output.
-pub type Held = BTreeMap<(u32, u32, bool), Value, Global>;
+pub type HeldCopies = BTreeMap<(u32, u32, bool), Value, Global>;
 
 /// The instances of one resource, and the held copies of the variables of other resources to which they are
 /// connected.
@@ -34,7 +34,7 @@ pub struct Forest {
     pub resource: usize,
     /// The instances of the application that lie in the resource, in the order of the text.
     pub blocks: Items<Block>,
-    pub held: Held,
+    pub held: HeldCopies,
 }
 
 /// What stands for a value that is not there.

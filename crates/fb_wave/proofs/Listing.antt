@@ -1,7 +1,7 @@
 -- Pieces of a text, one for each element of a list, each with its number.
-use Rattle.std.proofs.Common.{◌≡◌, ℕ, ◌+◌, ◌<◌, ◌≤◌, suc, List, [], ◌∷◌, ◌++◌, length, get_or, drop, refl, sym, ap, ◌∙◌, arith, append_assoc, append-nil, add-one}
+use Rattle.std.proofs.Common.{◌≡◌, ℕ, ◌+◌, ◌<◌, ◌≤◌, suc, List, [], ◌∷◌, ◌++◌, length, get_or, drop, sym, ap, ◌∙◌, append_assoc, append-nil, add-one}
 use Rattle.std.proofs.Math.Seq.{drop-cons}
-use Rattle.std.proofs.lemmas.List.{drop_all, get_or_default}
+use Rattle.std.proofs.lemmas.List.{drop_all}
 
 -- A text of a list and the number of its first element, that goes from element to element.
 pub record Goes {X : Type 0} (F : ℕ → List X → List ℕ) (E : ℕ → X → List ℕ) : Type 0 where
@@ -25,11 +25,3 @@ pub gone_all :
     → SoFar F old text first s i xs → text ≡ old ++ F first xs
 gone_all F E old text first s i xs goes past soFar =
     sym (append-nil text) ∙ ap (λ l. text ++ l) (sym (ap (F s) (drop_all i xs past) ∙ goes.none s)) ∙ soFar
-
--- the same where the piece does not go by the element
-pub going_past :
-    {X : Type 0} (F : ℕ → List X → List ℕ) (E : ℕ → List ℕ) (old text new : List ℕ) (first s i : ℕ) (xs : List X) → Goes F (λ s x. E s) → i < length xs
-    → new ≡ text ++ E s → SoFar F old text first s i xs → SoFar F old new first (s + 1) (i + 1) xs
-going_past F E old text new first s i [] goes within put soFar = absurd (omega arith)
-going_past F E old text new first s i (x ∷ xs) goes within put soFar =
-    going_on F (λ s x. E s) old text new first s i (x ∷ xs) (get_or (x ∷ xs) i x) goes within (get_or_default (x ∷ xs) i x (get_or (x ∷ xs) i x) within) put soFar

@@ -10,6 +10,8 @@ use Rattle.fb_types.specs.declared.library.Ports.{Ports}
 use Rattle.fb_types.specs.declared.library.Variable.{Variable}
 use Rattle.fb_types.specs.declared.value.Ty.{Ty}
 use Rattle.fb_types.specs.declared.value.Ty.TheVariants.{Bool as Boolean}
+use Rattle.fb_wave.specs.declared.signals.HeadPart.{HeadPart}
+use Rattle.fb_wave.specs.declared.signals.HeadPart.TheVariants.{Declarations, Beginnings}
 use Rattle.fb_wave.specs.Changes.{line, event_code, count_code, variable_code}
 use Rattle.fb_wave.specs.Signals.{size_of}
 
@@ -31,30 +33,56 @@ variable_kind _ = codes "reg 64"
 abbrev pub variable_declared : ℕ → Name → Ty → List ℕ
 variable_declared s n ty = declares (variable_kind ty) (variable_code s) n
 
+-- ---- What signals begin with
+
+-- no event yet
+abbrev pub event_begun : ℕ → List ℕ
+event_begun s = line (codes "b0 " ++ count_code s)
+
+abbrev pub variable_begun : ℕ → Ty → List ℕ
+variable_begun s Boolean = line (codes "x" ++ variable_code s)
+variable_begun s _ = line (codes "bx " ++ variable_code s)
+
+-- ---- The signals of an interface, either way
+
+abbrev pub event_told : HeadPart → ℕ → Name → List ℕ
+event_told Declarations s n = event_declared s n
+event_told Beginnings s n = event_begun s
+
+abbrev pub variable_told : HeadPart → ℕ → Name → Ty → List ℕ
+variable_told Declarations s n ty = variable_declared s n ty
+variable_told Beginnings s n ty = variable_begun s ty
+
 -- events, the first with this number
-abbrev pub events_declared : ℕ → List EventPort → List ℕ
-events_declared s [] = []
-events_declared s (e ∷ es) = event_declared s e.name ++ events_declared (s + 1) es
+abbrev pub events_told : HeadPart → ℕ → List EventPort → List ℕ
+events_told part s [] = []
+events_told part s (e ∷ es) = event_told part s e.name ++ events_told part (s + 1) es
 
 -- a variable that lines carry is one WITH an event
 abbrev pub is_carried : List EventPort → Variable → Bool
 is_carried es v = list_any (λ e. among e.with v.name) es
 
-abbrev pub carried_declared : List EventPort → ℕ → Variable → List ℕ
-carried_declared es s v = if is_carried es v then variable_declared s v.name v.ty else []
+abbrev pub carried_told : HeadPart → List EventPort → ℕ → Variable → List ℕ
+carried_told part es s v = if is_carried es v then variable_told part s v.name v.ty else []
 
 -- variables, the first with this number
-abbrev pub variables_declared : List EventPort → ℕ → List Variable → List ℕ
-variables_declared es s [] = []
-variables_declared es s (v ∷ vs) = carried_declared es s v ++ variables_declared es (s + 1) vs
+abbrev pub variables_told : HeadPart → List EventPort → ℕ → List Variable → List ℕ
+variables_told part es s [] = []
+variables_told part es s (v ∷ vs) = carried_told part es s v ++ variables_told part es (s + 1) vs
 
 -- the signals of an interface, the first with this number
-abbrev pub ports_declared : ℕ → Ports → List ℕ
-ports_declared s its =
+abbrev pub ports_told : HeadPart → ℕ → Ports → List ℕ
+ports_told part s its =
     let outs = s + length its.event_inputs in
     let ins = outs + length its.event_outputs in
-    events_declared s its.event_inputs ++ events_declared outs its.event_outputs
-    ++ variables_declared its.event_inputs ins its.inputs ++ variables_declared its.event_outputs (ins + length its.inputs) its.outputs
+    events_told part s its.event_inputs ++ events_told part outs its.event_outputs
+    ++ variables_told part its.event_inputs ins its.inputs ++ variables_told part its.event_outputs (ins + length its.inputs) its.outputs
+
+abbrev pub ports_declared : ℕ → Ports → List ℕ
+ports_declared s its = ports_told Declarations s its
+
+abbrev pub ports_begun : ℕ → Ports → List ℕ
+ports_begun s its = ports_told Beginnings s its
 
 -- ---- Scopes
 
@@ -88,32 +116,6 @@ resources_declared sys r (n ∷ ns) =
     opened n ++ instances_declared sys r 0 0 sys.paths ++ closed 1 ++ resources_declared sys (r + 1) ns
 
 -- ---- Beginnings
-
--- no event yet
-abbrev pub event_begun : ℕ → List ℕ
-event_begun s = line (codes "b0 " ++ count_code s)
-
-abbrev pub events_begun : ℕ → List EventPort → List ℕ
-events_begun s [] = []
-events_begun s (e ∷ es) = event_begun s ++ events_begun (s + 1) es
-
-abbrev pub variable_begun : ℕ → Ty → List ℕ
-variable_begun s Boolean = line (codes "x" ++ variable_code s)
-variable_begun s _ = line (codes "bx " ++ variable_code s)
-
-abbrev pub carried_begun : List EventPort → ℕ → Variable → List ℕ
-carried_begun es s v = if is_carried es v then variable_begun s v.ty else []
-
-abbrev pub variables_begun : List EventPort → ℕ → List Variable → List ℕ
-variables_begun es s [] = []
-variables_begun es s (v ∷ vs) = carried_begun es s v ++ variables_begun es (s + 1) vs
-
-abbrev pub ports_begun : ℕ → Ports → List ℕ
-ports_begun s its =
-    let outs = s + length its.event_inputs in
-    let ins = outs + length its.event_outputs in
-    events_begun s its.event_inputs ++ events_begun outs its.event_outputs
-    ++ variables_begun its.event_inputs ins its.inputs ++ variables_begun its.event_outputs (ins + length its.inputs) its.outputs
 
 abbrev pub instances_begun : System → ℕ → List Path → List ℕ
 instances_begun sys s [] = []

@@ -1,13 +1,9 @@
-//! The declarations of the signals of an interface.
+//! The declarations of signals.
 
-ghost use Rattle.std.specs.Prelude.{◌≡◌, ◌<◌, ◌+◌, ◌^◌, ◌++◌, OnOk, length, decimal, codes};
-ghost use Rattle.fb_types.specs.Blocks.{among};
+ghost use Rattle.std.specs.Prelude.{◌≡◌, ◌++◌, OnOk, decimal, codes};
 ghost use Rattle.fb_wave.specs.Scopes as spec;
-ghost use Rattle.fb_wave.specs.Signals.{size_of};
 
 use crate::digits::put_decimal;
-use fb_types::library::{EventPort, Ports, Variable};
-use fb_types::name::Name;
 use fb_types::value::Ty;
 use std::alloc::AllocError;
 
@@ -43,39 +39,13 @@ fn put_declared(
     Ok(())
 }
 
-fn put_event(text: &mut Vec<u8>, signal: usize, name: &[u8]) -> Result<(), AllocError>
+/// Declares the event of a port, and the register that counts its events.
+pub(crate) fn put_event(text: &mut Vec<u8>, signal: usize, name: &[u8]) -> Result<(), AllocError>
     ensures { OnOk result (text.new.items ≡ text.old.items ++ spec.event_declared signal name.now) }
 {
     put_declared(text, b"event 1", b"e", signal, name, b"")?;
     put_declared(text, b"reg 64", b"n", signal, name, b"_count")?;
     Ok(())
-}
-
-fn put_events(text: &mut Vec<u8>, first: usize, events: &[EventPort]) -> Result<(), AllocError>
-    requires { first + length events.now < 2 ^ 64 }
-    ensures { OnOk result (text.new.items ≡ text.old.items ++ spec.events_declared first events.now) }
-{
-    let mut signal = first;
-    for event in events {
-        put_event(text, signal, event.name.as_bytes())?;
-        signal += 1;
-    }
-    Ok(())
-}
-
-/// Whether lines carry a variable: where it is WITH one of the events.
-pub(crate) fn is_carried(events: &[EventPort], variable: &Variable) -> bool
-    ensures { result ≡ spec.is_carried events.now variable.now }
-{
-    events
-        .iter()
-        .any(|event| is_among(event.with.as_slice(), &variable.name))
-}
-
-fn is_among(names: &[Name], name: &Name) -> bool
-    ensures { result ≡ among names.now name.now }
-{
-    names.iter().any(|other| name.is(other))
 }
 
 /// The kind of the signal of a variable: a truth value is a wire.
@@ -88,58 +58,14 @@ fn kind_of(ty: Ty) -> &'static [u8]
     }
 }
 
-/// Declares a variable, if lines carry it.
-fn put_variable(
+/// Declares a variable.
+pub(crate) fn put_variable(
     text: &mut Vec<u8>,
-    events: &[EventPort],
     signal: usize,
-    variable: &Variable,
+    name: &[u8],
+    ty: Ty,
 ) -> Result<(), AllocError>
-    ensures { OnOk result (text.new.items ≡ text.old.items ++ spec.carried_declared events.now signal variable.now) }
+    ensures { OnOk result (text.new.items ≡ text.old.items ++ spec.variable_declared signal name.now ty) }
 {
-    if is_carried(events, variable) {
-        let name = variable.name.as_bytes();
-        put_declared(text, kind_of(variable.ty), b"v", signal, name, b"")?;
-    }
-    Ok(())
-}
-
-fn put_variables(
-    text: &mut Vec<u8>,
-    events: &[EventPort],
-    first: usize,
-    variables: &[Variable],
-) -> Result<(), AllocError>
-    requires { first + length variables.now < 2 ^ 64 }
-    ensures { OnOk result (text.new.items ≡ text.old.items ++ spec.variables_declared events.now first variables.now) }
-{
-    let mut signal = first;
-    for variable in variables {
-        put_variable(text, events, signal, variable)?;
-        signal += 1;
-    }
-    Ok(())
-}
-
-/// Declares the signals of an interface, the first with this number.
-pub(crate) fn put_ports(text: &mut Vec<u8>, first: usize, ports: &Ports) -> Result<(), AllocError>
-    requires { first + size_of ports.now < 2 ^ 64 }
-    ensures { OnOk result (text.new.items ≡ text.old.items ++ spec.ports_declared first ports.now) }
-{
-    let outputs = first + ports.event_inputs.len();
-    let variables = outputs + ports.event_outputs.len();
-    put_events(text, first, ports.event_inputs.as_slice())?;
-    put_events(text, outputs, ports.event_outputs.as_slice())?;
-    put_variables(
-        text,
-        ports.event_inputs.as_slice(),
-        variables,
-        ports.inputs.as_slice(),
-    )?;
-    put_variables(
-        text,
-        ports.event_outputs.as_slice(),
-        variables + ports.inputs.len(),
-        ports.outputs.as_slice(),
-    )
+    put_declared(text, kind_of(ty), b"v", signal, name, b"")
 }

@@ -8,7 +8,7 @@ ghost use Rattle.fb_wave.specs.Signals.{size_of};
 ghost use Rattle.fb_wave.specs.Writing.{AreFirsts};
 
 use crate::scopes::{put_closed, put_opened};
-use crate::{begun, declared};
+use crate::signals::{HeadPart, put_ports};
 use fb_system::system::System;
 use std::alloc::AllocError;
 
@@ -53,7 +53,7 @@ fn put_instance(
     let ended = depth.saturating_sub(outside);
     put_closed(text, ended)?;
     put_opened(text, own_name(system, instance))?;
-    declared::put_ports(text, first, system.ports(instance))?;
+    put_ports(text, HeadPart::Declarations, first, system.ports(instance))?;
     Ok(height)
 }
 
@@ -88,7 +88,12 @@ fn put_begun(text: &mut Vec<u8>, system: &System, firsts: &[usize]) -> Result<()
 {
     system.facts();
     for place in 0..system.count() {
-        begun::put_ports(text, firsts[place], system.ports(place as u32))?;
+        put_ports(
+            text,
+            HeadPart::Beginnings,
+            firsts[place],
+            system.ports(place as u32),
+        )?;
     }
     Ok(())
 }

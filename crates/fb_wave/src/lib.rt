@@ -7,7 +7,7 @@
 //! To be read in this order: `wave`, the entry, with `error`; `copy`, which goes line by line, and `page`, where text waits. Then
 //! how lines are read: `words`, what parts a line; `number` and `values`, what words stand for; `ports`, the event ports of a
 //! system; `table`, finds them by what lines have of them; `line`; `last`. Then how they are told: `levels` and `change`, what
-//! signals show and how changes are told; `scopes`, `declared` and `begun`, what stands before them; `digits`; `firsts` and `head`;
+//! signals show and how changes are told; `scopes`, `declared`, `begun` and `signals`, what stands before them; `digits`; `firsts` and `head`;
 //! `dump`.
 #![tactic(auto)]
 
@@ -27,6 +27,7 @@ mod number;
 mod page;
 mod ports;
 mod scopes;
+mod signals;
 mod table;
 mod values;
 pub mod wave;

@@ -50,7 +50,7 @@ pub enum Cause {
 }
 
 /// What the refusal of this number is about.
-pub fn cause_of(number: u8) -> Cause
+pub(crate) fn cause_of(number: u8) -> Cause
     ensures { IsCause number result }
 {
     match number {

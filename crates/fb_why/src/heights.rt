@@ -215,7 +215,10 @@ fn descent_by(library: &Library, marks: &[bool]) -> Option<Descent>
 
 /// A composite type that holds itself at any depth or has a height over 16, with the instance through which it does, if
 /// there is one.
-pub fn too_high_place(alloc: Global, library: &Library) -> Result<Option<Descent>, AllocError>
+pub(crate) fn too_high_place(
+    alloc: Global,
+    library: &Library,
+) -> Result<Option<Descent>, AllocError>
     ensures { IfOk result (λ o. MatchOption o (¬ (TooHigh library.now)) (IsTooHighAt library.now)) }
 {
     let marks = marks_after(alloc, library, MOST_STEPS)?;

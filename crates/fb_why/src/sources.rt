@@ -45,7 +45,7 @@ fn joined_in_blocks(
 }
 
 /// Two data connections of one network that lead to one port, if there are such.
-pub fn joined_place(alloc: Global, library: &Library) -> Result<Option<Joined>, AllocError>
+pub(crate) fn joined_place(alloc: Global, library: &Library) -> Result<Option<Joined>, AllocError>
     ensures { IfOk result (λ o. MatchOption o (¬ (TwoSources library.now)) (IsJoinedAt library.now)) }
 {
     let network = &library.application.network;

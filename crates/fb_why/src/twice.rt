@@ -229,7 +229,7 @@ fn event_block(blocks: &[BlockType]) -> Option<usize>
 }
 
 /// What is given twice, if something is.
-pub fn twice_place(
+pub(crate) fn twice_place(
     alloc: Global,
     library: &Library,
     plan: &Plan,

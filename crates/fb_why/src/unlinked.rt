@@ -106,7 +106,7 @@ fn first_unlinked(plan: &Plan, connections: &[Connection]) -> Option<usize>
 }
 
 /// A connection of the application between two resources that have no link, if there is one.
-pub fn unlinked_place(library: &Library, plan: &Plan) -> Option<Unlinked>
+pub(crate) fn unlinked_place(library: &Library, plan: &Plan) -> Option<Unlinked>
     ensures { MatchOption result (¬ (NoLink library.now plan.now)) (IsUnlinkedAt library.now plan.now) }
 {
     let network = &library.application.network;

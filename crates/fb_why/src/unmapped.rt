@@ -89,7 +89,7 @@ fn unmapped_among(
 }
 
 /// Where an instance of the application is not mapped to one resource, if one is not.
-pub fn unmapped_place(
+pub(crate) fn unmapped_place(
     alloc: Global,
     library: &Library,
     plan: &Plan,

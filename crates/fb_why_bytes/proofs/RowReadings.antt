@@ -1,25 +1,19 @@
 -- Records of stimuli, read one after the other up to the first that is refused.
-use Rattle.std.proofs.Common.{◌≡◌, ◌==◌, ◌<◌, ◌+◌, ℕ, true, cond, List, [], ◌∷◌, ◌++◌, length, Some, None, Ok, Err, Bor, refl, sym, ap, ◌∙◌, append_assoc, Fits, w64, arith}
+use Rattle.std.proofs.Common.{◌≡◌, ◌<◌, ◌+◌, ℕ, true, List, [], ◌∷◌, ◌++◌, length, Some, Ok, Err, Bor, refl, sym, ap, ◌∙◌, append_assoc, Fits, w64, arith}
 use Rattle.std.specs.Prelude.{slice_get}
 use Rattle.std.proofs.lemmas.List.{length_push}
 use Rattle.csv.specs.Reading.{records, default_config, strip_bom}
-use Rattle.csv.specs.Records.{field_at}
 use Rattle.csv.specs.declared.iter.ByteRecordsIntoIter.{ByteRecordsIntoIter}
 use Rattle.csv.specs.declared.parser.State.{State}
 use Rattle.csv.specs.declared.parser.State.TheVariants as st
 use Rattle.fb_types.specs.declared.deploy.Stimulus.{Stimulus}
-use Rattle.fb_inputs.specs.Lists.{◌>>=◌}
 use Rattle.fb_inputs.specs.Rows.{Row}
 use Rattle.fb_inputs.specs.Words.{Text}
-use Rattle.fb_inputs.specs.Stimuli.{is_head, most_rows, stimuli_from, stimuli_of, stimulus, three}
-use Rattle.fb_inputs.proofs.Fields as fields
+use Rattle.fb_inputs.specs.Stimuli.{is_head, most_rows, stimuli_from, stimuli_of, stimulus}
 use Rattle.fb_inputs.proofs.Records.{IsAt, rows_from}
 use Rattle.fb_inputs.proofs.Rows.{all_behind, next_found, none_left}
 use Rattle.fb_why_bytes.specs.Rows.{AreTaken, IsRowAt}
 use Rattle.fb_why_bytes.proofs.RowJudgements.{few_before}
-
-pub three_fields : (z : Row) → three z ≡ cond (length z == 3) (field_at z 0 >>= λ a. field_at z 1 >>= λ b. field_at z 2 >>= λ c. Some (a, b, c)) None
-three_fields z = fields.three_fields z
 
 -- Behind a heading this many rows were read, and each was taken; the reader stands behind them.
 pub record Stands (bytes : Text) (k : ℕ) (it : ByteRecordsIntoIter (Bor (List ℕ))) : Type 0 where

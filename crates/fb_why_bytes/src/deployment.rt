@@ -8,11 +8,9 @@ ghost use Rattle.fb_why_bytes.specs.Tables.{IsDocumentFault, IsFaultAt, IsShaped
 use crate::numbers::numbers_place;
 use crate::place::DeployPlace;
 use crate::table::shape_fault;
+use fb_inputs::deployment::MOST_BYTES;
 use std::alloc::{AllocError, Global};
 use toml::Table;
-
-/// The greatest length of the bytes.
-const MOST_BYTES: usize = 1_048_576;
 
 /// What is wrong with a document, if something is.
 fn document_place(alloc: Global, keys: &Table) -> Result<Option<DeployPlace>, AllocError>

@@ -10,20 +10,10 @@ ghost use Rattle.fb_why_bytes.specs.Numbers as spec;
 
 use crate::place::{DeployKey, DeployPlace};
 use crate::table::value_at;
+use fb_inputs::deployment::{MOST_LINKS, MOST_RESOURCES};
+use fb_inputs::table::{MOST_ENTRIES, is_after, is_latency};
 use std::alloc::{AllocError, Global};
 use toml::{Table, Value};
-
-/// The greatest numbers of resources, of links and of entries of a link.
-const MOST_RESOURCES: usize = 256;
-
-const MOST_LINKS: usize = 1_024;
-
-const MOST_ENTRIES: usize = 64;
-
-/// The greatest latency, and the greatest tick from which on one holds.
-const MOST_TICKS: i64 = 1_000_000;
-
-const MOST_START: i64 = 1_000_000_000_000;
 
 /// From this tick on, so many ticks.
 #[derive(Clone, Copy)]
@@ -34,7 +24,7 @@ pub struct WrittenEntry {
 
 /// What is judged of the links, one after the other.
 #[derive(Clone, Copy)]
-pub enum Stage {
+pub enum LinkJudgement {
     /// Latencies are in range (E12).
     Latencies,
     /// Ticks rise from 0 (E16).
@@ -120,18 +110,6 @@ fn latencies_of(alloc: Global, keys: &Table) -> Result<Option<Vec<WrittenEntry>>
     }
 }
 
-fn is_latency(ticks: i64) -> bool
-    ensures { result ≡ inputs.is_latency ticks }
-{
-    1 <= ticks && ticks <= MOST_TICKS
-}
-
-fn is_after(last: u64, start: i64) -> bool
-    ensures { result ≡ inputs.is_after last start }
-{
-    0 <= start && last < start.unsigned_abs() && start <= MOST_START
-}
-
 /// The first entry whose latency is out of range.
 fn wrong_latency(table: &[WrittenEntry]) -> Option<usize>
     ensures { IfSome result (spec.IsLatencyWrong table.now) }
@@ -180,22 +158,22 @@ fn wrong_start(table: &[WrittenEntry]) -> Option<usize>
 }
 
 /// What is wrong with the table of a link, of what is judged now.
-fn table_place(stage: Stage, link: usize, table: &[WrittenEntry]) -> Option<DeployPlace>
+fn table_place(stage: LinkJudgement, link: usize, table: &[WrittenEntry]) -> Option<DeployPlace>
     ensures { IfSome result (spec.IsTablePlace link table.now) }
 {
     match stage {
-        Stage::Latencies => {
+        LinkJudgement::Latencies => {
             let entry = wrong_latency(table)?;
             Some(DeployPlace::Latency { link, entry })
         }
-        Stage::Starts => {
+        LinkJudgement::Starts => {
             if table.is_empty() {
                 return Some(DeployPlace::NoEntry { link });
             }
             let entry = wrong_start(table)?;
             Some(DeployPlace::Entry { link, entry })
         }
-        Stage::Counts => {
+        LinkJudgement::Counts => {
             if table.len() > MOST_ENTRIES {
                 Some(DeployPlace::Entries { link })
             } else {
@@ -208,7 +186,7 @@ fn table_place(stage: Stage, link: usize, table: &[WrittenEntry]) -> Option<Depl
 /// What is wrong with a link, of what is judged now.
 fn link_place(
     alloc: Global,
-    stage: Stage,
+    stage: LinkJudgement,
     link: usize,
     value: &Value,
 ) -> Result<Option<DeployPlace>, AllocError>
@@ -227,7 +205,7 @@ fn link_place(
 /// What is wrong with the first of the links that is wrong, of what is judged now.
 fn links_place(
     alloc: Global,
-    stage: Stage,
+    stage: LinkJudgement,
     values: &[Value],
 ) -> Result<Option<DeployPlace>, AllocError>
     ensures { IfOk result (λ o. IfSome o (spec.IsAmongLinks values.now)) }
@@ -257,7 +235,7 @@ fn count_at(keys: &Table, key: DeployKey) -> usize
 /// What is wrong with the links of a document, of what is judged now.
 fn place_among_links(
     alloc: Global,
-    stage: Stage,
+    stage: LinkJudgement,
     keys: &Table,
 ) -> Result<Option<DeployPlace>, AllocError>
     ensures { IfOk result (λ o. IfSome o (spec.IsNumbersFault (table_view keys.now))) }
@@ -275,11 +253,11 @@ fn place_among_links(
 pub fn numbers_place(alloc: Global, keys: &Table) -> Result<Option<DeployPlace>, AllocError>
     ensures { IfOk result (λ o. IfSome o (spec.IsNumbersFault (table_view keys.now))) }
 {
-    let latency = place_among_links(alloc, Stage::Latencies, keys)?;
+    let latency = place_among_links(alloc, LinkJudgement::Latencies, keys)?;
     if latency.is_some() {
         return Ok(latency);
     }
-    let start = place_among_links(alloc, Stage::Starts, keys)?;
+    let start = place_among_links(alloc, LinkJudgement::Starts, keys)?;
     if start.is_some() {
         return Ok(start);
     }
@@ -289,5 +267,5 @@ pub fn numbers_place(alloc: Global, keys: &Table) -> Result<Option<DeployPlace>,
     if count_at(keys, DeployKey::Link) > MOST_LINKS {
         return Ok(Some(DeployPlace::Links));
     }
-    place_among_links(alloc, Stage::Counts, keys)
+    place_among_links(alloc, LinkJudgement::Counts, keys)
 }

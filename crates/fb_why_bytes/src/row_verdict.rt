@@ -5,11 +5,8 @@ ghost use Rattle.fb_why_bytes.specs.RowVerdicts as spec;
 
 use crate::row_text::row_text;
 use fb_inputs::error::InputError;
-use fb_inputs::stimuli::read_stimuli;
+use fb_inputs::stimuli::{MOST_BYTES, read_stimuli};
 use std::alloc::{AllocError, Global};
-
-/// The greatest length of the bytes of stimuli.
-pub const MOST_BYTES: usize = 16_777_216;
 
 /// What is said of a row.
 #[derive(Clone, Copy)]

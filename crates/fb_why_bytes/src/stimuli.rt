@@ -1,6 +1,6 @@
 //! Where stimuli are refused.
 
-ghost use Rattle.std.specs.Prelude.{◌≡◌, IfOk, MatchOption, option_map};
+ghost use Rattle.std.specs.Prelude.{IfOk, MatchOption};
 ghost use Rattle.csv.specs.Reading.{error_kind};
 ghost use Rattle.csv.specs.Records.{fields_of};
 ghost use Rattle.fb_inputs.specs.Stimuli as inputs;
@@ -9,41 +9,9 @@ ghost use Rattle.fb_why_bytes.specs.RowVerdicts.{IsFine, IsRefusedFor};
 
 use crate::place::{RowFault, StimuliPlace};
 use crate::row::row_fault;
-use crate::row_verdict::MOST_BYTES;
 use csv::{ByteRecord, ReaderBuilder};
+use fb_inputs::stimuli::{MOST_BYTES, columns, heads};
 use std::alloc::{AllocError, Global};
-
-/// The fields of a record of three.
-#[tactic(auto, using(crate::proofs::RowReadings::three_fields))]
-fn three(row: &ByteRecord) -> Option<(&[u8], &[u8], &[u8])>
-    ensures { option_map (λ f. (f.0.now, f.1.now, f.2.now)) result ≡ inputs.three (fields_of row.now) }
-{
-    if row.len() != 3 {
-        return None;
-    }
-    Some((row.get(0)?, row.get(1)?, row.get(2)?))
-}
-
-/// Whether the record is `tick,event,values`.
-fn is_heading(row: &ByteRecord) -> bool
-    ensures { result ≡ inputs.is_head (fields_of row.now) }
-{
-    match three(row) {
-        Some((tick, event, values)) => {
-            tick == b"tick".as_slice()
-                && event == b"event".as_slice()
-                && values == b"values".as_slice()
-        }
-        None => false,
-    }
-}
-
-/// Whether the record is `tick,event,values`. It is freed here, so that no caller holds it at its exits.
-fn heads(row: ByteRecord) -> bool
-    ensures { result ≡ inputs.is_head (fields_of row) }
-{
-    is_heading(&row)
-}
 
 /// What is wrong with a record behind the heading, before which so many others come.
 fn record_fault(
@@ -53,7 +21,7 @@ fn record_fault(
 ) -> Result<Option<RowFault>, AllocError>
     ensures { IfOk result (λ o. MatchOption o (IsFine before (fields_of row.now)) (IsRefusedFor before (fields_of row.now))) }
 {
-    match three(row) {
+    match columns(row) {
         Some((tick, event, values)) => row_fault(alloc, before, tick, event, values),
         None => Ok(Some(RowFault::Fields)),
     }

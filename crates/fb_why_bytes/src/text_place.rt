@@ -38,7 +38,7 @@ pub fn behind_mark(text: &[u8]) -> &[u8]
 }
 
 /// How many lines end in a text.
-pub fn line_feeds(text: &[u8]) -> usize
+pub(crate) fn line_feeds(text: &[u8]) -> usize
     ensures { result ≡ count_by (λ b. b == 10) text.now }
 {
     text.iter().filter(|b| **b == b'\n').count()

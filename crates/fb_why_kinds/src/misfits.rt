@@ -33,7 +33,7 @@ fn wrong_among(variables: &[Variable]) -> Option<usize>
 }
 
 /// The internal variables of a block type.
-pub fn internals_of(block: &BlockType) -> &[Variable]
+pub(crate) fn internals_of(block: &BlockType) -> &[Variable]
     ensures { result.now ≡ repeated.internals_of (kind_of block.now) }
 {
     match block {

@@ -17,7 +17,7 @@ use fb_types::library::{BlockType, Connection, Library, PortName, instance_named
 use fb_types::value::Ty;
 
 /// The type of the variable at an end of a data connection.
-pub fn type_at_end(library: &Library, scope: &PlacedNetwork, end: &PortName) -> Option<Ty>
+pub(crate) fn type_at_end(library: &Library, scope: &PlacedNetwork, end: &PortName) -> Option<Ty>
     ensures { result ≡ joined.type_at_end library.now (placed scope.now) end.now }
 {
     match &end.component {
