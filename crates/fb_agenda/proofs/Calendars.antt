@@ -1,5 +1,5 @@
 -- The events of a calendar: a row of few, and a tree of many.
-use Rattle.std.proofs.Common.{◌≡◌, ℕ, zero, suc, ◌<◌, ◌≤◌, Bool, true, false, cond, List, [], ◌∷◌, ◌++◌, length, get_or, set, refl, sym, ap, subst, ◌∙◌, Option, Some, None, Result, Ok, Err, arith, append-nil}
+use Rattle.std.proofs.Common.{◌≡◌, ℕ, zero, suc, ◌<◌, ◌≤◌, Bool, true, false, cond, List, [], ◌∷◌, ◌++◌, length, get_or, set, refl, sym, ap, subst, ◌∙◌, Option, Some, None, Result, Ok, Err, Bor, arith, append-nil}
 use Rattle.std.specs.Prelude.{IsSome, IfSome, IfNone, OnOk, OnErr, is_some, option_to_list}
 use Rattle.std.specs.Bool.{OnFalse, OnTrue}
 use Rattle.std.specs.List.{remove}
@@ -89,13 +89,13 @@ module _ (few many : List (Key × Event)) where
         lookup_both j few many ∙ ap (λ o. or_else o (lookup (same_key j) many)) (leads.none_before k first j before) ∙ first.none_before j before;
   }
 
-  pub few_first : Leads few many → (o : Option Key) → IfSome o (IsFirst few) → IfSome o (IsFirst (few ++ many))
+  pub few_first : Leads few many → (o : Option (Bor Key)) → IfSome o (λ k. IsFirst few k.now) → IfSome o (λ k. IsFirst (few ++ many) k.now)
   few_first leads None first = tt
-  few_first leads (Some k) first = few_is_first leads k first
+  few_first leads (Some k) first = few_is_first leads k.now first
 
-  pub many_first : Leads many few → (o : Option Key) → IfSome o (IsFirst many) → IfSome o (IsFirst (few ++ many))
+  pub many_first : Leads many few → (o : Option (Bor Key)) → IfSome o (λ k. IsFirst many k.now) → IfSome o (λ k. IsFirst (few ++ many) k.now)
   many_first leads None first = tt
-  many_first leads (Some k) first = many_is_first leads k first
+  many_first leads (Some k) first = many_is_first leads k.now first
 
   -- where the tree is empty
   pub tick_of_few : many ≡ [] → (o : Option ℕ) → IfSome o (IsFirstTick few) → IfSome o (IsFirstTick (few ++ many))

@@ -153,8 +153,8 @@ impl Agenda {
         Some(local.min(later))
     }
 
-    fn least_key(&self) -> Option<Key>
-        ensures some { IfSome result (IsLeast self.now) }
+    fn least_key(&self) -> Option<&Key>
+        ensures some { IfSome result (λ k. IsLeast self.now k.now) }
         ensures none { IfNone result ((j : Key) → waiting self.now j ≡ None) }
     {
         let Some(local) = rising::first(&self.local) else {
@@ -163,7 +163,7 @@ impl Agenda {
         let Some(later) = self.later.first() else {
             return Some(local);
         };
-        if later < local {
+        if *later < *local {
             Some(later)
         } else {
             Some(local)

@@ -45,12 +45,12 @@ impl Model for Calendar {
 }
 
 /// The first key of a map.
-fn first_of(events: &BTreeMap<Key, Event>) -> Option<Key>
-    ensures some { IfSome result (IsFirst events.now.entries) }
+fn first_of(events: &BTreeMap<Key, Event>) -> Option<&Key>
+    ensures some { IfSome result (λ k. IsFirst events.now.entries k.now) }
     ensures none { IfNone result (events.now.entries ≡ []) }
 {
     let (key, _) = events.first_key_value()?;
-    Some(*key)
+    Some(key)
 }
 
 /// Whether no event of the map comes before all of the row.
@@ -63,7 +63,7 @@ fn is_few_first(few: &VecDeque<(Key, Event)>, many: &BTreeMap<Key, Event>) -> bo
         return true;
     };
     match rising::first(few) {
-        Some(first) => first < later,
+        Some(first) => *first < *later,
         None => false,
     }
 }
@@ -127,8 +127,8 @@ impl Calendar {
     }
 
     /// The first key.
-    pub(crate) fn first(&self) -> Option<Key>
-        ensures some { IfSome result (IsFirst self.now) }
+    pub(crate) fn first(&self) -> Option<&Key>
+        ensures some { IfSome result (λ k. IsFirst self.now k.now) }
         ensures none { IfNone result (self.now ≡ []) }
     {
         if is_few_first(&self.few, &self.many) {

@@ -25,8 +25,9 @@ pub(crate) fn insert(
     ensures absent { OnErr result (lookup (same_key key) events.old.items ≡ None) }
     ensures err { OnErr result (events.new.items ≡ events.old.items) }
 {
-    if is_past(events, key) {
-        events.push_back((key, event))?;
+    if is_past(events, &key) {
+        events.reserve(1)?;
+        events.push_back_reserved((key, event));
         Ok(())
     } else {
         insert_within(events, key, event)
@@ -34,13 +35,13 @@ pub(crate) fn insert(
 }
 
 /// The first key.
-pub(crate) fn first(events: &VecDeque<(Key, Event)>) -> Option<Key>
+pub(crate) fn first(events: &VecDeque<(Key, Event)>) -> Option<&Key>
     requires { AreRising events.now.items }
-    ensures some { IfSome result (IsFirst events.now.items) }
+    ensures some { IfSome result (λ k. IsFirst events.now.items k.now) }
     ensures none { IfNone result (events.now.items ≡ []) }
 {
     let (key, _) = events.front()?;
-    Some(*key)
+    Some(key)
 }
 
 /// The tick of the first key.
@@ -78,12 +79,12 @@ fn is_before(events: &VecDeque<(Key, Event)>, key: &Key) -> bool
 }
 
 /// Whether the key comes after all that are there.
-fn is_past(events: &VecDeque<(Key, Event)>, key: Key) -> bool
+fn is_past(events: &VecDeque<(Key, Event)>, key: &Key) -> bool
     requires { AreRising events.now.items }
-    ensures { OnTrue result (AllByRecursion (λ j. Precedes j key) (keys_of events.now.items)) }
+    ensures { OnTrue result (AllByRecursion (λ j. Precedes j key.now) (keys_of events.now.items)) }
 {
     match events.back() {
-        Some((last, _)) => *last < key,
+        Some((last, _)) => *last < *key,
         None => true,
     }
 }

@@ -1,6 +1,6 @@
 -- All connections of a port: those around its instance and those inside.
 use Rattle.std.proofs.Common.{◌≡◌, ℕ, ◌<◌, Bool, true, false, cond, List, [], length, Option, Some, None, refl, sym, ◌∙◌, ap, subst, arith}
-use Rattle.std.specs.Prelude.{slice_get, option_map, unwrap_or}
+use Rattle.std.specs.Prelude.{slice_get, unwrap_or}
 use Rattle.std.proofs.lemmas.List.{length-map}
 use Rattle.fb_types.specs.Names.{Name, Path, Port}
 use Rattle.fb_types.specs.Blocks.{Kind, ports, ports_of}
@@ -19,7 +19,7 @@ use Rattle.fb_types.specs.declared.run.Place.{Place}
 use Rattle.fb_fabric.specs.Fabrics.{IsPort, IsVariable, ports_here, port_of, variable_of, event_input, event_output, data_input, data_output}
 use Rattle.fb_fabric.specs.Networks.{AreTables, IsEndOf, IsThere, path_around, side, source_along, targets_along}
 use Rattle.fb_fabric.proofs.Leading.{MayBeWired, input_source, input_targets, output_source, output_targets}
-use Rattle.fb_fabric.proofs.Wired.{around_wired, last_of_route, parent_around, parent_within, row_there, stands_there}
+use Rattle.fb_fabric.proofs.Wired.{around_wired, last_of_route, parent_around, parent_within, stands_there}
 
 -- ---- Names at their places
 
@@ -72,14 +72,6 @@ outside_wired lib layout app blocks i r are within is =
 
 -- ---- Events
 
--- What a look-up in the network around an instance, or inside it, answers for each port that the end stands for.
-abbrev pub LeadsFrom : Library → Path → WireEnd → ℕ → Option Target → Type 0
-LeadsFrom lib p e place result =
-    (q : Port) → IsEndOf lib p event_outs event_ins e q → option_map (port_of lib) result ≡ slice_get (targets_along (events_inside lib p) q) place
-
-abbrev pub Leads : Library → Target → ℕ → Option Target → Type 0
-Leads lib from place result = option_map (port_of lib) result ≡ slice_get (targets_of lib (port_of lib from)) place
-
 output_name :
     (lib : Library) (i e : ℕ) (r : InstanceRow) → (is : IsRow lib i r) → e < length (ports_here lib i).event_outputs
     → slice_get (event_outs (ports_of is.kind)) e ≡ Some (event_output lib i e).name
@@ -110,60 +102,54 @@ input_within : (lib : Library) (t : Target) → t.is_output ≡ false → IsPort
 input_within lib t h is =
     subst (λ (b : Bool). t.event < length (cond b (ports_here lib t.instance).event_outputs (ports_here lib t.instance).event_inputs)) h is.event
 
+-- the end of a port that is known by its name
+abbrev IsEventEnd : Library → Path → WireEnd → Port → Type 0
+IsEventEnd lib p e q = IsEndOf lib p event_outs event_ins e q
+
 pub output_end :
     (lib : Library) (t : Target) (r : InstanceRow) (o : Option ℕ) → IsPort lib t → t.is_output ≡ true → IsRow lib t.instance r → o ≡ last_of r.route
-    → IsEndOf lib (path_around lib r.parent) event_outs event_ins (record { component = o; port = t.event }) (event_output lib t.instance t.event)
+    → IsEventEnd lib (path_around lib r.parent) (record { component = o; port = t.event }) (port_of lib t)
 output_end lib t r o port out is e =
-    around_end lib event_outs event_ins t.instance r o t.event (event_output lib t.instance t.event).name is e
-    (output_name lib t.instance t.event r is (output_within lib t out port))
+    subst (IsEventEnd lib (path_around lib r.parent) (record { component = o; port = t.event })) (sym (output_port lib t out))
+    (around_end lib event_outs event_ins t.instance r o t.event (event_output lib t.instance t.event).name is e
+    (output_name lib t.instance t.event r is (output_within lib t out port)))
 
 pub input_end :
     (lib : Library) (t : Target) (r : InstanceRow) → IsPort lib t → t.is_output ≡ false → IsRow lib t.instance r
-    → IsEndOf lib (path_of lib t.instance) event_outs event_ins (record { component = None; port = t.event }) (event_input lib t.instance t.event)
+    → IsEventEnd lib (path_of lib t.instance) (record { component = None; port = t.event }) (port_of lib t)
 input_end lib t r port out is =
-    inside_end lib event_outs event_ins t.instance r t.event (event_input lib t.instance t.event).name is
-    (input_name lib t.instance t.event r is (input_within lib t out port))
+    subst (IsEventEnd lib (path_of lib t.instance) (record { component = None; port = t.event })) (sym (input_port lib t out))
+    (inside_end lib event_outs event_ins t.instance r t.event (event_input lib t.instance t.event).name is
+    (input_name lib t.instance t.event r is (input_within lib t out port)))
+
+-- The connections along which an event leads are all in the network of its end.
+abbrev AllLead : Library → Path → Port → Type 0
+AllLead lib p q = targets_along (events_inside lib p) q ≡ targets_of lib q
 
 pub leads_around :
-    (lib : Library) (layout : Layout) (app : NetworkNumbers) (blocks : List (Option NetworkNumbers)) (t : Target) (r : InstanceRow) (o : Option ℕ) (place : ℕ) (result : Option Target)
-    → AreTables lib layout app blocks → IsPort lib t → t.is_output ≡ true → IsRow lib t.instance r → o ≡ last_of r.route
-    → LeadsFrom lib (path_around lib r.parent) (record { component = o; port = t.event }) place result → Leads lib t place result
-leads_around lib layout app blocks t r o place result are port out is e leads =
+    (lib : Library) (layout : Layout) (app : NetworkNumbers) (blocks : List (Option NetworkNumbers)) (t : Target) (r : InstanceRow)
+    → AreTables lib layout app blocks → IsPort lib t → t.is_output ≡ true → IsRow lib t.instance r → AllLead lib (path_around lib r.parent) (port_of lib t)
+leads_around lib layout app blocks t r are port out is =
     let q : Port = event_output lib t.instance t.event in
     let named = output_name lib t.instance t.event r is (output_within lib t out port) in
     let all : targets_of lib q ≡ targets_along (events_inside lib (parent q.at)) q =
     output_targets lib are.plan q is.kind are.once (inside_wired lib layout app blocks t.instance are port.instance) is.is_kind
     (element_of_place (event_outs (ports_of is.kind)) t.event q.name named) in
-    leads q (output_end lib t r o port out is e)
-    ∙ ap (λ (p : Path). slice_get (targets_along (events_inside lib p) q) place) (parent_around lib t.instance r.parent is.parent_is)
-    ∙ ap (λ (qs : List Port). slice_get qs place) (sym all)
-    ∙ ap (λ (q : Port). slice_get (targets_of lib q) place) (sym (output_port lib t out))
+    subst (AllLead lib (path_around lib r.parent)) (sym (output_port lib t out))
+    (ap (λ (p : Path). targets_along (events_inside lib p) q) (parent_around lib t.instance r.parent is.parent_is) ∙ sym all)
 
 pub leads_inside :
-    (lib : Library) (layout : Layout) (app : NetworkNumbers) (blocks : List (Option NetworkNumbers)) (t : Target) (place : ℕ) (result : Option Target)
-    → AreTables lib layout app blocks → IsPort lib t → t.is_output ≡ false
-    → LeadsFrom lib (path_of lib t.instance) (record { component = None; port = t.event }) place result → Leads lib t place result
-leads_inside lib layout app blocks t place result are port out leads =
-    let row = row_there lib layout app blocks t.instance are port.instance in
-    let r = row.0 in
-    let is = row.1 in
+    (lib : Library) (layout : Layout) (app : NetworkNumbers) (blocks : List (Option NetworkNumbers)) (t : Target) (r : InstanceRow)
+    → AreTables lib layout app blocks → IsPort lib t → t.is_output ≡ false → IsRow lib t.instance r → AllLead lib (path_of lib t.instance) (port_of lib t)
+leads_inside lib layout app blocks t r are port out is =
     let q : Port = event_input lib t.instance t.event in
     let named = input_name lib t.instance t.event r is (input_within lib t out port) in
     let all : targets_of lib q ≡ targets_along (events_inside lib q.at) q =
     input_targets lib are.plan q is.kind is.placed.instance.name are.once (outside_wired lib layout app blocks t.instance r are port.instance is) is.is_kind
     (element_of_place (event_ins (ports_of is.kind)) t.event q.name named) is.placed.is_path in
-    leads q (input_end lib t r port out is)
-    ∙ ap (λ (qs : List Port). slice_get qs place) (sym all)
-    ∙ ap (λ (q : Port). slice_get (targets_of lib q) place) (sym (input_port lib t out))
+    subst (AllLead lib (path_of lib t.instance)) (sym (input_port lib t out)) (sym all)
 
 -- ---- Data
-
-abbrev pub ComesFrom : Library → Path → WireEnd → Option Place → Type 0
-ComesFrom lib p e result =
-    (q : Port) → IsEndOf lib p data_ins data_outs e q → option_map (variable_of lib) result ≡ source_along (data_inside lib p) q
-
-abbrev pub Comes : Library → Place → Option Place → Type 0
-Comes lib to result = option_map (variable_of lib) result ≡ source_of lib (variable_of lib to)
 
 data_output_name :
     (lib : Library) (i v : ℕ) (r : InstanceRow) → (is : IsRow lib i r) → v < length (ports_here lib i).outputs
@@ -195,45 +181,48 @@ data_input_within : (lib : Library) (x : Place) → x.is_output ≡ false → Is
 data_input_within lib x h is =
     subst (λ (b : Bool). x.variable < length (cond b (ports_here lib x.instance).outputs (ports_here lib x.instance).inputs)) h is.variable
 
+abbrev IsDataEnd : Library → Path → WireEnd → Port → Type 0
+IsDataEnd lib p e q = IsEndOf lib p data_ins data_outs e q
+
 pub data_input_end :
     (lib : Library) (x : Place) (r : InstanceRow) (o : Option ℕ) → IsVariable lib x → x.is_output ≡ false → IsRow lib x.instance r → o ≡ last_of r.route
-    → IsEndOf lib (path_around lib r.parent) data_ins data_outs (record { component = o; port = x.variable }) (data_input lib x.instance x.variable)
+    → IsDataEnd lib (path_around lib r.parent) (record { component = o; port = x.variable }) (variable_of lib x)
 data_input_end lib x r o variable out is e =
-    around_end lib data_ins data_outs x.instance r o x.variable (data_input lib x.instance x.variable).name is e
-    (data_input_name lib x.instance x.variable r is (data_input_within lib x out variable))
+    subst (IsDataEnd lib (path_around lib r.parent) (record { component = o; port = x.variable })) (sym (data_input_port lib x out))
+    (around_end lib data_ins data_outs x.instance r o x.variable (data_input lib x.instance x.variable).name is e
+    (data_input_name lib x.instance x.variable r is (data_input_within lib x out variable)))
 
 pub data_output_end :
     (lib : Library) (x : Place) (r : InstanceRow) → IsVariable lib x → x.is_output ≡ true → IsRow lib x.instance r
-    → IsEndOf lib (path_of lib x.instance) data_ins data_outs (record { component = None; port = x.variable }) (data_output lib x.instance x.variable)
+    → IsDataEnd lib (path_of lib x.instance) (record { component = None; port = x.variable }) (variable_of lib x)
 data_output_end lib x r variable out is =
-    inside_end lib data_ins data_outs x.instance r x.variable (data_output lib x.instance x.variable).name is
-    (data_output_name lib x.instance x.variable r is (data_output_within lib x out variable))
+    subst (IsDataEnd lib (path_of lib x.instance) (record { component = None; port = x.variable })) (sym (data_output_port lib x out))
+    (inside_end lib data_ins data_outs x.instance r x.variable (data_output lib x.instance x.variable).name is
+    (data_output_name lib x.instance x.variable r is (data_output_within lib x out variable)))
+
+-- The connection from which a variable comes is in the network of its end.
+abbrev Comes : Library → Path → Port → Type 0
+Comes lib p q = source_along (data_inside lib p) q ≡ source_of lib q
 
 pub comes_around :
-    (lib : Library) (layout : Layout) (app : NetworkNumbers) (blocks : List (Option NetworkNumbers)) (x : Place) (r : InstanceRow) (o : Option ℕ) (result : Option Place)
-    → AreTables lib layout app blocks → IsVariable lib x → x.is_output ≡ false → IsRow lib x.instance r → o ≡ last_of r.route
-    → ComesFrom lib (path_around lib r.parent) (record { component = o; port = x.variable }) result → Comes lib x result
-comes_around lib layout app blocks x r o result are variable out is e comes =
+    (lib : Library) (layout : Layout) (app : NetworkNumbers) (blocks : List (Option NetworkNumbers)) (x : Place) (r : InstanceRow)
+    → AreTables lib layout app blocks → IsVariable lib x → x.is_output ≡ false → IsRow lib x.instance r → Comes lib (path_around lib r.parent) (variable_of lib x)
+comes_around lib layout app blocks x r are variable out is =
     let q : Port = data_input lib x.instance x.variable in
     let named = data_input_name lib x.instance x.variable r is (data_input_within lib x out variable) in
     let all : source_of lib q ≡ source_along (data_inside lib (parent q.at)) q =
     input_source lib are.plan q is.kind are.once (inside_wired lib layout app blocks x.instance are variable.instance) is.is_kind
     (element_of_place (data_ins (ports_of is.kind)) x.variable q.name named) in
-    comes q (data_input_end lib x r o variable out is e)
-    ∙ ap (λ (p : Path). source_along (data_inside lib p) q) (parent_around lib x.instance r.parent is.parent_is)
-    ∙ sym all ∙ ap (source_of lib) (sym (data_input_port lib x out))
+    subst (Comes lib (path_around lib r.parent)) (sym (data_input_port lib x out))
+    (ap (λ (p : Path). source_along (data_inside lib p) q) (parent_around lib x.instance r.parent is.parent_is) ∙ sym all)
 
 pub comes_inside :
-    (lib : Library) (layout : Layout) (app : NetworkNumbers) (blocks : List (Option NetworkNumbers)) (x : Place) (result : Option Place)
-    → AreTables lib layout app blocks → IsVariable lib x → x.is_output ≡ true
-    → ComesFrom lib (path_of lib x.instance) (record { component = None; port = x.variable }) result → Comes lib x result
-comes_inside lib layout app blocks x result are variable out comes =
-    let row = row_there lib layout app blocks x.instance are variable.instance in
-    let r = row.0 in
-    let is = row.1 in
+    (lib : Library) (layout : Layout) (app : NetworkNumbers) (blocks : List (Option NetworkNumbers)) (x : Place) (r : InstanceRow)
+    → AreTables lib layout app blocks → IsVariable lib x → x.is_output ≡ true → IsRow lib x.instance r → Comes lib (path_of lib x.instance) (variable_of lib x)
+comes_inside lib layout app blocks x r are variable out is =
     let q : Port = data_output lib x.instance x.variable in
     let named = data_output_name lib x.instance x.variable r is (data_output_within lib x out variable) in
     let all : source_of lib q ≡ source_along (data_inside lib q.at) q =
     output_source lib are.plan q is.kind is.placed.instance.name are.once (outside_wired lib layout app blocks x.instance r are variable.instance is) is.is_kind
     (element_of_place (data_outs (ports_of is.kind)) x.variable q.name named) is.placed.is_path in
-    comes q (data_output_end lib x r variable out is) ∙ sym all ∙ ap (source_of lib) (sym (data_output_port lib x out))
+    subst (Comes lib (path_of lib x.instance)) (sym (data_output_port lib x out)) (sym all)

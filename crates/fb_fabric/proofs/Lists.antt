@@ -1,5 +1,5 @@
 -- Two lists that are made side by side, the one by numbers and the other by names.
-use Rattle.std.proofs.Common.{◌≡◌, ℕ, zero, suc, Bool, true, false, cond, List, [], ◌∷◌, ◌++◌, map, Option, Some, None, refl, sym, ◌∙◌, ap, subst, append-nil}
+use Rattle.std.proofs.Common.{◌≡◌, ℕ, zero, suc, Bool, true, false, cond, List, [], ◌∷◌, ◌++◌, map, length, Option, Some, None, refl, sym, ◌∙◌, ap, subst, append-nil}
 use Rattle.std.specs.Prelude.{slice_get}
 use Rattle.std.specs.List.{filter}
 use Rattle.fb_types.specs.Flat.{first_of}
@@ -80,6 +80,12 @@ pub no_first :
 no_first R [] [] h g = refl
 no_first R [] (y ∷ ys) h g = absurd h
 no_first R (x ∷ xs) ys h g = absurd (cc)
+
+pub same_length : {A B : Type 0} (R : A → B → Type 0) (xs : List A) (ys : List B) → Pairwise R xs ys → length xs ≡ length ys
+same_length R [] [] h = refl
+same_length R [] (y ∷ ys) h = absurd h
+same_length R (x ∷ xs) [] h = absurd h
+same_length R (x ∷ xs) (y ∷ ys) h = ap suc (same_length R xs ys h.1)
 
 -- ---- Lists of which one part is empty
 

@@ -1,7 +1,8 @@
 -- What is looked up at an end of a connection.
-use Rattle.std.proofs.Common.{◌≡◌, ℕ, ◌<◌, ◌≤◌, ◌^◌, Bool, true, false, not, List, [], ◌∷◌, map, length, get_or, Option, Some, None, refl, sym, ◌∙◌, ap, subst, arith, lit<}
-use Rattle.std.specs.Prelude.{slice_get, option_map, option_and_then, unwrap_or, is_none, is_some}
+use Rattle.std.proofs.Common.{◌≡◌, ℕ, ◌+◌, ◌-◌, ◌<◌, ◌≤◌, ◌^◌, Bool, true, false, not, List, [], ◌∷◌, map, length, get_or, Option, Some, None, refl, sym, ◌∙◌, ap, subst, arith, lit<}
+use Rattle.std.specs.Prelude.{slice_get, option_map, option_and_then, unwrap_or, is_none, is_some, IsTrue, nat_lt, ◌↔◌}
 use Rattle.std.specs.List.{filter}
+use Rattle.std.proofs.lemmas.Bool.{lt-ltb, ltb-true}
 use Rattle.std.proofs.lemmas.List.{length-map}
 use Rattle.std.proofs.lemmas.Option.{same_Some, slice_get_within, slice_get-get_or, slice_get_read, slice_get_past}
 use Rattle.fb_types.specs.Names.{Name, Path, Port, same_port}
@@ -29,7 +30,7 @@ use Rattle.fb_fabric.specs.Layouts.{AreComponents, path_of}
 use Rattle.fb_fabric.specs.Fabrics.{IsCompositeHere, IsPort, IsVariable, ports_here, port_of, variable_of}
 use Rattle.fb_fabric.specs.Networks.{AreNarrow, IsEndOf, IsNarrow, IsThere, IsWired, side, source_along, targets_along}
 use Rattle.fb_fabric.proofs.Leading.{sources_there, targets_there}
-use Rattle.fb_fabric.proofs.Lists.{first_pair, no_first, none_at, pair_at}
+use Rattle.fb_fabric.proofs.Lists.{first_pair, no_first, none_at, pair_at, same_length}
 use Rattle.fb_types.proofs.ByPlace.{all_at}
 use Rattle.fb_fabric.proofs.Wired.{component_path, component_within, number_within}
 
@@ -258,6 +259,16 @@ pub target_past :
     → IsEndOf lib p event_outs event_ins e q → slice_get (targets_in x e) place ≡ None → slice_get (targets_along (events_inside lib p) q) place ≡ None
 target_past lib plan p x e q place once is key h =
     none_at (IsEndOf lib p event_ins event_outs) (targets_in x e) (targets_along (events_inside lib p) q) place (targets_there lib plan p x e q once is key) h
+
+pub targets_counted :
+    (lib : Library) (plan : Plan) (p : Path) (x : NetworkNumbers) (e : WireEnd) (q : Port) → ¬ (NameTwice lib plan) → IsWired lib p x
+    → IsEndOf lib p event_outs event_ins e q → length (targets_in x e) ≡ length (targets_along (events_inside lib p) q)
+targets_counted lib plan p x e q once is key =
+    same_length (IsEndOf lib p event_ins event_outs) (targets_in x e) (targets_along (events_inside lib p) q) (targets_there lib plan p x e q once is key)
+
+-- whether more than one of the ends is left from a place on
+pub more_follow : (n m place : ℕ) → n ≡ m → IsTrue (nat_lt 1 (n - place)) ↔ (place + 1 < m)
+more_follow n m place e = (λ more. let lt = ltb-true 1 (n - place) more in omega (arith, lt, e), λ more. lt-ltb 1 (n - place) (omega (arith, more, e)))
 
 -- the port that the wire to an end comes from
 pub source_end :

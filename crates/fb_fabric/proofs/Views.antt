@@ -1,6 +1,6 @@
 -- What the tables say of the declaration as which a fabric is seen.
-use Rattle.std.proofs.Common.{◌≡◌, ℕ, ◌<◌, ◌≤◌, List, length, Option, Some, sym, ◌∙◌, ap, subst}
-use Rattle.fb_types.specs.Flat.{instance_at, kind_at, number_of, paths_of}
+use Rattle.std.proofs.Common.{◌≡◌, ℕ, ◌<◌, ◌≤◌, List, length, Option, None, Some, ◌+◌, sym, ◌∙◌, ap, subst}
+use Rattle.fb_types.specs.Flat.{instance_at, kind_at, number_of, paths_of, source_of, targets_of}
 use Rattle.fb_types.specs.declared.library.Instance.{Instance}
 use Rattle.fb_types.specs.declared.library.Library.{Library}
 use Rattle.fb_names.specs.Numbers.{kind_of_number, parameter_numbers}
@@ -8,9 +8,12 @@ use Rattle.fb_fabric.specs.Layouts.{AreComponents, IsRow, path_of}
 use Rattle.fb_fabric.specs.declared.layout.InstanceRow.{InstanceRow}
 use Rattle.fb_types.specs.declared.run.Target.{Target}
 use Rattle.fb_types.specs.declared.run.Place.{Place}
-use Rattle.fb_fabric.specs.Fabrics.{IsPort, IsVariable}
+use Rattle.fb_fabric.specs.Fabrics.{IsPort, IsVariable, port_of, variable_of}
+use Rattle.fb_fabric.specs.declared.reached.Reached.{Reached}
+use Rattle.fb_types.specs.Names.{Port}
+use Rattle.fb_names.specs.declared.numbers.WireEnd.{WireEnd}
+use Rattle.std.specs.Prelude.{IfSome, IsTrue, ◌↔◌, option_map, slice_get}
 use Rattle.fb_fabric.specs.Networks.{IsFabric}
-use Rattle.fb_fabric.proofs.Around.{Comes, Leads}
 use Rattle.fb_fabric.specs.declared.tables.Tables.{Tables}
 
 pub few_of : (t : Tables) (lib : Library) → IsFabric t → t.library ≡ lib → length (paths_of lib) ≤ 4096
@@ -53,8 +56,28 @@ port_of_tables t lib x e h = subst (λ (lib : Library). IsPort lib x) (sym e) h
 pub variable_of_tables : (t : Tables) (lib : Library) (x : Place) → t.library ≡ lib → IsVariable lib x → IsVariable t.library x
 variable_of_tables t lib x e h = subst (λ (lib : Library). IsVariable lib x) (sym e) h
 
-pub leads_seen : (t : Tables) (lib : Library) (x : Target) (place : ℕ) (result : Option Target) → t.library ≡ lib → Leads t.library x place result → Leads lib x place result
-leads_seen t lib x place result e h = subst (λ (lib : Library). Leads lib x place result) e h
+abbrev Leads : Library → Target → ℕ → Option Reached → Type 0
+Leads lib from place result = option_map (λ r. port_of lib r.target) result ≡ slice_get (targets_of lib (port_of lib from)) place
 
-pub comes_seen : (t : Tables) (lib : Library) (x : Place) (result : Option Place) → t.library ≡ lib → Comes t.library x result → Comes lib x result
-comes_seen t lib x result e h = subst (λ (lib : Library). Comes lib x result) e h
+pub leads_seen :
+    (t : Tables) (lib : Library) (from : Target) (place : ℕ) (qs : List Port) (result : Option Reached) → t.library ≡ lib
+    → option_map (λ (r : Reached). port_of t.library r.target) result ≡ slice_get qs place → qs ≡ targets_of t.library (port_of t.library from) → Leads lib from place result
+leads_seen t lib from place qs result e h all =
+    subst (λ (lib : Library). Leads lib from place result) e (h ∙ ap (λ (qs : List Port). slice_get qs place) all)
+
+abbrev FollowsIn : List Port → ℕ → Reached → Type 0
+FollowsIn qs place r = IsTrue r.more ↔ (place + 1 < length qs)
+
+pub more_seen :
+    (t : Tables) (lib : Library) (from : Target) (place : ℕ) (e : WireEnd) (qs : Port → List Port) (IsEnd : WireEnd → Port → Type 0) (result : Option Reached) → t.library ≡ lib
+    → IfSome result (λ r. (q : Port) → IsEnd e q → FollowsIn (qs q) place r) → IsEnd e (port_of t.library from)
+    → qs (port_of t.library from) ≡ targets_of t.library (port_of t.library from) → IfSome result (FollowsIn (targets_of lib (port_of lib from)) place)
+more_seen t lib from place e qs IsEnd None same h end all = tt
+more_seen t lib from place e qs IsEnd (Some r) same h end all =
+    subst (λ (lib : Library). FollowsIn (targets_of lib (port_of lib from)) place r) same
+    (subst (λ (qs : List Port). FollowsIn qs place r) all (h (port_of t.library from) end))
+
+pub comes_seen :
+    (t : Tables) (lib : Library) (x : Place) (o : Option Port) (result : Option Place) → t.library ≡ lib
+    → option_map (variable_of t.library) result ≡ o → o ≡ source_of t.library (variable_of t.library x) → option_map (variable_of lib) result ≡ source_of lib (variable_of lib x)
+comes_seen t lib x o result e h all = subst (λ (lib : Library). option_map (variable_of lib) result ≡ source_of lib (variable_of lib x)) e (h ∙ all)

@@ -1,6 +1,6 @@
 //! The connections of a system by numbers.
 
-ghost use Rattle.std.specs.Prelude.{◌≡◌, ◌<◌, ◌≤◌, [], length, option_map, slice_get, IfOk, IfSome, Some, ℕ};
+ghost use Rattle.std.specs.Prelude.{◌≡◌, ◌<◌, ◌+◌, ◌↔◌, IsTrue, ◌≤◌, [], length, option_map, slice_get, IfOk, IfSome, Some, ℕ};
 ghost use Rattle.fb_types.specs.Blocks.{Kind};
 ghost use Rattle.fb_types.specs.Flat.{instance_at, kind_at, number_of, paths_of, source_of, targets_of};
 ghost use Rattle.fb_types.specs.Joined.{TooHigh};
@@ -15,9 +15,10 @@ ghost use Rattle.fb_fabric.specs.Fabrics.{IsPort, IsSource, IsTarget, IsVariable
 use crate::beside::beside;
 use crate::declared::{declared_at, parameters_at};
 use crate::making::{narrow_layout, wirings_of};
-use crate::tables::{Tables, last_place, row_at, source_in, target_in};
+use crate::reached::Reached;
+use crate::tables::{EndIn, Tables, entering, leaving, row_at, source_in, target_in};
 use crate::wiring::Wiring;
-use fb_names::numbers::{Resolved, TypeNumber, WireEnd};
+use fb_names::numbers::{Resolved, TypeNumber};
 use fb_types::library::{Instance, Library};
 use fb_types::run::{Place, Target};
 use std::alloc::{AllocError, Global};
@@ -164,20 +165,20 @@ impl Fabric {
         ensures leads { option_map (port_of self.now) result ≡ slice_get (targets_of self.now (port_of self.now from)) place }
         ensures within { IfSome result (IsTarget self.now) }
     {
-        let port = from.event as usize;
-        if from.is_output {
-            let row = row_at(&self.tables, from.instance);
-            let component = last_place(row.route.as_slice());
-            target_in(&self.tables, row.parent, WireEnd { component, port }, place)
-        } else {
-            let component = None;
-            target_in(
-                &self.tables,
-                Some(from.instance),
-                WireEnd { component, port },
-                place,
-            )
-        }
+        let reached = self.reached(from, place)?;
+        Some(reached.target)
+    }
+
+    /// Where the event connection leads that stands at a place among those that leave an event, as `target` tells it, and
+    /// whether another one follows. So nobody has to look for one behind the last.
+    pub fn reached(&self, from: Target, place: usize) -> Option<Reached>
+        requires { IsPort self.now from }
+        ensures leads { option_map (λ r. port_of self.now r.target) result ≡ slice_get (targets_of self.now (port_of self.now from)) place }
+        ensures within { IfSome result (λ r. IsTarget self.now r.target) }
+        ensures more { IfSome result (λ r. IsTrue r.more ↔ (place + 1 < length (targets_of self.now (port_of self.now from)))) }
+    {
+        let EndIn { around, end } = leaving(&self.tables, from);
+        target_in(&self.tables, around, end, place)
     }
 
     /// What a variable is connected to: a data input to what is around the instance, a data output of a composite to
@@ -187,14 +188,7 @@ impl Fabric {
         ensures comes { option_map (variable_of self.now) result ≡ source_of self.now (variable_of self.now to) }
         ensures within { IfSome result (IsSource self.now) }
     {
-        let port = to.variable as usize;
-        if to.is_output {
-            let component = None;
-            source_in(&self.tables, Some(to.instance), WireEnd { component, port })
-        } else {
-            let row = row_at(&self.tables, to.instance);
-            let component = last_place(row.route.as_slice());
-            source_in(&self.tables, row.parent, WireEnd { component, port })
-        }
+        let EndIn { around, end } = entering(&self.tables, to);
+        source_in(&self.tables, around, end)
     }
 }

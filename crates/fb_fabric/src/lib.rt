@@ -6,8 +6,8 @@
 //! its targets and sources.
 //!
 //! To be read in this order: `layout`, the tree of composites as a list; `wiring`, where the connections of a network
-//! lead, and `wiring_table`, how that is kept; `fabric`, what is asked of both; `tables` and `declared`, how it is found;
-//! `making`.
+//! lead, and `wiring_table`, how that is kept; `fabric`, what is asked of both, and `reached`, what it answers of an
+//! event; `tables` and `declared`, how it is found; `making`.
 //! `beside` hands owned values on beside calls that may fail, so that each is dropped at one place.
 #![tactic(auto)]
 
@@ -16,6 +16,7 @@ mod declared;
 pub mod fabric;
 pub mod layout;
 mod making;
+pub mod reached;
 mod tables;
 pub mod wiring;
 mod wiring_table;

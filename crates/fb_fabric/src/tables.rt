@@ -1,15 +1,16 @@
 //! What a fabric keeps, and how the ends of its connections are looked up.
 
-ghost use Rattle.std.specs.Prelude.{◌≡◌, ◌<◌, length, slice_get, [], option_map, IfSome, MatchOption, None, Some};
+ghost use Rattle.std.specs.Prelude.{◌≡◌, ◌<◌, ◌+◌, ◌↔◌, IsTrue, length, slice_get, [], option_map, IfSome, MatchOption, None, Some};
 ghost use Rattle.fb_types.specs.Blocks.{ports_of};
-ghost use Rattle.fb_types.specs.Flat.{data_inside, events_inside, last_of, network_at, paths_of};
+ghost use Rattle.fb_types.specs.Flat.{data_inside, events_inside, last_of, network_at, paths_of, source_of, targets_of};
 ghost use Rattle.fb_types.specs.Names.{Path, Port};
 ghost use Rattle.fb_fabric.specs.Layouts.{AreComponents, IsRow, path_of};
 ghost use Rattle.fb_types.specs.declared.library.Network.{Network};
-ghost use Rattle.fb_fabric.specs.Fabrics.{IsSource, IsTarget, port_of, variable_of};
+ghost use Rattle.fb_fabric.specs.Fabrics.{IsPort, IsSource, IsTarget, IsVariable, port_of, variable_of};
 ghost use Rattle.fb_fabric.specs.Networks.{DataEnters, DataLeaves, EventEnters, EventLeaves, IsAround, IsFabric, IsThere, IsWired, path_around, source_along, targets_along};
 
 use crate::layout::{InstanceRow, Layout};
+use crate::reached::Reached;
 use crate::wiring::Wiring;
 use fb_names::numbers::{TypeNumber, WireEnd};
 use fb_types::items::Items;
@@ -27,6 +28,13 @@ pub(crate) struct Tables {
     pub blocks: Items<Option<Wiring>>,
 }
 
+/// An end of connections, and the composite in whose network it lies, or none for the application's.
+#[derive(Clone, Copy)]
+pub(crate) struct EndIn {
+    pub around: Option<u32>,
+    pub end: WireEnd,
+}
+
 /// The row of an instance.
 pub(crate) fn row_at(tables: &Tables, instance: u32) -> &InstanceRow
     requires fabric { IsFabric tables.now }
@@ -37,6 +45,7 @@ pub(crate) fn row_at(tables: &Tables, instance: u32) -> &InstanceRow
 }
 
 /// The network of the application, or the one inside an instance, if its type has one.
+#[inline(always)]
 pub(crate) fn wiring_in(tables: &Tables, around: Option<u32>) -> Option<&Wiring>
     requires fabric { IsFabric tables.now }
     requires within { IsAround tables.now.library around }
@@ -52,6 +61,7 @@ pub(crate) fn wiring_in(tables: &Tables, around: Option<u32>) -> Option<&Wiring>
 }
 
 /// The numbers of the instances in the network of the application, or of those inside an instance.
+#[inline(always)]
 fn components_in(tables: &Tables, around: Option<u32>) -> &[u32]
     requires fabric { IsFabric tables.now }
     requires within { IsAround tables.now.library around }
@@ -64,6 +74,7 @@ fn components_in(tables: &Tables, around: Option<u32>) -> &[u32]
 }
 
 /// The instance at an end of a connection: a component, or at the boundary the composite itself.
+#[inline(always)]
 fn instance_at(tables: &Tables, around: Option<u32>, component: Option<usize>) -> u32
     requires fabric { IsFabric tables.now }
     requires within { IsAround tables.now.library around }
@@ -116,16 +127,21 @@ pub(crate) fn target_in(
     around: Option<u32>,
     end: WireEnd,
     place: usize,
-) -> Option<Target>
+) -> Option<Reached>
     requires fabric { IsFabric tables.now }
     requires within { IsAround tables.now.library around }
     requires end { (q : Port) × EventLeaves tables.now.library around end q }
-    ensures leads { (q : Port) → EventLeaves tables.now.library around end q → option_map (port_of tables.now.library) result ≡ slice_get (targets_along (events_inside tables.now.library (path_around tables.now.library around)) q) place }
-    ensures within { IfSome result (IsTarget tables.now.library) }
+    ensures leads { (q : Port) → EventLeaves tables.now.library around end q → option_map (λ r. port_of tables.now.library r.target) result ≡ slice_get (targets_along (events_inside tables.now.library (path_around tables.now.library around)) q) place }
+    ensures within { IfSome result (λ r. IsTarget tables.now.library r.target) }
+    ensures more { IfSome result (λ r. (q : Port) → EventLeaves tables.now.library around end q → IsTrue r.more ↔ (place + 1 < length (targets_along (events_inside tables.now.library (path_around tables.now.library around)) q))) }
 {
     let wiring = wiring_in(tables, around)?;
-    let to = wiring.targets(end).get(place)?;
-    Some(target_at(tables, around, *to))
+    let ends = wiring.targets(end);
+    let to = ends.get(place)?;
+    Some(Reached {
+        target: target_at(tables, around, *to),
+        more: ends.len() - place > 1,
+    })
 }
 
 /// Where the data connection to an end of a network comes from.
@@ -147,4 +163,56 @@ pub(crate) fn last_place(route: &[u32]) -> Option<usize>
 {
     let place = route.last()?;
     Some(*place as usize)
+}
+
+/// The end from which the connections of an event lead: of an event output in the network around the instance, of an
+/// event input of a composite in the network inside it.
+pub(crate) fn leaving(tables: &Tables, from: Target) -> EndIn
+    requires fabric { IsFabric tables.now }
+    requires port { IsPort tables.now.library from }
+    ensures within { IsAround tables.now.library result.around }
+    ensures end { EventLeaves tables.now.library result.around result.end (port_of tables.now.library from) }
+    ensures targets { targets_along (events_inside tables.now.library (path_around tables.now.library result.around)) (port_of tables.now.library from) ≡ targets_of tables.now.library (port_of tables.now.library from) }
+{
+    let port = from.event as usize;
+    if from.is_output {
+        let row = row_at(tables, from.instance);
+        let component = last_place(row.route.as_slice());
+        EndIn {
+            around: row.parent,
+            end: WireEnd { component, port },
+        }
+    } else {
+        let component = None;
+        EndIn {
+            around: Some(from.instance),
+            end: WireEnd { component, port },
+        }
+    }
+}
+
+/// The end to which the connection of a variable leads: of a data input in the network around the instance, of a data
+/// output of a composite in the network inside it.
+pub(crate) fn entering(tables: &Tables, to: Place) -> EndIn
+    requires fabric { IsFabric tables.now }
+    requires variable { IsVariable tables.now.library to }
+    ensures within { IsAround tables.now.library result.around }
+    ensures end { DataEnters tables.now.library result.around result.end (variable_of tables.now.library to) }
+    ensures source { source_along (data_inside tables.now.library (path_around tables.now.library result.around)) (variable_of tables.now.library to) ≡ source_of tables.now.library (variable_of tables.now.library to) }
+{
+    let port = to.variable as usize;
+    if to.is_output {
+        let component = None;
+        EndIn {
+            around: Some(to.instance),
+            end: WireEnd { component, port },
+        }
+    } else {
+        let row = row_at(tables, to.instance);
+        let component = last_place(row.route.as_slice());
+        EndIn {
+            around: row.parent,
+            end: WireEnd { component, port },
+        }
+    }
 }

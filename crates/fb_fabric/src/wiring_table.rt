@@ -2,7 +2,7 @@
 
 ghost use Rattle.std.specs.Prelude.{◌≡◌, ℕ, [], ◌∷◌, ◌++◌, ◌&&◌, cond, nat_eq, IfOk, OnOk};
 ghost use Rattle.fb_names.specs.declared.numbers.WireEnd.{WireEnd};
-ghost use Rattle.fb_fabric.specs.Tables.{ends_of, row_of, ends_at};
+ghost use Rattle.fb_fabric.specs.Tables.{ends_in, ends_behind, ends_of, row_of, ends_at};
 ghost use Rattle.fb_fabric.specs.Wirings.{same_end};
 
 use fb_names::numbers::WireEnd;
@@ -11,36 +11,98 @@ use std::alloc::{AllocError, Global};
 use std::collections::BTreeMap;
 use std::marker::Model;
 
+/// How many ports of a component have their ends at the place of their number, so that no search finds them. As many
+/// lists take no more memory than one node of the map.
+const FIRST_PORTS: usize = 16;
+
 /// For each port of one component, or of the boundary, a list of ends. A port that was not reached yet has no ends,
-/// and takes no memory, since a component may have many ports of which few are connected.
+/// and behind the first ports takes no memory, since a component may have many ports of which few are connected.
 #[derive(Drop)]
 pub(crate) struct PortEnds {
-    ports: BTreeMap<usize, Items<WireEnd>>,
+    /// The ends of each of the first ports, as far as one was reached.
+    first: Vec<Items<WireEnd>>,
+    /// Those of the ports behind them that were reached.
+    behind: PortMap,
 }
+
+type PortMap = BTreeMap<usize, Items<WireEnd>, Global>;
 
 impl Model for PortEnds {
     ghost use Rattle.std.specs.Prelude.{List, ℕ};
     ghost use Rattle.fb_names.specs.declared.numbers.WireEnd.{WireEnd};
 
-    ghost Value = { List (ℕ × List WireEnd) };
+    ghost Value = { List (List WireEnd) × List (ℕ × List WireEnd) };
 
-    ghost view = { λ r. r.ports.entries };
+    ghost view = { λ r. (r.first.items, r.behind.entries) };
+}
+
+/// One more end at one of the first ports.
+fn push_first(
+    first: &mut Vec<Items<WireEnd>>,
+    alloc: Global,
+    port: usize,
+    end: WireEnd,
+) -> Result<(), AllocError>
+    ensures { OnOk result ((p : ℕ) → ends_in first.new.items p ≡ cond (nat_eq port p) (ends_in first.old.items p ++ end ∷ []) (ends_in first.old.items p)) }
+{
+    while first.len() <= port {
+        first.push(Items::new(alloc))?;
+    }
+    let ends = &mut first[port];
+    ends.push(end)?;
+    Ok(())
+}
+
+/// One more end at a port behind the first ones.
+fn push_behind(
+    behind: &mut PortMap,
+    alloc: Global,
+    port: usize,
+    end: WireEnd,
+) -> Result<(), AllocError>
+    ensures { OnOk result ((p : ℕ) → ends_behind behind.new.entries p ≡ cond (nat_eq port p) (ends_behind behind.old.entries p ++ end ∷ []) (ends_behind behind.old.entries p)) }
+{
+    if let Some(ends) = behind.get_mut(&port) {
+        ends.push(end)?;
+        return Ok(());
+    }
+    let mut ends = Items::new(alloc);
+    ends.push(end)?;
+    behind.insert(port, ends)?;
+    Ok(())
 }
 
 impl PortEnds {
     fn new(alloc: Global) -> PortEnds
-        ensures { result ≡ [] }
+        ensures { result ≡ ([], []) }
     {
         PortEnds {
-            ports: BTreeMap::new(alloc),
+            first: Vec::new(alloc),
+            behind: BTreeMap::new(alloc),
         }
     }
 
     /// The ends at a port.
+    #[inline(always)]
     fn get(&self, port: usize) -> &[WireEnd]
         ensures { result.now ≡ ends_of self.now port }
     {
-        match self.ports.get(&port) {
+        if port < FIRST_PORTS {
+            match self.first.get(port) {
+                Some(ends) => ends.as_slice(),
+                None => &[],
+            }
+        } else {
+            self.get_behind(port)
+        }
+    }
+
+    /// The ends at a port behind the first ones.
+    #[inline(never)]
+    fn get_behind(&self, port: usize) -> &[WireEnd]
+        ensures { result.now ≡ ends_behind self.now.1 port }
+    {
+        match self.behind.get(&port) {
             Some(ends) => ends.as_slice(),
             None => &[],
         }
@@ -50,14 +112,11 @@ impl PortEnds {
     fn push(&mut self, alloc: Global, port: usize, end: WireEnd) -> Result<(), AllocError>
         ensures { OnOk result ((p : ℕ) → ends_of self.new p ≡ cond (nat_eq port p) (ends_of self.old p ++ end ∷ []) (ends_of self.old p)) }
     {
-        if let Some(ends) = self.ports.get_mut(&port) {
-            ends.push(end)?;
-            return Ok(());
+        if port < FIRST_PORTS {
+            push_first(&mut self.first, alloc, port, end)
+        } else {
+            push_behind(&mut self.behind, alloc, port, end)
         }
-        let mut ends = Items::new(alloc);
-        ends.push(end)?;
-        self.ports.insert(port, ends)?;
-        Ok(())
     }
 }
 
@@ -99,6 +158,7 @@ impl WiringTable {
     }
 
     /// The ends at an end.
+    #[inline(always)]
     pub(crate) fn get(&self, at: WireEnd) -> &[WireEnd]
         ensures { result.now ≡ ends_at self.now at }
     {

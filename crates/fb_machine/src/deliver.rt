@@ -32,8 +32,8 @@ fn key_of_message(system: &System, message: &Message) -> Key
     }
 }
 
-/// Puts the messages of the mail on the agenda, each under its key. The room that they took is kept.
-pub(crate) fn deliver(
+/// Puts messages on the agenda, each under its key. The room that they took is kept.
+fn deliver_each(
     agenda: &mut Agenda,
     mail: &mut Vec<Message>,
     system: &System,
@@ -52,4 +52,25 @@ pub(crate) fn deliver(
         agenda.put(key_of_message(system, &message), Event::Arrival(message))?;
     }
     Ok(())
+}
+
+/// Puts the messages of the mail on the agenda, each under its key. The room that they took is kept.
+pub(crate) fn deliver(
+    agenda: &mut Agenda,
+    mail: &mut Vec<Message>,
+    system: &System,
+) -> Result<(), AllocError>
+    requires { All (IsMessage system.now) mail.old.items }
+    ensures put { OnOk result ((j : keys.Key) → meaning system.now agenda.new j ≡ or_else (found j (map (arriving system.now) mail.old.items)) (meaning system.now agenda.old j)) }
+    ensures order { OnOk result ((tick : ℕ) → IsInOrder system.now tick agenda.old → All (λ m. tick < m.arrives) mail.old.items → IsInOrder system.now tick agenda.new) }
+    ensures due { OnOk result (agenda.new.due ≡ agenda.old.due) }
+    ensures none { OnOk result (mail.new.items ≡ []) }
+{
+    let Some(last) = mail.pop() else {
+        return Ok(());
+    };
+    // Mostly there is one message, and nothing is to be walked over before it.
+    deliver_each(agenda, mail, system)?;
+    system.facts();
+    agenda.put(key_of_message(system, &last), Event::Arrival(last))
 }

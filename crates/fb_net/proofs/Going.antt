@@ -1,6 +1,7 @@
 -- Where an event goes from a port, target after target.
 use Rattle.std.proofs.Common.{◌≡◌, ◌≢◌, ℕ, ◌+◌, ◌<◌, ◌≤◌, Bool, true, false, cond, eqb, List, [], ◌∷◌, ◌++◌, map, take, length, get_or, Option, Some, None, refl, sym, ap, subst, ◌∙◌, inl, inr, append_assoc, arith}
-use Rattle.std.specs.Prelude.{All, option_map, slice_get}
+use mathlib.Core.Bool.{false≢true, not}
+use Rattle.std.specs.Prelude.{◌↔◌, All, IsTrue, option_map, slice_get}
 use Rattle.std.proofs.lemmas.Bool.{eq-eqb, ne_eqb, cases_lt}
 use Rattle.std.proofs.lemmas.List.{append-nil, length-append, map-append, take_all, take_more}
 use Rattle.std.proofs.lemmas.List.Elements.{All-push}
@@ -12,6 +13,7 @@ use Rattle.fb_types.specs.Reactions.{spread}
 use Rattle.fb_types.specs.Systems.{System}
 use Rattle.fb_types.specs.declared.run.Carried.{Carried}
 use Rattle.fb_types.specs.declared.run.Target.{Target}
+use Rattle.fb_fabric.specs.declared.reached.Reached.{Reached}
 use Rattle.fb_types.specs.declared.value.Value.{Value}
 use Rattle.fb_system.specs.Ports.{IsCarried, IsTarget}
 use Rattle.fb_net.specs.Emitting.{GoesTo, out_at}
@@ -77,20 +79,19 @@ none_gone sys r carried targets outs belong = record {
   belong = belong;
 }
 
-there : (sys : System) (targets : List Port) (place : ℕ) (o : Option Target) (t : Target) → option_map (port_of sys) o ≡ slice_get targets place → o ≡ Some t → slice_get targets place ≡ Some (port_of sys t)
-there sys targets place o t leads is = sym leads ∙ ap (λ (o : Option Target). option_map (port_of sys) o) is
+-- where the connection at a place leads, if there is one
+abbrev pub leads_to : System → Option Reached → Option Port
+leads_to sys o = option_map (λ r. port_of sys r.target) o
 
-pub more_within :
-    (sys : System) (targets : List Port) (place : ℕ) (o : Option Target) (t : Target) → option_map (port_of sys) o ≡ slice_get targets place → o ≡ Some t
-    → place < length targets
-more_within sys targets place o t leads is = slice_get_within targets place (port_of sys t) (there sys targets place o t leads is)
+there : (sys : System) (targets : List Port) (place : ℕ) (o : Option Reached) (r : Reached) → leads_to sys o ≡ slice_get targets place → o ≡ Some r → slice_get targets place ≡ Some (port_of sys r.target)
+there sys targets place o r leads is = sym leads ∙ ap (leads_to sys) is
 
 pub one_more_gone :
-    (sys : System) (r : ℕ) (carried : List (Port × Value)) (targets : List Port) (before : List Out) (place : ℕ) (outs : List Out) (o : Option Target) (t : Target) (out : Out)
-    → HaveGone sys r carried targets before place outs → option_map (port_of sys) o ≡ slice_get targets place → o ≡ Some t → GoesTo sys r carried (port_of sys t) out
+    (sys : System) (r : ℕ) (carried : List (Port × Value)) (targets : List Port) (before : List Out) (place : ℕ) (outs : List Out) (o : Option Reached) (t : Reached) (out : Out)
+    → HaveGone sys r carried targets before place outs → leads_to sys o ≡ slice_get targets place → o ≡ Some t → GoesTo sys r carried (port_of sys t.target) out
     → HaveGone sys r carried targets before (place + 1) (outs ++ out ∷ [])
 one_more_gone sys r carried targets before place outs o t out gone leads is goes =
-    let q = port_of sys t in
+    let q = port_of sys t.target in
     let at : slice_get targets place ≡ Some q = there sys targets place o t leads is in
     let lt : place < length targets = slice_get_within targets place q at in
     let taken : take (place + 1) targets ≡ take place targets ++ q ∷ [] =
@@ -117,10 +118,26 @@ behind targets place none =
       | inr le ↦ le
     ]
 
+-- no other target is behind the one at a place
+pub none_behind : (more : Bool) (n m : ℕ) → IsTrue more ↔ (n < m) → not more ≡ true → m ≤ n
+none_behind true n m says off = absurd (false≢true off)
+none_behind false n m says off =
+    elim (cases_lt n m) [
+      | inl lt ↦ absurd (false≢true (says.1 lt))
+      | inr le ↦ le
+    ]
+
+-- .. where no other target is behind those to which it has
+pub last_gone :
+    (sys : System) (r : ℕ) (carried : List (Port × Value)) (targets : List Port) (before : List Out) (place : ℕ) (outs : List Out)
+    → HaveGone sys r carried targets before place outs → length targets ≤ place → map (out_of sys) outs ≡ map (out_of sys) before ++ spread sys r carried targets
+last_gone sys r carried targets before place outs gone past =
+    gone.sent ∙ ap (λ (ps : List Port). map (out_of sys) before ++ spread sys r carried ps) (take_all place targets past)
+
 pub all_gone :
-    (sys : System) (r : ℕ) (carried : List (Port × Value)) (targets : List Port) (before : List Out) (place : ℕ) (outs : List Out) (o : Option Target)
-    → HaveGone sys r carried targets before place outs → option_map (port_of sys) o ≡ slice_get targets place → o ≡ None
+    (sys : System) (r : ℕ) (carried : List (Port × Value)) (targets : List Port) (before : List Out) (place : ℕ) (outs : List Out) (o : Option Reached)
+    → HaveGone sys r carried targets before place outs → leads_to sys o ≡ slice_get targets place → o ≡ None
     → map (out_of sys) outs ≡ map (out_of sys) before ++ spread sys r carried targets
 all_gone sys r carried targets before place outs o gone leads is =
-    let none : slice_get targets place ≡ None = sym leads ∙ ap (λ (o : Option Target). option_map (port_of sys) o) is in
-    gone.sent ∙ ap (λ (ps : List Port). map (out_of sys) before ++ spread sys r carried ps) (take_all place targets (behind targets place none))
+    let none : slice_get targets place ≡ None = sym leads ∙ ap (leads_to sys) is in
+    last_gone sys r carried targets before place outs gone (behind targets place none)

@@ -1,5 +1,5 @@
 -- Values that are sampled one by one are what the model's variables hold then.
-use Rattle.std.proofs.Common.{◌≡◌, ℕ, Bool, true, false, cond, List, [], ◌∷◌, ◌++◌, map, refl, sym, ap, subst, ◌∙◌}
+use Rattle.std.proofs.Common.{◌≡◌, ℕ, Bool, true, false, cond, List, [], ◌∷◌, ◌++◌, length, get_or, map, refl, sym, ap, subst, ◌∙◌, arith}
 use Rattle.std.specs.Prelude.{◌||◌, Option, None, Some}
 use Rattle.std.proofs.Math.Path.{fun_ext}
 use Rattle.std.proofs.lemmas.Bool.{or_left, or_right}
@@ -17,6 +17,8 @@ use Rattle.fb_types.specs.declared.run.Line as run_line
 use Rattle.fb_types.specs.declared.run.Target.{Target}
 use Rattle.fb_types.specs.declared.value.Value.{Value}
 use Rattle.fb_types.proofs.NameLaws.{same_from_same_name, same_name-itself}
+use Rattle.fb_system.specs.Ports.{data_input}
+use Rattle.fb_system.specs.Stands.{ArePlaces}
 use Rattle.fb_net.specs.Outs.{Stands, out_of}
 use Rattle.fb_net.specs.declared.outbox.Outbox.{Outbox}
 use Rattle.fb_net.specs.Samples.{AreSampled, all_sampled, names_in}
@@ -161,3 +163,23 @@ sampling-stands i k at old new x y values ready input here are changes written o
       outs = ap (map (out_of sys)) (outs ∙ ready.none);
       timer = timer ∙ ready.keeps;
     })
+
+-- no variables WITH the event: nothing is sampled
+pub none-sampled : (i : Inputs) (f : Forest) (at : Target) (places : List ℕ) (values : List Value)
+    → ArePlaces (ports_at (system_of i) (path_at (system_of i) at.instance)).inputs (names_in (system_of i) at) places → length places ≡ 0 → values ≡ []
+    → AreSampled i f at values
+none-sampled i f at [] values stand none empty w h lies =
+    empty ∙ ap (map (sample_at (system_of i) f.resource w (path_at (system_of i) at.instance))) stand.named
+none-sampled i f at (place ∷ places) values stand none empty w h lies = absurd (omega arith)
+
+-- one variable WITH the event
+pub one-sampled : (i : Inputs) (f : Forest) (at : Target) (places : List ℕ) (value : Value) (values : List Value)
+    → ArePlaces (ports_at (system_of i) (path_at (system_of i) at.instance)).inputs (names_in (system_of i) at) places → length places ≡ 1
+    → ((w : World) → IsForest i f w → InForest i f at.instance → value ≡ sampled_from (system_of i) f.resource w (data_input (system_of i) at.instance (get_or places 0 0)))
+    → values ≡ value ∷ [] → AreSampled i f at values
+one-sampled i f at [] value values stand one sampled is w h lies = absurd (omega arith)
+one-sampled i f at (place ∷ []) value values stand one sampled is w h lies =
+    is
+    ∙ ap (λ (v : Value). v ∷ []) (sampled w h lies)
+    ∙ ap (map (sample_at (system_of i) f.resource w (path_at (system_of i) at.instance))) stand.named
+one-sampled i f at (place ∷ other ∷ places) value values stand one sampled is w h lies = absurd (omega arith)

@@ -1,5 +1,5 @@
 -- How the emission of an output event is done by numbers (IEC 61499-1, 5.2.2 and 5.3.2; messages are this project's profile).
-use Rattle.std.specs.Prelude.{◌≡◌, ◌==◌, ℕ, List, map, if◌then◌else◌}
+use Rattle.std.specs.Prelude.{◌≡◌, ◌==◌, ℕ, List, [], ◌∷◌, ◌++◌, map, if◌then◌else◌}
 use Rattle.std.specs.List.{zip}
 use Rattle.fb_system.specs.Stands.{variable_at}
 use Rattle.fb_types.specs.Blocks.{Bound}
@@ -27,6 +27,10 @@ out_at sys r carried q = if sys.resource q.at == r then reactions.Local q else r
 pub record GoesTo (sys : System) (r : ℕ) (carried : List (Port × Value)) (q : Port) (out : Out) : Type 0 where
   pub is : out_of sys out ≡ out_at sys r carried q
   pub belongs : IsOut sys r out
+
+-- It goes out to a target, behind what went out before.
+abbrev pub PutsOut : System → (resource : ℕ) → List (Port × Value) → Port → (before outs : List Out) → Type 0
+PutsOut sys r carried q before outs = (out : Out) × GoesTo sys r carried q out × (outs ≡ before ++ out ∷ [])
 
 -- values, each with the data output at its place
 abbrev pub outputs_at : System → (instance : ℕ) → (places : List ℕ) → List Value → List Bound

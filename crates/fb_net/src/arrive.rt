@@ -42,8 +42,14 @@ impl Taking<'_> {
         ensures same { IsSame self.old self.new }
     {
         let alloc = *self.outbox.lines.allocator();
-        let values = sampled_values(alloc, self.forest, self.system, at)?;
-        keep_samples(self.forest, self.system, at, values.as_slice());
+        let places = self.system.inputs_with(at.instance, at.event);
+        // Mostly an event block takes an event without variables WITH it.
+        if places.is_empty() {
+            let values = Values::new(alloc);
+            return write_taken(self.outbox, self.system, self.key, at, values);
+        }
+        let values = sampled_values(alloc, self.forest, self.system, at, places)?;
+        keep_samples(self.forest, self.system, at, places, values.as_slice());
         write_taken(self.outbox, self.system, self.key, at, values)
     }
 
@@ -158,7 +164,8 @@ impl Taking<'_> {
         ensures same { IsSame self.old self.new }
     {
         let alloc = *self.outbox.lines.allocator();
-        let values = sampled_values(alloc, self.forest, self.system, at)?;
+        let places = self.system.inputs_with(at.instance, at.event);
+        let values = sampled_values(alloc, self.forest, self.system, at, places)?;
         let mut emits = Emits::new(alloc);
         let end = react_basic(
             self.forest,

@@ -6,6 +6,7 @@ ghost use Rattle.fb_types.specs.Headline.{system_of};
 ghost use Rattle.fb_types.specs.Numbers.{path_at, ports_at};
 ghost use Rattle.fb_types.specs.declared.library.BasicType.{BasicType};
 ghost use Rattle.fb_system.specs.Ports.{IsCarried, IsPort};
+ghost use Rattle.fb_system.specs.Stands.{ArePlaces};
 ghost use Rattle.fb_tree.specs.Changes.{Changes};
 ghost use Rattle.fb_net.specs.Samples.{HoldsAll, all_sampled, names_in, slots_set};
 
@@ -15,20 +16,22 @@ use fb_tree::resource::Forest;
 use fb_types::run::{Carried, Place, Target};
 use fb_types::value::Value;
 
-/// Gives the variables WITH an event input the values that they sampled. The instance is an event block or a
-/// composite, and lies in the resource.
-pub fn keep_samples(forest: &mut Forest, system: &System, at: Target, values: &[Value])
+/// Gives the variables WITH an event input, which stand at `places`, the values that they sampled. The instance is an
+/// event block or a composite, and lies in the resource.
+pub fn keep_samples(
+    forest: &mut Forest,
+    system: &System,
+    at: Target,
+    places: &[u32],
+    values: &[Value],
+)
     requires port { IsPort (system_of system.now) at }
     requires input { at.is_output ≡ false }
     requires no_basic { (t : BasicType) → (system_of system.now).kind (path_at (system_of system.now) at.instance) ≢ Some (Basic t) }
+    requires places { ArePlaces (ports_at (system_of system.now) (path_at (system_of system.now) at.instance)).inputs (names_in (system_of system.now) at) places.now }
     requires values { length values.now ≡ length (names_in (system_of system.now) at) }
     ensures { Changes system.now forest.old at.instance (all_sampled (names_in (system_of system.now) at) values.now) forest.new }
 {
-    // An event without variables WITH it has nothing to be looked up.
-    if values.is_empty() {
-        return;
-    }
-    let places = system.inputs_with(at.instance, at.event);
     for (place, value) in places.iter().zip(values) {
         let input = Place {
             instance: at.instance,

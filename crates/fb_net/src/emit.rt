@@ -1,13 +1,14 @@
 //! Emissions, and where events go.
 
-ghost use Rattle.std.specs.Prelude.{◌≡◌, ◌++◌, ◌∷◌, [], ◌<◌, length, map, All, IfOk, OnOk, true};
+ghost use Rattle.std.specs.Prelude.{◌≡◌, ◌≢◌, ◌++◌, ◌∷◌, [], ◌<◌, length, map, All, IfOk, OnOk, true};
 ghost use Rattle.fb_types.specs.Headline.{system_of};
 ghost use Rattle.fb_types.specs.Numbers.{carried_of, line_of, path_at, port_of, ports_at};
 ghost use Rattle.fb_types.specs.Reactions.{spread};
 ghost use Rattle.fb_system.specs.Lines.{BelongsTo, IsEmission};
 ghost use Rattle.fb_system.specs.Ports.{IsCarried, IsPort, IsTarget};
 ghost use Rattle.fb_tree.specs.Changes.{Changes};
-ghost use Rattle.fb_net.specs.Emitting.{GoesTo, carried_by, outputs_at, outputs_shown};
+ghost use Rattle.fb_net.specs.Emitting.{GoesTo, PutsOut, carried_by, outputs_at, outputs_shown};
+ghost use Rattle.fb_net.specs.declared.outbox.Out.TheVariants.{Send};
 ghost use Rattle.fb_net.specs.Outs.{IsOut, out_of};
 ghost use Rattle.fb_net.specs.Steps.{ArePutOut, EmitsAll, EmitsWell, IsKept, IsSame, MayEmit, ports_in};
 
@@ -22,35 +23,60 @@ use fb_types::run::{Carried, Emission, Emits, Line, Place, Target, Values};
 use fb_types::value::Value;
 use std::alloc::{AllocError, Global};
 
-/// What an event puts out that goes to a target: a local event where the target lies in the same resource, else a
-/// message with the values of data outputs of the instance, which are put together for it alone.
-fn out_to(
+/// What goes from a resource to a target in another one: the values of data outputs of the instance are put together for
+/// it alone.
+fn sending_to(
     alloc: Global,
-    forest: &Forest,
+    resource: usize,
     system: &System,
     target: Target,
     instance: u32,
     places: &[u32],
     values: &[Value],
-) -> Result<Out, AllocError>
-    requires resource { forest.now.resource < length (system_of system.now).resource_names }
+) -> Result<Sending, AllocError>
+    requires resource { resource < length (system_of system.now).resource_names }
     requires target { IsTarget (system_of system.now) target }
+    requires away { (system_of system.now).resource (path_at (system_of system.now) target.instance) ≢ resource }
     requires carried { All (IsCarried (system_of system.now)) (carried_by instance places.now values.now) }
-    ensures { IfOk result (GoesTo (system_of system.now) forest.now.resource (map (carried_of (system_of system.now)) (carried_by instance places.now values.now)) (port_of (system_of system.now) target)) }
+    ensures { IfOk result (λ s. GoesTo (system_of system.now) resource (map (carried_of (system_of system.now)) (carried_by instance places.now values.now)) (port_of (system_of system.now) target) (Send s)) }
 {
-    let there = system.resource(target.instance);
-    if there == forest.resource {
-        return Ok(Out::Local(target));
-    }
     // There are at most 1,024 links, so that the number of one fits.
     system.facts();
-    let link = system.link(forest.resource, there) as u32;
+    let there = system.resource(target.instance);
+    let link = system.link(resource, there) as u32;
     let carried = carried_values(alloc, instance, places, values)?;
-    Ok(Out::Send(Sending {
+    Ok(Sending {
         link,
         target,
         values: Items::from_vec(carried),
-    }))
+    })
+}
+
+/// Puts out an event that goes to a target: a local event where the target lies in the same resource, as most do, else a
+/// message.
+fn put_out(
+    outs: &mut Vec<Out>,
+    resource: usize,
+    system: &System,
+    target: Target,
+    instance: u32,
+    places: &[u32],
+    values: &[Value],
+) -> Result<(), AllocError>
+    requires resource { resource < length (system_of system.now).resource_names }
+    requires target { IsTarget (system_of system.now) target }
+    requires carried { All (IsCarried (system_of system.now)) (carried_by instance places.now values.now) }
+    ensures { OnOk result (PutsOut (system_of system.now) resource (map (carried_of (system_of system.now)) (carried_by instance places.now values.now)) (port_of (system_of system.now) target) outs.old.items outs.new.items) }
+{
+    outs.reserve(1)?;
+    if system.resource(target.instance) == resource {
+        outs.push_reserved(Out::Local(target));
+        return Ok(());
+    }
+    let alloc = *outs.allocator();
+    let sending = sending_to(alloc, resource, system, target, instance, places, values)?;
+    outs.push_reserved(Out::Send(sending));
+    Ok(())
 }
 
 /// Sends an event from a port to where its connections lead, in their order, with the values of data outputs of its
@@ -72,11 +98,23 @@ pub fn send_out(
         ++ spread (system_of system.now) forest.now.resource (map (carried_of (system_of system.now)) (carried_by from.instance places.now values.now)) ((system_of system.now).targets (port_of (system_of system.now) from))) }
     ensures outs { OnOk result (All (IsOut (system_of system.now) forest.now.resource) outs.new.items) }
 {
-    let alloc = *outs.allocator();
+    let resource = forest.resource;
     let mut place = 0;
-    while let Some(target) = system.target(from, place) {
-        let out = out_to(alloc, forest, system, target, from.instance, places, values)?;
-        outs.push(out)?;
+    while let Some(reached) = system.reached(from, place) {
+        let target = reached.target;
+        put_out(
+            outs,
+            resource,
+            system,
+            target,
+            from.instance,
+            places,
+            values,
+        )?;
+        // Mostly a port has one connection, and no other is looked for.
+        if !reached.more {
+            return Ok(());
+        }
         place += 1;
     }
     Ok(())
@@ -99,13 +137,14 @@ pub fn write_taken(
     ensures outs { outbox.new.outs.items ≡ outbox.old.outs.items }
     ensures timer { outbox.new.timer ≡ outbox.old.timer }
 {
-    outbox.lines.push(Line {
+    outbox.lines.reserve(1)?;
+    outbox.lines.push_reserved(Line {
         key: *key,
         taken: true,
         instance: at.instance,
         event: at.event,
         values,
-    })?;
+    });
     Ok(())
 }
 
@@ -184,13 +223,14 @@ impl Taking<'_> {
             places,
             values.as_slice(),
         )?;
-        self.outbox.lines.push(Line {
+        self.outbox.lines.reserve(1)?;
+        self.outbox.lines.push_reserved(Line {
             key: *self.key,
             taken: false,
             instance,
             event,
             values,
-        })?;
+        });
         Ok(())
     }
 

@@ -2,7 +2,9 @@
 
 ghost use Rattle.std.specs.Prelude.{◌≡◌, false, true, length, IfOk};
 ghost use Rattle.fb_types.specs.Headline.{system_of};
+ghost use Rattle.fb_types.specs.Numbers.{path_at, ports_at};
 ghost use Rattle.fb_system.specs.Ports.{IsCompositeAt, IsPort};
+ghost use Rattle.fb_system.specs.Stands.{ArePlaces};
 ghost use Rattle.fb_net.specs.Samples.{AreSampled, AreShown, names_in, names_out};
 
 use fb_system::system::System;
@@ -10,21 +12,33 @@ use fb_tree::resource::Forest;
 use fb_types::run::{Place, Target, Values};
 use std::alloc::{AllocError, Global};
 
-/// What the data inputs WITH an event input sample, in the order in which they are declared. The instance lies in the
-/// resource.
+/// What the data inputs WITH an event input sample, in the order in which they are declared. They stand at `places`, and
+/// the instance lies in the resource.
 pub fn sampled_values(
     alloc: Global,
     forest: &Forest,
     system: &System,
     at: Target,
+    places: &[u32],
 ) -> Result<Values, AllocError>
     requires port { IsPort (system_of system.now) at }
     requires input { at.is_output ≡ false }
+    requires places { ArePlaces (ports_at (system_of system.now) (path_at (system_of system.now) at.instance)).inputs (names_in (system_of system.now) at) places.now }
     ensures sampled { IfOk result (AreSampled system.now forest.now at) }
     ensures counted { IfOk result (λ vs. length vs ≡ length (names_in (system_of system.now) at)) }
 {
+    // Mostly there is one value, and nothing is to be walked over.
+    if let [place] = places {
+        let input = Place {
+            instance: at.instance,
+            variable: *place,
+            is_output: false,
+        };
+        let value = forest.sampled(system, input);
+        return Values::from_slice(alloc, &[value]);
+    }
     let mut values = Values::new(alloc);
-    for place in system.inputs_with(at.instance, at.event) {
+    for place in places {
         let input = Place {
             instance: at.instance,
             variable: *place,

@@ -1,10 +1,10 @@
 -- Runs of statements and turns, put together from their parts.
-use Rattle.std.proofs.Common.{◌≡◌, ℕ, ℤ, zero, suc, ◌+◌, ◌<◌, ◌≤◌, arith, Bool, true, false, not, ◌&&◌, ◌||◌, List, [], ◌∷◌, drop, length, get_or, Result, Ok, Err, refl, sym, ◌∙◌, ap, subst, add-one, rules}
+use Rattle.std.proofs.Common.{◌≡◌, ℕ, ℤ, zero, suc, ◌+◌, ◌<◌, ◌≤◌, arith, Bool, true, false, cond, not, ◌&&◌, ◌||◌, List, [], ◌∷◌, drop, length, get_or, Result, Ok, Err, refl, sym, ◌∙◌, ap, subst, add-one, rules}
 use Rattle.std.specs.Prelude.{int_le}
 use Rattle.std.specs.List.{list_any}
 use Rattle.std.proofs.Math.Seq.{drop-cons}
 use Rattle.fb_types.specs.Names.{Name, with_value}
-use Rattle.fb_types.specs.Syntax.{Expr, Stmt, For, Repeat, Stmts, expr_of, stmt_of}
+use Rattle.fb_types.specs.Syntax.{Expr, Stmt, Assign, For, Repeat, Stmts, expr_of, stmt_of}
 use Rattle.fb_types.specs.Values.{Values, Types, truth_of, and_then, value_of, whole, fits}
 use Rattle.fb_types.specs.Bodies.{Point, End, Went, Left, Returned, Stopped, Running, After, Then, Step, TurnThen, Loop, Runs, RunsAll, RunsChoice, RunsBranch, Assigns, Advances, Counts, label_fits}
 use Rattle.fb_types.specs.declared.text.Label.{Label}
@@ -17,6 +17,7 @@ use Rattle.fb_types.specs.declared.text.Branch.{Branch, out-Branch, fold_out-Bra
 use Rattle.fb_types.specs.declared.value.Value.{Value}
 use Rattle.fb_types.specs.declared.value.Reason.{Reason}
 use Rattle.fb_types.specs.declared.value.Reason.TheVariants as reason
+use Rattle.fb_types.proofs.NameLaws.{same_name-itself}
 use Rattle.fb_st.specs.Frames.{Declared, types_in}
 use Rattle.fb_st.specs.Flows.{end_of, all_of, choices_of, branches_of, choice_of, branch_of}
 use Rattle.fb_st.specs.declared.meter.Flow.{Flow}
@@ -160,6 +161,10 @@ began T s other vars left less e q said fewer run =
     subst (λ (t : Stmt). Runs T t (record { vars = vars; left = left }) e q) (sym said)
     (subst (λ (n : ℕ). Runs T other (record { vars = vars; left = n }) e q) (sym fewer) run)
 
+-- what is written is read
+pub written : (n : Name) (v : Value) (vars after : Values) → after ≡ with_value n v vars → after n ≡ v
+written n v vars after is = ap (λ (vs : Values). vs n) is ∙ ap (λ b. cond b v (vars n)) (same_name-itself n)
+
 pub assigns : (T : Types) (n : Name) (v : Value) (vars after : Values) (left : ℕ) → fits (T n) v ≡ true → after ≡ with_value n v vars
     → Assigns T n v (record { vars = vars; left = left }) Went (record { vars = after; left = left })
 assigns T n v vars after left fit is = rw fit (refl, ap (λ (vs : Values). record { vars = vs; left = left }) is)
@@ -227,3 +232,20 @@ choice_says c = search (rules, fold_out-Choice)
 
 pub repeat_says : (body : List read.Stmt) (c : expr.Expr) → stmt_of (read.Repeat body c) ≡ Repeat (all_of body) (expr_of c)
 repeat_says body c = rw (← variants.rolls-Repeat body c) (rw fold-roll-Stmt refl)
+
+pub assign_says : (n : Name) (e : expr.Expr) → stmt_of (read.Assign n e) ≡ Assign n (expr_of e)
+assign_says n e = rw (← variants.rolls-Assign n e) (rw fold-roll-Stmt refl)
+
+-- ---- One statement alone
+
+ends_there : (T : Types) (e : End) (q : Point) → After e (RunsAll T (all_of [])) q e q
+ends_there T Went q = (refl, refl)
+ends_there T Left q = (refl, refl)
+ends_there T Returned q = (refl, refl)
+ends_there T (Stopped r) q = (refl, refl)
+
+pub one_runs : (T : Types) (ss : List read.Stmt) (s : read.Stmt) (p q : Point) (e : End) → length ss ≡ 1 → s ≡ get_or ss 0 s → Runs T (stmt_of s) p e q → RunsAll T (all_of ss) p e q
+one_runs T [] s p q e one is run = absurd (omega arith)
+one_runs T (t ∷ []) s p q e one is run =
+    subst (λ (u : read.Stmt). RunsAll T (all_of (u ∷ [])) p e q) is (e, q, run, ends_there T e q)
+one_runs T (t ∷ u ∷ ss) s p q e one is run = absurd (omega arith)

@@ -8,6 +8,7 @@ use Rattle.std.proofs.lemmas.Option.{slice_get_read}
 use Rattle.std.proofs.Math.Seq.{map-set_same}
 use Rattle.fb_types.specs.Names.{Name, same_name, with_value}
 use Rattle.fb_types.specs.Blocks.{named}
+use Rattle.fb_types.specs.Repeated.{Twice}
 use Rattle.fb_types.specs.Flat.{zero_value}
 use Rattle.fb_types.specs.declared.value.Value.{Value}
 use Rattle.fb_types.specs.declared.value.Ty.{Ty}
@@ -16,12 +17,19 @@ use Rattle.fb_types.proofs.NameLaws.{same_from_same_name, same_name-flip}
 use Rattle.fb_st.specs.declared.frame.Slot.{Slot}
 use Rattle.fb_types.proofs.Positions.{position-first}
 use Rattle.fb_st.specs.Frames.{values_of, names_of, place_of, Declared, declared_in, types_in, is_declared}
-use Rattle.fb_st.proofs.Places.{position-later, named_at_place}
+use Rattle.fb_st.proofs.Places.{position-later, named_at_place, place_of_once}
 
 abbrev held : Option Slot → Value
 held o = elim o [ None ↦ zero_value | Some s ↦ s.value ]
 
 -- ---- Reading
+
+-- an element with a name that was read at a place stands there, and the name first stands there
+pub stands : (slots : List Slot) (i : ℕ) (s : Slot) (n : Name) → ¬ (Twice (names_of slots)) → i < length slots → s ≡ get_or slots i s → same_name n s.name ≡ true
+    → (slice_get slots i ≡ Some s) × (place_of n slots ≡ Some i)
+stands slots i s n once within is same =
+    let there = slice_get_read slots (length slots) i s refl within is in
+    (there, place_of_once (λ (t : Slot). t.name) n slots i s once there same)
 
 -- the variable at the place of a name is the one with the name
 pub named_here : (slots : List Slot) (n : Name) (i : ℕ) (s : Slot) → place_of n slots ≡ Some i → slice_get slots i ≡ Some s → named (λ t. t.name) n slots ≡ Some s

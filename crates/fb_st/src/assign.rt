@@ -1,6 +1,6 @@
 //! The parts of statements that hold no statements: assignments, labels, and the values of FOR.
 
-ghost use Rattle.std.specs.Prelude.{◌≡◌, ℕ, suc, true, int_le, ◌&&◌};
+ghost use Rattle.std.specs.Prelude.{◌≡◌, ℕ, suc, true, false, int_le, ◌&&◌, IfOk};
 ghost use Rattle.std.specs.List.{list_any};
 ghost use Rattle.fb_types.specs.Syntax.{Assign, expr_of, step_of};
 ghost use Rattle.fb_types.specs.Values.{value_of, whole};
@@ -94,11 +94,13 @@ fn is_past(end: i128, step: i128, number: i128) -> bool
     }
 }
 
-/// The next value of the variable of FOR, or the end of the loop, where the variable keeps its value.
+/// The next value of the variable of FOR, or the end of the loop, where the variable keeps its value. A value that it
+/// gives has not passed the end.
 pub fn advance(variable: &Reference, count: Count, frame: &mut Frame) -> Result<Flow, Reason>
     requires known { is_declared (declared_in frame.old) variable.now ≡ true }
     ensures run { (left : ℕ) → Advances (types_in (declared_in frame.old)) variable.now (whole count.end) (whole count.step) (record { vars = values_of frame.old; left = left }) (end_of result) (record { vars = values_of frame.new; left = left }) }
     ensures declared { declared_in frame.new ≡ declared_in frame.old }
+    ensures within { IfOk result (λ flow. flow ≡ Flow.Went → passed (whole count.end) (whole count.step) (whole (values_of frame.new variable.now)) ≡ false) }
 {
     let end = whole_of(count.end);
     let step = whole_of(count.step);

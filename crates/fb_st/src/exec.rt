@@ -1,10 +1,10 @@
 //! Runs of statements (IEC 61131-3, 7.3.3; the count of steps is this project's profile).
 
-ghost use Rattle.std.specs.Prelude.{◌≡◌, ◌≤◌, ◌<◌, true, OnOk};
-ghost use Rattle.fb_types.specs.Syntax.{body_of, expr_of, stmt_of, step_of, If, Case, For, While, Repeat};
+ghost use Rattle.std.specs.Prelude.{◌≡◌, ◌≤◌, ◌<◌, true, false, OnOk, IfOk};
+ghost use Rattle.fb_types.specs.Syntax.{body_of, expr_of, stmt_of, step_of, Assign, If, Case, For, While, Repeat};
 ghost use Rattle.fb_types.specs.Values.{whole};
-ghost use Rattle.fb_types.specs.Bodies.{Runs, RunsAll, RunsChoice, RunsBranch, Counts, Loop, Step, Then, Advances};
-ghost use Rattle.fb_st.specs.Frames.{declared_in, types_in, is_declared};
+ghost use Rattle.fb_types.specs.Bodies.{Runs, RunsAll, RunsChoice, RunsBranch, Counts, Loop, Step, Then, Advances, passed};
+ghost use Rattle.fb_st.specs.Frames.{declared_in, types_in, values_of, is_declared};
 ghost use Rattle.fb_st.specs.Flows.{end_of, point, before_step, all_of, choices_of, branches_of};
 ghost use Rattle.fb_st.specs.Known.{AssignsKnown, AllKnown, ChoicesKnown, BranchesKnown};
 
@@ -57,9 +57,43 @@ fn run(statement: &Stmt, frame: &mut Frame, meter: &mut StepMeter) -> Result<Flo
     }
 }
 
+/// A run of statements. One assignment alone, as many bodies are, needs no loop over statements.
+#[cycle(exec)]
+#[inline(always)]
+fn run_all(statements: &[Stmt], frame: &mut Frame, meter: &mut StepMeter) -> Result<Flow, Reason>
+    requires known { AllKnown (declared_in frame.old) (all_of statements.now) }
+    ensures run { RunsAll (types_in (declared_in frame.old)) (all_of statements.now) (point frame.old meter.old) (end_of result) (point frame.new meter.new) }
+    ensures declared { declared_in frame.new ≡ declared_in frame.old }
+    ensures fewer { meter.new.left ≤ meter.old.left }
+{
+    if let [statement] = statements {
+        if let Stmt::Assign(variable, expr) = statement {
+            return assign(variable, expr, frame, meter);
+        }
+    }
+    run_each(statements, frame, meter)
+}
+
+/// A run of an assignment.
+#[inline(always)]
+fn assign(
+    variable: &Reference,
+    expr: &Expr,
+    frame: &mut Frame,
+    meter: &mut StepMeter,
+) -> Result<Flow, Reason>
+    requires known { is_declared (declared_in frame.old) variable.now ≡ true }
+    ensures run { Runs (types_in (declared_in frame.old)) (Assign variable.now (expr_of expr.now)) (point frame.old meter.old) (end_of result) (point frame.new meter.new) }
+    ensures declared { declared_in frame.new ≡ declared_in frame.old }
+    ensures fewer { meter.new.left ≤ meter.old.left }
+{
+    meter.step()?;
+    run_assignment(variable, expr, frame)
+}
+
 /// A run of statements, one after the other.
 #[cycle(exec)]
-fn run_all(statements: &[Stmt], frame: &mut Frame, meter: &mut StepMeter) -> Result<Flow, Reason>
+fn run_each(statements: &[Stmt], frame: &mut Frame, meter: &mut StepMeter) -> Result<Flow, Reason>
     requires known { AllKnown (declared_in frame.old) (all_of statements.now) }
     ensures run { RunsAll (types_in (declared_in frame.old)) (all_of statements.now) (point frame.old meter.old) (end_of result) (point frame.new meter.new) }
     ensures declared { declared_in frame.new ≡ declared_in frame.old }
@@ -211,7 +245,7 @@ fn run_for(
     run_counts(body, variable, count, frame, meter)
 }
 
-/// A turn of FOR, which ends by the next value of the variable.
+/// A turn of FOR, which ends by the next value of the variable. Where it went on, that value has not passed the end.
 #[cycle(exec)]
 fn counted_turn(
     body: &[Stmt],
@@ -226,6 +260,7 @@ fn counted_turn(
     ensures declared { declared_in frame.new ≡ declared_in frame.old }
     ensures fewer { meter.new.left ≤ meter.old.left }
     ensures less { OnOk result (meter.new.left < meter.old.left) }
+    ensures within { IfOk result (λ flow. flow ≡ Flow.Went → passed (whole count.end) (whole count.step) (whole (values_of frame.new variable.now)) ≡ false) }
 {
     meter.step()?;
     match run_all(body, frame, meter)? {
@@ -250,12 +285,14 @@ fn run_counts(
     ensures declared { declared_in frame.new ≡ declared_in frame.old }
     ensures fewer { meter.new.left ≤ meter.old.left }
 {
-    while !has_passed(count, frame.value(variable)) {
+    if has_passed(count, frame.value(variable)) {
+        return Ok(Flow::Went);
+    }
+    loop {
         match counted_turn(body, variable, count, frame, meter)? {
             Flow::Went => {}
             Flow::Left => return Ok(Flow::Went),
             Flow::Returned => return Ok(Flow::Returned),
         }
     }
-    Ok(Flow::Went)
 }

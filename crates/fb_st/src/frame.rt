@@ -1,6 +1,6 @@
 //! Variables with their types and values.
 
-ghost use Rattle.std.specs.Prelude.{◌≡◌, [], ◌∷◌, ◌++◌, true, false, not, if◌then◌else◌, Some, IfSome, IfOk, IfErr, OnOk, OnErr};
+ghost use Rattle.std.specs.Prelude.{◌≡◌, [], ◌∷◌, ◌++◌, true, false, not, if◌then◌else◌, Some, IfSome, OnSome, IfOk, IfErr, OnOk, OnErr};
 ghost use Rattle.std.specs.List.{list_any};
 ghost use Rattle.fb_types.specs.Names.{same_name, with_value};
 ghost use Rattle.fb_types.specs.Repeated.{Twice};
@@ -84,8 +84,8 @@ impl Frame {
     pub fn whole(&self, variable: &Reference) -> i128
         ensures { result ≡ whole (values_of self.now variable.now) }
     {
-        match self.value_as_expected(variable) {
-            Some(value) => whole_of(value),
+        match self.standing(variable, variable.place()) {
+            Some(slot) => whole_of(slot.value),
             None => self.whole_by_search(variable),
         }
     }
@@ -103,30 +103,54 @@ impl Frame {
     pub fn value(&self, variable: &Reference) -> Value
         ensures { result ≡ values_of self.now variable.now }
     {
-        match self.value_as_expected(variable) {
-            Some(value) => value,
+        match self.standing(variable, variable.place()) {
+            Some(slot) => slot.value,
             None => self.value_by_search(variable),
         }
     }
 
-    /// The value of a variable that stands where it is expected.
+    /// The variable at a place, if it is the one that is meant. What it holds is then read in place.
     #[inline(always)]
-    fn value_as_expected(&self, variable: &Reference) -> Option<Value>
-        ensures { IfSome result (λ v. v ≡ values_of self.now variable.now) }
+    fn standing(&self, variable: &Reference, place: usize) -> Option<&Slot>
+        ensures place { OnSome result (place_of variable.now self.now ≡ Some place) }
+        ensures ty { IfSome result (λ s. types_in (declared_in self.now) variable.now ≡ s.now.ty) }
+        ensures value { IfSome result (λ s. values_of self.now variable.now ≡ s.now.value) }
     {
-        let name = variable.name().as_bytes();
-        match self.slots.get(variable.place()) {
-            Some(slot) if is_same(name, slot.name.as_bytes()) => Some(slot.value),
+        match self.slots.get(place) {
+            Some(slot) if variable.name().is(&slot.name) => Some(slot),
             _ => None,
         }
     }
 
-    /// The number of 64 bits that a variable holds which stands where it is expected. `None` says nothing of it.
+    /// The variable that stands where it is expected, if its name is a short one. `None` says nothing of it.
+    #[inline(always)]
+    fn standing_at_once(&self, variable: &Reference) -> Option<&Slot>
+        ensures { IfSome result (λ s. values_of self.now variable.now ≡ s.now.value) }
+    {
+        match self.slots.get(variable.place()) {
+            Some(slot) if variable.name().is_at_once(&slot.name) => Some(slot),
+            _ => None,
+        }
+    }
+
+    /// The number of 64 bits that a variable holds which stands where it is expected and has a short name: there is no
+    /// call on the way. `None` says nothing of it.
+    #[inline(always)]
+    pub fn small_at_once(&self, variable: &Reference) -> Option<i64>
+        ensures { IfSome result (λ z. values_of self.now variable.now ≡ Value.Whole z) }
+    {
+        match self.standing_at_once(variable)?.value {
+            Value::Whole(number) => i64::try_from(number).ok(),
+            Value::Bool(_) => None,
+        }
+    }
+
+    /// The same, whatever the length of the name.
     #[inline(always)]
     pub fn small(&self, variable: &Reference) -> Option<i64>
         ensures { IfSome result (λ z. values_of self.now variable.now ≡ Value.Whole z) }
     {
-        match self.value_as_expected(variable)? {
+        match self.standing(variable, variable.place())?.value {
             Value::Whole(number) => i64::try_from(number).ok(),
             Value::Bool(_) => None,
         }
@@ -137,7 +161,7 @@ impl Frame {
     pub(crate) fn small_truth(&self, variable: &Reference) -> Option<bool>
         ensures { IfSome result (λ b. values_of self.now variable.now ≡ Value.Bool b) }
     {
-        match self.value_as_expected(variable)? {
+        match self.standing(variable, variable.place())?.value {
             Value::Whole(_) => None,
             Value::Bool(truth) => Some(truth),
         }
@@ -160,10 +184,9 @@ impl Frame {
         ensures { result ≡ place_of variable.now self.now }
     {
         let expected = variable.place();
-        let name = variable.name().as_bytes();
-        match self.slots.get(expected) {
-            Some(slot) if is_same(name, slot.name.as_bytes()) => Some(expected),
-            _ => self.search(variable),
+        match self.standing(variable, expected) {
+            Some(_) => Some(expected),
+            None => self.search(variable),
         }
     }
 
@@ -216,10 +239,9 @@ impl Frame {
     fn may_take(&self, variable: &Reference, place: usize, value: Value) -> bool
         ensures { result ≡ true → (place_of variable.now self.now ≡ Some place) × (fits (types_in (declared_in self.now) variable.now) value ≡ true) }
     {
-        let name = variable.name().as_bytes();
-        match self.slots.get(place) {
-            Some(slot) if is_same(name, slot.name.as_bytes()) => slot.ty.holds(value),
-            _ => false,
+        match self.standing(variable, place) {
+            Some(slot) => slot.ty.holds(value),
+            None => false,
         }
     }
 
@@ -242,27 +264,6 @@ impl Frame {
         slot.value = value;
         Ok(())
     }
-}
-
-/// Whether two names are one. Two names of the same length of up to three letters are compared here: a call costs more,
-/// and so does a loop.
-#[inline(always)]
-fn is_same(name: &[u8], other: &[u8]) -> bool
-    ensures { result ≡ same_name name.now other.now }
-{
-    match (name, other) {
-        ([a], [b]) => *a == *b,
-        ([a, b], [c, d]) => *a == *c && *b == *d,
-        ([a, b, c], [d, e, f]) => *a == *d && *b == *e && *c == *f,
-        _ => is_same_long(name, other),
-    }
-}
-
-#[inline(never)]
-fn is_same_long(name: &[u8], other: &[u8]) -> bool
-    ensures { result ≡ same_name name.now other.now }
-{
-    name == other
 }
 
 fn has_name(slots: &[Slot], name: &Name) -> bool

@@ -4,7 +4,7 @@
 
 ghost use Rattle.std.specs.Prelude.{◌≡◌, Ok, IfSome};
 ghost use Rattle.fb_types.specs.Syntax.{expr_of};
-ghost use Rattle.fb_types.specs.Values.{told, value_of, binary_value};
+ghost use Rattle.fb_types.specs.Values.{told, value_of, binary_value, and_then};
 ghost use Rattle.fb_st.specs.Frames.{values_of};
 
 use crate::frame::Frame;
@@ -12,16 +12,43 @@ use fb_types::text::{BinaryOperator, Expr};
 use fb_types::value::Value;
 
 /// The number that an expression comes to, where it and all numbers on the way to it fit. `None` says nothing of it.
+/// Most have one operator, at numbers and variables: there is no call on the way, and no register to be kept for one.
 #[cycle(small)]
 pub fn small_number(expr: &Expr, frame: &Frame) -> Option<i64>
     ensures { IfSome result (λ z. value_of (expr_of expr.now) (values_of frame.now) ≡ Ok (Value.Whole z)) }
 {
     if let Expr::Binary(operator, left, right) = expr {
-        let x = small_operand(left.get(), frame)?;
-        let y = small_operand(right.get(), frame)?;
-        return small_of_two(*operator, x, y);
+        if let Some(x) = leaf(left.get(), frame) {
+            return match leaf(right.get(), frame) {
+                Some(y) => small_of_two(*operator, x, y),
+                None => small_with(*operator, x, right.get(), frame),
+            };
+        }
     }
+    any_small_number(expr, frame)
+}
+
+/// The same, for an operator whose left operand is known.
+#[cycle(small)]
+#[inline(never)]
+fn small_with(operator: BinaryOperator, x: i64, right: &Expr, frame: &Frame) -> Option<i64>
+    ensures { IfSome result (λ z. and_then (value_of (expr_of right.now) (values_of frame.now)) (λ w. binary_value operator (Value.Whole x) w) ≡ Ok (Value.Whole z)) }
+{
+    let y = small_operand(right, frame)?;
+    small_of_two(operator, x, y)
+}
+
+/// The same as `small_number`, whatever the operands are.
+#[cycle(small)]
+#[inline(never)]
+fn any_small_number(expr: &Expr, frame: &Frame) -> Option<i64>
+    ensures { IfSome result (λ z. value_of (expr_of expr.now) (values_of frame.now) ≡ Ok (Value.Whole z)) }
+{
     match expr {
+        Expr::Binary(operator, left, right) => {
+            let x = small_operand(left.get(), frame)?;
+            small_with(*operator, x, right.get(), frame)
+        }
         Expr::Group(inner) => small_number(inner.get(), frame),
         Expr::Whole(number) => i64::try_from(*number).ok(),
         Expr::Variable(variable) => frame.small(variable),
@@ -29,7 +56,7 @@ pub fn small_number(expr: &Expr, frame: &Frame) -> Option<i64>
     }
 }
 
-/// The same, for an operand: most are a number or a variable, which cost no call.
+/// The same, for an operand: many are a number or a variable, which cost no call.
 #[cycle(small)]
 #[inline(always)]
 fn small_operand(expr: &Expr, frame: &Frame) -> Option<i64>
@@ -44,8 +71,57 @@ fn small_operand(expr: &Expr, frame: &Frame) -> Option<i64>
     small_number(expr, frame)
 }
 
-/// The truth value that an expression comes to, where all numbers on the way to it fit. `None` says nothing of it.
+/// The number that an expression is, or that its variable holds, where that is found without a call. `None` says
+/// nothing of it.
+#[inline(always)]
+fn leaf(expr: &Expr, frame: &Frame) -> Option<i64>
+    ensures { IfSome result (λ z. value_of (expr_of expr.now) (values_of frame.now) ≡ Ok (Value.Whole z)) }
+{
+    match expr {
+        Expr::Whole(number) => i64::try_from(*number).ok(),
+        Expr::Variable(variable) => frame.small_at_once(variable),
+        _ => None,
+    }
+}
+
+/// The truth value that an expression comes to, where all numbers on the way to it fit. `None` says nothing of it. Most
+/// compare numbers and variables, or join two such by AND, with no call on the way.
+#[cycle(small_truth)]
 pub fn small_truth(expr: &Expr, frame: &Frame) -> Option<bool>
+    ensures { IfSome result (λ b. value_of (expr_of expr.now) (values_of frame.now) ≡ told b) }
+{
+    if let Some(is_true) = told_at_once(expr, frame) {
+        return Some(is_true);
+    }
+    if let Expr::Binary(BinaryOperator::And, left, right) = expr {
+        if let Some(a) = told_at_once(left.get(), frame) {
+            if let Some(b) = told_at_once(right.get(), frame) {
+                return Some(a && b);
+            }
+        }
+    }
+    any_small_truth(expr, frame)
+}
+
+/// What a comparison of numbers and variables tells, where these are found without a call. `None` says nothing of it.
+#[inline(always)]
+fn told_at_once(expr: &Expr, frame: &Frame) -> Option<bool>
+    ensures { IfSome result (λ b. value_of (expr_of expr.now) (values_of frame.now) ≡ told b) }
+{
+    if let Expr::Binary(operator, left, right) = expr {
+        if let Some(x) = leaf(left.get(), frame) {
+            if let Some(y) = leaf(right.get(), frame) {
+                return small_told(*operator, x, y);
+            }
+        }
+    }
+    None
+}
+
+/// The same as `small_truth`, whatever the operands are.
+#[cycle(small_truth)]
+#[inline(never)]
+fn any_small_truth(expr: &Expr, frame: &Frame) -> Option<bool>
     ensures { IfSome result (λ b. value_of (expr_of expr.now) (values_of frame.now) ≡ told b) }
 {
     if let Expr::Binary(operator, left, right) = expr {

@@ -1,25 +1,24 @@
 -- The resource that holds an instance is that of the application's instance on the way to it.
-use Rattle.std.proofs.Common.{◌≡◌, ℕ, ◌<◌, List, [], ◌∷◌, ◌++◌, map, length, get_or, Option, Some, None, Contains, refl, sym, ◌∙◌, ap, subst, inl, inr, append_assoc}
+use Rattle.std.proofs.Common.{◌≡◌, ℕ, ◌<◌, List, [], ◌∷◌, ◌++◌, map, length, get_or, Option, Some, None, Contains, refl, sym, ◌∙◌, ap, subst, inl, inr, append_assoc, ◌+◌, below_more, length-append}
 use Rattle.std.specs.Prelude.{flat_map, position, slice_get, unwrap_or}
 use Rattle.std.proofs.lemmas.List.Elements.{Contains-append_cases}
-use Rattle.std.proofs.lemmas.Option.{same_Some, slice_get-get_or}
+use Rattle.std.proofs.lemmas.Option.{same_Some, slice_get-get_or, slice_get_within, get_or_from_slice_get}
 use Rattle.fb_types.specs.Flat.{holder, inside, paths_of, resource_of}
 use Rattle.fb_types.specs.Headline.{Inputs}
 use Rattle.fb_types.specs.Names.{Name, Path, same_name}
 use Rattle.fb_types.specs.declared.deploy.Plan.{Plan}
 use Rattle.fb_types.specs.declared.library.Instance.{Instance}
 use Rattle.fb_types.specs.declared.library.Library.{Library}
-use Rattle.fb_types.proofs.ByPlace.{element_of_place}
+use Rattle.fb_types.proofs.ByPlace.{element_of_place, slice_get-append_here, slice_get-append_left}
 use Rattle.fb_types.proofs.Positions.{is_some-position, position_is}
 use Rattle.fb_types.proofs.Elements.{Contains-cons_cases, Contains-here, Contains-nil, Contains-there, Contains-map}
 use Rattle.fb_types.proofs.NameLaws.{any_from_contains}
 use Rattle.fb_fabric.proofs.Distinct.{below, below_through, IsThrough, paths_from}
 use Rattle.fb_fabric.specs.Layouts.{path_of, place_at, route_to}
 use Rattle.fb_types.proofs.Options.{some_from_is_some}
-use Rattle.fb_system.specs.Linking.{holder_at, IsLinked, Linked}
+use Rattle.fb_system.specs.Linking.{holder_at, home_at, home_from, IsLinked, Linked}
 use Rattle.fb_system.specs.Systems.{inputs_of, StandFor}
 use Rattle.fb_system.specs.declared.whole.Whole.{Whole}
-use Rattle.fb_system.proofs.Seen.{linked_seen}
 
 -- ---- Every path leads through an instance of the application
 
@@ -100,12 +99,42 @@ resource_by_place lib plan x k place linked h found =
 
 -- ---- In a system
 
-pub resource_seen :
-    (v w : Whole) (i : Inputs) (k place : ℕ) (route : List ℕ) → StandFor w → v ≡ w → inputs_of w ≡ i → k < length (paths_of i.library)
-    → route ≡ route_to i.library (path_of i.library k) → slice_get route 0 ≡ Some place → holder_at v.links place ≡ resource_of i.plan (path_of i.library k)
-resource_seen v w i k place route is e s h r found =
-    ap (λ (w : Whole). holder_at w.links place) e
-    ∙ resource_by_place i.library i.plan w.links k place (linked_seen w i is s) h (ap (λ (ks : List ℕ). slice_get ks 0) (sym r) ∙ found)
+abbrev HasHome : Library → Plan → Linked → ℕ → Type 0
+HasHome lib plan x k = home_at lib x k ≡ resource_of plan (path_of lib k)
+
+-- .. and where the first place is looked up
+home_is : (lib : Library) (plan : Plan) (x : Linked) (k : ℕ) → IsLinked lib plan x → k < length (paths_of lib) → HasHome lib plan x k
+home_is lib plan x k linked h =
+    ap (home_from x) (first_place lib k h) ∙ resource_by_place lib plan x k (places_through lib k h) linked h (first_place lib k h)
+
+pub home_there : (v w : Whole) (i : Inputs) (k : ℕ) → StandFor w → v ≡ w → inputs_of w ≡ i → k < length (paths_of i.library) → k < length v.homes
+home_there v w i k is e s h =
+    let lt : k < length (paths_of w.fabric) = subst (λ (i : Inputs). k < length (paths_of i.library)) (sym s) h in
+    subst (λ (w : Whole). k < length w.homes) (sym e) (slice_get_within w.homes k (home_at w.fabric w.links k) (is.homes k lt))
+
+pub home_seen :
+    (v w : Whole) (i : Inputs) (k d : ℕ) → StandFor w → v ≡ w → inputs_of w ≡ i → k < length (paths_of i.library)
+    → get_or v.homes k d ≡ resource_of i.plan (path_of i.library k)
+home_seen v w i k d is e s h =
+    let lt : k < length (paths_of w.fabric) = subst (λ (i : Inputs). k < length (paths_of i.library)) (sym s) h in
+    ap (λ (w : Whole). get_or w.homes k d) e
+    ∙ get_or_from_slice_get w.homes k (home_at w.fabric w.links k) d (is.homes k lt)
+    ∙ home_is w.fabric w.deploy w.links k is.links lt
+    ∙ ap (λ (i : Inputs). resource_of i.plan (path_of i.library k)) s
+
+-- ---- Making
+
+-- the first homes
+abbrev pub HomesSoFar : Library → Linked → ℕ → List ℕ → Type 0
+HomesSoFar lib x n homes = (length homes ≡ n) × ((k : ℕ) → k < n → slice_get homes k ≡ Some (home_at lib x k))
+
+pub homes_next :
+    (lib : Library) (x : Linked) (n home : ℕ) (homes : List ℕ) → HomesSoFar lib x n homes → home ≡ home_at lib x n → HomesSoFar lib x (n + 1) (homes ++ home ∷ [])
+homes_next lib x n home homes far is = (
+  length-append homes (home ∷ []) ∙ ap (λ m. m + 1) far.0,
+  below_more _ _ (λ k lt. slice_get-append_left homes (home ∷ []) k (home_at lib x k) (far.1 k lt))
+      (ap (slice_get (homes ++ home ∷ [])) (sym far.0) ∙ slice_get-append_here homes home ∙ ap (λ m. Some m) is),
+)
 
 -- a way has a first place
 pub first_there : (lib : Library) (k : ℕ) (route : List ℕ) → k < length (paths_of lib) → route ≡ route_to lib (path_of lib k) → slice_get route 0 ≡ None → ⊥

@@ -1,6 +1,6 @@
 -- What the tables say of the inputs as which a system is seen.
 use Rattle.std.proofs.Common.{◌≡◌, ℕ, ◌<◌, ◌≤◌, ◌+◌, List, [], length, get_or, Option, Some, None, Ok, refl, sym, ◌∙◌, ap, subst, inl, inr}
-use Rattle.std.specs.Prelude.{IfOk, IfSome, Result, option_map, slice_get}
+use Rattle.std.specs.Prelude.{IfOk, IfSome, IsTrue, ◌↔◌, Result, option_map, slice_get}
 use Rattle.std.proofs.lemmas.Bool.{cases_lt}
 use Rattle.std.proofs.lemmas.List.{length-map}
 use Rattle.std.proofs.lemmas.Option.{slice_get-get_or}
@@ -22,13 +22,14 @@ use Rattle.fb_names.specs.Numbers.{kind_of_number}
 use Rattle.fb_names.specs.declared.numbers.TypeNumber.{TypeNumber}
 use Rattle.fb_fabric.specs.Layouts.{AreComponents, AreNumbers, IsParent, path_of, route_to}
 use Rattle.fb_fabric.specs.Fabrics as fabric
+use Rattle.fb_fabric.specs.declared.reached.Reached.{Reached}
 use Rattle.fb_types.specs.declared.run.Place.{Place}
 use Rattle.fb_system.specs.Tables.{AreInterfaces}
 use Rattle.fb_system.specs.declared.interfaces.Interfaces.{Interfaces}
 use Rattle.fb_types.specs.EventPorts.{ArePortsOfKinds}
 use Rattle.fb_system.specs.Rows.{AreRows}
 use Rattle.fb_system.specs.declared.rows.StimulusRow.{StimulusRow}
-use Rattle.fb_system.specs.Linking.{IsLinked, Linked, link_at, receiver_at, rank, rank_at, sender_at}
+use Rattle.fb_system.specs.Linking.{AreHomes, IsLinked, Linked, link_at, receiver_at, rank, rank_at, sender_at}
 use Rattle.fb_system.specs.Ports.{IsPort, IsSource, IsTarget, IsVariable, variable_of}
 use Rattle.fb_system.specs.Systems.{inputs_of, StandFor}
 use Rattle.fb_system.specs.declared.whole.Whole.{Whole}
@@ -135,6 +136,32 @@ leads_seen v w i from place o e s h =
     subst (λ (lib : Library). option_map (fabric.port_of lib) o ≡ slice_get (targets_of lib (fabric.port_of lib from)) place)
     (library_seen v w i e s) h
 
+reached_up : (i : Inputs) (o : Option Reached) → IfSome o (λ (r : Reached). fabric.IsTarget i.library r.target) → IfSome o (λ (r : Reached). IsTarget (system_of i) r.target)
+reached_up i None h = h
+reached_up i (Some r) h = record { port = record { instance = h.port.instance; event = h.port.event }; composite = h.composite }
+
+pub reached_within :
+    (v w : Whole) (i : Inputs) (o : Option Reached) → v ≡ w → inputs_of w ≡ i → IfSome o (λ (r : Reached). fabric.IsTarget v.fabric r.target)
+    → IfSome o (λ (r : Reached). IsTarget (system_of i) r.target)
+reached_within v w i o e s h =
+    reached_up i o (subst (λ (lib : Library). IfSome o (λ (r : Reached). fabric.IsTarget lib r.target)) (library_seen v w i e s) h)
+
+pub reached_leads :
+    (v w : Whole) (i : Inputs) (from : Target) (place : ℕ) (o : Option Reached) → v ≡ w → inputs_of w ≡ i
+    → option_map (λ (r : Reached). fabric.port_of v.fabric r.target) o ≡ slice_get (targets_of v.fabric (fabric.port_of v.fabric from)) place
+    → option_map (λ (r : Reached). port_of (system_of i) r.target) o ≡ slice_get ((system_of i).targets (port_of (system_of i) from)) place
+reached_leads v w i from place o e s h =
+    subst (λ (lib : Library). option_map (λ (r : Reached). fabric.port_of lib r.target) o ≡ slice_get (targets_of lib (fabric.port_of lib from)) place)
+    (library_seen v w i e s) h
+
+pub reached_more :
+    (v w : Whole) (i : Inputs) (from : Target) (place : ℕ) (o : Option Reached) → v ≡ w → inputs_of w ≡ i
+    → IfSome o (λ (r : Reached). IsTrue r.more ↔ (place + 1 < length (targets_of v.fabric (fabric.port_of v.fabric from))))
+    → IfSome o (λ (r : Reached). IsTrue r.more ↔ (place + 1 < length ((system_of i).targets (port_of (system_of i) from))))
+reached_more v w i from place o e s h =
+    subst (λ (lib : Library). IfSome o (λ (r : Reached). IsTrue r.more ↔ (place + 1 < length (targets_of lib (fabric.port_of lib from)))))
+    (library_seen v w i e s) h
+
 -- ---- Variables
 
 pub variable_there : (v w : Whole) (i : Inputs) (x : Place) → v ≡ w → inputs_of w ≡ i → IsVariable (system_of i) x → fabric.IsVariable v.fabric x
@@ -218,9 +245,9 @@ latency_read v w i p links l d sent e s r q h =
 
 -- ---- Making
 
-abbrev whole_of : Plan → List Stimulus → Library → Linked → List Ports → Interfaces → List StimulusRow → Whole
-whole_of plan stimuli lib links blocks interfaces rows =
-    record { deploy = plan; stimuli = stimuli; fabric = lib; links = links; event_blocks = blocks; interfaces = interfaces; rows = rows }
+abbrev whole_of : Plan → List Stimulus → Library → Linked → List Ports → Interfaces → List StimulusRow → List ℕ → Whole
+whole_of plan stimuli lib links blocks interfaces rows homes =
+    record { deploy = plan; stimuli = stimuli; fabric = lib; links = links; event_blocks = blocks; interfaces = interfaces; rows = rows; homes = homes }
 
 -- what a result that is Ok promised
 pub ok_read : {A E : Type 0} (r : Result A E) (P : A → Type 0) (a : A) → IfOk r P → r ≡ Ok a → P a
@@ -236,8 +263,9 @@ ok_seen {A} r a b e h = subst (λ (x : A). IfOk r (λ s. s ≡ x)) e h
 pub made :
     (lib f : Library) (plan p : Plan) (stimuli xs : List Stimulus) (links : Linked) (blocks : List Ports) (interfaces its : Interfaces) (rows rs : List StimulusRow)
     → AreAccepted (inputs lib plan stimuli) → AreInterfaces lib interfaces → AreRows lib stimuli rows → IsLinked lib plan links → ArePortsOfKinds blocks
-    → f ≡ lib → p ≡ plan → xs ≡ stimuli → its ≡ interfaces → rs ≡ rows → StandFor (whole_of p xs f links blocks its rs)
-made lib f plan p stimuli xs links blocks interfaces its rows rs accepted of_types by_number linked of_kinds library deploy same types numbers =
+    → f ≡ lib → p ≡ plan → xs ≡ stimuli → its ≡ interfaces → rs ≡ rows
+    → (homes : List ℕ) → AreHomes f links homes → StandFor (whole_of p xs f links blocks its rs homes)
+made lib f plan p stimuli xs links blocks interfaces its rows rs accepted of_types by_number linked of_kinds library deploy same types numbers homes at =
     let view = view_made lib f plan p stimuli xs library deploy same in
     record {
       accepted = subst (λ (i : Inputs). AreAccepted i) (sym view) accepted;
@@ -245,4 +273,5 @@ made lib f plan p stimuli xs links blocks interfaces its rows rs accepted of_typ
       event_blocks = of_kinds;
       interfaces = subst (λ (l : Library). AreInterfaces l its) (sym library) (subst (λ (t : Interfaces). AreInterfaces lib t) (sym types) of_types);
       rows = subst (λ (i : Inputs). AreRows i.library i.stimuli rs) (sym view) (subst (λ (s : List StimulusRow). AreRows lib stimuli s) (sym numbers) by_number);
+      homes = at;
     }

@@ -1,15 +1,13 @@
 -- Resources and links by their places (IEC 61499-1, 7; links are this project's profile).
-use Rattle.std.specs.Prelude.{◌≡◌, ℕ, ◌<◌, Bool, ◌&&◌, nat_eq, List, length, map, Option, Some, None, position, slice_get, take, unwrap_or}
+use Rattle.std.specs.Prelude.{◌≡◌, ℕ, ◌<◌, Bool, ◌&&◌, nat_eq, List, [], length, map, Option, Some, None, position, slice_get, slice_index_or, take, unwrap_or}
 use Rattle.std.specs.List.{filter}
-use Rattle.std.specs.Ordering.{nat_cmp, ordering_then}
-use Rattle.std.specs.BTreeMap.{BTreeMap, get}
-use Rattle.std.specs.declared.cmp.Ordering.{Ordering}
 use Rattle.fb_types.specs.Names.{Name}
-use Rattle.fb_types.specs.Flat.{holder, link_between, end_of}
+use Rattle.fb_types.specs.Flat.{holder, link_between, end_of, paths_of}
 use Rattle.fb_types.specs.declared.library.Library.{Library}
 use Rattle.fb_types.specs.declared.library.Instance.{Instance}
 use Rattle.fb_types.specs.declared.deploy.Plan.{Plan}
 use Rattle.fb_names.specs.declared.numbers.LinkEnds.{LinkEnds}
+use Rattle.fb_fabric.specs.Layouts.{path_of, route_to}
 
 -- for each instance of the application the resource that holds it and its rank there, and the resources of each link
 pub record Linked : Type 0 where
@@ -50,6 +48,18 @@ rank_at x place = unwrap_or (slice_get x.ranks place) 0
 abbrev pub holder_at : Linked → ℕ → ℕ
 holder_at x instance = unwrap_or (slice_get x.holders instance) 0
 
+-- the resource that holds an instance: that of the first place on the way to it
+abbrev pub home_from : Linked → Option ℕ → ℕ
+home_from x None = 0
+home_from x (Some place) = holder_at x place
+
+abbrev pub home_at : Library → Linked → ℕ → ℕ
+home_at lib x k = home_from x (slice_get (route_to lib (path_of lib k)) 0)
+
+-- each instance has the resource that holds it
+abbrev pub AreHomes : Library → Linked → List ℕ → Type 0
+AreHomes lib x homes = (k : ℕ) → k < length (paths_of lib) → slice_get homes k ≡ Some (home_at lib x k)
+
 abbrev pub sender_at : Linked → ℕ → ℕ
 sender_at x link = elim (slice_get x.ends link) [ None ↦ 0 | Some e ↦ e.from ]
 
@@ -68,12 +78,17 @@ link_at x from to = first_between x.ends from to
 
 -- ---- What the tables hold
 
-abbrev pub way_cmp : ℕ × ℕ → ℕ × ℕ → Ordering
-way_cmp a b = ordering_then (nat_cmp a.0 b.0) (nat_cmp a.1 b.1)
+-- the link to a resource, of those from another
+abbrev pub way_to : List (Option ℕ) → ℕ → Option ℕ
+way_to row to = slice_index_or row to None
 
--- The map has the first link between any two resources.
-pub record AreWays (ends : List LinkEnds) (ways : BTreeMap (ℕ × ℕ) ℕ) : Type 0 where
-  pub each : (from to : ℕ) → get way_cmp ways (from, to) ≡ first_between ends from to
+-- the link from one resource to another
+abbrev pub way_between : List (List (Option ℕ)) → ℕ → ℕ → Option ℕ
+way_between ways from to = way_to (slice_index_or ways from []) to
+
+-- The table has the first link between any two resources.
+pub record AreWays (ends : List LinkEnds) (ways : List (List (Option ℕ))) : Type 0 where
+  pub each : (from to : ℕ) → way_between ways from to ≡ first_between ends from to
 
 -- The numbers are those of the application's instances, and of the deployment's resources and links.
 pub record IsLinked (lib : Library) (plan : Plan) (x : Linked) : Type 0 where

@@ -4,7 +4,7 @@ use Rattle.fb_types.specs.EventPorts.{ArePortsOfKinds}
 use Rattle.fb_types.specs.Headline.{Inputs, AreAccepted}
 use Rattle.fb_names.specs.Numbers.{IsResolved}
 use Rattle.fb_system.specs.Tables.{AreInterfaces}
-use Rattle.fb_system.specs.Linking.{IsLinked, holders_of}
+use Rattle.fb_system.specs.Linking.{AreHomes, IsLinked, holders_of}
 use Rattle.fb_system.specs.Rows.{AreRows}
 use Rattle.fb_system.specs.declared.given.Given.{Given}
 use Rattle.fb_system.specs.declared.whole.Whole.{Whole}
@@ -27,3 +27,4 @@ pub record StandFor (w : Whole) : Type 0 where
   pub event_blocks : ArePortsOfKinds w.event_blocks
   pub interfaces : AreInterfaces w.fabric w.interfaces
   pub rows : AreRows w.fabric w.stimuli w.rows
+  pub homes : AreHomes w.fabric w.links w.homes

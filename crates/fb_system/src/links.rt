@@ -1,11 +1,12 @@
 //! Which resource holds an instance of the application, at which rank, and which link leads from one resource to another.
 
-ghost use Rattle.std.specs.Prelude.{◌≡◌, ◌≤◌, ℕ, length, slice_get, unwrap_or, IfOk};
+ghost use Rattle.std.specs.Prelude.{◌≡◌, ◌≤◌, ℕ, None, Some, cond, length, nat_eq, slice_get, unwrap_or, IfOk, OnOk};
+ghost use Rattle.fb_types.specs.Keys.{or_else};
 ghost use Rattle.fb_types.specs.Repeated.{NameTwice};
 ghost use Rattle.fb_types.specs.declared.deploy.Plan.{Plan};
 ghost use Rattle.fb_types.specs.declared.library.Library.{Library};
 ghost use Rattle.fb_names.specs.Numbers.{IsResolved};
-ghost use Rattle.fb_system.specs.Linking.{AreWays, IsLinked, holder_at, holders_of, link_at, receiver_at, rank_among, rank_at, sender_at};
+ghost use Rattle.fb_system.specs.Linking.{AreWays, IsLinked, holder_at, holders_of, joins, link_at, receiver_at, rank_among, rank_at, sender_at, way_between, way_to};
 
 use fb_names::numbers::{LinkEnds, Resolved};
 use fb_types::items::Items;
@@ -13,8 +14,9 @@ use std::alloc::{AllocError, Global};
 use std::collections::BTreeMap;
 use std::marker::Model;
 
-/// The number of a link, by the resource that sends and the resource that receives.
-type Ways = BTreeMap<(usize, usize), usize, Global>;
+/// For each resource that sends, by the number of the resource that receives, the first link from the one to the other. At
+/// most 256 resources have at most 65,536 such places.
+type Ways = Vec<Items<Option<usize>>>;
 
 /// The resources of instances and of links, by number. Contracts see the resource that holds each instance, its rank
 /// there, and the resources of each link.
@@ -36,19 +38,62 @@ impl Model for Links {
 
     ghost view = { λ l. record { holders = l.holders; ranks = l.ranks; ends = l.ends } };
 
-    ghost invariant = { λ l. AreWays l.ends l.ways };
+    ghost invariant = { λ l. AreWays l.ends l.ways.items };
+}
+
+/// The link to a resource, of those from another.
+fn way_in(row: &[Option<usize>], to: usize) -> Option<usize>
+    ensures { result ≡ way_to row.now to }
+{
+    match row.get(to) {
+        Some(way) => *way,
+        None => None,
+    }
+}
+
+/// The link from one resource to another.
+fn way(ways: &[Items<Option<usize>>], from: usize, to: usize) -> Option<usize>
+    ensures { result ≡ way_between ways.now from to }
+{
+    match ways.get(from) {
+        Some(row) => way_in(row.as_slice(), to),
+        None => None,
+    }
+}
+
+/// Notes a link to a resource, where none was noted before.
+fn note_to(row: &mut Items<Option<usize>>, to: usize, link: usize) -> Result<(), AllocError>
+    ensures { OnOk result ((t : ℕ) → way_to row.new t ≡ or_else (way_to row.old t) (cond (nat_eq to t) (Some link) None)) }
+{
+    while row.len() <= to {
+        row.push(None)?;
+    }
+    let noted = way_in(row.as_slice(), to);
+    if noted.is_none() {
+        row.set(to, Some(link));
+    }
+    Ok(())
+}
+
+/// Notes a link, where none between its resources was noted before.
+fn note(ways: &mut Ways, alloc: Global, ends: LinkEnds, link: usize) -> Result<(), AllocError>
+    ensures { OnOk result ((f t : ℕ) → way_between ways.new.items f t ≡ or_else (way_between ways.old.items f t) (cond (joins f t ends) (Some link) None)) }
+{
+    while ways.len() <= ends.from {
+        ways.push(Items::new(alloc))?;
+    }
+    let row = &mut ways[ends.from];
+    note_to(row, ends.to, link)?;
+    Ok(())
 }
 
 /// The first link from any resource to any other.
 fn ways_of(alloc: Global, links: &[LinkEnds]) -> Result<Ways, AllocError>
-    ensures { IfOk result (AreWays links.now) }
+    ensures { IfOk result (λ ways. AreWays links.now ways.items) }
 {
-    let mut ways = BTreeMap::new(alloc);
+    let mut ways = Vec::new(alloc);
     for (number, ends) in links.iter().enumerate() {
-        let way = (ends.from, ends.to);
-        if !ways.contains_key(&way) {
-            ways.insert(way, number)?;
-        }
+        note(&mut ways, alloc, *ends, number)?;
     }
     Ok(ways)
 }
@@ -104,7 +149,7 @@ impl Links {
     pub fn between(&self, from: usize, to: usize) -> Option<usize>
         ensures { result ≡ link_at self.now from to }
     {
-        self.ways.get(&(from, to)).copied()
+        way(self.ways.as_slice(), from, to)
     }
 
     /// The resource from which a link leads. A number that no link has gives 0.

@@ -1,6 +1,6 @@
 //! The system that stands for accepted inputs.
 
-ghost use Rattle.std.specs.Prelude.{◌≡◌, ◌+◌, ◌<◌, ◌≤◌, [], ℕ, length, option_map, slice_get, slice_index_or, IfOk, IfSome};
+ghost use Rattle.std.specs.Prelude.{◌≡◌, ◌+◌, ◌<◌, ◌≤◌, [], List, ℕ, length, option_map, slice_get, slice_index_or, ◌↔◌, IfOk, IfSome, IsTrue};
 ghost use Rattle.fb_types.specs.Flat.{latency_at};
 ghost use Rattle.fb_types.specs.Headline.{AreAccepted, system_of, inputs};
 ghost use Rattle.fb_types.specs.Limits.{IsWithinLimits};
@@ -11,11 +11,12 @@ ghost use Rattle.fb_system.specs.Stimuli.{IsStimulusAt, initial_inputs, initial_
 ghost use Rattle.fb_types.specs.Text.{path_text};
 ghost use Rattle.fb_fabric.specs.Layouts.{AreComponents, AreNumbers, IsParent, route_to};
 ghost use Rattle.fb_names.specs.Numbers.{kind_of_number};
-ghost use Rattle.fb_system.specs.Linking.{rank};
+ghost use Rattle.fb_system.specs.Linking.{AreHomes, rank};
 ghost use Rattle.fb_system.specs.Ports.{IsPort, IsSource, IsTarget, IsVariable, variable_of};
 ghost use Rattle.fb_system.specs.Systems.{inputs_of, IsGiven, StandFor};
 
 use crate::given::Given;
+use crate::homes::homes_of;
 use crate::initial_values::{input_values, output_values};
 use crate::links::Links;
 use crate::stimulus::StimulusAt;
@@ -24,6 +25,7 @@ use crate::whole::{Whole, row_at};
 use crate::with_places::WithPlaces;
 use fb_fabric::beside::beside;
 use fb_fabric::fabric::Fabric;
+use fb_fabric::reached::Reached;
 use fb_names::numbers::TypeNumber;
 use fb_types::deploy::{Deploy, Plan, Stimulus};
 use fb_types::event_ports::all_ports;
@@ -94,15 +96,17 @@ impl System {
             event_blocks,
             interfaces,
             rows,
+            homes: Items::new(alloc),
         };
         System::of_tables(alloc, tables)
     }
 
-    /// The system of tables that stand for accepted inputs.
-    fn of_tables(alloc: Global, tables: Whole) -> Result<System, AllocError>
-        requires { StandFor tables }
+    /// The system of tables that stand for accepted inputs once they have the resources of all instances.
+    fn of_tables(alloc: Global, mut tables: Whole) -> Result<System, AllocError>
+        requires { (homes : List ℕ) → AreHomes tables.fabric tables.links homes → StandFor (record tables { homes = homes }) }
         ensures { IfOk result (λ s. s ≡ inputs_of tables) }
     {
+        tables.homes = homes_of(alloc, &tables.fabric, &tables.links)?;
         let whole = Arc::new(alloc, tables)?;
         Ok(System { whole })
     }
@@ -212,6 +216,17 @@ impl System {
         self.whole.fabric.target(from, place)
     }
 
+    /// Where the event connection leads that stands at a place among those that leave a port, as `target` tells it, and
+    /// whether another one follows. So nobody has to look for one behind the last.
+    pub fn reached(&self, from: Target, place: usize) -> Option<Reached>
+        requires { IsPort (system_of self.now) from }
+        ensures leads { option_map (λ r. port_of (system_of self.now) r.target) result ≡ slice_get ((system_of self.now).targets (port_of (system_of self.now) from)) place }
+        ensures within { IfSome result (λ r. IsTarget (system_of self.now) r.target) }
+        ensures more { IfSome result (λ r. IsTrue r.more ↔ (place + 1 < length ((system_of self.now).targets (port_of (system_of self.now) from)))) }
+    {
+        self.whole.fabric.reached(from, place)
+    }
+
     /// What a variable is connected to: a data input to what is around the instance, a data output of a composite to
     /// what is inside.
     pub fn source(&self, to: Place) -> Option<Place>
@@ -223,14 +238,12 @@ impl System {
     }
 
     /// The resource that holds an instance.
+    #[inline(always)]
     pub fn resource(&self, instance: u32) -> usize
         requires { instance < length (system_of self.now).paths }
         ensures { result ≡ (system_of self.now).resource (path_at (system_of self.now) instance) }
     {
-        match self.route(instance).first() {
-            Some(place) => self.whole.links.holder(*place as usize),
-            None => 0,
-        }
+        self.whole.homes.as_slice()[instance as usize]
     }
 
     /// The rank of the instance of the application at a place of its text: how many before it lie in the same resource.
@@ -296,6 +309,7 @@ impl System {
     }
 
     /// The interface of an instance's type.
+    #[inline(always)]
     pub fn ports(&self, instance: u32) -> &Ports
         requires { instance < length (system_of self.now).paths }
         ensures { result.now ≡ ports_at (system_of self.now) (path_at (system_of self.now) instance) }
@@ -305,6 +319,7 @@ impl System {
     }
 
     /// For each event of an instance's type, the places of the variables WITH it.
+    #[inline(always)]
     fn with_places(&self, instance: u32) -> &WithPlaces
         requires { instance < length (system_of self.now).paths }
         ensures { AreWithPlaces (ports_at (system_of self.now) (path_at (system_of self.now) instance)) result.now }

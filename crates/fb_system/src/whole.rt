@@ -25,6 +25,8 @@ pub(crate) struct Whole {
     pub interfaces: Interfaces,
     /// The stimuli by number.
     pub rows: Items<StimulusRow>,
+    /// For each instance, the resource that holds it.
+    pub homes: Items<usize>,
 }
 
 /// The stimulus at a row.

@@ -68,13 +68,14 @@ fn post_message(
     let next = number.checked_add(1).ok_or(AllocError)?;
     let arrives = arrival(system.latency(sending.link as usize), key.tick);
     sent[sending.link as usize] = next;
-    mail.push(Message {
+    mail.reserve(1)?;
+    mail.push_reserved(Message {
         link: sending.link,
         number,
         arrives,
         target: sending.target,
         values: sending.values,
-    })?;
+    });
     Ok(())
 }
 

@@ -1,7 +1,7 @@
 -- The digits of a number, written from the last to the first.
-use Rattle.std.proofs.Common.{◌≡◌, ℕ, ◌+◌, ◌-◌, ◌/◌, ◌%◌, ◌^◌, ◌<◌, ◌≤◌, List, ◌∷◌, ◌++◌, length, drop, set, decimal, ap, ◌∙◌, arith, append_assoc, append-nil, length-append, length-drop, length-set, inl, inr}
-use Rattle.std.proofs.lemmas.Fmt.{decimal_digit, decimal_step_wide, length-decimal-le_wide}
-use Rattle.std.proofs.lemmas.List.{drop-set, drop_all}
+use Rattle.std.proofs.Common.{◌≡◌, ℕ, ◌+◌, ◌-◌, ◌/◌, ◌%◌, ◌^◌, ◌<◌, ◌≤◌, List, [], ◌∷◌, ◌++◌, length, drop, set, decimal, ap, ◌∙◌, arith, append_assoc, append-nil, length-append, length-drop, length-set, sym, take, inl, inr}
+use Rattle.std.proofs.lemmas.Fmt.{decimal_digit, decimal_step, decimal_step_wide, length-decimal-le_wide}
+use Rattle.std.proofs.lemmas.List.{drop-set, drop_all, take_all, take_at, take_more_set}
 use Rattle.std.proofs.lemmas.Bool.{cases_lt}
 
 -- The digits from a place on, with those of the rest before them, are the digits of the number.
@@ -46,3 +46,31 @@ Follow-all n r s ds w nf low =
     let within = w.within in
     let sized = w.sized in
     rw (front s (48 + r) ds room (omega arith)) (rw (decimal_digit r low) at w.text)
+
+-- a number by its last digit, and by its last two
+pub last_digit : (n : ℕ) → 10 ≤ n → n < 2 ^ 64 → decimal n ≡ decimal (n / 10) ++ decimal (n % 10)
+last_digit n h f = decimal_step n h f ∙ ap (λ d. decimal (n / 10) ++ d) (sym (decimal_digit (n % 10) (omega arith)))
+
+pub last_digits : (n : ℕ) → 100 ≤ n → n < 2 ^ 64 → decimal n ≡ decimal (n / 100) ++ (decimal (n / 10 % 10) ++ decimal (n % 10))
+last_digits n h f =
+    let e : n / 10 / 10 ≡ n / 100 = omega arith in
+    last_digit n (omega arith) f
+    ∙ ap (λ d. d ++ decimal (n % 10)) (last_digit (n / 10) (omega arith) (omega arith) ∙ ap (λ m. decimal m ++ decimal (n / 10 % 10)) e)
+    ∙ append_assoc (decimal (n / 100)) (decimal (n / 10 % 10)) (decimal (n % 10))
+
+-- ---- Digits with a blank
+
+pub few_digits : (n s : ℕ) (ds : List ℕ) → length ds ≡ 39 → drop s ds ≡ decimal n → n < 2 ^ 64 → 39 - s ≤ 20
+few_digits n s ds sized text nf =
+    omega (arith, sized, length-drop s ds, ap length text, length-decimal-le_wide 20 n (omega arith) (omega arith) (omega arith))
+
+pub digits_moved : (s : ℕ) (ds : List ℕ) → length ds ≡ 39 → length (take (39 - s) (drop s ds)) ≡ 39 - s
+digits_moved s ds sized = ap length (take_all (39 - s) (drop s ds) (omega (arith, sized, length-drop s ds))) ∙ omega (arith, sized, length-drop s ds)
+
+pub with_blank : (n s : ℕ) (ds to row : List ℕ) → length ds ≡ 39 → drop s ds ≡ decimal n → to ≡ take (39 - s) (drop s ds) → 39 - s ≤ 20 → length row ≡ 24
+    → take (39 - s + 1) (set (to ++ drop (39 - s) row) (39 - s) 32) ≡ decimal n ++ 32 ∷ []
+with_blank n s ds to row sized text e few wide =
+    let rest = drop (39 - s) row in
+    let long : length to ≡ 39 - s = ap length e ∙ digits_moved s ds sized in
+    take_more_set (to ++ rest) (39 - s) 32 (omega (arith, few, wide, long, length-append to rest, length-drop (39 - s) row))
+    ∙ ap (λ l. l ++ 32 ∷ []) (take_at to rest (39 - s) long ∙ e ∙ take_all (39 - s) (drop s ds) (omega (arith, sized, length-drop s ds)) ∙ text)

@@ -1,4 +1,6 @@
 pub mod Digits
+pub mod Rows
+pub mod Copies
 pub mod Steps
 pub mod Lookups
 pub mod Values

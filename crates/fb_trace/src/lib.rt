@@ -4,9 +4,10 @@
 //! exactly their text, or, where it fails, a beginning of it, and the fault tells how many bytes.
 //!
 //! To be read in this order: `merge`; `trace`, `lines` and `last`, what is written; `pieces`, `names` and `number`;
-//! `page`, `front` and `fault`.
+//! `page`, `copy`, `front` and `fault`.
 #![tactic(auto)]
 
+mod copy;
 pub mod fault;
 pub mod front;
 pub mod last;

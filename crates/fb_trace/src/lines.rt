@@ -1,9 +1,9 @@
 //! The lines of a trace.
 
-ghost use Rattle.std.specs.Prelude.{◌≡◌, map, length, All, IfErr, IfOk, OnOk, codes, if◌then◌else◌};
+ghost use Rattle.std.specs.Prelude.{◌≡◌, map, length, All, IfErr, IfOk, OnOk};
 ghost use Rattle.std.specs.Io.KnownBytes.{Appends};
 ghost use Rattle.fb_types.specs.Headline.{system_of};
-ghost use Rattle.fb_types.specs.Numbers.{line_of};
+ghost use Rattle.fb_types.specs.Numbers.{line_of, path_at, ports_at};
 ghost use Rattle.fb_types.specs.Text.{line_text, lines_text, values_text};
 ghost use Rattle.fb_system.specs.Lines.{BelongsTo};
 ghost use Rattle.fb_trace.specs.Progress.{Gathers, IsPartWritten, bounded};
@@ -14,32 +14,27 @@ use crate::number::Noted;
 use crate::page::Page;
 use crate::pieces::{put_head, put_key, put_values};
 use fb_system::system::System;
+use fb_types::library::Ports;
 use fb_types::run::{Form, Line};
 use std::io::Write;
-
-/// What stands before the path: the sign of an event that was taken, or of one that was emitted.
-fn sign(taken: bool) -> &'static [u8]
-    ensures sign { result.now ≡ (if taken then codes " > " else codes " < ") }
-    ensures short { length result.now ≡ 3 }
-{
-    if taken { b" > " } else { b" < " }
-}
 
 /// Puts the values of a line, each with the name of its variable.
 fn put_bindings<W: Write>(
     page: &mut Page,
     out: &mut W,
     system: &System,
+    ports: &Ports,
     line: &Line,
 ) -> Result<(), WriteFault>
-    requires { BelongsTo (system_of system.now) line.now }
+    requires belongs { BelongsTo (system_of system.now) line.now }
+    requires ports { let sys = system_of system.now in ports.now ≡ ports_at sys (path_at sys line.now.instance) }
     ensures { Gathers (W.contents out.old) (W.contents out.new) page.old page.new
         (values_text (line_of (system_of system.now) line.now).values) result }
 {
     if line.values.is_empty() {
         return Ok(());
     }
-    let shown = shown_by(system, line);
+    let shown = shown_by(system, ports, line);
     put_values(
         page,
         out,
@@ -64,16 +59,17 @@ fn put_line<W: Write>(
 {
     put_key(page, out, form, &line.key)?;
     tick.note(line.key.tick);
+    let ports = system.ports(line.instance);
     put_head(
         page,
         out,
-        tick.digits(),
+        tick,
         system.resource_name(line.key.resource as usize),
-        sign(line.taken),
+        line.taken,
         system.path(line.instance),
-        event_name(system, line),
+        event_name(ports, line),
     )?;
-    put_bindings(page, out, system, line)?;
+    put_bindings(page, out, system, ports, line)?;
     page.make_room(out, 1)?;
     page.append(b"\n");
     Ok(())

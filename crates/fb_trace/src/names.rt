@@ -1,21 +1,21 @@
 //! What the numbers of a line stand for.
 
-ghost use Rattle.std.specs.Prelude.{◌≡◌};
+ghost use Rattle.std.specs.Prelude.{◌≡◌, ◌<◌, length, if◌then◌else◌};
 ghost use Rattle.fb_types.specs.Headline.{system_of};
-ghost use Rattle.fb_types.specs.Numbers.{line_of};
+ghost use Rattle.fb_types.specs.Numbers.{event_at, path_at, ports_at};
 ghost use Rattle.fb_system.specs.Stands.{ArePlaces};
 ghost use Rattle.fb_system.specs.Lines.{BelongsTo, line_variables};
 
 use fb_system::system::System;
-use fb_types::library::Variable;
+use fb_types::library::{Ports, Variable};
 use fb_types::run::Line;
 
-/// The name of a line's event.
-pub(crate) fn event_name<'a>(system: &'a System, line: &Line) -> &'a [u8]
-    requires { BelongsTo (system_of system.now) line.now }
-    ensures { result.now ≡ (line_of (system_of system.now) line.now).event }
+/// The name of a line's event, by the interface of its instance.
+#[inline(always)]
+pub(crate) fn event_name<'a>(ports: &'a Ports, line: &Line) -> &'a [u8]
+    requires { line.now.event < length (if line.now.taken then ports.now.event_inputs else ports.now.event_outputs) }
+    ensures { result.now ≡ (if line.now.taken then event_at ports.now.event_inputs line.now.event else event_at ports.now.event_outputs line.now.event) }
 {
-    let ports = system.ports(line.instance);
     let event = line.event as usize;
     if line.taken {
         ports.event_inputs.as_slice()[event].name.as_bytes()
@@ -31,12 +31,13 @@ pub(crate) struct Shown<'a> {
     pub(crate) places: &'a [u32],
 }
 
-/// The variables WITH a line's event.
-pub(crate) fn shown_by<'a>(system: &'a System, line: &Line) -> Shown<'a>
-    requires { BelongsTo (system_of system.now) line.now }
+/// The variables WITH a line's event, by the interface of its instance.
+#[inline(always)]
+pub(crate) fn shown_by<'a>(system: &'a System, ports: &'a Ports, line: &Line) -> Shown<'a>
+    requires belongs { BelongsTo (system_of system.now) line.now }
+    requires ports { let sys = system_of system.now in ports.now ≡ ports_at sys (path_at sys line.now.instance) }
     ensures { ArePlaces result.variables.now (line_variables (system_of system.now) line.now) result.places.now }
 {
-    let ports = system.ports(line.instance);
     if line.taken {
         Shown {
             variables: ports.inputs.as_slice(),

@@ -1,7 +1,8 @@
 //! Numbers as decimal digits.
 
-ghost use Rattle.std.specs.Prelude.{◌≡◌, ◌≤◌, drop, decimal, length};
+ghost use Rattle.std.specs.Prelude.{◌≡◌, ◌≤◌, ◌++◌, codes, drop, decimal, length, take};
 
+use crate::copy::copy_text;
 use std::marker::Model;
 
 /// No `u128` has more digits.
@@ -31,40 +32,49 @@ pub(crate) fn write_digits(number: u128, digits: &mut [u8; MOST_DIGITS]) -> usiz
     start
 }
 
-/// The digits of the number that was noted last: mostly a line has the tick of the line before.
+/// The digits of an `u64` and a blank take no more bytes.
+pub(crate) const NOTED: usize = 24;
+
+/// The number that was noted last, as its digits and a blank: mostly a line has the tick of the line before.
 #[derive(Drop)]
 pub(crate) struct Noted {
     number: u64,
-    digits: [u8; MOST_DIGITS],
-    start: usize,
+    text: [u8; NOTED],
+    width: usize,
 }
 
 impl Model for Noted {
-    ghost use Rattle.std.specs.Prelude.{◌≡◌, ◌≤◌, ℕ, drop, decimal};
-    ghost use Rattle.fb_trace.specs.declared.number.TheConstants.{MOST_DIGITS};
+    ghost use Rattle.std.specs.Prelude.{◌≡◌, ◌≤◌, ◌++◌, ℕ, codes, decimal, take};
+    ghost use Rattle.fb_trace.specs.declared.number.TheConstants.{NOTED};
 
     ghost Value = { ℕ };
 
     ghost view = { λ n. n.number };
 
-    ghost invariant = { λ n. (n.start ≤ MOST_DIGITS) × (drop n.start n.digits ≡ decimal n.number) };
+    ghost invariant = { λ n. (n.width ≤ NOTED) × (take n.width n.text ≡ decimal n.number ++ codes " ") };
 }
 
 impl Noted {
-    /// A number with its digits.
+    /// A number as its digits and a blank.
+    #[inline(always)]
     pub(crate) fn of(number: u64) -> Noted
         ensures { result ≡ number }
     {
         let mut digits = [0; MOST_DIGITS];
-        let start = write_digits(u128::from(number), &mut digits);
+        let start = write_digits(number as u128, &mut digits);
+        let count = MOST_DIGITS - start;
+        let mut text = [0; NOTED];
+        copy_text(&mut text[..count], &digits[start..]);
+        text[count] = b' ';
         Noted {
             number,
-            digits,
-            start,
+            text,
+            width: count + 1,
         }
     }
 
     /// Notes a number in the place of the one before.
+    #[inline(always)]
     pub(crate) fn note(&mut self, number: u64)
         ensures { self.new ≡ number }
     {
@@ -73,11 +83,12 @@ impl Noted {
         }
     }
 
-    /// The digits of the number.
-    pub(crate) fn digits(&self) -> &[u8]
-        ensures digits { result.now ≡ decimal self.now }
-        ensures few { length result.now ≤ MOST_DIGITS }
+    /// The bytes that begin with the digits of the number and a blank, and how many these are.
+    #[inline(always)]
+    pub(crate) fn text(&self) -> (&[u8; NOTED], usize)
+        ensures within { result.1 ≤ NOTED }
+        ensures text { take result.1 result.0.now ≡ decimal self.now ++ codes " " }
     {
-        &self.digits[self.start..]
+        (&self.text, self.width)
     }
 }

@@ -4,9 +4,10 @@ ghost use Rattle.std.specs.Prelude.{◌≡◌, ◌+◌, ◌-◌, ◌^◌, ◌<�
 ghost use Rattle.std.specs.Io.KnownBytes.{Appends};
 ghost use Rattle.fb_trace.specs.Progress.{Gathers, Fails, bounded};
 
+use crate::copy::copy_text;
 use crate::fault::WriteFault;
 use crate::front::write_front;
-use crate::number::{MOST_DIGITS, write_digits};
+use crate::number::{MOST_DIGITS, NOTED, write_digits};
 use std::io::Write;
 use std::marker::Model;
 
@@ -121,11 +122,67 @@ impl Page {
         ensures length { length self.new.waiting ≡ length self.old.waiting + length bytes.now }
     {
         let end = self.used + bytes.len();
-        self.bytes[self.used..end].copy_from_slice(bytes);
+        copy_text(&mut self.bytes[self.used..end], bytes);
         self.used = end;
     }
 
+    /// Puts the first of a row of bytes behind those that wait, where there is room for the row. As many bytes are
+    /// copied for each row, which is sooner than to copy as many as are wanted.
+    #[inline(always)]
+    pub(crate) fn append_front(&mut self, row: &[u8; NOTED], count: usize)
+        requires count { count ≤ NOTED }
+        requires room { length self.old.waiting + NOTED ≤ SIZE }
+        ensures text { self.new ≡ record self.old { waiting = self.old.waiting ++ take count row.now } }
+        ensures length { length self.new.waiting ≡ length self.old.waiting + count }
+    {
+        let used = self.used;
+        self.bytes[used..used + NOTED].copy_from_slice(row);
+        self.used = used + count;
+    }
+
+    /// Puts a digit behind what waits, where there is room for it.
+    #[inline(always)]
+    fn append_digit(&mut self, digit: u32)
+        requires digit { digit < 10 }
+        requires room { length self.old.waiting + 1 ≤ SIZE }
+        ensures text { self.new ≡ record self.old { waiting = self.old.waiting ++ decimal digit } }
+        ensures length { length self.new.waiting ≡ length self.old.waiting + 1 }
+    {
+        self.append(&[b'0' + digit as u8]);
+    }
+
+    /// Puts the digits of a number that has two at most.
+    #[inline(always)]
+    fn append_two(&mut self, number: u32)
+        requires number { number < 100 }
+        requires room { length self.old.waiting + 2 ≤ SIZE }
+        ensures text { self.new ≡ record self.old { waiting = self.old.waiting ++ decimal number } }
+        ensures length { length self.new.waiting ≤ length self.old.waiting + 2 }
+    {
+        if number >= 10 {
+            self.append_digit(number / 10);
+        }
+        self.append_digit(number % 10);
+    }
+
+    /// Puts the digits of a number that has four at most, one by one where they belong.
+    #[inline(always)]
+    pub(crate) fn append_four(&mut self, number: u32)
+        requires number { number < 10000 }
+        requires room { length self.old.waiting + 4 ≤ SIZE }
+        ensures text { self.new ≡ record self.old { waiting = self.old.waiting ++ decimal number } }
+        ensures length { length self.new.waiting ≤ length self.old.waiting + 4 }
+    {
+        if number < 100 {
+            return self.append_two(number);
+        }
+        self.append_two(number / 100);
+        self.append_digit(number / 10 % 10);
+        self.append_digit(number % 10);
+    }
+
     /// Puts the decimal digits of a number behind what waits, where there is room for as many as a number may have.
+    #[inline(never)]
     pub(crate) fn append_number(&mut self, number: u128)
         requires { length self.old.waiting + MOST_DIGITS ≤ SIZE }
         ensures text { self.new ≡ record self.old { waiting = self.old.waiting ++ decimal number } }

@@ -1,6 +1,6 @@
 //! The pieces of a line.
 
-ghost use Rattle.std.specs.Prelude.{◌≡◌, ◌<◌, ◌≤◌, ◌+◌, ◌++◌, ℕ, List, Option, length, map, All, codes, decimal};
+ghost use Rattle.std.specs.Prelude.{◌≡◌, ◌<◌, ◌≤◌, ◌+◌, ◌++◌, ℕ, List, Option, length, map, All, codes, decimal, if◌then◌else◌};
 ghost use Rattle.fb_types.specs.Headline.{system_of};
 ghost use Rattle.fb_types.specs.Numbers.{pair_up};
 ghost use Rattle.fb_types.specs.Text.{key_text, place_text, value_text, values_text};
@@ -8,7 +8,7 @@ ghost use Rattle.fb_system.specs.Stands.{variable_at};
 ghost use Rattle.fb_trace.specs.Progress.{Gathers, Puts};
 
 use crate::fault::WriteFault;
-use crate::number::MOST_DIGITS;
+use crate::number::{NOTED, Noted};
 use crate::page::{Page, SHORT, SIZE};
 use fb_system::system::System;
 use fb_types::key::Key;
@@ -60,87 +60,108 @@ pub(crate) fn put_place<W: Write>(
     page.put(out, system.resource_name(resource as usize))
 }
 
-/// What stands between the texts of a head, and a number, takes no more bytes.
-const HEAD: usize = 44;
+/// The row with the tick, and what stands between the texts of a head, take no more bytes.
+const HEAD: usize = NOTED + SIGN + 1;
+
+/// How long the sign of an event is.
+const SIGN: usize = 3;
 
 /// What stands before and behind the name of a value, and a number with its sign, takes no more bytes.
 const BINDING: usize = 42;
 
+/// Puts what stands before the path, where there is room for it: the sign of an event that was taken, or of one that was emitted.
+#[inline(always)]
+fn append_sign(page: &mut Page, taken: bool)
+    requires { length page.old.waiting + SIGN ≤ SIZE }
+    ensures text { page.new ≡ record page.old { waiting = page.old.waiting ++ (if taken then codes " > " else codes " < ") } }
+    ensures length { length page.new.waiting ≡ length page.old.waiting + SIGN }
+{
+    if taken {
+        page.append(b" > ");
+    } else {
+        page.append(b" < ");
+    }
+}
+
 /// Puts a head of short texts, where there is room for it.
+#[inline(always)]
 fn append_head(
     page: &mut Page,
-    tick: &[u8],
+    tick: &Noted,
     resource: &[u8],
-    sign: &[u8],
+    taken: bool,
     path: &[u8],
     event: &[u8],
 )
-    requires tick { length tick.now ≤ MOST_DIGITS }
-    requires sign { length sign.now ≡ 3 }
-    requires room { length page.old.waiting + (HEAD + length resource.now + length path.now + length event.now) ≤ SIZE }
+    requires { length page.old.waiting + (HEAD + length resource.now + length path.now + length event.now) ≤ SIZE }
     ensures { (a : Option (List ℕ)) → Puts a a page.old page.new
-        (tick.now ++ codes " " ++ resource.now ++ sign.now ++ path.now ++ codes "." ++ event.now) }
+        (decimal tick.now ++ codes " " ++ resource.now ++ (if taken then codes " > " else codes " < ") ++ path.now ++ codes "." ++ event.now) }
 {
-    page.append(tick);
-    page.append(b" ");
+    let (row, width) = tick.text();
+    page.append_front(row, width);
     page.append(resource);
-    page.append(sign);
+    append_sign(page, taken);
     page.append(path);
     page.append(b".");
     page.append(event);
 }
 
 /// Puts a head piece by piece, however long they are.
+#[inline(never)]
 fn put_long_head<W: Write>(
     page: &mut Page,
     out: &mut W,
-    tick: &[u8],
+    tick: &Noted,
     resource: &[u8],
-    sign: &[u8],
+    taken: bool,
     path: &[u8],
     event: &[u8],
 ) -> Result<(), WriteFault>
     ensures { Gathers (W.contents out.old) (W.contents out.new) page.old page.new
-        (tick.now ++ codes " " ++ resource.now ++ sign.now ++ path.now ++ codes "." ++ event.now) result }
+        (decimal tick.now ++ codes " " ++ resource.now ++ (if taken then codes " > " else codes " < ") ++ path.now ++ codes "." ++ event.now) result }
 {
-    page.put(out, tick)?;
-    page.put(out, b" ")?;
+    let (row, width) = tick.text();
+    page.put(out, &row[..width])?;
     page.put(out, resource)?;
-    page.put(out, sign)?;
+    page.make_room(out, SIGN)?;
+    append_sign(page, taken);
     page.put(out, path)?;
     page.put(out, b".")?;
     page.put(out, event)
 }
 
-/// Puts the head of a line: the digits of its tick, the name of a resource, a sign, a path, and the name of an event. Where all are
-/// short there is room on the page for the whole, and no piece has to ask for it.
+/// Puts the head of a line: its tick, the name of a resource, a sign, a path, and the name of an event. Where all are short
+/// there is room on the page for the whole, and no piece has to ask for it.
+#[inline(always)]
 pub(crate) fn put_head<W: Write>(
     page: &mut Page,
     out: &mut W,
-    tick: &[u8],
+    tick: &Noted,
     resource: &[u8],
-    sign: &[u8],
+    taken: bool,
     path: &[u8],
     event: &[u8],
 ) -> Result<(), WriteFault>
-    requires tick { length tick.now ≤ MOST_DIGITS }
-    requires sign { length sign.now ≡ 3 }
     ensures { Gathers (W.contents out.old) (W.contents out.new) page.old page.new
-        (tick.now ++ codes " " ++ resource.now ++ sign.now ++ path.now ++ codes "." ++ event.now) result }
+        (decimal tick.now ++ codes " " ++ resource.now ++ (if taken then codes " > " else codes " < ") ++ path.now ++ codes "." ++ event.now) result }
 {
     if resource.len() > SHORT || path.len() > SHORT || event.len() > SHORT {
-        return put_long_head(page, out, tick, resource, sign, path, event);
+        return put_long_head(page, out, tick, resource, taken, path, event);
     }
     page.make_room(out, HEAD + resource.len() + path.len() + event.len())?;
-    append_head(page, tick, resource, sign, path, event);
+    append_head(page, tick, resource, taken, path, event);
     Ok(())
 }
 
-/// Puts a whole number, where there is room for it.
+/// Puts a whole number, where there is room for it. Most have few digits and no sign.
+#[inline(always)]
 fn append_whole(page: &mut Page, number: i128)
     requires { length page.old.waiting + 40 ≤ SIZE }
     ensures { page.new ≡ record page.old { waiting = page.old.waiting ++ value_text (Value.Whole number) } }
 {
+    if number >= 0 && number < 10000 {
+        return page.append_four(number as u32);
+    }
     if number < 0 {
         page.append(b"-");
     }
@@ -148,6 +169,7 @@ fn append_whole(page: &mut Page, number: i128)
 }
 
 /// Puts a value, where there is room for it.
+#[inline(always)]
 fn append_value(page: &mut Page, value: Value)
     requires { length page.old.waiting + 40 ≤ SIZE }
     ensures { page.new ≡ record page.old { waiting = page.old.waiting ++ value_text value } }
@@ -160,6 +182,7 @@ fn append_value(page: &mut Page, value: Value)
 }
 
 /// Puts a variable with a short name and its value, where there is room for them.
+#[inline(always)]
 fn append_binding(page: &mut Page, name: &[u8], value: Value)
     requires { length page.old.waiting + (BINDING + length name.now) ≤ SIZE }
     ensures { (a : Option (List ℕ)) → Puts a a page.old page.new (codes " " ++ name.now ++ codes "=" ++ value_text value) }
@@ -171,6 +194,7 @@ fn append_binding(page: &mut Page, name: &[u8], value: Value)
 }
 
 /// Puts a variable and its value, however long its name is.
+#[inline(never)]
 fn put_long_binding<W: Write>(
     page: &mut Page,
     out: &mut W,
@@ -189,6 +213,7 @@ fn put_long_binding<W: Write>(
 }
 
 /// A variable and its value.
+#[inline(always)]
 fn put_binding<W: Write>(
     page: &mut Page,
     out: &mut W,

@@ -2,6 +2,7 @@ pub mod Alone
 pub mod Apart
 pub mod Charts
 pub mod Components
+pub mod Finding
 pub mod Holding
 pub mod Others
 pub mod Reading

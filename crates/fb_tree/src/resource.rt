@@ -41,6 +41,7 @@ pub struct Forest {
 const NOTHING: Value = Value::Whole(0);
 
 /// The route of an instance among the blocks of its resource: its first place there, and the rest.
+#[inline(always)]
 pub fn route(system: &System, instance: u32) -> (u32, &[u32])
     requires { instance < length (system_of system.now).paths }
     ensures { result.0 ∷ result.1.now ≡ route_in_tree system.now instance }

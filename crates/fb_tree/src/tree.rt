@@ -13,11 +13,11 @@ use fb_types::items::Items;
 pub fn find<'a>(blocks: &'a [Block], first: u32, rest: &[u32]) -> Option<&'a Block>
     ensures { option_copied result ≡ block_at blocks.now (first ∷ rest.now) }
 {
-    let block = blocks.get(first as usize)?;
-    match rest {
-        [] => Some(block),
-        [next, rest @ ..] => find(block.components(), *next, rest),
+    let mut block = blocks.get(first as usize)?;
+    for place in rest {
+        block = block.components().get(*place as usize)?;
     }
+    Some(block)
 }
 
 /// Changes the block at a route, and gives what the change gives. Where no block stands there nothing happens.

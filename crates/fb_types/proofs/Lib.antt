@@ -1,6 +1,7 @@
 pub mod Elements
 pub mod TwiceLaws
 pub mod NameLaws
+pub mod Words
 pub mod Positions
 pub mod ByPlace
 pub mod ListTests

@@ -2,6 +2,7 @@ pub mod formers
 pub mod Latencies
 pub mod Limits
 pub mod Names
+pub mod Words
 pub mod Syntax
 pub mod Values
 pub mod Held

@@ -20,11 +20,11 @@ returns-in-Some c =
     let es = c.args.events.now.items in
     let last = c.in-Some.field-0.now in
     let facts = c.in-Some.ensures in
-    where_less c.lt.result (key_cmp c.in-Some.last c.args.key) (c.lt.ensures ∙ less_is last.0 c.args.key ∙ ap (λ k. is_lt (key_cmp k c.args.key)) c.in-Some.last-is)
-    (λ before. all_before c.args.key es (deque_len c.args.events.now - 1) last c.requires (omega (arith, facts.variant.0 refl))
-    (subst (λ e. Precedes e.0 c.args.key) facts.lookup (subst (λ k. Precedes k c.args.key) (sym c.in-Some.last-is) before)))
+    where_less c.lt.result (key_cmp c.in-Some.last c.args.key.now) (c.lt.ensures ∙ less_is last.0 c.args.key.now ∙ ap (λ k. is_lt (key_cmp k c.args.key.now)) c.in-Some.last-is)
+    (λ before. all_before c.args.key.now es (deque_len c.args.events.now - 1) last c.requires (omega (arith, facts.variant.0 refl))
+    (subst (λ e. Precedes e.0 c.args.key.now) facts.lookup (subst (λ k. Precedes k c.args.key.now) (sym c.in-Some.last-is) before)))
 
 pub returns-in-None : goal.returns-in-None
 returns-in-None c =
     let facts = c.in-None.ensures in
-    all_before_none c.args.key c.args.events.now.items (λ more. false≢true (facts.variant.1 (omega arith)))
+    all_before_none c.args.key.now c.args.events.now.items (λ more. false≢true (facts.variant.1 (omega arith)))

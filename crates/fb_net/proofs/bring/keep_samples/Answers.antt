@@ -1,11 +1,9 @@
-use Rattle.std.proofs.Common.{◌∙◌, sym}
-use Rattle.std.proofs.lemmas.Bool.{eqb-true}
 use Rattle.std.proofs.lemmas.Iterator.{YieldsList-from_slice, YieldsList-from_zip}
 use Rattle.std.proofs.lemmas.Iterator.Consumers.{YieldsList-end}
 use Rattle.fb_types.specs.Headline.{system_of}
 use Rattle.fb_types.specs.Numbers.{path_at, ports_at}
 use Rattle.fb_net.specs.Samples.{names_in}
-use Rattle.fb_net.proofs.Changing.{changes_none, samples_all, samples_none, samples_push}
+use Rattle.fb_net.proofs.Changing.{changes_none, samples_all, samples_push}
 use Rattle.fb_net.proofs.bring.keep_samples.Goals as goal
 
 pub loop-place-init : goal.loop-place-init
@@ -21,12 +19,7 @@ pub returns : goal.returns
 returns c =
     let sys = system_of c.args.system.now in
     let inputs = (ports_at sys (path_at sys c.args.at.instance)).inputs in
-    let places = c.inputs_with-places.result.now in
+    let places = c.args.places.now in
     samples_all inputs (names_in sys c.args.at) places c.args.values.now c.loop-place.yielded c.loop-place.invariant
     (YieldsList-end (YieldsList-from_zip {s = c.into_iter-place-iterator.result} (YieldsList-from_slice places (cc)) (YieldsList-from_slice c.args.values.now (cc)))
-    c.loop-place.yielded c.loop-place.place-iterator c.loop-place.yielded_by c.next.result c.next.new.self c.in-None.is c.next.ensures.steps).0 c.inputs_with-places.ensures
-
-pub returns-then-is_empty : goal.returns-then-is_empty
-returns-then-is_empty c =
-    samples_none c.args.system.now c.args.forest.now c.args.at.instance (names_in (system_of c.args.system.now) c.args.at) c.args.values.now
-    (eqb-true _ 0 (sym c.is_empty.ensures ∙ c.if-is_empty.true))
+    c.loop-place.yielded c.loop-place.place-iterator c.loop-place.yielded_by c.next.result c.next.new.self c.in-None.is c.next.ensures.steps).0 c.requires.places

@@ -1,13 +1,23 @@
+use Rattle.std.proofs.Common.{◌≡◌, ◌∷◌, [], length, arith}
+use Rattle.std.proofs.lemmas.Result.{IfOk-weaker}
 use Rattle.fb_types.specs.Headline.{system_of}
 use Rattle.fb_types.specs.Numbers.{path_at, ports_at}
 use Rattle.fb_types.specs.Reactions.{sampled_from}
-use Rattle.fb_net.specs.Samples.{names_in}
+use Rattle.fb_net.specs.Samples.{AreSampled, names_in}
 use Rattle.fb_net.proofs.Reading.{read_all}
+use Rattle.fb_net.proofs.Sampling.{one-sampled}
 use Rattle.fb_net.proofs.samples.sampled_values.Goals as goal
 
 pub returns-clause-sampled : goal.returns-clause-sampled
 returns-clause-sampled c =
     let sys = system_of c.args.system.now in
     let p = path_at sys c.args.at.instance in
-    read_all (ports_at sys p).inputs (names_in sys c.args.at) (λ w n. sampled_from sys c.args.forest.now.resource w (record { at = p; name = n })) c.loop-place.place-index c.inputs_with-place-items.result.now c.loop-place.values
-    c.loop-place.invariant c.loop-place-test.false c.inputs_with-place-items.ensures
+    read_all (ports_at sys p).inputs (names_in sys c.args.at) (λ w n. sampled_from sys c.args.forest.now.resource w (record { at = p; name = n })) c.loop-place.place-index c.args.places.now c.loop-place.values
+    c.loop-place.invariant c.loop-place-test.false c.requires.places
+
+pub returns-in-len1-clause-sampled : goal.returns-in-len1-clause-sampled
+returns-in-len1-clause-sampled c =
+    let one : length c.args.places.now ≡ 1 = omega (arith, c.in-len1.len_at_least, c.in-len1.len_below) in
+    IfOk-weaker c.from_slice.result (λ values. values ≡ c.sampled-value.result ∷ []) (AreSampled c.args.system.now c.args.forest.now c.args.at)
+    (λ values is. one-sampled c.args.system.now c.args.forest.now c.args.at c.args.places.now c.sampled-value.result values c.requires.places one c.sampled-value.ensures is)
+    c.from_slice.ensures

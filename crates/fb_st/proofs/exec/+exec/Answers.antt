@@ -1,16 +1,17 @@
-use Rattle.std.proofs.Common.{List, subst, ◌≡◌, sym, ◌∙◌, ap, not, Bool, ℤ, refl, Result, Ok, false, true, arith}
+use Rattle.std.proofs.Common.{List, length, subst, ◌≡◌, sym, ◌∙◌, ap, not, Bool, ℤ, refl, Result, Ok, false, true, arith}
 use Rattle.std.proofs.lemmas.Result.{err_from_is_err_and}
 use Rattle.fb_types.specs.Names.{Name}
-use Rattle.fb_types.specs.Syntax.{Stmt, Stmts, For, Repeat, expr_of, stmt_of, step_of}
+use Rattle.fb_types.specs.Syntax.{Stmt, Stmts, Assign, For, Repeat, expr_of, stmt_of, step_of}
 use Rattle.fb_types.specs.Values.{Types, Values, truth_of, whole}
-use Rattle.fb_types.specs.Bodies.{Point, Running, Went, Left, Returned, Stopped, Step, Then, RunsAll, Runs, Advances, passed}
+use Rattle.fb_types.specs.Bodies.{Point, End, Running, Went, Left, Returned, Stopped, Step, Then, RunsAll, Runs, Advances, passed}
+use Rattle.fb_types.specs.declared.text.Stmt as read
 use Rattle.fb_types.specs.declared.value.Reason.{Reason}
 use Rattle.fb_types.specs.declared.value.Reason.TheVariants as reason
 use Rattle.fb_st.specs.declared.frame.Slot.{Slot}
 use Rattle.fb_st.specs.declared.meter.Flow.TheVariants as flow
 use Rattle.fb_st.specs.Frames.{declared_in, types_in, values_of}
 use Rattle.fb_st.specs.Flows.{end_of, point, before_step, all_of}
-use Rattle.fb_st.proofs.Runs.{began, for_counts, for_not_begun, stopped_by, ended_by, told_by, turn_as, counted_as, counts_as, loop_over, loop_left, loop_returned, loop_stopped, loop_goes_on, repeat_says, repeat_goes_on, repeat_over, repeat_stops, repeat_left, repeat_returned, repeat_stopped}
+use Rattle.fb_st.proofs.Runs.{one_runs, assign_says, began, for_counts, for_not_begun, stopped_by, ended_by, told_by, turn_as, counted_as, counts_as, loop_over, loop_left, loop_returned, loop_stopped, loop_goes_on, repeat_says, repeat_goes_on, repeat_over, repeat_stops, repeat_left, repeat_returned, repeat_stopped}
 use Rattle.fb_st.proofs.exec.+exec.Goals as goal
 
 -- ---- FOR
@@ -141,8 +142,31 @@ run_while-loop-frame-preserved t c =
 
 -- ---- The turns of FOR
 
-pub run_counts-loop-count-preserved : goal.run_counts-loop-count-preserved
-run_counts-loop-count-preserved t c =
+pub run_counts-returns-then-has_passed-clause-run : goal.run_counts-returns-then-has_passed-clause-run
+run_counts-returns-then-has_passed-clause-run t c =
+    let n : Name = c.args.variable.now in
+    let T : Types = types_in (declared_in c.args.frame.now) in
+    let end : ℤ = whole c.args.count.end in
+    let step : ℤ = whole c.args.count.step in
+    let turn : Running = Step (Then (RunsAll T (all_of c.args.body.now)) (Advances T n end step)) in
+    let test : Values → Result Bool Reason = λ vars. Ok (not (passed end step (whole (vars n)))) in
+    let here : passed end step (whole (values_of c.args.frame.now n)) ≡ true =
+    ap (λ v. passed end step (whole v)) (sym c.value.ensures) ∙ sym c.has_passed.ensures ∙ c.if-has_passed.true in
+    loop_over test turn (point c.args.frame.now c.args.meter.now) (ap (λ b. Ok (not b)) here)
+
+pub run_counts-loop-init : goal.run_counts-loop-init
+run_counts-loop-init t c =
+    let end : ℤ = whole c.args.count.end in
+    let step : ℤ = whole c.args.count.step in
+    record {
+      run = λ e q rest. rest;
+      declared = refl;
+      fewer = omega arith;
+      within = ap (λ v. passed end step (whole v)) (sym c.value.ensures) ∙ sym c.has_passed.ensures ∙ c.if-has_passed.false;
+    }
+
+pub run_counts-loop-preserved : goal.run_counts-loop-preserved
+run_counts-loop-preserved t c =
     let n : Name = c.args.variable.now in
     let body : Stmts = all_of c.args.body.now in
     let T : Types = types_in (declared_in c.args.frame.now) in
@@ -150,16 +174,16 @@ run_counts-loop-count-preserved t c =
     let step : ℤ = whole c.args.count.step in
     let turn : Running = Step (Then (RunsAll T body) (Advances T n end step)) in
     let test : Values → Result Bool Reason = λ vars. Ok (not (passed end step (whole (vars n)))) in
-    let p : Point = point c.loop-count.frame c.loop-count.meter in
+    let p : Point = point c.loop.frame c.loop.meter in
     let m : Point = point c.counted_turn.new.frame c.counted_turn.new.meter in
-    let ran = counted_as (declared_in c.loop-count.frame) (declared_in c.args.frame.now) n end step body p m (end_of c.counted_turn.result) Went c.loop-count.invariant.declared
+    let ran = counted_as (declared_in c.loop.frame) (declared_in c.args.frame.now) n end step body p m (end_of c.counted_turn.result) Went c.loop.invariant.declared
     (ended_by c.counted_turn.result c.in_ok-counted_turn.field-0 flow.Went c.in_ok-counted_turn.was c.in-Went.is) c.counted_turn.ensures.run in
-    let here : passed end step (whole (values_of c.loop-count.frame n)) ≡ false =
-    ap (λ v. passed end step (whole v)) (sym c.value.ensures) ∙ sym c.has_passed.ensures ∙ c.loop-count-test.true in
+    let here : passed end step (whole (values_of c.loop.frame n)) ≡ false = c.loop.invariant.within in
     record {
-      run = λ e q rest. c.loop-count.invariant.run e q (loop_goes_on test turn p m (ap (λ b. Ok (not b)) here) ran e q rest);
-      declared = c.counted_turn.ensures.declared ∙ c.loop-count.invariant.declared;
-      fewer = let a = c.counted_turn.ensures.fewer in let b = c.loop-count.invariant.fewer in omega arith;
+      run = λ e q rest. c.loop.invariant.run e q (loop_goes_on test turn p m (ap (λ b. Ok (not b)) here) ran e q rest);
+      declared = c.counted_turn.ensures.declared ∙ c.loop.invariant.declared;
+      fewer = let a = c.counted_turn.ensures.fewer in let b = c.loop.invariant.fewer in omega arith;
+      within = c.in_ok-counted_turn.ensures.within c.in-Went.is;
     }
 
 pub run_counts-returns-in_err-counted_turn-clause-run : goal.run_counts-returns-in_err-counted_turn-clause-run
@@ -171,15 +195,14 @@ run_counts-returns-in_err-counted_turn-clause-run t c =
     let step : ℤ = whole c.args.count.step in
     let turn : Running = Step (Then (RunsAll T body) (Advances T n end step)) in
     let test : Values → Result Bool Reason = λ vars. Ok (not (passed end step (whole (vars n)))) in
-    let p : Point = point c.loop-count.frame c.loop-count.meter in
+    let p : Point = point c.loop.frame c.loop.meter in
     let r : Reason = c.in_err-counted_turn.field-0.0 in
-    let here : passed end step (whole (values_of c.loop-count.frame n)) ≡ false =
-    ap (λ v. passed end step (whole v)) (sym c.value.ensures) ∙ sym c.has_passed.ensures ∙ c.loop-count-test.true in
+    let here : passed end step (whole (values_of c.loop.frame n)) ≡ false = c.loop.invariant.within in
     let m : Point = point c.counted_turn.new.frame c.counted_turn.new.meter in
-    let ran = counted_as (declared_in c.loop-count.frame) (declared_in c.args.frame.now) n end step body p m (end_of c.counted_turn.result) (Stopped r) c.loop-count.invariant.declared
+    let ran = counted_as (declared_in c.loop.frame) (declared_in c.args.frame.now) n end step body p m (end_of c.counted_turn.result) (Stopped r) c.loop.invariant.declared
     (stopped_by c.counted_turn.result r c.in_err-counted_turn.was) c.counted_turn.ensures.run in
     let x = err_from_is_err_and c.from_residual.result c.from_residual.ensures.1 in
-    rw (x.1, x.2) (c.loop-count.invariant.run (Stopped r) m (loop_stopped test turn p m r (ap (λ b. Ok (not b)) here) ran))
+    rw (x.1, x.2) (c.loop.invariant.run (Stopped r) m (loop_stopped test turn p m r (ap (λ b. Ok (not b)) here) ran))
 
 pub run_counts-returns-in-Left-clause-run : goal.run_counts-returns-in-Left-clause-run
 run_counts-returns-in-Left-clause-run t c =
@@ -190,13 +213,12 @@ run_counts-returns-in-Left-clause-run t c =
     let step : ℤ = whole c.args.count.step in
     let turn : Running = Step (Then (RunsAll T body) (Advances T n end step)) in
     let test : Values → Result Bool Reason = λ vars. Ok (not (passed end step (whole (vars n)))) in
-    let p : Point = point c.loop-count.frame c.loop-count.meter in
-    let here : passed end step (whole (values_of c.loop-count.frame n)) ≡ false =
-    ap (λ v. passed end step (whole v)) (sym c.value.ensures) ∙ sym c.has_passed.ensures ∙ c.loop-count-test.true in
+    let p : Point = point c.loop.frame c.loop.meter in
+    let here : passed end step (whole (values_of c.loop.frame n)) ≡ false = c.loop.invariant.within in
     let m : Point = point c.counted_turn.new.frame c.counted_turn.new.meter in
-    let ran = counted_as (declared_in c.loop-count.frame) (declared_in c.args.frame.now) n end step body p m (end_of c.counted_turn.result) Left c.loop-count.invariant.declared
+    let ran = counted_as (declared_in c.loop.frame) (declared_in c.args.frame.now) n end step body p m (end_of c.counted_turn.result) Left c.loop.invariant.declared
     (ended_by c.counted_turn.result c.in_ok-counted_turn.field-0 flow.Left c.in_ok-counted_turn.was c.in-Left.is) c.counted_turn.ensures.run in
-    c.loop-count.invariant.run Went m (loop_left test turn p m (ap (λ b. Ok (not b)) here) ran)
+    c.loop.invariant.run Went m (loop_left test turn p m (ap (λ b. Ok (not b)) here) ran)
 
 pub run_counts-returns-in-Returned-clause-run : goal.run_counts-returns-in-Returned-clause-run
 run_counts-returns-in-Returned-clause-run t c =
@@ -207,24 +229,23 @@ run_counts-returns-in-Returned-clause-run t c =
     let step : ℤ = whole c.args.count.step in
     let turn : Running = Step (Then (RunsAll T body) (Advances T n end step)) in
     let test : Values → Result Bool Reason = λ vars. Ok (not (passed end step (whole (vars n)))) in
-    let p : Point = point c.loop-count.frame c.loop-count.meter in
-    let here : passed end step (whole (values_of c.loop-count.frame n)) ≡ false =
-    ap (λ v. passed end step (whole v)) (sym c.value.ensures) ∙ sym c.has_passed.ensures ∙ c.loop-count-test.true in
+    let p : Point = point c.loop.frame c.loop.meter in
+    let here : passed end step (whole (values_of c.loop.frame n)) ≡ false = c.loop.invariant.within in
     let m : Point = point c.counted_turn.new.frame c.counted_turn.new.meter in
-    let ran = counted_as (declared_in c.loop-count.frame) (declared_in c.args.frame.now) n end step body p m (end_of c.counted_turn.result) Returned c.loop-count.invariant.declared
+    let ran = counted_as (declared_in c.loop.frame) (declared_in c.args.frame.now) n end step body p m (end_of c.counted_turn.result) Returned c.loop.invariant.declared
     (ended_by c.counted_turn.result c.in_ok-counted_turn.field-0 flow.Returned c.in_ok-counted_turn.was c.in-Returned.is) c.counted_turn.ensures.run in
-    c.loop-count.invariant.run Returned m (loop_returned test turn p m (ap (λ b. Ok (not b)) here) ran)
+    c.loop.invariant.run Returned m (loop_returned test turn p m (ap (λ b. Ok (not b)) here) ran)
 
-pub run_counts-returns-clause-run : goal.run_counts-returns-clause-run
-run_counts-returns-clause-run t c =
-    let n : Name = c.args.variable.now in
-    let body : Stmts = all_of c.args.body.now in
+-- ---- One assignment
+
+pub run_all-returns-in-Assign-clause-run : goal.run_all-returns-in-Assign-clause-run
+run_all-returns-in-Assign-clause-run t c =
     let T : Types = types_in (declared_in c.args.frame.now) in
-    let end : ℤ = whole c.args.count.end in
-    let step : ℤ = whole c.args.count.step in
-    let turn : Running = Step (Then (RunsAll T body) (Advances T n end step)) in
-    let test : Values → Result Bool Reason = λ vars. Ok (not (passed end step (whole (vars n)))) in
-    let p : Point = point c.loop-count.frame c.loop-count.meter in
-    let here : passed end step (whole (values_of c.loop-count.frame n)) ≡ true =
-    ap (λ v. passed end step (whole v)) (sym c.value.ensures) ∙ sym c.has_passed.ensures ∙ c.loop-count-test.false in
-    c.loop-count.invariant.run Went p (loop_over test turn p (ap (λ b. Ok (not b)) here))
+    let s : read.Stmt = c.statement-item.result in
+    let p : Point = point c.args.frame.now c.args.meter.now in
+    let q : Point = point c.assign.new.frame c.assign.new.meter in
+    let e : End = end_of c.assign.result in
+    let one : length c.args.statements.now ≡ 1 = let least = c.in-len1.len_at_least in let below = c.in-len1.len_below in omega arith in
+    let said : stmt_of s ≡ Assign c.in-Assign.variable (expr_of c.in-Assign.expr) = ap stmt_of c.in-Assign.is ∙ assign_says c.in-Assign.variable c.in-Assign.expr in
+    one_runs T c.args.statements.now s p q e one c.statement-item.is
+    (subst (λ (u : Stmt). Runs T u p e q) (sym said) c.assign.ensures.run)

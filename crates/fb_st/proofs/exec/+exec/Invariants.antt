@@ -1,20 +1,20 @@
-use Rattle.std.proofs.Common.{◌≡◌, ◌≤◌, ◌*◌, ◌+◌, max, drop}
+use Rattle.std.proofs.Common.{◌≡◌, ◌≤◌, ◌*◌, ◌+◌, max, drop, false}
 use denote.Param.Weighed.{most}
 use Rattle.fb_types.proofs.text.Branch.TheLaws as branch
 use Rattle.fb_types.proofs.text.Choice.TheLaws as choice
 use Rattle.fb_types.proofs.text.Stmt.TheLaws as stmt
 use Rattle.fb_types.specs.Syntax.{expr_of}
 use Rattle.fb_types.specs.Values.{truth_of, whole}
-use Rattle.fb_types.specs.Bodies.{RunsAll, RunsChoice, RunsBranch, Counts, Loop, Step}
-use Rattle.fb_st.specs.Frames.{declared_in, types_in}
+use Rattle.fb_types.specs.Bodies.{RunsAll, RunsChoice, RunsBranch, Counts, Loop, Step, passed}
+use Rattle.fb_st.specs.Frames.{declared_in, types_in, values_of}
 use Rattle.fb_st.specs.Flows.{point, all_of, choices_of, branches_of}
 use Rattle.fb_st.specs.Known.{AllKnown, ChoicesKnown, BranchesKnown}
 use Rattle.fb_st.proofs.Runs.{Leads, repeats}
 use Rattle.fb_st.proofs.exec.+exec.Given as goal
 
 -- what the rest runs to from here, all runs to from the start
-abbrev pub invariant-run_all-loop-statement : goal.invariant-run_all-loop-statement
-invariant-run_all-loop-statement l = record {
+abbrev pub invariant-run_each-loop-statement : goal.invariant-run_each-loop-statement
+invariant-run_each-loop-statement l = record {
   run : Leads (RunsAll (types_in (declared_in l.fn.frame)) (all_of (drop l.statement-index l.statements))) (point l.frame l.meter)
       (RunsAll (types_in (declared_in l.fn.frame)) (all_of l.statements)) (point l.fn.frame l.fn.meter);
   known : AllKnown (declared_in l.fn.frame) (all_of (drop l.statement-index l.statements));
@@ -64,46 +64,50 @@ invariant-run_repeat-loop-frame l = record {
 abbrev pub decreases-run_repeat-loop-frame : goal.decreases-run_repeat-loop-frame
 decreases-run_repeat-loop-frame l = l.meter.left
 
-abbrev pub invariant-run_counts-loop-count : goal.invariant-run_counts-loop-count
-invariant-run_counts-loop-count l = record {
+abbrev pub invariant-run_counts-loop : goal.invariant-run_counts-loop
+invariant-run_counts-loop l = record {
   run : let R = Counts (types_in (declared_in l.fn.frame)) l.variable (whole l.count.end) (whole l.count.step) (RunsAll (types_in (declared_in l.fn.frame)) (all_of l.body)) in
       Leads R (point l.frame l.meter) R (point l.fn.frame l.fn.meter);
   declared : declared_in l.frame ≡ declared_in l.fn.frame;
   fewer : l.meter.left ≤ l.fn.meter.left;
+  within : passed (whole l.count.end) (whole l.count.step) (whole (values_of l.frame l.variable)) ≡ false;
 }
 
-abbrev pub decreases-run_counts-loop-count : goal.decreases-run_counts-loop-count
-decreases-run_counts-loop-count l = l.meter.left
+abbrev pub decreases-run_counts-loop : goal.decreases-run_counts-loop
+decreases-run_counts-loop l = l.meter.left
 
 -- ---- How deep the trees are
 
 abbrev pub decreases-run : goal.decreases-run
-decreases-run l = 5 * stmt.the_size l.statement.now
+decreases-run l = 6 * stmt.the_size l.statement.now
+
+abbrev pub decreases-run_each : goal.decreases-run_each
+decreases-run_each l = 6 * most stmt.the_size l.statements.now + 1
 
 abbrev pub decreases-run_all : goal.decreases-run_all
-decreases-run_all l = 5 * most stmt.the_size l.statements.now + 1
+decreases-run_all l = 6 * most stmt.the_size l.statements.now + 2
 
 -- the depth of ELSE counts as well
 abbrev pub decreases-run_choice : goal.decreases-run_choice
-decreases-run_choice l = max (5 * most choice.the_size l.choices.now) (5 * most stmt.the_size l.others.now + 2)
+decreases-run_choice l = max (6 * most choice.the_size l.choices.now) (6 * most stmt.the_size l.others.now + 3)
 
 abbrev pub decreases-run_branch : goal.decreases-run_branch
-decreases-run_branch l = max (5 * most branch.the_size l.branches.now) (5 * most stmt.the_size l.others.now + 2)
+decreases-run_branch l = max (6 * most branch.the_size l.branches.now) (6 * most stmt.the_size l.others.now + 3)
 
 abbrev pub decreases-turn : goal.decreases-turn
-decreases-turn l = 5 * most stmt.the_size l.body.now + 2
+decreases-turn l = 6 * most stmt.the_size l.body.now + 3
 
 abbrev pub decreases-counted_turn : goal.decreases-counted_turn
-decreases-counted_turn l = 5 * most stmt.the_size l.body.now + 2
+decreases-counted_turn l = 6 * most stmt.the_size l.body.now + 3
 
 abbrev pub decreases-run_while : goal.decreases-run_while
-decreases-run_while l = 5 * most stmt.the_size l.body.now + 3
+decreases-run_while l = 6 * most stmt.the_size l.body.now + 4
 
 abbrev pub decreases-run_repeat : goal.decreases-run_repeat
-decreases-run_repeat l = 5 * most stmt.the_size l.body.now + 3
+decreases-run_repeat l = 6 * most stmt.the_size l.body.now + 4
 
 abbrev pub decreases-run_counts : goal.decreases-run_counts
-decreases-run_counts l = 5 * most stmt.the_size l.body.now + 3
+decreases-run_counts l = 6 * most stmt.the_size l.body.now + 4
 
 abbrev pub decreases-run_for : goal.decreases-run_for
-decreases-run_for l = 5 * most stmt.the_size l.body.now + 4
+decreases-run_for l = 6 * most stmt.the_size l.body.now + 5

@@ -3,4 +3,4 @@ use Rattle.fb_system.specs.Linking.{AreWays}
 use Rattle.fb_system.proofs.links.ways_of.Given as goal
 
 abbrev pub invariant-loop-number : goal.invariant-loop-number
-invariant-loop-number l = AreWays (take l.number l.links) l.ways
+invariant-loop-number l = AreWays (take l.number l.links) l.ways.items

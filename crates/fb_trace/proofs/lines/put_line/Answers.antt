@@ -19,12 +19,13 @@ pub returns-in_err-put_head : goal.returns-in_err-put_head
 returns-in_err-put_head g c =
     let sys = system_of c.args.system.now in
     let l = line_of sys c.args.line.now in
-    let tick = c.digits.ensures.digits ∙ ap decimal c.note.ensures in
+    let tick = ap decimal c.note.ensures in
+    let event = rw c.ports-ports.ensures at c.event_name.ensures in
     let name = c.resource_name.ensures ∙ sym (unwrap_or-slice_get sys.resource_names l.key.resource []) in
     Gathers-passed _ c.from_residual-in_err-put_head.ensures.1
     (Fails-first {x = until_event c.args.form sys l} (after_event l)
     (rw (← behind (key_text c.args.form l.key) (place_text sys l.key.tick l.key.resource) (sign_text l) (path_text l.at) (codes ".") l.event)
-    (Fails-after c.in_ok-put_key.ensures.whole (rw (tick, name, c.sign.ensures.sign, c.path.ensures, c.event_name.ensures) at c.in_err-put_head.ensures.part))))
+    (Fails-after c.in_ok-put_key.ensures.whole (rw (tick, name, c.path.ensures, event) at c.in_err-put_head.ensures.part))))
 
 -- what was put up to the name of the event
 put_until_event :
@@ -35,10 +36,11 @@ put_until_event :
 put_until_event g c =
     let sys = system_of c.args.system.now in
     let l = line_of sys c.args.line.now in
-    let tick = c.digits.ensures.digits ∙ ap decimal c.note.ensures in
+    let tick = ap decimal c.note.ensures in
+    let event = rw c.ports-ports.ensures at c.event_name.ensures in
     let name = c.resource_name.ensures ∙ sym (unwrap_or-slice_get sys.resource_names l.key.resource []) in
     rw (← behind (key_text c.args.form l.key) (place_text sys l.key.tick l.key.resource) (sign_text l) (path_text l.at) (codes ".") l.event)
-    (Puts-more c.in_ok-put_key.ensures.whole (rw (tick, name, c.sign.ensures.sign, c.path.ensures, c.event_name.ensures) at c.in_ok-put_head.ensures.whole))
+    (Puts-more c.in_ok-put_key.ensures.whole (rw (tick, name, c.path.ensures, event) at c.in_ok-put_head.ensures.whole))
 
 pub returns-in_err-put_bindings : goal.returns-in_err-put_bindings
 returns-in_err-put_bindings g c =

@@ -7,10 +7,8 @@ returns c a =
     (Puts-more
     (Puts-more
     (Puts-more
-    (Puts-more
-    (Puts-more (Puts-appended a c.append.ensures.text) (Puts-appended a c.append-2.ensures.text))
+    (Puts-more (Puts-appended a (rw c.text-width.ensures.text at c.append_front.ensures.text)) (Puts-appended a c.append.ensures.text))
+    (Puts-appended a c.append_sign.ensures.text))
+    (Puts-appended a c.append-2.ensures.text))
     (Puts-appended a c.append-3.ensures.text))
-    (Puts-appended a c.append-4.ensures.text))
-    (Puts-appended a c.append-5.ensures.text))
-    (Puts-appended a c.append-6.ensures.text))
-    (Puts-appended a c.append-7.ensures.text)
+    (Puts-appended a c.append-4.ensures.text)

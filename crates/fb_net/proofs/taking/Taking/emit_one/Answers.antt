@@ -1,13 +1,14 @@
-use Rattle.std.proofs.Common.{◌++◌, ◌∙◌, List, map, ap, subst, refl}
+use Rattle.std.proofs.Common.{[], ◌∷◌, ◌++◌, ◌∙◌, List, map, ap, subst, refl}
 use Rattle.fb_types.specs.Headline.{system_of}
 use Rattle.fb_types.specs.Numbers.{carried_of, event_output}
 use Rattle.fb_types.specs.Reactions.{spread}
+use Rattle.fb_types.specs.declared.run.Line.{Line}
 use Rattle.fb_types.specs.declared.value.Value.{Value}
 use Rattle.fb_tree.specs.Changes.{Changes}
 use Rattle.fb_net.specs.Emitting.{carried_by, outputs_at, outputs_shown}
 use Rattle.fb_net.specs.Outs.{out_of}
 use Rattle.fb_net.specs.declared.outbox.Outbox.{Outbox}
-use Rattle.fb_net.proofs.Emitting.{Doing, are_carried, has_emitted}
+use Rattle.fb_net.proofs.Emitting.{Doing, are_carried, has_emitted, line_by}
 use Rattle.fb_net.proofs.Wholes.{kept-changed}
 use Rattle.fb_net.proofs.taking.Taking.emit_one.Goals as goal
 
@@ -25,7 +26,7 @@ returns-clause-emitted c =
     let f = c.args.self.now.forest.now in
     let g = c.publish_all.new.forest in
     let x = c.args.self.now.outbox.now in
-    let y : Outbox = record { lines = c.push.new.self; outs = c.send_out.new.outs; timer = x.timer } in
+    let y : Outbox = record { lines = c.push_reserved.new.self; outs = c.send_out.new.outs; timer = x.timer } in
     let done : Doing i c.args.self.now.key.now k f x e g y = record {
       places = places;
       stand = c.outputs_with-places.ensures;
@@ -34,7 +35,7 @@ returns-clause-emitted c =
           c.in_ok-send_out.ensures.sent
           ∙ ap (λ (vs : List Value). map (out_of sys) x.outs.items ++ spread sys g.resource (map (carried_of sys) (carried_by k places vs)) (sys.targets (event_output sys k e.event))) c.as_slice-2.ensures;
       belong = c.in_ok-send_out.ensures.outs;
-      lines = c.in_ok-push.ensures.items;
+      lines = c.push_reserved.ensures.items ∙ ap (λ (ls : List Line). ls ++ line_by c.args.self.now.key.now k e ∷ []) c.in_ok-reserve.ensures.items;
       timer = refl;
     } in
     has_emitted i c.args.self.now.key.now k f x e g y done c.requires.place.number c.requires.place.here c.requires.place.resource c.args.self.now.named c.requires.emission c.requires.place.outs
@@ -42,8 +43,8 @@ returns-clause-emitted c =
 pub returns-in_err-send_out-clause-kept : goal.returns-in_err-send_out-clause-kept
 returns-in_err-send_out-clause-kept c = kept-changed c.args.self.now.system.now c.args.self.now.forest.now c.publish_all.new.forest c.args.instance _ c.publish_all.ensures c.requires.place.here
 
-pub returns-in_err-push-clause-kept : goal.returns-in_err-push-clause-kept
-returns-in_err-push-clause-kept c = kept-changed c.args.self.now.system.now c.args.self.now.forest.now c.publish_all.new.forest c.args.instance _ c.publish_all.ensures c.requires.place.here
+pub returns-in_err-reserve-clause-kept : goal.returns-in_err-reserve-clause-kept
+returns-in_err-reserve-clause-kept c = kept-changed c.args.self.now.system.now c.args.self.now.forest.now c.publish_all.new.forest c.args.instance _ c.publish_all.ensures c.requires.place.here
 
 pub returns-clause-kept : goal.returns-clause-kept
 returns-clause-kept c = kept-changed c.args.self.now.system.now c.args.self.now.forest.now c.publish_all.new.forest c.args.instance _ c.publish_all.ensures c.requires.place.here

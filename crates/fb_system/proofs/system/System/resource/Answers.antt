@@ -1,13 +1,12 @@
-use Rattle.std.proofs.Common.{◌∙◌, ap, sym}
-use Rattle.std.specs.Option.{option_copied}
-use Rattle.fb_system.proofs.Holding.{first_there, resource_seen}
+use Rattle.std.proofs.Common.{ap, sym, ◌∙◌, ◌<◌, get_or, length, List, ℕ, subst}
+use Rattle.fb_system.proofs.Holding.{home_seen, home_there}
 use Rattle.fb_system.proofs.system.System.resource.Goals as goal
 
-pub returns-in-Some : goal.returns-in-Some
-returns-in-Some c =
-    c.holder.ensures
-    ∙ resource_seen _ _ _ _ _ _ c.self.invariant c.deref.ensures c.self.view_is c.requires c.route.ensures
-    (sym c.first.ensures.value ∙ ap option_copied c.in-Some.is)
+pub bounds-as_slice-instance : goal.bounds-as_slice-instance
+bounds-as_slice-instance c =
+    subst (λ (homes : List ℕ). c.args.instance < length homes) (sym c.as_slice.ensures) (home_there _ _ _ _ c.self.invariant c.deref.ensures c.self.view_is c.requires)
 
-pub returns-in-None : goal.returns-in-None
-returns-in-None c = absurd (first_there c.args.self.now.library c.args.instance _ c.requires c.route.ensures (sym c.first.ensures.value ∙ ap option_copied c.in-None.is))
+pub returns : goal.returns
+returns c =
+    ap (λ (homes : List ℕ). get_or homes c.args.instance 0) c.as_slice.ensures
+    ∙ home_seen _ _ _ _ 0 c.self.invariant c.deref.ensures c.self.view_is c.requires

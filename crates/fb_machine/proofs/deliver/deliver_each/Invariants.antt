@@ -5,7 +5,7 @@ use Rattle.fb_types.specs.declared.key.Key.{Key}
 use Rattle.fb_types.specs.declared.run.Message.{Message}
 use Rattle.fb_take.specs.Posts.{arriving}
 use Rattle.fb_take.specs.Waiting.{IsInOrder, meaning}
-use Rattle.fb_machine.proofs.deliver.deliver.Given as goal
+use Rattle.fb_machine.proofs.deliver.deliver_each.Given as goal
 
 abbrev pub invariant-loop-message : goal.invariant-loop-message
 invariant-loop-message l = record {

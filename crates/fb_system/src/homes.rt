@@ -1,0 +1,37 @@
+//! The resources of all instances.
+
+ghost use Rattle.std.specs.Prelude.{◌≡◌, ◌<◌, length, IfOk};
+ghost use Rattle.fb_types.specs.Flat.{paths_of};
+ghost use Rattle.fb_system.specs.Linking.{AreHomes, home_at};
+
+use crate::links::Links;
+use fb_fabric::fabric::Fabric;
+use fb_types::items::Items;
+use std::alloc::{AllocError, Global};
+
+/// The resource that holds an instance: that of the instance of the application which it is, or is inside of.
+fn home_of(fabric: &Fabric, links: &Links, instance: u32) -> usize
+    requires { instance < length (paths_of fabric.now) }
+    ensures { result ≡ home_at fabric.now links.now instance }
+{
+    match fabric.route(instance).first() {
+        Some(place) => links.holder(*place as usize),
+        None => 0,
+    }
+}
+
+/// For each instance, the resource that holds it.
+pub(crate) fn homes_of(
+    alloc: Global,
+    fabric: &Fabric,
+    links: &Links,
+) -> Result<Items<usize>, AllocError>
+    ensures { IfOk result (AreHomes fabric.now links.now) }
+{
+    fabric.facts();
+    let mut homes = Items::new(alloc);
+    for instance in 0..fabric.count() {
+        homes.push(home_of(fabric, links, instance as u32))?;
+    }
+    Ok(homes)
+}
