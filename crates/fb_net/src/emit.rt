@@ -1,6 +1,6 @@
 //! Emissions, and where events go.
 
-ghost use Rattle.std.specs.Prelude.{◌≡◌, ◌≢◌, ◌++◌, ◌∷◌, [], ◌<◌, length, map, All, IfOk, OnOk, true};
+ghost use Rattle.std.specs.Prelude.{◌≡◌, ◌++◌, ◌∷◌, [], ◌<◌, length, map, All, IfOk, OnOk, true};
 ghost use Rattle.fb_types.specs.Headline.{system_of};
 ghost use Rattle.fb_types.specs.Numbers.{carried_of, line_of, path_at, port_of, ports_at};
 ghost use Rattle.fb_types.specs.Reactions.{spread};
@@ -8,7 +8,6 @@ ghost use Rattle.fb_system.specs.Lines.{BelongsTo, IsEmission};
 ghost use Rattle.fb_system.specs.Ports.{IsCarried, IsPort, IsTarget};
 ghost use Rattle.fb_tree.specs.Changes.{Changes};
 ghost use Rattle.fb_net.specs.Emitting.{GoesTo, PutsOut, carried_by, outputs_at, outputs_shown};
-ghost use Rattle.fb_net.specs.declared.outbox.Out.TheVariants.{Send};
 ghost use Rattle.fb_net.specs.Outs.{IsOut, out_of};
 ghost use Rattle.fb_net.specs.Steps.{ArePutOut, EmitsAll, EmitsWell, IsKept, IsSame, MayEmit, ports_in};
 
@@ -23,37 +22,8 @@ use fb_types::run::{Carried, Emission, Emits, Line, Place, Target, Values};
 use fb_types::value::Value;
 use std::alloc::{AllocError, Global};
 
-/// What goes from a resource to a target in another one: the values of data outputs of the instance are put together for
-/// it alone.
-fn sending_to(
-    alloc: Global,
-    resource: usize,
-    system: &System,
-    target: Target,
-    instance: u32,
-    places: &[u32],
-    values: &[Value],
-) -> Result<Sending, AllocError>
-    requires resource { resource < length (system_of system.now).resource_names }
-    requires target { IsTarget (system_of system.now) target }
-    requires away { (system_of system.now).resource (path_at (system_of system.now) target.instance) ≢ resource }
-    requires carried { All (IsCarried (system_of system.now)) (carried_by instance places.now values.now) }
-    ensures { IfOk result (λ s. GoesTo (system_of system.now) resource (map (carried_of (system_of system.now)) (carried_by instance places.now values.now)) (port_of (system_of system.now) target) (Send s)) }
-{
-    // There are at most 1,024 links, so that the number of one fits.
-    system.facts();
-    let there = system.resource(target.instance);
-    let link = system.link(resource, there) as u32;
-    let carried = carried_values(alloc, instance, places, values)?;
-    Ok(Sending {
-        link,
-        target,
-        values: Items::from_vec(carried),
-    })
-}
-
 /// Puts out an event that goes to a target: a local event where the target lies in the same resource, as most do, else a
-/// message.
+/// message with the values of data outputs of the instance, which are put together for it alone.
 fn put_out(
     outs: &mut Vec<Out>,
     resource: usize,
@@ -69,13 +39,20 @@ fn put_out(
     ensures { OnOk result (PutsOut (system_of system.now) resource (map (carried_of (system_of system.now)) (carried_by instance places.now values.now)) (port_of (system_of system.now) target) outs.old.items outs.new.items) }
 {
     outs.reserve(1)?;
-    if system.resource(target.instance) == resource {
+    let there = system.resource(target.instance);
+    if there == resource {
         outs.push_reserved(Out::Local(target));
         return Ok(());
     }
-    let alloc = *outs.allocator();
-    let sending = sending_to(alloc, resource, system, target, instance, places, values)?;
-    outs.push_reserved(Out::Send(sending));
+    // There are at most 1,024 links, so that the number of one fits.
+    system.facts();
+    let link = system.link(resource, there) as u32;
+    let carried = carried_values(*outs.allocator(), instance, places, values)?;
+    outs.push_reserved(Out::Send(Sending {
+        link,
+        target,
+        values: Items::from_vec(carried),
+    }));
     Ok(())
 }
 
