@@ -160,17 +160,7 @@ impl Fabric {
 
     /// Where the event connection leads that stands at a place among those that leave an event, in the order of the
     /// text: from an event output to what is around the instance, from an event input of a composite to what is inside.
-    pub fn target(&self, from: Target, place: usize) -> Option<Target>
-        requires { IsPort self.now from }
-        ensures leads { option_map (port_of self.now) result ≡ slice_get (targets_of self.now (port_of self.now from)) place }
-        ensures within { IfSome result (IsTarget self.now) }
-    {
-        let reached = self.reached(from, place)?;
-        Some(reached.target)
-    }
-
-    /// Where the event connection leads that stands at a place among those that leave an event, as `target` tells it, and
-    /// whether another one follows. So nobody has to look for one behind the last.
+    /// It tells too whether another one follows, so nobody has to look for one behind the last.
     pub fn reached(&self, from: Target, place: usize) -> Option<Reached>
         requires { IsPort self.now from }
         ensures leads { option_map (λ r. port_of self.now r.target) result ≡ slice_get (targets_of self.now (port_of self.now from)) place }

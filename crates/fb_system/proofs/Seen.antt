@@ -119,23 +119,6 @@ pub port_there : (v w : Whole) (i : Inputs) (t : Target) → v ≡ w → inputs_
 port_there v w i t e s h =
     subst (λ (lib : Library). fabric.IsPort lib t) (sym (library_seen v w i e s)) (record { instance = h.instance; event = h.event })
 
-targets_up : (i : Inputs) (o : Option Target) → IfSome o (fabric.IsTarget i.library) → IfSome o (IsTarget (system_of i))
-targets_up i None h = h
-targets_up i (Some t) h = record { port = record { instance = h.port.instance; event = h.port.event }; composite = h.composite }
-
-pub targets_seen :
-    (v w : Whole) (i : Inputs) (o : Option Target) → v ≡ w → inputs_of w ≡ i → IfSome o (fabric.IsTarget v.fabric) → IfSome o (IsTarget (system_of i))
-targets_seen v w i o e s h =
-    targets_up i o (subst (λ (lib : Library). IfSome o (fabric.IsTarget lib)) (library_seen v w i e s) h)
-
-pub leads_seen :
-    (v w : Whole) (i : Inputs) (from : Target) (place : ℕ) (o : Option Target) → v ≡ w → inputs_of w ≡ i
-    → option_map (fabric.port_of v.fabric) o ≡ slice_get (targets_of v.fabric (fabric.port_of v.fabric from)) place
-    → option_map (port_of (system_of i)) o ≡ slice_get ((system_of i).targets (port_of (system_of i) from)) place
-leads_seen v w i from place o e s h =
-    subst (λ (lib : Library). option_map (fabric.port_of lib) o ≡ slice_get (targets_of lib (fabric.port_of lib from)) place)
-    (library_seen v w i e s) h
-
 reached_up : (i : Inputs) (o : Option Reached) → IfSome o (λ (r : Reached). fabric.IsTarget i.library r.target) → IfSome o (λ (r : Reached). IsTarget (system_of i) r.target)
 reached_up i None h = h
 reached_up i (Some r) h = record { port = record { instance = h.port.instance; event = h.port.event }; composite = h.composite }

@@ -207,17 +207,8 @@ impl System {
     }
 
     /// Where the event connection leads that stands at a place among those that leave a port, in the order of the text:
-    /// from an event output to what is around the instance, from an event input of a composite to what is inside.
-    pub fn target(&self, from: Target, place: usize) -> Option<Target>
-        requires { IsPort (system_of self.now) from }
-        ensures leads { option_map (port_of (system_of self.now)) result ≡ slice_get ((system_of self.now).targets (port_of (system_of self.now) from)) place }
-        ensures within { IfSome result (IsTarget (system_of self.now)) }
-    {
-        self.whole.fabric.target(from, place)
-    }
-
-    /// Where the event connection leads that stands at a place among those that leave a port, as `target` tells it, and
-    /// whether another one follows. So nobody has to look for one behind the last.
+    /// from an event output to what is around the instance, from an event input of a composite to what is inside. It tells
+    /// too whether another one follows, so nobody has to look for one behind the last.
     pub fn reached(&self, from: Target, place: usize) -> Option<Reached>
         requires { IsPort (system_of self.now) from }
         ensures leads { option_map (λ r. port_of (system_of self.now) r.target) result ≡ slice_get ((system_of self.now).targets (port_of (system_of self.now) from)) place }
