@@ -11,10 +11,9 @@ use fb_names::numbers::{NetworkNumbers, Wire, WireEnd};
 use std::alloc::{AllocError, Global};
 use std::marker::Model;
 
-/// A network by numbers whose connections are found by their ends: a component in constant time, and so one of its first
-/// 16 ports; a port behind them in time that grows with the logarithm of the number of those that are connected. The
-/// memory is linear in the numbers of components and connections, however many ports the components have. Contracts see
-/// the network.
+/// A network by numbers whose connections are found by their ends: a component and each of its first 16 ports in constant
+/// time, a port behind them in time that grows with the logarithm of the number of those that are connected. The memory is
+/// linear in the numbers of components and connections, however many ports the components have. Contracts see the network.
 #[derive(Drop)]
 pub struct Wiring {
     numbers: NetworkNumbers,

@@ -11,7 +11,7 @@ use std::alloc::{AllocError, Global};
 use std::collections::BTreeMap;
 use std::marker::Model;
 
-/// How many ports of a component have their ends at the place of their number, so that no search finds them. As many
+/// How many ports of a component have their ends at the place of their number, so that none is searched for. As many
 /// lists take no more memory than one node of the map.
 const FIRST_PORTS: usize = 16;
 

@@ -24,7 +24,7 @@ pub const MOST_ROWS: usize = 100_000;
 /// The greatest tick of a stimulus.
 const MOST_TICK: u128 = 1_000_000_000_000;
 
-/// The tick, the event and the values of a record: the fields of one of three.
+/// The tick, the event and the values of a record, if it has three fields.
 #[tactic(auto, using(crate::proofs::Fields::three_fields), unfolding(crate::specs::Stimuli::three))]
 pub fn columns(row: &ByteRecord) -> Option<(&[u8], &[u8], &[u8])>
     ensures { option_map (λ f. (f.0.now, f.1.now, f.2.now)) result ≡ spec.three (fields_of row.now) }
@@ -50,7 +50,7 @@ fn is_head(row: &ByteRecord) -> bool
 }
 
 /// Whether the record is `tick,event,values`. It is freed here, so that no caller holds it at its exits.
-pub fn heads(row: ByteRecord) -> bool
+pub fn is_heading(row: ByteRecord) -> bool
     ensures { result ≡ spec.is_head (fields_of row) }
 {
     is_head(&row)
@@ -133,7 +133,7 @@ pub fn read_stimuli(alloc: Global, bytes: &[u8]) -> Result<Vec<Stimulus>, InputE
         Ok(head) => head,
         Err(error) => return Err(refusal(error)),
     };
-    if !heads(head) {
+    if !is_heading(head) {
         return Err(InputError::Row);
     }
     let mut found = Items::new(alloc);

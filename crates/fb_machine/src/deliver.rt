@@ -32,7 +32,7 @@ fn key_of_message(system: &System, message: &Message) -> Key
     }
 }
 
-/// Puts messages on the agenda, each under its key. The room that they took is kept.
+/// The same as `deliver`, one message after another. `deliver` calls it for all but the last.
 fn deliver_each(
     agenda: &mut Agenda,
     mail: &mut Vec<Message>,

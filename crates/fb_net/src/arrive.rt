@@ -43,7 +43,7 @@ impl Taking<'_> {
     {
         let alloc = *self.outbox.lines.allocator();
         let places = self.system.inputs_with(at.instance, at.event);
-        // Mostly an event block takes an event without variables WITH it.
+        // Most event inputs of event blocks have no variables WITH them: nothing is sampled or kept.
         if places.is_empty() {
             let values = Values::new(alloc);
             return write_taken(self.outbox, self.system, self.key, at, values);

@@ -7,7 +7,7 @@ ghost use Rattle.fb_types.specs.Reactions.{spread};
 ghost use Rattle.fb_system.specs.Lines.{BelongsTo, IsEmission};
 ghost use Rattle.fb_system.specs.Ports.{IsCarried, IsPort, IsTarget};
 ghost use Rattle.fb_tree.specs.Changes.{Changes};
-ghost use Rattle.fb_net.specs.Emitting.{GoesTo, PutsOut, carried_by, outputs_at, outputs_shown};
+ghost use Rattle.fb_net.specs.Emitting.{PutsOut, carried_by, outputs_at, outputs_shown};
 ghost use Rattle.fb_net.specs.Outs.{IsOut, out_of};
 ghost use Rattle.fb_net.specs.Steps.{ArePutOut, EmitsAll, EmitsWell, IsKept, IsSame, MayEmit, ports_in};
 

@@ -136,7 +136,7 @@ impl Frame {
     /// The number of 64 bits that a variable holds which stands where it is expected and has a short name: there is no
     /// call on the way. `None` says nothing of it.
     #[inline(always)]
-    pub fn small_at_once(&self, variable: &Reference) -> Option<i64>
+    pub(crate) fn small_at_once(&self, variable: &Reference) -> Option<i64>
         ensures { IfSome result (λ z. values_of self.now variable.now ≡ Value.Whole z) }
     {
         match self.standing_at_once(variable)?.value {
@@ -147,7 +147,7 @@ impl Frame {
 
     /// The same, whatever the length of the name.
     #[inline(always)]
-    pub fn small(&self, variable: &Reference) -> Option<i64>
+    pub(crate) fn small(&self, variable: &Reference) -> Option<i64>
         ensures { IfSome result (λ z. values_of self.now variable.now ≡ Value.Whole z) }
     {
         match self.standing(variable, variable.place())?.value {

@@ -18,8 +18,8 @@ pub fn small_number(expr: &Expr, frame: &Frame) -> Option<i64>
     ensures { IfSome result (λ z. value_of (expr_of expr.now) (values_of frame.now) ≡ Ok (Value.Whole z)) }
 {
     if let Expr::Binary(operator, left, right) = expr {
-        if let Some(x) = leaf(left.get(), frame) {
-            return match leaf(right.get(), frame) {
+        if let Some(x) = number_at_once(left.get(), frame) {
+            return match number_at_once(right.get(), frame) {
                 Some(y) => small_of_two(*operator, x, y),
                 None => small_with(*operator, x, right.get(), frame),
             };
@@ -56,7 +56,8 @@ fn any_small_number(expr: &Expr, frame: &Frame) -> Option<i64>
     }
 }
 
-/// The same, for an operand: many are a number or a variable, which cost no call.
+/// The same, for an operand: many are a number or a variable, which cost no call where the name is
+/// short.
 #[cycle(small)]
 #[inline(always)]
 fn small_operand(expr: &Expr, frame: &Frame) -> Option<i64>
@@ -74,7 +75,7 @@ fn small_operand(expr: &Expr, frame: &Frame) -> Option<i64>
 /// The number that an expression is, or that its variable holds, where that is found without a call. `None` says
 /// nothing of it.
 #[inline(always)]
-fn leaf(expr: &Expr, frame: &Frame) -> Option<i64>
+fn number_at_once(expr: &Expr, frame: &Frame) -> Option<i64>
     ensures { IfSome result (λ z. value_of (expr_of expr.now) (values_of frame.now) ≡ Ok (Value.Whole z)) }
 {
     match expr {
@@ -109,8 +110,8 @@ fn told_at_once(expr: &Expr, frame: &Frame) -> Option<bool>
     ensures { IfSome result (λ b. value_of (expr_of expr.now) (values_of frame.now) ≡ told b) }
 {
     if let Expr::Binary(operator, left, right) = expr {
-        if let Some(x) = leaf(left.get(), frame) {
-            if let Some(y) = leaf(right.get(), frame) {
+        if let Some(x) = number_at_once(left.get(), frame) {
+            if let Some(y) = number_at_once(right.get(), frame) {
                 return small_told(*operator, x, y);
             }
         }

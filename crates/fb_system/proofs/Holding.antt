@@ -16,7 +16,7 @@ use Rattle.fb_types.proofs.NameLaws.{any_from_contains}
 use Rattle.fb_fabric.proofs.Distinct.{below, below_through, IsThrough, paths_from}
 use Rattle.fb_fabric.specs.Layouts.{path_of, place_at, route_to}
 use Rattle.fb_types.proofs.Options.{some_from_is_some}
-use Rattle.fb_system.specs.Linking.{holder_at, home_at, home_from, IsLinked, Linked}
+use Rattle.fb_system.specs.Linking.{holder_at, IsLinked, Linked}
 use Rattle.fb_system.specs.Systems.{inputs_of, StandFor}
 use Rattle.fb_system.specs.declared.whole.Whole.{Whole}
 
@@ -99,18 +99,10 @@ resource_by_place lib plan x k place linked h found =
 
 -- ---- In a system
 
-abbrev HasHome : Library → Plan → Linked → ℕ → Type 0
-HasHome lib plan x k = home_at lib x k ≡ resource_of plan (path_of lib k)
-
--- .. and where the first place is looked up
-home_is : (lib : Library) (plan : Plan) (x : Linked) (k : ℕ) → IsLinked lib plan x → k < length (paths_of lib) → HasHome lib plan x k
-home_is lib plan x k linked h =
-    ap (home_from x) (first_place lib k h) ∙ resource_by_place lib plan x k (places_through lib k h) linked h (first_place lib k h)
-
 pub home_there : (v w : Whole) (i : Inputs) (k : ℕ) → StandFor w → v ≡ w → inputs_of w ≡ i → k < length (paths_of i.library) → k < length v.homes
 home_there v w i k is e s h =
     let lt : k < length (paths_of w.fabric) = subst (λ (i : Inputs). k < length (paths_of i.library)) (sym s) h in
-    subst (λ (w : Whole). k < length w.homes) (sym e) (slice_get_within w.homes k (home_at w.fabric w.links k) (is.homes k lt))
+    subst (λ (w : Whole). k < length w.homes) (sym e) (slice_get_within w.homes k (resource_of w.deploy (path_of w.fabric k)) (is.homes k lt))
 
 pub home_seen :
     (v w : Whole) (i : Inputs) (k d : ℕ) → StandFor w → v ≡ w → inputs_of w ≡ i → k < length (paths_of i.library)
@@ -118,22 +110,23 @@ pub home_seen :
 home_seen v w i k d is e s h =
     let lt : k < length (paths_of w.fabric) = subst (λ (i : Inputs). k < length (paths_of i.library)) (sym s) h in
     ap (λ (w : Whole). get_or w.homes k d) e
-    ∙ get_or_from_slice_get w.homes k (home_at w.fabric w.links k) d (is.homes k lt)
-    ∙ home_is w.fabric w.deploy w.links k is.links lt
+    ∙ get_or_from_slice_get w.homes k (resource_of w.deploy (path_of w.fabric k)) d (is.homes k lt)
     ∙ ap (λ (i : Inputs). resource_of i.plan (path_of i.library k)) s
 
 -- ---- Making
 
 -- the first homes
 abbrev pub HomesSoFar : Library → Linked → ℕ → List ℕ → Type 0
-HomesSoFar lib x n homes = (length homes ≡ n) × ((k : ℕ) → k < n → slice_get homes k ≡ Some (home_at lib x k))
+HomesSoFar lib x n homes =
+    (length homes ≡ n) × ((plan : Plan) → IsLinked lib plan x → (k : ℕ) → k < n → slice_get homes k ≡ Some (resource_of plan (path_of lib k)))
 
 pub homes_next :
-    (lib : Library) (x : Linked) (n home : ℕ) (homes : List ℕ) → HomesSoFar lib x n homes → home ≡ home_at lib x n → HomesSoFar lib x (n + 1) (homes ++ home ∷ [])
+    (lib : Library) (x : Linked) (n home : ℕ) (homes : List ℕ) → HomesSoFar lib x n homes
+    → ((plan : Plan) → IsLinked lib plan x → home ≡ resource_of plan (path_of lib n)) → HomesSoFar lib x (n + 1) (homes ++ home ∷ [])
 homes_next lib x n home homes far is = (
   length-append homes (home ∷ []) ∙ ap (λ m. m + 1) far.0,
-  below_more _ _ (λ k lt. slice_get-append_left homes (home ∷ []) k (home_at lib x k) (far.1 k lt))
-      (ap (slice_get (homes ++ home ∷ [])) (sym far.0) ∙ slice_get-append_here homes home ∙ ap (λ m. Some m) is),
+  λ plan linked. below_more _ _ (λ k lt. slice_get-append_left homes (home ∷ []) k (resource_of plan (path_of lib k)) (far.1 plan linked k lt))
+      (ap (slice_get (homes ++ home ∷ [])) (sym far.0) ∙ slice_get-append_here homes home ∙ ap (λ m. Some m) (is plan linked)),
 )
 
 -- a way has a first place

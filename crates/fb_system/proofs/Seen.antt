@@ -247,14 +247,15 @@ pub made :
     (lib f : Library) (plan p : Plan) (stimuli xs : List Stimulus) (links : Linked) (blocks : List Ports) (interfaces its : Interfaces) (rows rs : List StimulusRow)
     → AreAccepted (inputs lib plan stimuli) → AreInterfaces lib interfaces → AreRows lib stimuli rows → IsLinked lib plan links → ArePortsOfKinds blocks
     → f ≡ lib → p ≡ plan → xs ≡ stimuli → its ≡ interfaces → rs ≡ rows
-    → (homes : List ℕ) → AreHomes f links homes → StandFor (whole_of p xs f links blocks its rs homes)
+    → (homes : List ℕ) → (IsLinked f p links → AreHomes f p homes) → StandFor (whole_of p xs f links blocks its rs homes)
 made lib f plan p stimuli xs links blocks interfaces its rows rs accepted of_types by_number linked of_kinds library deploy same types numbers homes at =
     let view = view_made lib f plan p stimuli xs library deploy same in
+    let joined : IsLinked f p links = subst (λ (i : Inputs). IsLinked i.library i.plan links) (sym view) linked in
     record {
       accepted = subst (λ (i : Inputs). AreAccepted i) (sym view) accepted;
-      links = subst (λ (i : Inputs). IsLinked i.library i.plan links) (sym view) linked;
+      links = joined;
       event_blocks = of_kinds;
       interfaces = subst (λ (l : Library). AreInterfaces l its) (sym library) (subst (λ (t : Interfaces). AreInterfaces lib t) (sym types) of_types);
       rows = subst (λ (i : Inputs). AreRows i.library i.stimuli rs) (sym view) (subst (λ (s : List StimulusRow). AreRows lib stimuli s) (sym numbers) by_number);
-      homes = at;
+      homes = at joined;
     }

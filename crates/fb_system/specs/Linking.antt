@@ -2,12 +2,12 @@
 use Rattle.std.specs.Prelude.{◌≡◌, ℕ, ◌<◌, Bool, ◌&&◌, nat_eq, List, [], length, map, Option, Some, None, position, slice_get, slice_index_or, take, unwrap_or}
 use Rattle.std.specs.List.{filter}
 use Rattle.fb_types.specs.Names.{Name}
-use Rattle.fb_types.specs.Flat.{holder, link_between, end_of, paths_of}
+use Rattle.fb_types.specs.Flat.{holder, link_between, end_of, paths_of, resource_of}
 use Rattle.fb_types.specs.declared.library.Library.{Library}
 use Rattle.fb_types.specs.declared.library.Instance.{Instance}
 use Rattle.fb_types.specs.declared.deploy.Plan.{Plan}
 use Rattle.fb_names.specs.declared.numbers.LinkEnds.{LinkEnds}
-use Rattle.fb_fabric.specs.Layouts.{path_of, route_to}
+use Rattle.fb_fabric.specs.Layouts.{path_of}
 
 -- for each instance of the application the resource that holds it and its rank there, and the resources of each link
 pub record Linked : Type 0 where
@@ -48,17 +48,9 @@ rank_at x place = unwrap_or (slice_get x.ranks place) 0
 abbrev pub holder_at : Linked → ℕ → ℕ
 holder_at x instance = unwrap_or (slice_get x.holders instance) 0
 
--- the resource that holds an instance: that of the first place on the way to it
-abbrev pub home_from : Linked → Option ℕ → ℕ
-home_from x None = 0
-home_from x (Some place) = holder_at x place
-
-abbrev pub home_at : Library → Linked → ℕ → ℕ
-home_at lib x k = home_from x (slice_get (route_to lib (path_of lib k)) 0)
-
 -- each instance has the resource that holds it
-abbrev pub AreHomes : Library → Linked → List ℕ → Type 0
-AreHomes lib x homes = (k : ℕ) → k < length (paths_of lib) → slice_get homes k ≡ Some (home_at lib x k)
+abbrev pub AreHomes : Library → Plan → List ℕ → Type 0
+AreHomes lib plan homes = (k : ℕ) → k < length (paths_of lib) → slice_get homes k ≡ Some (resource_of plan (path_of lib k))
 
 abbrev pub sender_at : Linked → ℕ → ℕ
 sender_at x link = elim (slice_get x.ends link) [ None ↦ 0 | Some e ↦ e.from ]

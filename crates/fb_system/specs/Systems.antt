@@ -27,4 +27,4 @@ pub record StandFor (w : Whole) : Type 0 where
   pub event_blocks : ArePortsOfKinds w.event_blocks
   pub interfaces : AreInterfaces w.fabric w.interfaces
   pub rows : AreRows w.fabric w.stimuli w.rows
-  pub homes : AreHomes w.fabric w.links w.homes
+  pub homes : AreHomes w.fabric w.deploy w.homes

@@ -1,8 +1,10 @@
 //! The resources of all instances.
 
 ghost use Rattle.std.specs.Prelude.{◌≡◌, ◌<◌, length, IfOk};
-ghost use Rattle.fb_types.specs.Flat.{paths_of};
-ghost use Rattle.fb_system.specs.Linking.{AreHomes, home_at};
+ghost use Rattle.fb_types.specs.Flat.{paths_of, resource_of};
+ghost use Rattle.fb_types.specs.declared.deploy.Plan.{Plan};
+ghost use Rattle.fb_fabric.specs.Layouts.{path_of};
+ghost use Rattle.fb_system.specs.Linking.{AreHomes, IsLinked};
 
 use crate::links::Links;
 use fb_fabric::fabric::Fabric;
@@ -12,7 +14,7 @@ use std::alloc::{AllocError, Global};
 /// The resource that holds an instance: that of the instance of the application which it is, or is inside of.
 fn home_of(fabric: &Fabric, links: &Links, instance: u32) -> usize
     requires { instance < length (paths_of fabric.now) }
-    ensures { result ≡ home_at fabric.now links.now instance }
+    ensures { (plan : Plan) → IsLinked fabric.now plan links.now → result ≡ resource_of plan (path_of fabric.now instance) }
 {
     match fabric.route(instance).first() {
         Some(place) => links.holder(*place as usize),
@@ -26,7 +28,7 @@ pub(crate) fn homes_of(
     fabric: &Fabric,
     links: &Links,
 ) -> Result<Items<usize>, AllocError>
-    ensures { IfOk result (AreHomes fabric.now links.now) }
+    ensures { IfOk result (λ homes. (plan : Plan) → IsLinked fabric.now plan links.now → AreHomes fabric.now plan homes) }
 {
     fabric.facts();
     let mut homes = Items::new(alloc);

@@ -5,8 +5,9 @@
 //! one.
 //!
 //! To be read in this order: `system`, what is asked; `stimulus`; `whole`, what is kept; `types`. Then the tables:
-//! `links`, resources, ranks and links; `homes`, the resources of all instances; `interfaces` with `with_places` and `event_block_with_places`, the variables WITH each
-//! event; `initial_values`, what variables begin with; `rows`, the stimuli by number. The check above fills them: `given`.
+//! `links`, resources, ranks and links; `homes`, the resources of all instances; `interfaces` with `with_places` and
+//! `event_block_with_places`, the variables WITH each event; `initial_values`, what variables begin with; `rows`, the stimuli by
+//! number. The check above fills them: `given`.
 #![tactic(auto)]
 
 mod event_block_with_places;

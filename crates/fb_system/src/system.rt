@@ -11,7 +11,7 @@ ghost use Rattle.fb_system.specs.Stimuli.{IsStimulusAt, initial_inputs, initial_
 ghost use Rattle.fb_types.specs.Text.{path_text};
 ghost use Rattle.fb_fabric.specs.Layouts.{AreComponents, AreNumbers, IsParent, route_to};
 ghost use Rattle.fb_names.specs.Numbers.{kind_of_number};
-ghost use Rattle.fb_system.specs.Linking.{AreHomes, rank};
+ghost use Rattle.fb_system.specs.Linking.{AreHomes, IsLinked, rank};
 ghost use Rattle.fb_system.specs.Ports.{IsPort, IsSource, IsTarget, IsVariable, variable_of};
 ghost use Rattle.fb_system.specs.Systems.{inputs_of, IsGiven, StandFor};
 
@@ -103,7 +103,7 @@ impl System {
 
     /// The system of tables that stand for accepted inputs once they have the resources of all instances.
     fn of_tables(alloc: Global, mut tables: Whole) -> Result<System, AllocError>
-        requires { (homes : List ℕ) → AreHomes tables.fabric tables.links homes → StandFor (record tables { homes = homes }) }
+        requires { (homes : List ℕ) → (IsLinked tables.fabric tables.deploy tables.links → AreHomes tables.fabric tables.deploy homes) → StandFor (record tables { homes = homes }) }
         ensures { IfOk result (λ s. s ≡ inputs_of tables) }
     {
         tables.homes = homes_of(alloc, &tables.fabric, &tables.links)?;

@@ -32,7 +32,7 @@ pub(crate) fn write_digits(number: u128, digits: &mut [u8; MOST_DIGITS]) -> usiz
     start
 }
 
-/// The digits of an `u64` and a blank take no more bytes.
+/// How many bytes the row of a noted number has: the digits of a `u64` and a blank take no more.
 pub(crate) const NOTED: usize = 24;
 
 /// The number that was noted last, as its digits and a blank: mostly a line has the tick of the line before.

@@ -69,7 +69,8 @@ const SIGN: usize = 3;
 /// What stands before and behind the name of a value, and a number with its sign, takes no more bytes.
 const BINDING: usize = 42;
 
-/// Puts what stands before the path, where there is room for it: the sign of an event that was taken, or of one that was emitted.
+/// Puts what stands before the path, where there is room for it: the sign of an event that was taken, or of one that was
+/// emitted.
 #[inline(always)]
 fn append_sign(page: &mut Page, taken: bool)
     requires { length page.old.waiting + SIGN ≤ SIZE }

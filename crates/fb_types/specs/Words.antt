@@ -14,6 +14,6 @@ packed (b ∷ bs) = if nat_eq (digit b) 0 || nat_eq (packed bs) 0 then 0 else di
 abbrev pub most : ℕ
 most = 12
 
--- 0 stands for each name that is longer.
+-- The number of a short name. 0 stands for each that is longer too.
 abbrev pub word_of : List ℕ → ℕ
 word_of bs = if nat_le (length bs) most then packed bs else 0

@@ -14,7 +14,8 @@ use std::marker::Model;
 pub struct Name {
     bytes: Items<u8>,
     /// The bytes as one number, so that most names are compared in a few instructions and without a look at the
-    /// heap. 0 for a name that is longer than a number has room for.
+    /// heap. 0 where it is longer than a number has room for, or has a byte that is no upper-case letter, figure or
+    /// underscore: such names are compared letter by letter.
     word: u64,
 }
 
@@ -97,8 +98,8 @@ fn word_of(bytes: &[u8]) -> u64
     if bytes.len() <= 12 { packed(bytes) } else { 0 }
 }
 
-/// The bytes of a short name as one number: digits in base 38, and a 1 before them all, so that no two names have the
-/// same.
+/// The bytes of a short name as one number: digits in base 38, and a 1 before them all. No two names have the same, but
+/// for 0, which each name with another byte has.
 fn packed(bytes: &[u8]) -> u64
     requires { length bytes.now ≤ most }
     ensures { result ≡ number_of bytes.now }

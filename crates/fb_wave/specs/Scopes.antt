@@ -43,46 +43,47 @@ abbrev pub variable_begun : ℕ → Ty → List ℕ
 variable_begun s Boolean = line (codes "x" ++ variable_code s)
 variable_begun s _ = line (codes "bx " ++ variable_code s)
 
--- ---- The signals of an interface, either way
-
-abbrev pub event_told : HeadPart → ℕ → Name → List ℕ
-event_told Declarations s n = event_declared s n
-event_told Beginnings s n = event_begun s
-
-abbrev pub variable_told : HeadPart → ℕ → Name → Ty → List ℕ
-variable_told Declarations s n ty = variable_declared s n ty
-variable_told Beginnings s n ty = variable_begun s ty
+-- ---- The signals of an interface, by the text of an event and that of a variable
 
 -- events, the first with this number
-abbrev pub events_told : HeadPart → ℕ → List EventPort → List ℕ
-events_told part s [] = []
-events_told part s (e ∷ es) = event_told part s e.name ++ events_told part (s + 1) es
+abbrev pub events_told : (ℕ → Name → List ℕ) → ℕ → List EventPort → List ℕ
+events_told event s [] = []
+events_told event s (e ∷ es) = event s e.name ++ events_told event (s + 1) es
 
 -- a variable that lines carry is one WITH an event
 abbrev pub is_carried : List EventPort → Variable → Bool
 is_carried es v = list_any (λ e. among e.with v.name) es
 
-abbrev pub carried_told : HeadPart → List EventPort → ℕ → Variable → List ℕ
-carried_told part es s v = if is_carried es v then variable_told part s v.name v.ty else []
+abbrev pub carried_told : (ℕ → Name → Ty → List ℕ) → List EventPort → ℕ → Variable → List ℕ
+carried_told variable es s v = if is_carried es v then variable s v.name v.ty else []
 
 -- variables, the first with this number
-abbrev pub variables_told : HeadPart → List EventPort → ℕ → List Variable → List ℕ
-variables_told part es s [] = []
-variables_told part es s (v ∷ vs) = carried_told part es s v ++ variables_told part es (s + 1) vs
+abbrev pub variables_told : (ℕ → Name → Ty → List ℕ) → List EventPort → ℕ → List Variable → List ℕ
+variables_told variable es s [] = []
+variables_told variable es s (v ∷ vs) = carried_told variable es s v ++ variables_told variable es (s + 1) vs
 
 -- the signals of an interface, the first with this number
-abbrev pub ports_told : HeadPart → ℕ → Ports → List ℕ
-ports_told part s its =
+abbrev pub ports_told : (ℕ → Name → List ℕ) → (ℕ → Name → Ty → List ℕ) → ℕ → Ports → List ℕ
+ports_told event variable s its =
     let outs = s + length its.event_inputs in
     let ins = outs + length its.event_outputs in
-    events_told part s its.event_inputs ++ events_told part outs its.event_outputs
-    ++ variables_told part its.event_inputs ins its.inputs ++ variables_told part its.event_outputs (ins + length its.inputs) its.outputs
+    events_told event s its.event_inputs ++ events_told event outs its.event_outputs
+    ++ variables_told variable its.event_inputs ins its.inputs ++ variables_told variable its.event_outputs (ins + length its.inputs) its.outputs
 
 abbrev pub ports_declared : ℕ → Ports → List ℕ
-ports_declared s its = ports_told Declarations s its
+ports_declared s its = ports_told event_declared variable_declared s its
 
 abbrev pub ports_begun : ℕ → Ports → List ℕ
-ports_begun s its = ports_told Beginnings s its
+ports_begun s its = ports_told (λ s n. event_begun s) (λ s n ty. variable_begun s ty) s its
+
+-- which texts these are, in each of the two parts of the head
+abbrev pub event_in : HeadPart → ℕ → Name → List ℕ
+event_in Declarations = event_declared
+event_in Beginnings = λ s n. event_begun s
+
+abbrev pub variable_in : HeadPart → ℕ → Name → Ty → List ℕ
+variable_in Declarations = variable_declared
+variable_in Beginnings = λ s n ty. variable_begun s ty
 
 -- ---- Scopes
 

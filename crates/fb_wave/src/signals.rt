@@ -25,7 +25,7 @@ fn put_event(
     signal: usize,
     name: &[u8],
 ) -> Result<(), AllocError>
-    ensures { OnOk result (text.new.items ≡ text.old.items ++ spec.event_told part signal name.now) }
+    ensures { OnOk result (text.new.items ≡ text.old.items ++ spec.event_in part signal name.now) }
 {
     match part {
         HeadPart::Declarations => declared::put_event(text, signal, name),
@@ -40,7 +40,7 @@ fn put_events(
     events: &[EventPort],
 ) -> Result<(), AllocError>
     requires { first + length events.now < 2 ^ 64 }
-    ensures { OnOk result (text.new.items ≡ text.old.items ++ spec.events_told part first events.now) }
+    ensures { OnOk result (text.new.items ≡ text.old.items ++ spec.events_told (spec.event_in part) first events.now) }
 {
     let mut signal = first;
     for event in events {
@@ -73,7 +73,7 @@ fn put_variable(
     signal: usize,
     variable: &Variable,
 ) -> Result<(), AllocError>
-    ensures { OnOk result (text.new.items ≡ text.old.items ++ spec.carried_told part events.now signal variable.now) }
+    ensures { OnOk result (text.new.items ≡ text.old.items ++ spec.carried_told (spec.variable_in part) events.now signal variable.now) }
 {
     if !is_carried(events, variable) {
         return Ok(());
@@ -94,7 +94,7 @@ fn put_variables(
     variables: &[Variable],
 ) -> Result<(), AllocError>
     requires { first + length variables.now < 2 ^ 64 }
-    ensures { OnOk result (text.new.items ≡ text.old.items ++ spec.variables_told part events.now first variables.now) }
+    ensures { OnOk result (text.new.items ≡ text.old.items ++ spec.variables_told (spec.variable_in part) events.now first variables.now) }
 {
     let mut signal = first;
     for variable in variables {
@@ -112,7 +112,7 @@ pub(crate) fn put_ports(
     ports: &Ports,
 ) -> Result<(), AllocError>
     requires { first + size_of ports.now < 2 ^ 64 }
-    ensures { OnOk result (text.new.items ≡ text.old.items ++ spec.ports_told part first ports.now) }
+    ensures { OnOk result (text.new.items ≡ text.old.items ++ spec.ports_told (spec.event_in part) (spec.variable_in part) first ports.now) }
 {
     let outputs = first + ports.event_inputs.len();
     let variables = outputs + ports.event_outputs.len();

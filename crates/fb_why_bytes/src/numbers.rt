@@ -2,7 +2,6 @@
 
 ghost use Rattle.std.specs.Prelude.{◌≡◌, IfOk, IfSome, false, map, option_map};
 ghost use Rattle.toml.specs.View.{table_view, view};
-ghost use Rattle.fb_inputs.specs.Deployments as inputs;
 ghost use Rattle.fb_inputs.specs.Documents as documents;
 ghost use Rattle.fb_inputs.specs.Documents.{pair};
 ghost use Rattle.fb_inputs.specs.Lists.{each};
@@ -158,10 +157,10 @@ fn wrong_start(table: &[WrittenEntry]) -> Option<usize>
 }
 
 /// What is wrong with the table of a link, of what is judged now.
-fn table_place(stage: LinkJudgement, link: usize, table: &[WrittenEntry]) -> Option<DeployPlace>
+fn table_place(judged: LinkJudgement, link: usize, table: &[WrittenEntry]) -> Option<DeployPlace>
     ensures { IfSome result (spec.IsTablePlace link table.now) }
 {
-    match stage {
+    match judged {
         LinkJudgement::Latencies => {
             let entry = wrong_latency(table)?;
             Some(DeployPlace::Latency { link, entry })
@@ -186,7 +185,7 @@ fn table_place(stage: LinkJudgement, link: usize, table: &[WrittenEntry]) -> Opt
 /// What is wrong with a link, of what is judged now.
 fn link_place(
     alloc: Global,
-    stage: LinkJudgement,
+    judged: LinkJudgement,
     link: usize,
     value: &Value,
 ) -> Result<Option<DeployPlace>, AllocError>
@@ -197,7 +196,7 @@ fn link_place(
     };
     let entries = latencies_of(alloc, keys)?;
     match entries {
-        Some(table) => Ok(table_place(stage, link, table.as_slice())),
+        Some(table) => Ok(table_place(judged, link, table.as_slice())),
         None => Ok(None),
     }
 }
@@ -205,13 +204,13 @@ fn link_place(
 /// What is wrong with the first of the links that is wrong, of what is judged now.
 fn links_place(
     alloc: Global,
-    stage: LinkJudgement,
+    judged: LinkJudgement,
     values: &[Value],
 ) -> Result<Option<DeployPlace>, AllocError>
     ensures { IfOk result (λ o. IfSome o (spec.IsAmongLinks values.now)) }
 {
     for (link, value) in values.iter().enumerate() {
-        let found = link_place(alloc, stage, link, value)?;
+        let found = link_place(alloc, judged, link, value)?;
         if let Some(place) = found {
             return Ok(Some(place));
         }
@@ -235,7 +234,7 @@ fn count_at(keys: &Table, key: DeployKey) -> usize
 /// What is wrong with the links of a document, of what is judged now.
 fn place_among_links(
     alloc: Global,
-    stage: LinkJudgement,
+    judged: LinkJudgement,
     keys: &Table,
 ) -> Result<Option<DeployPlace>, AllocError>
     ensures { IfOk result (λ o. IfSome o (spec.IsNumbersFault (table_view keys.now))) }
@@ -244,7 +243,7 @@ fn place_among_links(
         return Ok(None);
     };
     match value.as_array() {
-        Some(values) => links_place(alloc, stage, values.as_slice()),
+        Some(values) => links_place(alloc, judged, values.as_slice()),
         None => Ok(None),
     }
 }

@@ -3,14 +3,13 @@
 ghost use Rattle.std.specs.Prelude.{IfOk, MatchOption};
 ghost use Rattle.csv.specs.Reading.{error_kind};
 ghost use Rattle.csv.specs.Records.{fields_of};
-ghost use Rattle.fb_inputs.specs.Stimuli as inputs;
 ghost use Rattle.fb_why_bytes.specs.Rows.{AreTaken, IsRefusedAt};
 ghost use Rattle.fb_why_bytes.specs.RowVerdicts.{IsFine, IsRefusedFor};
 
 use crate::place::{RowFault, StimuliPlace};
 use crate::row::row_fault;
 use csv::{ByteRecord, ReaderBuilder};
-use fb_inputs::stimuli::{MOST_BYTES, columns, heads};
+use fb_inputs::stimuli::{MOST_BYTES, columns, is_heading};
 use std::alloc::{AllocError, Global};
 
 /// What is wrong with a record behind the heading, before which so many others come.
@@ -52,7 +51,7 @@ pub fn stimuli_place(alloc: Global, bytes: &[u8]) -> Result<Option<StimuliPlace>
     let Ok(head) = first else {
         return Err(AllocError);
     };
-    if !heads(head) {
+    if !is_heading(head) {
         return Ok(Some(StimuliPlace::Heading));
     }
     let mut row = 0;

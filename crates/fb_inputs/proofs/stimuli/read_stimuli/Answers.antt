@@ -18,8 +18,8 @@ returns-in_default c =
     let none = at_end c.into_byte_records-rows.result c.next.new.self (strip_bom c.args.bytes.now) here step in
     rw c.new-in_default.ensures.items (empty c.args.bytes.now c.into_byte_records-rows.result.rdr.state short start none)
 
-pub returns-then-not-heads : goal.returns-then-not-heads
-returns-then-not-heads c =
+pub returns-then-not-is_heading : goal.returns-then-not-is_heading
+returns-then-not-is_heading c =
     let from = c.from_reader-reader.ensures in
     let built : c.flexible.result.now ≡ with_flexible (with_names_headers c.new.result false) true = search rules in
     let (here, start) = at_start c.into_byte_records-rows.result c.from_reader-reader.result (strip_bom c.args.bytes.now) c.into_byte_records-rows.ensures.rdr c.into_byte_records-rows.ensures.left
