@@ -29,7 +29,7 @@ fn add_all(alloc: Global, variables: &[Variable], slots: &mut Vec<Slot>) -> Resu
         let name = variable.name.try_clone(alloc)?;
         let value = variable.first_value();
         let ty = variable.ty;
-        slots.push(Slot { name, ty, value })?;
+        slots.push(Slot::new(name, ty, value))?;
     }
     Ok(())
 }

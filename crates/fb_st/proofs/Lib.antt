@@ -1,7 +1,9 @@
 pub mod Arguments
 pub mod Faults
+pub mod Keys
 pub mod Wanted
 pub mod Once
 pub mod Places
+pub mod Ranges
 pub mod Runs
 pub mod Slots

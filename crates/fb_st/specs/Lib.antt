@@ -3,3 +3,4 @@ pub mod Flows
 pub mod Frames
 pub mod Wanted
 pub mod Known
+pub mod Variables

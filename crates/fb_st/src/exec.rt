@@ -156,6 +156,7 @@ fn run_branch(
 
 /// A turn of WHILE or REPEAT, which costs a step before its body.
 #[cycle(exec)]
+#[inline(always)]
 fn turn(body: &[Stmt], frame: &mut Frame, meter: &mut StepMeter) -> Result<Flow, Reason>
     requires known { AllKnown (declared_in frame.old) (all_of body.now) }
     ensures run { Step (RunsAll (types_in (declared_in frame.old)) (all_of body.now)) (point frame.old meter.old) (end_of result) (point frame.new meter.new) }

@@ -1,10 +1,11 @@
 //! Variables with their types and values.
 
-ghost use Rattle.std.specs.Prelude.{◌≡◌, [], ◌∷◌, ◌++◌, true, false, not, if◌then◌else◌, Some, IfSome, OnSome, IfOk, IfErr, OnOk, OnErr};
+ghost use Rattle.std.specs.Prelude.{◌≡◌, [], ◌∷◌, ◌++◌, true, false, not, int_le, ◌&&◌, if◌then◌else◌, Some, IfSome, OnSome, IfOk, IfErr, OnOk, OnErr};
 ghost use Rattle.std.specs.List.{list_any};
 ghost use Rattle.fb_types.specs.Names.{same_name, with_value};
 ghost use Rattle.fb_types.specs.Repeated.{Twice};
 ghost use Rattle.fb_types.specs.Values.{fits, whole};
+ghost use Rattle.fb_st.specs.Variables.{least_of, most_of};
 ghost use Rattle.fb_st.specs.Frames.{place_of, values_of, declared_in, is_declared, names_of, types_in};
 
 use crate::operator::whole_of;
@@ -14,12 +15,193 @@ use fb_types::value::{Reason, Ty, Value};
 use std::alloc::{AllocError, Global};
 use std::marker::Model;
 
-/// A variable with its type and its value.
+/// A variable with its type and its value. Contracts see these three.
 #[derive(Drop)]
 pub struct Slot {
-    pub name: Name,
-    pub ty: Ty,
-    pub value: Value,
+    name: Name,
+    ty: Ty,
+    /// The least and the greatest of the numbers of 64 bits that the type holds. A type that holds none has a least one
+    /// beyond the greatest.
+    least: i64,
+    most: i64,
+    /// The number of the name (`Name::word`), where the name is short and the value a number of 64 bits, as most are: then
+    /// one comparison tells both. `APART` where they are not.
+    key: u64,
+    /// The value, where the key tells that it is such a number.
+    small: i64,
+    /// Any other value.
+    value: Value,
+}
+
+impl Model for Slot {
+    ghost use Rattle.std.specs.Prelude.{◌≡◌};
+    ghost use Rattle.fb_st.specs.Variables.{Held, value_held, least_of, most_of, IsKeyOf};
+
+    ghost Value = { Held };
+
+    ghost view = { λ s. record { name = s.name; ty = s.ty; value = value_held s.key s.small s.value } };
+
+    ghost invariant = { λ s. (s.least ≡ least_of s.ty) × (s.most ≡ most_of s.ty) × IsKeyOf s.name s.key };
+}
+
+/// What is the number of no name.
+const APART: u64 = 2;
+
+/// The number of 64 bits that a value is, if it is one.
+#[inline(always)]
+pub(crate) fn small_of(value: Value) -> Option<i64>
+    ensures { IfSome result (λ z. value ≡ Value.Whole z) }
+{
+    match value {
+        Value::Whole(number) => i64::try_from(number).ok(),
+        Value::Bool(_) => None,
+    }
+}
+
+/// The least number of 64 bits that a type holds.
+fn least_of_type(ty: Ty) -> i64
+    ensures { result ≡ least_of ty }
+{
+    match ty {
+        Ty::Sint => i64::from(i8::MIN),
+        Ty::Int => i64::from(i16::MIN),
+        Ty::Dint => i64::from(i32::MIN),
+        Ty::Lint | Ty::Time => i64::MIN,
+        Ty::Usint | Ty::Uint | Ty::Udint | Ty::Ulint => 0,
+        Ty::Bool => 1,
+    }
+}
+
+/// The greatest number of 64 bits that a type holds.
+fn most_of_type(ty: Ty) -> i64
+    ensures { result ≡ most_of ty }
+{
+    match ty {
+        Ty::Sint => i64::from(i8::MAX),
+        Ty::Int => i64::from(i16::MAX),
+        Ty::Dint => i64::from(i32::MAX),
+        Ty::Lint | Ty::Time | Ty::Ulint => i64::MAX,
+        Ty::Usint => i64::from(u8::MAX),
+        Ty::Uint => i64::from(u16::MAX),
+        Ty::Udint => i64::from(u32::MAX),
+        Ty::Bool => 0,
+    }
+}
+
+#[inline(always)]
+fn is_between(least: i64, number: i64, most: i64) -> bool
+    ensures { result ≡ (int_le least number && int_le number most) }
+{
+    least <= number && number <= most
+}
+
+impl Slot {
+    pub fn new(name: Name, ty: Ty, value: Value) -> Slot
+        ensures { result ≡ record { name = name; ty = ty; value = value } }
+    {
+        let mut slot = Slot {
+            name,
+            ty,
+            least: least_of_type(ty),
+            most: most_of_type(ty),
+            key: APART,
+            small: 0,
+            value,
+        };
+        slot.put(value);
+        slot
+    }
+
+    /// What the variable holds.
+    #[inline(always)]
+    pub fn value(&self) -> Value
+        ensures { result ≡ self.now.value }
+    {
+        if self.key == APART {
+            self.value
+        } else {
+            Value::Whole(i128::from(self.small))
+        }
+    }
+
+    /// The number of 64 bits that the variable holds. `None` says nothing of it.
+    #[inline(always)]
+    fn small(&self) -> Option<i64>
+        ensures { IfSome result (λ z. self.now.value ≡ Value.Whole z) }
+    {
+        if self.key == APART {
+            small_of(self.value)
+        } else {
+            Some(self.small)
+        }
+    }
+
+    /// Whether the variable has this name.
+    #[inline(always)]
+    fn is_named(&self, name: &Name) -> bool
+        ensures { result ≡ same_name name.now self.now.name }
+    {
+        name.is(&self.name)
+    }
+
+    /// The number of 64 bits that the variable holds, where it has this name and the name is a short one. `None` says
+    /// nothing of it.
+    #[inline(always)]
+    fn small_named(&self, name: &Name) -> Option<i64>
+        ensures { IfSome result (λ z. (same_name name.now self.now.name ≡ true) × (self.now.value ≡ Value.Whole z)) }
+    {
+        if self.key == name.word() {
+            Some(self.small)
+        } else {
+            None
+        }
+    }
+
+    /// Whether a value is one of the variable's type.
+    #[inline(always)]
+    fn holds(&self, value: Value) -> bool
+        ensures { result ≡ fits self.now.ty value }
+    {
+        self.ty.holds(value)
+    }
+
+    /// Whether the variable has this name, holds a number of 64 bits, and has a type that another such number is one of.
+    /// `false` says nothing of it.
+    #[inline(always)]
+    fn may_take(&self, name: &Name, number: i64) -> bool
+        ensures { result ≡ true → (same_name name.now self.now.name ≡ true) × (fits self.now.ty (Value.Whole number) ≡ true) }
+    {
+        self.key == name.word() && is_between(self.least, number, self.most)
+    }
+
+    /// Gives the variable a value without a look at its type.
+    fn put(&mut self, value: Value)
+        ensures { self.new ≡ record self.old { value = value } }
+    {
+        let word = self.name.word();
+        match small_of(value) {
+            Some(number) if word != 0 => {
+                self.key = word;
+                self.small = number;
+            }
+            _ => {
+                self.key = APART;
+                self.value = value;
+            }
+        }
+    }
+
+    /// The same, for a number of 64 bits, which mostly comes after another.
+    #[inline(always)]
+    fn put_small(&mut self, number: i64)
+        ensures { self.new ≡ record self.old { value = Value.Whole number } }
+    {
+        if self.key == APART {
+            self.put(Value::Whole(i128::from(number)));
+        } else {
+            self.small = number;
+        }
+    }
 }
 
 /// The variables that expressions and statements speak of, each with a name of its own.
@@ -75,7 +257,7 @@ impl Frame {
         if self.has(&name) {
             return Ok(false);
         }
-        self.slots.push(Slot { name, ty, value })?;
+        self.slots.push(Slot::new(name, ty, value))?;
         Ok(true)
     }
 
@@ -85,7 +267,7 @@ impl Frame {
         ensures { result ≡ whole (values_of self.now variable.now) }
     {
         match self.standing(variable, variable.place()) {
-            Some(slot) => whole_of(slot.value),
+            Some(slot) => whole_of(slot.value()),
             None => self.whole_by_search(variable),
         }
     }
@@ -104,7 +286,7 @@ impl Frame {
         ensures { result ≡ values_of self.now variable.now }
     {
         match self.standing(variable, variable.place()) {
-            Some(slot) => slot.value,
+            Some(slot) => slot.value(),
             None => self.value_by_search(variable),
         }
     }
@@ -117,18 +299,7 @@ impl Frame {
         ensures value { IfSome result (λ s. values_of self.now variable.now ≡ s.now.value) }
     {
         match self.slots.get(place) {
-            Some(slot) if variable.name().is(&slot.name) => Some(slot),
-            _ => None,
-        }
-    }
-
-    /// The variable that stands where it is expected, if its name is a short one. `None` says nothing of it.
-    #[inline(always)]
-    fn standing_at_once(&self, variable: &Reference) -> Option<&Slot>
-        ensures { IfSome result (λ s. values_of self.now variable.now ≡ s.now.value) }
-    {
-        match self.slots.get(variable.place()) {
-            Some(slot) if variable.name().is_at_once(&slot.name) => Some(slot),
+            Some(slot) if slot.is_named(variable.name()) => Some(slot),
             _ => None,
         }
     }
@@ -139,9 +310,9 @@ impl Frame {
     pub(crate) fn small_at_once(&self, variable: &Reference) -> Option<i64>
         ensures { IfSome result (λ z. values_of self.now variable.now ≡ Value.Whole z) }
     {
-        match self.standing_at_once(variable)?.value {
-            Value::Whole(number) => i64::try_from(number).ok(),
-            Value::Bool(_) => None,
+        match self.slots.get(variable.place()) {
+            Some(slot) => slot.small_named(variable.name()),
+            None => None,
         }
     }
 
@@ -150,10 +321,7 @@ impl Frame {
     pub(crate) fn small(&self, variable: &Reference) -> Option<i64>
         ensures { IfSome result (λ z. values_of self.now variable.now ≡ Value.Whole z) }
     {
-        match self.standing(variable, variable.place())?.value {
-            Value::Whole(number) => i64::try_from(number).ok(),
-            Value::Bool(_) => None,
-        }
+        self.standing(variable, variable.place())?.small()
     }
 
     /// The truth value that a variable holds which stands where it is expected. `None` says nothing of it.
@@ -161,7 +329,7 @@ impl Frame {
     pub(crate) fn small_truth(&self, variable: &Reference) -> Option<bool>
         ensures { IfSome result (λ b. values_of self.now variable.now ≡ Value.Bool b) }
     {
-        match self.standing(variable, variable.place())?.value {
+        match self.standing(variable, variable.place())?.value() {
             Value::Whole(_) => None,
             Value::Bool(truth) => Some(truth),
         }
@@ -173,7 +341,7 @@ impl Frame {
         ensures { result ≡ values_of self.now variable.now }
     {
         match self.search(variable) {
-            Some(place) => self.slots[place].value,
+            Some(place) => self.slots[place].value(),
             None => Value::Whole(0),
         }
     }
@@ -198,7 +366,7 @@ impl Frame {
         let place = self
             .slots
             .iter()
-            .position(|slot| variable.name().is(&slot.name));
+            .position(|slot| slot.is_named(variable.name()));
         note(variable, place);
         place
     }
@@ -214,33 +382,33 @@ impl Frame {
             None => unreachable!(),
         };
         let found = &mut self.slots[place];
-        found.value = value;
+        found.put(value);
     }
 
-    /// Gives a variable a value where it stands as expected and its type holds the value, and says whether it did. Else
-    /// the frame stays as it is.
+    /// Gives a variable a number where it stands as expected, has a short name and a type that holds the number, and says
+    /// whether it did. Else the frame stays as it is.
     #[inline(always)]
-    pub fn takes(&mut self, variable: &Reference, value: Value) -> bool
-        ensures taken { result ≡ true → (fits (types_in (declared_in self.old) variable.now) value ≡ true) × (values_of self.new ≡ with_value variable.now value (values_of self.old)) }
+    pub(crate) fn takes(&mut self, variable: &Reference, number: i64) -> bool
+        ensures taken { result ≡ true → (fits (types_in (declared_in self.old) variable.now) (Value.Whole number) ≡ true) × (values_of self.new ≡ with_value variable.now (Value.Whole number) (values_of self.old)) }
         ensures same { result ≡ false → self.new ≡ self.old }
         ensures declared { declared_in self.new ≡ declared_in self.old }
     {
         let place = variable.place();
-        if !self.may_take(variable, place, value) {
+        if !self.may_take(variable, place, number) {
             return false;
         }
         let slot = &mut self.slots[place];
-        slot.value = value;
+        slot.put_small(number);
         true
     }
 
-    /// Whether a variable stands at a place and its type holds a value.
+    /// Whether a variable stands at a place and its type holds a number.
     #[inline(always)]
-    fn may_take(&self, variable: &Reference, place: usize, value: Value) -> bool
-        ensures { result ≡ true → (place_of variable.now self.now ≡ Some place) × (fits (types_in (declared_in self.now) variable.now) value ≡ true) }
+    fn may_take(&self, variable: &Reference, place: usize, number: i64) -> bool
+        ensures { result ≡ true → (place_of variable.now self.now ≡ Some place) × (fits (types_in (declared_in self.now) variable.now) (Value.Whole number) ≡ true) }
     {
-        match self.standing(variable, place) {
-            Some(slot) => slot.ty.holds(value),
+        match self.slots.get(place) {
+            Some(slot) => slot.may_take(variable.name(), number),
             None => false,
         }
     }
@@ -257,11 +425,11 @@ impl Frame {
             Some(place) => place,
             None => unreachable!(),
         };
-        if !self.slots[place].ty.holds(value) {
+        if !self.slots[place].holds(value) {
             return Err(Reason::Range);
         }
         let slot = &mut self.slots[place];
-        slot.value = value;
+        slot.put(value);
         Ok(())
     }
 }
@@ -269,7 +437,7 @@ impl Frame {
 fn has_name(slots: &[Slot], name: &Name) -> bool
     ensures { result ≡ list_any (λ s. same_name name.now s.name) slots.now }
 {
-    slots.iter().any(|slot| name.is(&slot.name))
+    slots.iter().any(|slot| slot.is_named(name))
 }
 
 /// Notes where a variable was found.

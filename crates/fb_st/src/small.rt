@@ -12,14 +12,15 @@ use fb_types::text::{BinaryOperator, Expr};
 use fb_types::value::Value;
 
 /// The number that an expression comes to, where it and all numbers on the way to it fit. `None` says nothing of it.
-/// Most have one operator, at numbers and variables: there is no call on the way, and no register to be kept for one.
+/// Most have one operator or two, at numbers and variables: there is no call on the way, and no register to be kept for
+/// one.
 #[cycle(small)]
 pub fn small_number(expr: &Expr, frame: &Frame) -> Option<i64>
     ensures { IfSome result (λ z. value_of (expr_of expr.now) (values_of frame.now) ≡ Ok (Value.Whole z)) }
 {
     if let Expr::Binary(operator, left, right) = expr {
-        if let Some(x) = number_at_once(left.get(), frame) {
-            return match number_at_once(right.get(), frame) {
+        if let Some(x) = operand_at_once(left.get(), frame) {
+            return match operand_at_once(right.get(), frame) {
                 Some(y) => small_of_two(*operator, x, y),
                 None => small_with(*operator, x, right.get(), frame),
             };
@@ -72,17 +73,47 @@ fn small_operand(expr: &Expr, frame: &Frame) -> Option<i64>
     small_number(expr, frame)
 }
 
+/// The number of an operand that is a number or a variable, or an operator at such, where that is found without a call.
+/// `None` says nothing of it.
+#[inline(always)]
+fn operand_at_once(expr: &Expr, frame: &Frame) -> Option<i64>
+    ensures { IfSome result (λ z. value_of (expr_of expr.now) (values_of frame.now) ≡ Ok (Value.Whole z)) }
+{
+    match number_at_once(expr, frame) {
+        Some(number) => Some(number),
+        None => two_at_once(expr, frame),
+    }
+}
+
+/// The number that an operator gives at numbers and variables, where these are found without a call. `None` says nothing
+/// of it.
+#[inline(always)]
+fn two_at_once(expr: &Expr, frame: &Frame) -> Option<i64>
+    ensures { IfSome result (λ z. value_of (expr_of expr.now) (values_of frame.now) ≡ Ok (Value.Whole z)) }
+{
+    if let Expr::Binary(operator, left, right) = expr {
+        if let Some(x) = number_at_once(left.get(), frame) {
+            if let Some(y) = number_at_once(right.get(), frame) {
+                return small_of_two(*operator, x, y);
+            }
+        }
+    }
+    None
+}
+
 /// The number that an expression is, or that its variable holds, where that is found without a call. `None` says
 /// nothing of it.
 #[inline(always)]
 fn number_at_once(expr: &Expr, frame: &Frame) -> Option<i64>
     ensures { IfSome result (λ z. value_of (expr_of expr.now) (values_of frame.now) ≡ Ok (Value.Whole z)) }
 {
-    match expr {
-        Expr::Whole(number) => i64::try_from(*number).ok(),
-        Expr::Variable(variable) => frame.small_at_once(variable),
-        _ => None,
+    if let Expr::Variable(variable) = expr {
+        return frame.small_at_once(variable);
     }
+    if let Expr::Whole(number) = expr {
+        return i64::try_from(*number).ok();
+    }
+    None
 }
 
 /// The truth value that an expression comes to, where all numbers on the way to it fit. `None` says nothing of it. Most

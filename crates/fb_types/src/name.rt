@@ -1,6 +1,6 @@
 //! Names, in upper case.
 
-ghost use Rattle.std.specs.Prelude.{◌≡◌, ◌≤◌, true, IfOk, List, ℕ, length};
+ghost use Rattle.std.specs.Prelude.{◌≡◌, ◌≤◌, IfOk, List, ℕ, length};
 ghost use Rattle.fb_types.specs.Names.{same_name};
 ghost use Rattle.fb_types.specs.Words.{digit, packed as number_of, word_of as number_for, most};
 
@@ -53,6 +53,14 @@ impl Name {
         self.bytes.as_slice()
     }
 
+    /// The number that stands for the name, or 0 where none does.
+    #[inline(always)]
+    pub fn word(&self) -> u64
+        ensures { result ≡ number_for self.now }
+    {
+        self.word
+    }
+
     /// Whether the two are one name. Both are kept in upper case, so letter case makes no difference.
     #[inline(always)]
     pub fn is(&self, other: &Name) -> bool
@@ -62,14 +70,6 @@ impl Name {
             return false;
         }
         self.word != 0 || self.is_spelt_as(other)
-    }
-
-    /// Whether the two are one short name, which takes a few instructions and no call. `false` says nothing of them.
-    #[inline(always)]
-    pub fn is_at_once(&self, other: &Name) -> bool
-        ensures { result ≡ true → same_name self.now other.now ≡ true }
-    {
-        self.word == other.word && self.word != 0
     }
 
     /// The same as `is`, letter by letter.

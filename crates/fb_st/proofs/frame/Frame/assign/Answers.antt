@@ -28,7 +28,7 @@ invariant_of-self c =
     let within = place_within xs c.args.variable.now c.in-Some.place at in
     let names = names_same xs c.in-Some.place c.index_mut-slot.result.now c.args.value within c.index_mut-slot.ensures.value in
     let P : List Name → Type 0 = λ ns. ¬ (Twice ns) in
-    subst P (sym names) c.self.invariant
+    rw c.put.ensures (subst P (sym names) c.self.invariant)
 
 pub returns-clause-ok : goal.returns-clause-ok
 returns-clause-ok c =
@@ -39,8 +39,9 @@ returns-clause-ok c =
     let ty = type_here xs c.args.variable.now c.in-Some.place c.index.result.now at read in (
       ap (λ l. fits (types_in (declared_in l) c.args.variable.now) c.args.value) (sym c.self.view_is)
           ∙ ap (λ t. fits t c.args.value) ty ∙ sym c.holds.ensures ∙ c.if-not-holds.false,
-      written xs c.args.variable.now c.in-Some.place c.index_mut-slot.result.now c.args.value at there
-          ∙ ap (λ l. with_value c.args.variable.now c.args.value (values_of l)) c.self.view_is,
+      rw c.put.ensures
+          (written xs c.args.variable.now c.in-Some.place c.index_mut-slot.result.now c.args.value at there
+          ∙ ap (λ l. with_value c.args.variable.now c.args.value (values_of l)) c.self.view_is),
     )
 
 pub returns-clause-declared : goal.returns-clause-declared
@@ -48,5 +49,6 @@ returns-clause-declared c =
     let xs : List Slot = c.self.inside.slots.items in
     let at = ap (place_of c.args.variable.now) c.self.view_is ∙ sym c.find.ensures ∙ c.in-Some.is in
     let within = place_within xs c.args.variable.now c.in-Some.place at in
-    declared_same xs c.in-Some.place c.index_mut-slot.result.now c.args.value within c.index_mut-slot.ensures.value
-    ∙ ap declared_in c.self.view_is
+    rw c.put.ensures
+    (declared_same xs c.in-Some.place c.index_mut-slot.result.now c.args.value within c.index_mut-slot.ensures.value
+    ∙ ap declared_in c.self.view_is)

@@ -16,20 +16,22 @@ invariant_of-self c =
     let within = place_within xs c.args.variable.now c.in-Some.place at in
     let names = names_same xs c.in-Some.place c.index_mut-found.result.now c.args.value within c.index_mut-found.ensures.value in
     let P : List Name → Type 0 = λ ns. ¬ (Twice ns) in
-    subst P (sym names) c.self.invariant
+    rw c.put.ensures (subst P (sym names) c.self.invariant)
 
 pub returns-clause-value : goal.returns-clause-value
 returns-clause-value c =
     let xs : List Slot = c.self.inside.slots.items in
     let at = ap (place_of c.args.variable.now) c.self.view_is ∙ sym c.find.ensures ∙ c.in-Some.is in
     let there = read_at xs c.args.variable.now c.in-Some.place c.index_mut-found.result.now at c.index_mut-found.ensures.value in
-    written xs c.args.variable.now c.in-Some.place c.index_mut-found.result.now c.args.value at there
-    ∙ ap (λ l. with_value c.args.variable.now c.args.value (values_of l)) c.self.view_is
+    rw c.put.ensures
+    (written xs c.args.variable.now c.in-Some.place c.index_mut-found.result.now c.args.value at there
+    ∙ ap (λ l. with_value c.args.variable.now c.args.value (values_of l)) c.self.view_is)
 
 pub returns-clause-declared : goal.returns-clause-declared
 returns-clause-declared c =
     let xs : List Slot = c.self.inside.slots.items in
     let at = ap (place_of c.args.variable.now) c.self.view_is ∙ sym c.find.ensures ∙ c.in-Some.is in
     let within = place_within xs c.args.variable.now c.in-Some.place at in
-    declared_same xs c.in-Some.place c.index_mut-found.result.now c.args.value within c.index_mut-found.ensures.value
-    ∙ ap declared_in c.self.view_is
+    rw c.put.ensures
+    (declared_same xs c.in-Some.place c.index_mut-found.result.now c.args.value within c.index_mut-found.ensures.value
+    ∙ ap declared_in c.self.view_is)

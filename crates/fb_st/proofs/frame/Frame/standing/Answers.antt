@@ -12,7 +12,7 @@ returns-in-Some-clause-place c =
     let s : Slot = c.in-Some.slot.now in
     let Reads : List Slot → Type 0 = λ l. (i < length l) × (s ≡ get_or l i s) in
     let read : Reads xs = subst Reads c.deref.ensures.value (c.in-Some.ensures.lookup.3.0, c.in-Some.ensures.lookup.1) in
-    let same : same_name c.args.variable.now s.name ≡ true = ap (λ n. same_name n s.name) (sym c.name.ensures) ∙ sym c.is.ensures ∙ c.if-is.true in
+    let same : same_name c.args.variable.now s.name ≡ true = ap (λ n. same_name n s.name) (sym c.name.ensures) ∙ sym c.is_named.ensures ∙ c.if-is_named.true in
     let known = stands xs i s c.args.variable.now c.self.invariant read.0 read.1 same in
     ap (place_of c.args.variable.now) (sym c.self.view_is) ∙ known.1
 
@@ -23,7 +23,7 @@ returns-in-Some-clause-ty c =
     let s : Slot = c.in-Some.slot.now in
     let Reads : List Slot → Type 0 = λ l. (i < length l) × (s ≡ get_or l i s) in
     let read : Reads xs = subst Reads c.deref.ensures.value (c.in-Some.ensures.lookup.3.0, c.in-Some.ensures.lookup.1) in
-    let same : same_name c.args.variable.now s.name ≡ true = ap (λ n. same_name n s.name) (sym c.name.ensures) ∙ sym c.is.ensures ∙ c.if-is.true in
+    let same : same_name c.args.variable.now s.name ≡ true = ap (λ n. same_name n s.name) (sym c.name.ensures) ∙ sym c.is_named.ensures ∙ c.if-is_named.true in
     let known = stands xs i s c.args.variable.now c.self.invariant read.0 read.1 same in
     ap (λ l. types_in (declared_in l) c.args.variable.now) (sym c.self.view_is) ∙ type_here xs c.args.variable.now i s known.1 known.0
 
@@ -34,6 +34,6 @@ returns-in-Some-clause-value c =
     let s : Slot = c.in-Some.slot.now in
     let Reads : List Slot → Type 0 = λ l. (i < length l) × (s ≡ get_or l i s) in
     let read : Reads xs = subst Reads c.deref.ensures.value (c.in-Some.ensures.lookup.3.0, c.in-Some.ensures.lookup.1) in
-    let same : same_name c.args.variable.now s.name ≡ true = ap (λ n. same_name n s.name) (sym c.name.ensures) ∙ sym c.is.ensures ∙ c.if-is.true in
+    let same : same_name c.args.variable.now s.name ≡ true = ap (λ n. same_name n s.name) (sym c.name.ensures) ∙ sym c.is_named.ensures ∙ c.if-is_named.true in
     let known = stands xs i s c.args.variable.now c.self.invariant read.0 read.1 same in
     ap (λ l. values_of l c.args.variable.now) (sym c.self.view_is) ∙ sym (value_here xs c.args.variable.now i s known.1 known.0)

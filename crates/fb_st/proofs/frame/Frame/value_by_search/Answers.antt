@@ -8,7 +8,8 @@ pub returns-in-Some : goal.returns-in-Some
 returns-in-Some c =
     let xs : List Slot = c.self.inside.slots.items in
     let at = ap (place_of c.args.variable.now) c.self.view_is ∙ sym c.search.ensures ∙ c.in-Some.is in
-    value_here xs c.args.variable.now c.in-Some.place c.index.result.now at (read_at xs c.args.variable.now c.in-Some.place c.index.result.now at c.index.ensures)
+    c.value.ensures
+    ∙ value_here xs c.args.variable.now c.in-Some.place c.index.result.now at (read_at xs c.args.variable.now c.in-Some.place c.index.result.now at c.index.ensures)
     ∙ ap (λ l. values_of l c.args.variable.now) c.self.view_is
 
 pub returns-in-None : goal.returns-in-None
