@@ -6,16 +6,16 @@ use Rattle.std.specs.List.Sorted.{IsStrictlySortedBy}
 use Rattle.std.specs.Map.{keys_of, lookup}
 use Rattle.std.proofs.lemmas.Map.Keys.{sorted_tail}
 use Rattle.std.proofs.lemmas.Cmp.{alike_right}
-use Rattle.std.specs.Ordering.{is_eq, is_gt, is_lt}
+use Rattle.std.specs.Ordering.{is_eq, is_lt}
 use Rattle.std.specs.declared.cmp.Ordering.{Ordering}
 use Rattle.std.specs.declared.cmp.Ordering.TheVariants.{Less, Equal, Greater}
 use Rattle.fb_types.specs.Keys.{Precedes, key_cmp, or_else, same_key}
 use Rattle.fb_types.specs.declared.key.Key.{Key}
 use Rattle.fb_types.proofs.KeyLaws.{earlier_precedes, key_cmp_total, same_key_is, same_key_from, same_key_itself}
 use Rattle.fb_agenda.specs.Agendas.{Contents, waiting, AreRising, AreApart, IsFirst, IsFirstTick, IsLeast, IsNext}
-use Rattle.fb_agenda.specs.Calendars.{Sets}
+use Rattle.fb_agenda.specs.Calendars.{BeginsAt, Leads, Sets}
 use Rattle.fb_types.specs.declared.run.Event.{Event}
-use Rattle.fb_agenda.proofs.Orders.{less_from, not_none, absent, all_later, found_after, rise_after, not_after, precedes, without_first}
+use Rattle.fb_agenda.proofs.Orders.{less_from, not_none, absent, all_later, found_after, rise_after, precedes, without_first}
 use Rattle.fb_types.proofs.Lookups.{or_else_none, or_else_nones}
 
 module _ (c : Contents) (apart : AreApart c) (k : Key) (w : Option Event) where
@@ -58,28 +58,6 @@ module _ (c : Contents) (apart : AreApart c) (k : Key) (w : Option Event) where
         go j here false same = apart.later j here
 
 -- ---- The least key
-
--- an event that waits, under a key that is not after the least, is the least
-pub same_least : (c : Contents) (k f : Key) → IsLeast c k → IsSome (waiting c f) → is_gt (key_cmp f k) ≡ false → f ≡ k
-same_least c k f least there le = go (key_cmp f k) refl
-  where
-    go : (r : Ordering) → key_cmp f k ≡ r → f ≡ k
-    go Less h =
-        let none : waiting c f ≡ None = least.none_before f h in
-        absurd (not_none (waiting c f) there none)
-    go Equal h = same_key_is f k (ap is_eq h)
-    go Greater h =
-        let no : is_gt Greater ≡ false = subst (λ o. is_gt o ≡ false) h le in
-        absurd cc
-
--- the least, where it is a local event, is among these
-pub least_local : (c : Contents) (k : Key) → AreApart c → IsLeast c k → k.class ≡ 3 → IsSome (lookup (same_key k) c.local)
-least_local c k apart least local =
-    subst (λ o. IsSome o) (ap (λ o. or_else (lookup (same_key k) c.local) o) (apart.later k local) ∙ or_else_none (lookup (same_key k) c.local)) least.waits
-
-pub least_later : (c : Contents) (k : Key) → AreApart c → IsLeast c k → k.class ≢ 3 → IsSome (lookup (same_key k) c.later)
-least_later c k apart least other =
-    subst (λ o. IsSome o) (ap (λ o. or_else o (lookup (same_key k) c.later)) (apart.local k other)) least.waits
 
 -- the first of those whose keys rise
 pub first_is : (es : List (Key × Event)) (k : Key) (d : Key × Event) → AreRising es → 0 < length es → k ≡ (get_or es 0 d).0 → IsFirst es k
@@ -143,6 +121,12 @@ not_below j zero h = omega arith
 not_below zero (suc k) h = absurd (h (omega arith))
 not_below (suc j) (suc k) h = let rest = not_below j k (λ less. h (omega arith)) in omega arith
 
+not_itself : (j : Key) → Precedes j j → ⊥
+not_itself j before = let equal : is_eq Less ≡ true = subst (λ o. is_eq o ≡ true) before (same_key_itself j) in absurd cc
+
+pub precedes_tick : (j k : Key) → Precedes j k → j.tick ≤ k.tick
+precedes_tick j k before = not_below k.tick j.tick (λ less. not_itself j (key_cmp_total.trans j k j before (earlier_precedes k j less)))
+
 next_least : (c : Contents) (k : Key) → IsLeast c k → IsNext c k.tick
 next_least c k least = record {
   waits = (k, refl, least.waits);
@@ -176,82 +160,95 @@ next_of_both c t u local later = go (is_lt (key_cmp later.0 local.0)) refl
         let same : k.tick ≡ min t u = omega (arith, local.1, later.1, le) in
         subst (IsNext c) same next
 
--- ---- Taking the first local event
+-- ---- Taking the first
 
-module _ (c : Contents) (apart : AreApart c) (k : Key) (least : IsLeast c k) (rest : List (Key × Event)) where
-  front_there : (f : Key × Event) → c.local ≡ f ∷ rest → waiting c f.0 ≡ Some f.1
-  front_there f items =
-      ap (λ l. or_else (lookup (same_key f.0) l) (lookup (same_key f.0) c.later)) items
-      ∙ ap (λ b. or_else (cond b (Some f.1) (lookup (same_key f.0) rest)) (lookup (same_key f.0) c.later)) (same_key_itself f.0)
+-- Where these come first and begin at a tick, nothing waits below it.
+pub none_below : (these those : List (Key × Event)) → Leads these those → (t : ℕ) → BeginsAt t these → (j : Key) → j.tick < t
+    → (lookup (same_key j) these ≡ None) × (lookup (same_key j) those ≡ None)
+none_below [] those leads t begins j below = (refl, ap (λ es. lookup (same_key j) es) (leads.none refl))
+none_below (e ∷ es) those leads t begins j below =
+    let first = begins (λ h. absurd cc) in
+    let before : Precedes j first.0 = earlier_precedes j first.0 (omega (arith, first.1, below)) in
+    (first.2.none_before j before, leads.none_before first.0 first.2 j before)
 
+pub none_of_local : (c : Contents) → Leads c.local c.later → (t : ℕ) (o : Option (Key × Event)) → IfNone o (BeginsAt t c.local) → IfNone o ((j : Key) → j.tick < t → waiting c j ≡ None)
+none_of_local c leads t None begins = λ j below.
+    let none = none_below c.local c.later leads t begins j below in
+    or_else_nones (lookup (same_key j) c.local) (lookup (same_key j) c.later) none.0 none.1
+none_of_local c leads t (Some f) begins = tt
+
+pub none_of_later : (c : Contents) → Leads c.later c.local → (t : ℕ) (o : Option (Key × Event)) → IfNone o (BeginsAt t c.later) → IfNone o ((j : Key) → j.tick < t → waiting c j ≡ None)
+none_of_later c leads t None begins = λ j below.
+    let none = none_below c.later c.local leads t begins j below in
+    or_else_nones (lookup (same_key j) c.local) (lookup (same_key j) c.later) none.1 none.0
+none_of_later c leads t (Some f) begins = tt
+
+three : (n : ℕ) → (n ≢ 3 → ⊥) → n ≡ 3
+three zero h = absurd (h (λ e. omega (arith, e)))
+three (suc zero) h = absurd (h (λ e. omega (arith, e)))
+three (suc (suc zero)) h = absurd (h (λ e. omega (arith, e)))
+three (suc (suc (suc zero))) h = refl
+three (suc (suc (suc (suc n)))) h = absurd (h (λ e. omega (arith, e)))
+
+module _ (c : Contents) (apart : AreApart c) (rest : List (Key × Event)) where
   front_rises : (f : Key × Event) → c.local ≡ f ∷ rest → AreRising (f ∷ rest)
   front_rises f items = subst (λ l. AreRising l) items apart.rising
 
-  front_is : k.class ≡ 3 → (f : Key × Event) → c.local ≡ f ∷ rest → f.0 ≡ k
-  front_is local f items =
-      same_least c k f.0 least (ap is_some (front_there f items))
-      (not_after f rest (front_rises f items) k (subst (λ l. IsSome (lookup (same_key k) l)) items (least_local c k apart least local)))
+  front_first : (f : Key × Event) → c.local ≡ f ∷ rest → IsFirst c.local f.0
+  front_first f items = subst (λ l. IsFirst l f.0) (sym items) (first_is (f ∷ rest) f.0 f (front_rises f items) (omega arith) refl)
+
+  front_class : (f : Key × Event) → c.local ≡ f ∷ rest → f.0.class ≡ 3
+  front_class f items = three f.0.class (λ other. not_none (lookup (same_key f.0) c.local) (front_first f items).there (apart.local f.0 other))
 
   front_sets : (f : Key × Event) → c.local ≡ f ∷ rest → Sets f.0 None c.local rest
   front_sets f items j = without_first f rest (front_rises f items) j ∙ ap (λ l. cond (same_key f.0 j) None (lookup (same_key j) l)) (sym items)
 
-  module _ (local : k.class ≡ 3) where
-    front_class : (f : Key × Event) → c.local ≡ f ∷ rest → f.0.class ≡ 3
-    front_class f items = ap (λ (z : Key). z.class) (front_is local f items) ∙ local
+  pub front_apart : (o : Option (Key × Event)) → c.local ≡ option_to_list o ++ rest → AreApart (record { local = rest; later = c.later; due = c.due })
+  front_apart None items = subst (λ l. AreApart (record { local = l; later = c.later; due = c.due })) items apart
+  front_apart (Some f) items = local_apart c apart f.0 None (front_class f items) rest (front_sets f items) (sorted_tail key_cmp f.0 (keys_of rest) (front_rises f items))
 
-    pub front_apart : (o : Option (Key × Event)) → c.local ≡ option_to_list o ++ rest → AreApart (record { local = rest; later = c.later; due = c.due })
-    front_apart None items = subst (λ l. AreApart (record { local = l; later = c.later; due = c.due })) items apart
-    front_apart (Some f) items = local_apart c apart f.0 None (front_class f items) rest (front_sets f items) (sorted_tail key_cmp f.0 (keys_of rest) (front_rises f items))
+  pub front_found : (o : Option (Key × Event)) → c.local ≡ option_to_list o ++ rest → IfSome o (λ r. waiting c r.0 ≡ Some r.1)
+  front_found None items = tt
+  front_found (Some f) items =
+      ap (λ l. or_else (lookup (same_key f.0) l) (lookup (same_key f.0) c.later)) items
+      ∙ ap (λ b. or_else (cond b (Some f.1) (lookup (same_key f.0) rest)) (lookup (same_key f.0) c.later)) (same_key_itself f.0)
 
-    pub front_below : (horizon : ℕ) → k.tick < horizon → (o : Option (Key × Event)) → c.local ≡ option_to_list o ++ rest → IfSome o (λ r. r.0.tick < horizon)
-    front_below horizon below None items = tt
-    front_below horizon below (Some f) items = subst (λ (z : Key). z.tick < horizon) (sym (front_is local f items)) below
+  pub front_least : Leads c.local c.later → (o : Option (Key × Event)) → c.local ≡ option_to_list o ++ rest → IfSome o (λ r. (j : Key) → Precedes j r.0 → waiting c j ≡ None)
+  front_least leads None items = tt
+  front_least leads (Some f) items =
+      let first = front_first f items in
+      (least_is_local c f.0 first (leads.none_before f.0 first)).none_before
 
-    pub front_least : (o : Option (Key × Event)) → c.local ≡ option_to_list o ++ rest → IfSome o (λ r. (j : Key) → Precedes j r.0 → waiting c j ≡ None)
-    front_least None items = tt
-    front_least (Some f) items = λ j before. least.none_before j (subst (λ (z : Key). Precedes j z) (front_is local f items) before)
+  pub front_left : (o : Option (Key × Event)) → c.local ≡ option_to_list o ++ rest
+      → IfSome o (λ r. (j : Key) → waiting (record { local = rest; later = c.later; due = c.due }) j ≡ cond (same_key r.0 j) None (waiting c j))
+  front_left None items = tt
+  front_left (Some f) items = local_waits c apart f.0 None (front_class f items) rest (front_sets f items)
 
-    pub front_left : (o : Option (Key × Event)) → c.local ≡ option_to_list o ++ rest
-        → IfSome o (λ r. (j : Key) → waiting (record { local = rest; later = c.later; due = c.due }) j ≡ cond (same_key r.0 j) None (waiting c j))
-    front_left None items = tt
-    front_left (Some f) items = local_waits c apart f.0 None (front_class f items) rest (front_sets f items)
+module _ (c : Contents) (apart : AreApart c) where
+  popped_class : (f : Key × Event) → lookup (same_key f.0) c.later ≡ Some f.1 → f.0.class ≢ 3
+  popped_class f value local = not_none (lookup (same_key f.0) c.later) (ap is_some value) (apart.later f.0 local)
 
--- ---- Taking the first of the others
+  pub popped_found : (o : Option (Key × Event)) → IfSome o (λ p. lookup (same_key p.0) c.later ≡ Some p.1) → IfSome o (λ r. waiting c r.0 ≡ Some r.1)
+  popped_found None value = tt
+  popped_found (Some f) value = ap (λ l. or_else l (lookup (same_key f.0) c.later)) (apart.local f.0 (popped_class f value)) ∙ value
 
-module _ (c : Contents) (apart : AreApart c) (k : Key) (least : IsLeast c k) (other : k.class ≢ 3) where
-  -- the first of the others is the least
-  pub first_later_is : (f : Key × Event) → lookup (same_key f.0) c.later ≡ Some f.1
-      → ((j : Key) → Precedes j f.0 → lookup (same_key j) c.later ≡ None) → f.0 ≡ k
-  first_later_is f value lower =
-      same_least c k f.0 least (either_some (lookup (same_key f.0) c.local) (lookup (same_key f.0) c.later) (ap is_some value)) (go (key_cmp f.0 k) refl)
-    where
-      go : (r : Ordering) → key_cmp f.0 k ≡ r → is_gt r ≡ false
-      go Less h = refl
-      go Equal h = refl
-      go Greater h = absurd (not_none (lookup (same_key k) c.later) (least_later c k apart least other) (lower k (precedes f.0 k h)))
-
-  pub popped_below : (horizon : ℕ) → k.tick < horizon → (o : Option (Key × Event)) → IfSome o (λ p. lookup (same_key p.0) c.later ≡ Some p.1)
-      → IfSome o (λ p. (j : Key) → Precedes j p.0 → lookup (same_key j) c.later ≡ None) → IfSome o (λ r. r.0.tick < horizon)
-  popped_below horizon below None value lower = tt
-  popped_below horizon below (Some f) value lower = subst (λ (z : Key). z.tick < horizon) (sym (first_later_is f value lower)) below
-
-  pub popped_least : (o : Option (Key × Event)) → IfSome o (λ p. lookup (same_key p.0) c.later ≡ Some p.1)
+  pub popped_least : Leads c.later c.local → (o : Option (Key × Event)) → IfSome o (λ p. lookup (same_key p.0) c.later ≡ Some p.1)
       → IfSome o (λ p. (j : Key) → Precedes j p.0 → lookup (same_key j) c.later ≡ None)
       → IfSome o (λ r. (j : Key) → Precedes j r.0 → waiting c j ≡ None)
-  popped_least None value lower = tt
-  popped_least (Some f) value lower = λ j before. least.none_before j (subst (λ (z : Key). Precedes j z) (first_later_is f value lower) before)
+  popped_least leads None value lower = tt
+  popped_least leads (Some f) value lower = λ j before.
+      let first : IsFirst c.later f.0 = record { there = ap is_some value; none_before = lower } in
+      or_else_nones (lookup (same_key j) c.local) (lookup (same_key j) c.later) (leads.none_before f.0 first j before) (lower j before)
 
-  pub popped_left : (new : List (Key × Event)) (o : Option (Key × Event)) {U : Key × Event → Type 0} → ((p : Key × Event) → U p → Sets p.0 None c.later new)
-      → IfSome o (λ p. lookup (same_key p.0) c.later ≡ Some p.1) → IfSome o (λ p. (j : Key) → Precedes j p.0 → lookup (same_key j) c.later ≡ None)
-      → IfSome o U → IfSome o (λ r. (j : Key) → waiting (record { local = c.local; later = new; due = c.due }) j ≡ cond (same_key r.0 j) None (waiting c j))
-  popped_left new None sets value lower updates = tt
-  popped_left new (Some f) sets value lower updates =
-      later_waits c apart f.0 None new (sets f updates) c.due (λ h. other (sym (ap (λ (z : Key). z.class) (first_later_is f value lower)) ∙ h))
+  pub popped_left : (new : List (Key × Event)) (o : Option (Key × Event)) → IfSome o (λ p. lookup (same_key p.0) c.later ≡ Some p.1) → IfSome o (λ p. Sets p.0 None c.later new)
+      → IfSome o (λ r. (j : Key) → waiting (record { local = c.local; later = new; due = c.due }) j ≡ cond (same_key r.0 j) None (waiting c j))
+  popped_left new None value sets = tt
+  popped_left new (Some f) value sets = later_waits c apart f.0 None new sets c.due (popped_class f value)
 
-pub popped_apart : (c : Contents) → AreApart c → (new : List (Key × Event)) (o : Option (Key × Event)) {U : Key × Event → Type 0}
-    → ((p : Key × Event) → U p → Sets p.0 None c.later new) → IfSome o U → IfNone o (new ≡ c.later) → AreApart (record { local = c.local; later = new; due = c.due })
-popped_apart c apart new None sets updates kept = subst (λ l. AreApart (record { local = c.local; later = l; due = c.due })) (sym kept) apart
-popped_apart c apart new (Some f) sets updates kept = later_apart c apart f.0 None new (sets f updates) c.due (λ h. refl)
+  pub popped_apart : (new : List (Key × Event)) (o : Option (Key × Event)) → IfSome o (λ p. Sets p.0 None c.later new) → IfNone o (new ≡ c.later)
+      → AreApart (record { local = c.local; later = new; due = c.due })
+  popped_apart new None sets kept = subst (λ l. AreApart (record { local = c.local; later = l; due = c.due })) (sym kept) apart
+  popped_apart new (Some f) sets kept = later_apart c apart f.0 None new sets c.due (λ h. refl)
 
 -- ---- Putting
 

@@ -7,18 +7,19 @@ use Rattle.std.specs.List.Sorted.{IsBinarySearchResult, IsSearchInRange, IsStric
 use Rattle.std.specs.Result.{result_ok}
 use Rattle.std.specs.Map.{keys_of, lookup}
 use Rattle.std.specs.BTreeMap.{insert_entry}
-use Rattle.std.specs.Ordering.{is_eq, is_gt, is_lt}
+use Rattle.std.specs.Ordering.{is_eq, is_gt, is_lt, ordering_index}
 use Rattle.std.specs.declared.cmp.Ordering.{Ordering}
 use Rattle.std.specs.declared.cmp.Ordering.TheVariants.{Less, Equal, Greater}
 use Rattle.std.proofs.lemmas.Map.Keys.{sorted_tail}
+use Rattle.std.proofs.lemmas.List.{get_or_default}
 use Rattle.fb_types.specs.Keys.{Precedes, key_cmp, or_else, same_key}
 use Rattle.fb_types.specs.declared.key.Key.{Key}
-use Rattle.fb_types.proofs.KeyLaws.{before_least, key_cmp_total, same_key_is, same_key_itself}
+use Rattle.fb_types.proofs.KeyLaws.{before_least, earlier_precedes, key_cmp_total, same_key_is, same_key_itself}
 use Rattle.fb_agenda.specs.Agendas.{AreRising, IsFirst, IsFirstTick}
-use Rattle.fb_agenda.specs.Calendars.{AreSplit, IsPlaceOf, Leads, Sets}
+use Rattle.fb_agenda.specs.Calendars.{AreSplit, BeginsAt, IsPlaceOf, IsQuiet, Leads, Sets}
 use Rattle.fb_types.specs.declared.run.Event.{Event}
 use Rattle.fb_types.proofs.Lookups.{or_else_none}
-use Rattle.fb_agenda.proofs.Apart.{before_both, either_some, first_is, first_some}
+use Rattle.fb_agenda.proofs.Apart.{before_both, either_some, precedes_tick, first_is, first_some}
 use Rattle.fb_agenda.proofs.Orders.{AllAfter, AllBefore, absent, after_at, all_later, follows, found_after, not_none, precedes, put_over, rise_after, searchable, without_first}
 
 -- ---- What is found in both
@@ -57,6 +58,17 @@ pub leads_not_less : (xs ys : List (Key × Event)) (k l : Key) → IsFirst xs k 
 leads_not_less xs ys k l first other not_less = record {
   none_before = λ i is j before. first.none_before j (before_both j l k (subst (λ (z : Key). Precedes j z) (first_one ys i l is other) before) not_less);
   none = λ empty. absurd (not_none (lookup (same_key l) ys) other.there (ap (λ es. lookup (same_key l) es) empty));
+}
+
+-- where nothing is there, nothing comes before the others
+pub leads_none : (xs ys : List (Key × Event)) → ys ≡ [] → Leads xs ys
+leads_none xs ys empty = record { none_before = λ i is j before. ap (λ es. lookup (same_key j) es) empty; none = λ none. empty }
+
+-- where nothing is there at the tick of the first or below, nothing comes before it
+pub leads_past : (xs ys : List (Key × Event)) (k : Key) → IsFirst xs k → ((j : Key) → j.tick ≤ k.tick → lookup (same_key j) ys ≡ None) → Leads xs ys
+leads_past xs ys k first past = record {
+  none_before = λ i is j before. past j (precedes_tick j k (subst (λ (z : Key). Precedes j z) (first_one xs i k is first) before));
+  none = λ empty. absurd (not_none (lookup (same_key k) xs) first.there (ap (λ es. lookup (same_key k) es) empty));
 }
 
 -- a truth value that is one of the two answers
@@ -105,6 +117,10 @@ module _ (few many : List (Key × Event)) where
   pub none_of_few : many ≡ [] → (o : Option ℕ) → IfNone o (few ≡ []) → IfNone o (few ++ many ≡ [])
   none_of_few empty None none = ap (λ es. es ++ many) none ∙ empty
   none_of_few empty (Some t) none = tt
+
+  pub begins_both : many ≡ [] → (t : ℕ) (o : Option (Key × Event)) → IfNone o (BeginsAt t few) → IfNone o (BeginsAt t (few ++ many))
+  begins_both empty t None begins = subst (λ es. BeginsAt t es) (sym (ap (λ es. few ++ es) empty ∙ append-nil few)) begins
+  begins_both empty t (Some f) begins = tt
 
   -- ---- Changes of one of the two
 
@@ -337,3 +353,85 @@ place_none es k rising (Ok i) found = tt
 place_none es k rising (Err i) found =
     let parted = found (searchable k es rising) in
     absent_between k es i (λ j d less. parted.0 j d (omega arith) less) (λ j d le less. parted.1 j d le less)
+
+-- ---- The tick below which nothing waits
+
+pub quiet_less : (q r : ℕ) (es : List (Key × Event)) → IsQuiet q es → r ≤ q → IsQuiet r es
+quiet_less q r es quiet le j below = quiet j (omega (arith, le, below))
+
+pub quiet_put : (q r : ℕ) (k : Key) (w : Option Event) (old new : List (Key × Event)) → IsQuiet q old → Sets k w old new → r ≤ q → r ≤ k.tick → IsQuiet r new
+quiet_put q r k w old new quiet sets less le j below = sets j ∙ go (same_key k j) refl
+  where
+    go : (b : Bool) → same_key k j ≡ b → cond b w (lookup (same_key j) old) ≡ None
+    go true same = let at : k.tick ≡ j.tick = ap (λ (z : Key). z.tick) (same_key_is k j same) in absurd (omega (arith, at, below, le))
+    go false other = quiet j (omega (arith, below, less))
+
+pub quiet_gone : (q : ℕ) (k : Key) (old new : List (Key × Event)) → IsQuiet q old → Sets k None old new → IsQuiet q new
+quiet_gone q k old new quiet sets j below = sets j ∙ go (same_key k j)
+  where
+    go : (b : Bool) → cond b None (lookup (same_key j) old) ≡ None
+    go true = refl
+    go false = quiet j below
+
+pub quiet_result : {A E : Type 0} (q r : ℕ) (k : Key) (e : Event) (old new : List (Key × Event)) → IsQuiet q old → (o : Result A E) → OnOk o (Sets k (Some e) old new)
+    → OnErr o (new ≡ old) → r ≤ q → r ≤ k.tick → IsQuiet r new
+quiet_result q r k e old new quiet (Ok x) sets kept less le = quiet_put q r k (Some e) old new quiet sets less le
+quiet_result q r k e old new quiet (Err x) sets kept less le = subst (λ es. IsQuiet r es) (sym kept) (quiet_less q r old quiet less)
+
+pub kept_both : {A E : Type 0} (few new many : List (Key × Event)) (o : Result A E) → OnErr o (new ≡ few) → OnErr o (new ++ many ≡ few ++ many)
+kept_both few new many (Ok x) kept = tt
+kept_both few new many (Err x) kept = ap (λ es. es ++ many) kept
+
+pub front_kept : (few rest many : List (Key × Event)) (o : Option (Key × Event)) → few ≡ option_to_list o ++ rest → IfNone o (rest ++ many ≡ few ++ many)
+front_kept few rest many None items = ap (λ es. es ++ many) (sym items)
+front_kept few rest many (Some f) items = tt
+
+pub many_kept : (few many new : List (Key × Event)) (o : Option (Key × Event)) → IfNone o (new ≡ many) → IfNone o (few ++ new ≡ few ++ many)
+many_kept few many new None kept = ap (λ es. few ++ es) kept
+many_kept few many new (Some f) kept = tt
+
+pub quiet_popped : (q : ℕ) (old new : List (Key × Event)) → IsQuiet q old → (o : Option (Key × Event)) → IfSome o (λ p. Sets p.0 None old new) → IfNone o (new ≡ old) → IsQuiet q new
+quiet_popped q old new quiet None sets kept = subst (λ es. IsQuiet q es) (sym kept) quiet
+quiet_popped q old new quiet (Some p) sets kept = quiet_gone q p.0 old new quiet sets
+
+pub below_first : (es : List (Key × Event)) (t horizon : ℕ) → IsFirstTick es t → t < horizon → (o : Option (Key × Event)) → IfSome o (λ p. lookup (same_key p.0) es ≡ Some p.1)
+    → IfSome o (λ p. (j : Key) → Precedes j p.0 → lookup (same_key j) es ≡ None) → IfSome o (λ p. p.0.tick < horizon)
+below_first es t horizon first below None value before = tt
+below_first es t horizon first below (Some p) value before =
+    let one : first.0 ≡ p.0 = first_one es first.0 p.0 first.2 (record { there = ap is_some value; none_before = before }) in
+    let at : p.0.tick ≡ t = ap (λ (z : Key). z.tick) (sym one) ∙ first.1 in
+    omega (arith, at, below)
+
+pub quiet_first : (t : ℕ) (es : List (Key × Event)) → IsFirstTick es t → IsQuiet t es
+quiet_first t es first j below = first.2.none_before j (earlier_precedes j first.0 (omega (arith, first.1, below)))
+
+pub quiet_none : (t : ℕ) (es : List (Key × Event)) → es ≡ [] → IsQuiet t es
+quiet_none t es empty j below = ap (λ l. lookup (same_key j) l) empty
+
+-- ---- Where a new key lies
+
+least_index : (o : Ordering) → ordering_index o ≤ ordering_index Less → o ≡ Less
+least_index Less h = refl
+least_index Equal h = absurd (omega (arith, h))
+least_index Greater h = absurd (omega (arith, h))
+
+-- all that come no later than one before the key come before it
+pub below_at : (k : Key) (es : List (Key × Event)) → AreRising es → (i : ℕ) (e : Key × Event) → i < length es → e ≡ get_or es i e → Precedes e.0 k
+    → (j : ℕ) (d : Key × Event) → j ≤ i → key_cmp (get_or es j d).0 k ≡ Less
+below_at k es rising i e within here before j d le =
+    let same : get_or es i d ≡ e = get_or_default es i d e within ∙ sym here in
+    least_index (key_cmp (get_or es j d).0 k)
+    (subst (λ o. ordering_index (key_cmp (get_or es j d).0 k) ≤ ordering_index o) (ap (λ (z : Key × Event). key_cmp z.0 k) same ∙ before) (searchable k es rising j i d le within))
+
+last_or_later : {P : Type 0} (i j : ℕ) → i ≤ j → (i ≡ j → P) → (suc i ≤ j → P) → P
+last_or_later zero zero le same more = same refl
+last_or_later zero (suc j) le same more = more (omega arith)
+last_or_later (suc i) zero le same more = absurd (omega (arith, le))
+last_or_later (suc i) (suc j) le same more = last_or_later i j (omega (arith, le)) (λ e. same (ap suc e)) (λ l. more (omega (arith, l)))
+
+-- one more that comes after the key
+pub above_at : (k : Key) (es : List (Key × Event)) (i : ℕ) (e : Key × Event) → i < length es → e ≡ get_or es i e → key_cmp e.0 k ≡ Greater
+    → ((j : ℕ) (d : Key × Event) → suc i ≤ j → j < length es → key_cmp (get_or es j d).0 k ≡ Greater)
+    → (j : ℕ) (d : Key × Event) → i ≤ j → j < length es → key_cmp (get_or es j d).0 k ≡ Greater
+above_at k es i e within here after above j d le less =
+    last_or_later i j le (λ one. subst (λ n. key_cmp (get_or es n d).0 k ≡ Greater) one (ap (λ (z : Key × Event). key_cmp z.0 k) (get_or_default es i d e within ∙ sym here) ∙ after)) (λ more. above j d more less)

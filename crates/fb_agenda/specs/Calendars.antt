@@ -1,7 +1,8 @@
 -- What a calendar contains, and how it changes (this project's profile).
-use Rattle.std.specs.Prelude.{◌≡◌, ◌<◌, ℕ, List, [], Option, None, IsSome, if◌then◌else◌, length, slice_index_or}
+use Rattle.std.specs.Prelude.{◌≡◌, ◌≢◌, ◌<◌, ◌≤◌, ℕ, List, [], ◌++◌, Option, None, IsSome, if◌then◌else◌, length, slice_index_or}
 use Rattle.std.specs.Map.{lookup}
-use Rattle.fb_types.specs.Keys.{Precedes, same_key}
+use Rattle.std.specs.declared.cmp.Ordering.TheVariants.{Greater, Less}
+use Rattle.fb_types.specs.Keys.{Precedes, key_cmp, same_key}
 use Rattle.fb_types.specs.declared.key.Key.{Key}
 use Rattle.fb_agenda.specs.Agendas.{AreRising, IsFirst}
 use Rattle.fb_types.specs.declared.run.Event.{Event}
@@ -24,3 +25,22 @@ pub record Leads (these those : List (Key × Event)) : Type 0 where
 pub record IsPlaceOf (es : List (Key × Event)) (k : Key) (i : ℕ) : Type 0 where
   pub within : i < length es
   pub there : (d : Key × Event) → (slice_index_or es i d).0 ≡ k
+
+-- The place is behind the keys before this one, and before those after it, and it is not among them.
+pub record IsBetween (es : List (Key × Event)) (k : Key) (i : ℕ) : Type 0 where
+  pub within : i ≤ length es
+  pub below : (j : ℕ) (d : Key × Event) → j < i → key_cmp (slice_index_or es j d).0 k ≡ Less
+  pub above : (j : ℕ) (d : Key × Event) → i ≤ j → j < length es → key_cmp (slice_index_or es j d).0 k ≡ Greater
+
+-- No event waits below this tick.
+abbrev pub IsQuiet : ℕ → List (Key × Event) → Type 0
+IsQuiet t es = (j : Key) → j.tick < t → lookup (same_key j) es ≡ None
+
+-- The first event, if there is one, is not below this tick.
+abbrev pub BeginsAt : ℕ → List (Key × Event) → Type 0
+BeginsAt t es = es ≢ [] → (k : Key) × (t ≤ k.tick) × IsFirst es k
+
+-- The keys of the row rise, no key of the row is in the tree, and none is below this tick.
+pub record AreKept (few many : List (Key × Event)) (tick : ℕ) : Type 0 where
+  pub split : AreSplit few many
+  pub quiet : IsQuiet tick (few ++ many)

@@ -1,10 +1,12 @@
 //! The events that wait, under their keys.
 
 ghost use Rattle.std.specs.Prelude.{◌≡◌, ◌<◌, if◌then◌else◌, length, Some, None, IfSome, IfNone, IfOk, IfErr, OnOk, OnErr, slice_set};
+ghost use Rattle.std.specs.Bool.{OnFalse, OnTrue};
 ghost use Rattle.fb_types.specs.Keys.{Precedes, changed_to, found, or_else, same_key, timer_key};
 ghost use Rattle.fb_types.specs.Takes.{is_timer_of};
-ghost use Rattle.fb_agenda.specs.Agendas.{waiting, IsLeast, IsNext, IsTimed, LiesIn, timer_set};
+ghost use Rattle.fb_agenda.specs.Agendas.{waiting, AreRising, IsNext, IsTimed, LiesIn, timer_set};
 ghost use Rattle.fb_agenda.specs.Arrivals.{AreNew, arrivals_at};
+ghost use Rattle.fb_agenda.specs.Calendars.{Leads};
 ghost use Rattle.fb_types.specs.declared.run.Event.TheVariants.{Timer};
 
 use crate::calendar::Calendar;
@@ -58,6 +60,27 @@ fn key_of_timer(tick: u64, resource: u32, instance: u32) -> Key
     }
 }
 
+/// Whether a local event waits, and no other before it.
+#[inline(always)]
+fn is_local_first(local: &VecDeque<(Key, Event)>, later: &mut Calendar) -> bool
+    requires { AreRising local.now.items }
+    ensures local { OnTrue result (Leads local.now.items later.old) }
+    ensures later { OnFalse result (Leads later.old local.now.items) }
+    ensures kept { later.new ≡ later.old }
+{
+    let Some(first) = rising::first(local) else {
+        return false;
+    };
+    // Mostly no other event waits at the tick of the local ones.
+    if later.is_past(first.tick) {
+        return true;
+    }
+    let Some(other) = later.first() else {
+        return true;
+    };
+    *first < *other
+}
+
 impl Agenda {
     /// An agenda on which nothing waits, for so many instances.
     ///
@@ -81,6 +104,7 @@ impl Agenda {
     /// # Errors
     ///
     /// When memory runs out. The agenda is then as it was.
+    #[inline(always)]
     pub fn put(&mut self, key: Key, event: Event) -> Result<(), AllocError>
         ensures put { OnOk result ((j : Key) → waiting self.new j ≡ (if same_key key j then Some event else waiting self.old j)) }
         ensures due { self.new.due ≡ self.old.due }
@@ -118,6 +142,7 @@ impl Agenda {
     }
 
     /// The event under the least key, if its tick is below the horizon. It leaves the agenda.
+    #[inline(always)]
     pub fn take_least(&mut self, horizon: u64) -> Option<(Key, Event)>
         ensures found { IfSome result (λ r. waiting self.old r.0 ≡ Some r.1) }
         ensures below { IfSome result (λ r. r.0.tick < horizon) }
@@ -127,14 +152,10 @@ impl Agenda {
         ensures none { IfNone result ((j : Key) → j.tick < horizon → waiting self.old j ≡ None) }
         ensures kept { IfNone result (self.new ≡ self.old) }
     {
-        let key = self.least_key()?;
-        if key.tick >= horizon {
-            return None;
-        }
-        if key.class == LOCAL {
-            self.local.pop_front()
+        if is_local_first(&self.local, &mut self.later) {
+            rising::pop_below(&mut self.local, horizon)
         } else {
-            self.later.pop_first()
+            self.later.pop_below(horizon)
         }
     }
 
@@ -151,23 +172,6 @@ impl Agenda {
             return Some(local);
         };
         Some(local.min(later))
-    }
-
-    fn least_key(&self) -> Option<&Key>
-        ensures some { IfSome result (λ k. IsLeast self.now k.now) }
-        ensures none { IfNone result ((j : Key) → waiting self.now j ≡ None) }
-    {
-        let Some(local) = rising::first(&self.local) else {
-            return self.later.first();
-        };
-        let Some(later) = self.later.first() else {
-            return Some(local);
-        };
-        if *later < *local {
-            Some(later)
-        } else {
-            Some(local)
-        }
     }
 
     /// Does what a reaction asks of the timer of its instance, which lies in this resource.

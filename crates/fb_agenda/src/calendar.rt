@@ -4,13 +4,13 @@
 //! event is put and found in logarithmic time, at some hundreds of instructions. So a few are kept in a row in the order
 //! of their keys, and only what comes when the row is long goes into a tree.
 
-ghost use Rattle.std.specs.Prelude.{◌≡◌, List, [], IfSome, IfNone, IfOk, OnOk, OnErr, Some, None};
+ghost use Rattle.std.specs.Prelude.{◌≡◌, ◌<◌, ◌≤◌, List, [], IfSome, IfNone, IfOk, OnOk, OnErr, Some, None};
 ghost use Rattle.std.specs.Bool.{OnFalse, OnTrue};
 ghost use Rattle.std.specs.Map.{lookup};
 ghost use Rattle.fb_types.specs.Keys.{Precedes, same_key};
 ghost use Rattle.fb_types.specs.declared.key.Key as keys;
 ghost use Rattle.fb_agenda.specs.Agendas.{AreRising, IsFirst, IsFirstTick};
-ghost use Rattle.fb_agenda.specs.Calendars.{Leads, Sets};
+ghost use Rattle.fb_agenda.specs.Calendars.{BeginsAt, Leads, Sets};
 
 use crate::rising;
 use fb_types::key::Key;
@@ -29,19 +29,21 @@ pub(crate) struct Calendar {
     few: VecDeque<(Key, Event)>,
     /// The events that came when they were many.
     many: BTreeMap<Key, Event>,
+    /// No event waits below this tick.
+    quiet: u64,
 }
 
 impl Model for Calendar {
     ghost use Rattle.std.specs.Prelude.{List, ◌++◌};
     ghost use Rattle.fb_types.specs.declared.key.Key.{Key};
-    ghost use Rattle.fb_agenda.specs.Calendars.{AreSplit};
+    ghost use Rattle.fb_agenda.specs.Calendars.{AreKept};
     ghost use Rattle.fb_types.specs.declared.run.Event.{Event};
 
     ghost Value = { List (Key × Event) };
 
     ghost view = { λ c. c.few.items ++ c.many.entries };
 
-    ghost invariant = { λ c. AreSplit c.few.items c.many.entries };
+    ghost invariant = { λ c. AreKept c.few.items c.many.entries c.quiet };
 }
 
 /// The first key of a map.
@@ -76,6 +78,7 @@ impl Calendar {
         Calendar {
             few: VecDeque::new(alloc),
             many: BTreeMap::new(alloc),
+            quiet: 0,
         }
     }
 
@@ -84,11 +87,13 @@ impl Calendar {
     /// # Errors
     ///
     /// When memory runs out. The events are then as they were, and the key is not among theirs.
+    #[inline(always)]
     pub(crate) fn insert(&mut self, key: Key, event: Event) -> Result<(), AllocError>
         ensures put { OnOk result (Sets key (Some event) self.old self.new) }
         ensures absent { OnErr result (lookup (same_key key) self.old ≡ None) }
         ensures err { OnErr result (self.new ≡ self.old) }
     {
+        self.quiet = self.quiet.min(key.tick);
         if self.many.is_empty() && self.few.len() < FEW {
             return rising::insert(&mut self.few, key, event);
         }
@@ -112,6 +117,7 @@ impl Calendar {
     }
 
     /// The event under the first key. It leaves.
+    #[inline(never)]
     pub(crate) fn pop_first(&mut self) -> Option<(Key, Event)>
         ensures value { IfSome result (λ r. lookup (same_key r.0) self.old ≡ Some r.1) }
         ensures none_before { IfSome result (λ r. (j : keys.Key) → Precedes j r.0 → lookup (same_key j) self.old ≡ None) }
@@ -148,5 +154,42 @@ impl Calendar {
         }
         let first = self.first()?;
         Some(first.tick)
+    }
+
+    /// Whether no event waits at this tick or below. The first is looked at only where it is not known.
+    #[inline(always)]
+    pub(crate) fn is_past(&mut self, tick: u64) -> bool
+        ensures past { OnTrue result ((j : keys.Key) → j.tick ≤ tick → lookup (same_key j) self.old ≡ None) }
+        ensures kept { self.new ≡ self.old }
+    {
+        if tick < self.quiet {
+            return true;
+        }
+        let Some(first) = self.first_tick() else {
+            self.quiet = u64::MAX;
+            return true;
+        };
+        self.quiet = first;
+        tick < first
+    }
+
+    /// The event under the first key, if its tick is below the horizon. It leaves.
+    #[inline(always)]
+    pub(crate) fn pop_below(&mut self, horizon: u64) -> Option<(Key, Event)>
+        ensures value { IfSome result (λ r. lookup (same_key r.0) self.old ≡ Some r.1) }
+        ensures none_before { IfSome result (λ r. (j : keys.Key) → Precedes j r.0 → lookup (same_key j) self.old ≡ None) }
+        ensures left { IfSome result (λ r. Sets r.0 None self.old self.new) }
+        ensures below { IfSome result (λ r. r.0.tick < horizon) }
+        ensures none { IfNone result (BeginsAt horizon self.old) }
+        ensures kept { IfNone result (self.new ≡ self.old) }
+    {
+        // Mostly all of them are in the row.
+        if self.many.is_empty() {
+            return rising::pop_below(&mut self.few, horizon);
+        }
+        if self.first_tick()? >= horizon {
+            return None;
+        }
+        self.pop_first()
     }
 }

@@ -1,20 +1,26 @@
 //! Lists of events whose keys rise.
 
-ghost use Rattle.std.specs.Prelude.{◌≡◌, ◌<◌, [], None, IfSome, IfNone, OnOk, OnErr, length};
+ghost use Rattle.std.specs.Prelude.{◌≡◌, ◌<◌, ◌++◌, [], None, option_to_list, IfSome, IfNone, OnOk, OnErr, length};
+ghost use Rattle.std.specs.VecDeque.{deque_len, deque_capacity};
 ghost use Rattle.std.specs.Bool.{OnTrue};
 ghost use Rattle.std.specs.List.{AllByRecursion};
 ghost use Rattle.std.specs.Map.{keys_of, lookup};
 ghost use Rattle.std.specs.BTreeMap.{insert_entry};
 ghost use Rattle.fb_types.specs.Keys.{Precedes, key_cmp, same_key};
 ghost use Rattle.fb_agenda.specs.Agendas.{AreRising, IsFirst, IsFirstTick};
-ghost use Rattle.fb_agenda.specs.Calendars.{IsPlaceOf};
+ghost use Rattle.fb_agenda.specs.Calendars.{BeginsAt, IsBetween, IsPlaceOf};
 
 use fb_types::key::Key;
 use fb_types::run::Event;
 use std::alloc::AllocError;
+use std::cmp::Ordering;
 use std::collections::VecDeque;
 
-/// Puts an event at the place of its key. After the last key this takes constant time.
+/// Of how many keys at the back the place of a new one is looked for, before it is searched for among all.
+const NEAR: usize = 4;
+
+/// Puts an event at the place of its key. Near the back this takes constant time.
+#[inline(always)]
 pub(crate) fn insert(
     events: &mut VecDeque<(Key, Event)>,
     key: Key,
@@ -26,12 +32,24 @@ pub(crate) fn insert(
     ensures err { OnErr result (events.new.items ≡ events.old.items) }
 {
     if is_past(events, &key) {
-        events.reserve(1)?;
+        make_room(events)?;
         events.push_back_reserved((key, event));
         Ok(())
     } else {
         insert_within(events, key, event)
     }
+}
+
+/// Makes room for one event more, where there is none.
+#[inline(always)]
+fn make_room(events: &mut VecDeque<(Key, Event)>) -> Result<(), AllocError>
+    ensures items { events.new.items ≡ events.old.items }
+    ensures room { OnOk result (deque_len events.new < deque_capacity events.new) }
+{
+    if events.len() < events.capacity() {
+        return Ok(());
+    }
+    events.reserve(1)
 }
 
 /// The first key.
@@ -89,7 +107,28 @@ fn is_past(events: &VecDeque<(Key, Event)>, key: &Key) -> bool
     }
 }
 
+/// The place of a new key near the back, if it is there.
+fn place_near(events: &VecDeque<(Key, Event)>, key: &Key) -> Option<usize>
+    requires { AreRising events.now.items }
+    ensures { IfSome result (IsBetween events.now.items key.now) }
+{
+    let mut place = events.len();
+    for _ in 0..NEAR {
+        if place == 0 {
+            return Some(0);
+        }
+        let (before, _) = &events[place - 1];
+        match before.cmp(key) {
+            Ordering::Less => return Some(place),
+            Ordering::Equal => return None,
+            Ordering::Greater => place -= 1,
+        }
+    }
+    None
+}
+
 /// Puts an event at the place of its key, which is searched for.
+#[inline(never)]
 fn insert_within(
     events: &mut VecDeque<(Key, Event)>,
     key: Key,
@@ -100,6 +139,10 @@ fn insert_within(
     ensures absent { OnErr result (lookup (same_key key) events.old.items ≡ None) }
     ensures err { OnErr result (events.new.items ≡ events.old.items) }
 {
+    if let Some(index) = place_near(events, &key) {
+        events.insert(index, (key, event))?;
+        return Ok(());
+    }
     match events.binary_search_by_key(&key, |(other, _)| *other) {
         Ok(index) => {
             events[index] = (key, event);
@@ -110,4 +153,20 @@ fn insert_within(
             Ok(())
         }
     }
+}
+
+/// The first event, if its tick is below the horizon. It leaves.
+#[inline(always)]
+pub(crate) fn pop_below(events: &mut VecDeque<(Key, Event)>, horizon: u64) -> Option<(Key, Event)>
+    requires { AreRising events.old.items }
+    ensures items { events.old.items ≡ option_to_list result ++ events.new.items }
+    ensures below { IfSome result (λ r. r.0.tick < horizon) }
+    ensures none { IfNone result (BeginsAt horizon events.old.items) }
+    ensures kept { IfNone result (events.new.items ≡ events.old.items) }
+{
+    let (first, _) = events.front()?;
+    if first.tick >= horizon {
+        return None;
+    }
+    events.pop_front()
 }

@@ -1,5 +1,5 @@
 -- What waits stays in order, and what a reaction puts out may be posted.
-use Rattle.std.proofs.Common.{◌≡◌, ℕ, suc, ◌+◌, ◌-◌, ◌^◌, ◌<◌, ◌≤◌, Bool, true, false, cond, List, [], ◌∷◌, length, map, refl, sym, ap, subst, ◌∙◌, Some, None, All, arith}
+use Rattle.std.proofs.Common.{◌≡◌, ℕ, suc, ◌+◌, ◌-◌, ◌^◌, ◌<◌, ◌≤◌, Bool, true, false, cond, List, [], ◌∷◌, length, map, refl, sym, ap, subst, ◌∙◌, Some, None, Result, Ok, Err, OnOk, All, arith}
 use Rattle.std.proofs.lemmas.Bool.{eq-eqb}
 use Rattle.std.proofs.lemmas.List.Elements.{All-nil, All-cons, All-head, All-tail}
 use Rattle.fb_types.specs.Headline.{Inputs, AreAccepted, system_of}
@@ -159,3 +159,13 @@ metered_after limit m after left is one fewer more = record {
       let steps : (limit - m.left) + 1 ≤ limit - after.left = omega (arith, most, one, fewer) in
       omega (arith, few, more, steps);
 }
+
+-- ---- What holds where a call succeeds
+
+pub when_ok : {A E P Q : Type 0} (r : Result A E) → OnOk r P → (P → Q) → OnOk r Q
+when_ok (Ok x) p f = f p
+when_ok (Err x) p f = tt
+
+pub when_ok_both : {A E P R Q : Type 0} (r : Result A E) → OnOk r P → OnOk r R → (P → R → Q) → OnOk r Q
+when_ok_both (Ok x) p t f = f p t
+when_ok_both (Err x) p t f = tt

@@ -4,6 +4,7 @@ use Rattle.std.specs.Prelude.{option_map}
 use Rattle.std.proofs.lemmas.Bool.{eq-eqb}
 use Rattle.fb_types.specs.Headline.{Inputs, system_of}
 use Rattle.fb_types.specs.Keys.{or_else, found, changed_to, no_keys, same_key, timer_key}
+use Rattle.fb_types.specs.Names.{Path}
 use Rattle.fb_types.specs.Numbers.{path_at, line_of}
 use Rattle.fb_types.specs.Reactions.{Out, Outcome, Reacts}
 use Rattle.fb_types.specs.States.{State, Meter, Event as AnEvent, Expired, path_of}
@@ -14,7 +15,7 @@ use Rattle.fb_types.specs.declared.run.TimerAsk.{TimerAsk}
 use Rattle.fb_types.specs.declared.run.TimerAsk.TheVariants.{Keep, Clear, At}
 use Rattle.fb_types.specs.declared.value.Reason.{Reason}
 use Rattle.fb_types.specs.declared.value.Reason.TheVariants as reason
-use Rattle.fb_agenda.specs.Agendas.{Contents, waiting, timer_set}
+use Rattle.fb_agenda.specs.Agendas.{Contents, timer_set}
 use Rattle.fb_types.specs.declared.run.Event.{Event}
 use Rattle.fb_types.specs.declared.run.Event.TheVariants.{Timer}
 use Rattle.fb_net.specs.Outs.{out_of}
@@ -66,7 +67,7 @@ takes_one sys limit s k e m l o is left reacts =
 
 -- ---- The agenda
 
-meaning_timer : (i : Inputs) (r n : ℕ) (ask : TimerAsk) (j : Key) (o : Option Event) → (system_of i).number (path_at (system_of i) n) ≡ n
+pub meaning_timer : (i : Inputs) (r n : ℕ) (ask : TimerAsk) (j : Key) (o : Option Event) → (system_of i).number (path_at (system_of i) n) ≡ n
     → option_map (event_of i) (changed_to (timer_set r n ask j) o) ≡ changed_to (timer_change (system_of i) r (path_at (system_of i) n) ask j) (option_map (event_of i) o)
 meaning_timer i r n Keep j o numbered = refl
 meaning_timer i r n Clear j o numbered = rw numbered (go (is_timer_of r n j))
@@ -86,13 +87,12 @@ put_first : (o : Option AnEvent) (t : Option (Option AnEvent)) (z : Option AnEve
 put_first (Some x) t z = refl
 put_first None t z = refl
 
-agenda_is : (i : Inputs) (k : Key) (n : ℕ) (ask : TimerAsk) (x : Posts) (old new : Queues) (locals : ℕ) → (system_of i).number (path_at (system_of i) n) ≡ n
-    → IsSettled i k n ask x old new locals
-    → (j : Key) → meaning i new.agenda j ≡ changed_to (or_else (put_of (found j x.raised)) (timer_change (system_of i) k.resource (path_at (system_of i) n) ask j)) (meaning i old.agenda j)
-agenda_is i k n ask x old new locals numbered settled j =
+agenda_is : (i : Inputs) (k : Key) (p : Path) (ask : TimerAsk) (x : Posts) (old new : Queues) (locals : ℕ) → IsSettled i k p ask x old new locals
+    → (j : Key) → meaning i new.agenda j ≡ changed_to (or_else (put_of (found j x.raised)) (timer_change (system_of i) k.resource p ask j)) (meaning i old.agenda j)
+agenda_is i k p ask x old new locals settled j =
     settled.posted.agenda j
-    ∙ ap (λ z. or_else (found j x.raised) z) (ap (option_map (event_of i)) (settled.set j) ∙ meaning_timer i k.resource n ask j (waiting old.agenda j) numbered)
-    ∙ sym (put_first (found j x.raised) (timer_change (system_of i) k.resource (path_at (system_of i) n) ask j) (meaning i old.agenda j))
+    ∙ ap (λ z. or_else (found j x.raised) z) (settled.set j)
+    ∙ sym (put_first (found j x.raised) (timer_change (system_of i) k.resource p ask j) (meaning i old.agenda j))
 
 pub with_at_here : {A : Type 0} (n : ℕ) (x : A) (f : ℕ → A) → with_at n x f n ≡ x
 with_at_here n x f = ap (λ b. cond b x (f n)) (eq-eqb n n refl)
@@ -100,26 +100,23 @@ with_at_here n x f = ap (λ b. cond b x (f n)) (eq-eqb n n refl)
 -- ---- The taking
 
 -- What an event came to in its tree was settled: it is taken, whether or not its reaction stops.
-pub taken_one : (i : Inputs) (limit : ℕ) (s : State) (k : Key) (e : Event) (n : ℕ) (m meter : counted.Meter) (l : ℕ) (stop : Option Reason) (old mid new : Queues) (before : Forest) (was : counted.Meter) (tree : Forest) (x : Outbox)
+pub taken_one : (i : Inputs) (limit : ℕ) (s : State) (k : Key) (e : Event) (m meter : counted.Meter) (l : ℕ) (stop : Option Reason) (old mid new : Queues) (before : Forest) (was : counted.Meter) (tree : Forest) (x : Outbox)
     → IsTypedSystem (system_of i) → IsTypedEvent (system_of i) (event_of i e)
-    → (system_of i).number (path_at (system_of i) n) ≡ n → path_at (system_of i) n ≡ path_of (event_of i e)
     → IsHere i s k.resource before was → CountsAre old.sent.items s.sent
     → begun limit k.tick (s.meters k.resource) ≡ meter_of m → m.left ≡ suc l
     → CameTo i k e (map (line_of (system_of i)) old.outbox.lines.items) l stop tree meter.left x (world_of s k.resource)
     → mid ≡ record old { outbox = x }
     → ((counts : ℕ → ℕ) → CountsAre mid.sent.items counts
-    → IsSettled i k n x.timer (post_all (system_of i) k (map (out_of (system_of i)) x.outs.items) (record { locals = m.locals; sent = counts; raised = []; messages = [] })) mid new meter.locals)
+    → IsSettled i k (path_of (event_of i e)) x.timer (post_all (system_of i) k (map (out_of (system_of i)) x.outs.items) (record { locals = m.locals; sent = counts; raised = []; messages = [] })) mid new meter.locals)
     → meter.tick ≡ Some k.tick → new.outbox.lines.items ≡ x.lines.items
     → IsTakenHere i limit s k (event_of i e) stop tree meter old new
-taken_one i limit s k e n m meter l stop old mid new before was tree x sound typed numbered path at counted_before is left came between settled tick told = record {
+taken_one i limit s k e m meter l stop old mid new before was tree x sound typed at counted_before is left came between settled tick told = record {
   effect = effect;
   takes = takes;
   stops = came.stops;
   here = record { blocks = here; meter = metered; typed = config.state };
   counts = its.posted.sends;
-  agenda = λ j.
-      agenda_is i k n o.timer posts old new meter.locals numbered its j
-      ∙ ap (λ p. changed_to (or_else (put_of (found j posts.raised)) (timer_change sys k.resource p o.timer j)) (meaning i old.agenda j)) path;
+  agenda = agenda_is i k (path_of event) o.timer posts old new meter.locals its;
   mail = its.posted.mail;
   lines = ap (map (line_of sys)) told ∙ came.stands.lines;
 }
@@ -148,14 +145,14 @@ taken_one i limit s k e n m meter l stop old mid new before was tree x sound typ
     posts : Posts
     posts = posts_of sys k (meter_of m) s o.outs
 
-    after_old : IsSettled i k n x.timer (post_all sys k (map (out_of sys) x.outs.items) start) old new meter.locals
+    after_old : IsSettled i k (path_of event) x.timer (post_all sys k (map (out_of sys) x.outs.items) start) old new meter.locals
     after_old =
         let it = settled s.sent (subst (λ (q : Queues). CountsAre q.sent.items s.sent) (sym between) counted_before) in
         let mail : mid.mail.items ≡ old.mail.items = ap (λ (q : Queues). q.mail.items) between in
         let agenda : mid.agenda ≡ old.agenda = ap (λ (q : Queues). q.agenda) between in
         record {
           mid = it.mid;
-          set = λ j. it.set j ∙ ap (λ (a : Contents). changed_to (timer_set k.resource n x.timer j) (waiting a j)) agenda;
+          set = λ j. it.set j ∙ ap (λ (a : Contents). changed_to (timer_change sys k.resource (path_of event) x.timer j) (meaning i a j)) agenda;
           posted = record {
             agenda = it.posted.agenda;
             mail = it.posted.mail ∙ ap (λ ms. map (arriving i) ms ++ (post_all sys k (map (out_of sys) x.outs.items) start).messages) mail;
@@ -164,9 +161,9 @@ taken_one i limit s k e n m meter l stop old mid new before was tree x sound typ
           };
         }
 
-    its : IsSettled i k n o.timer posts old new meter.locals
-    its = subst (λ ask. IsSettled i k n ask posts old new meter.locals) came.stands.timer
-        (subst (λ (os : List Out). IsSettled i k n x.timer (post_all sys k os start) old new meter.locals) came.stands.outs after_old)
+    its : IsSettled i k (path_of event) o.timer posts old new meter.locals
+    its = subst (λ ask. IsSettled i k (path_of event) ask posts old new meter.locals) came.stands.timer
+        (subst (λ (os : List Out). IsSettled i k (path_of event) x.timer (post_all sys k os start) old new meter.locals) came.stands.outs after_old)
 
     here : IsForest i tree (world_of state k.resource)
     here = subst (λ h. IsForest i tree (record { blocks = o.world.blocks; held = h })) (sym (with_at_here k.resource o.world.held s.held)) came.stands.world

@@ -2,15 +2,16 @@
 use Rattle.std.specs.Prelude.{◌≡◌, ◌≤◌, ◌++◌, ℕ, [], All, length, map, Option}
 use Rattle.fb_types.specs.Headline.{Inputs, system_of}
 use Rattle.fb_types.specs.Keys.{changed_to}
+use Rattle.fb_types.specs.Names.{Path}
 use Rattle.fb_types.specs.Numbers.{line_of}
 use Rattle.fb_types.specs.States.{State}
 use Rattle.fb_types.specs.States as model
-use Rattle.fb_types.specs.Takes.{Effect, Posts, Takes, world_of}
+use Rattle.fb_types.specs.Takes.{Effect, Posts, Takes, timer_change, world_of}
 use Rattle.fb_types.specs.declared.key.Key.{Key}
 use Rattle.fb_types.specs.declared.run.TimerAsk.{TimerAsk}
 use Rattle.fb_types.specs.declared.run.TimerAsk.TheVariants.{Keep, Clear, At}
 use Rattle.fb_types.specs.declared.value.Reason.{Reason}
-use Rattle.fb_agenda.specs.Agendas.{Contents, waiting, timer_set}
+use Rattle.fb_agenda.specs.Agendas.{Contents}
 use Rattle.fb_system.specs.Lines.{BelongsTo}
 use Rattle.fb_tree.specs.Worlds.{IsForest}
 use Rattle.fb_tree.specs.declared.resource.Forest.{Forest}
@@ -58,8 +59,8 @@ IsLater tick Keep = Unit {0}
 IsLater tick Clear = Unit {0}
 IsLater tick (At t) = tick ≤ t
 
--- The timer of an instance was set as it asked, and then the posts were put where they go.
-pub record IsSettled (i : Inputs) (k : Key) (instance : ℕ) (ask : TimerAsk) (x : Posts) (old new : Queues) (locals : ℕ) : Type 0 where
+-- The timer of the instance at a path was set as it asked, and then the posts were put where they go.
+pub record IsSettled (i : Inputs) (k : Key) (at : Path) (ask : TimerAsk) (x : Posts) (old new : Queues) (locals : ℕ) : Type 0 where
   pub mid : Contents
-  pub set : (j : Key) → waiting mid j ≡ changed_to (timer_set k.resource instance ask j) (waiting old.agenda j)
+  pub set : (j : Key) → meaning i mid j ≡ changed_to (timer_change (system_of i) k.resource at ask j) (meaning i old.agenda j)
   pub posted : ArePosted i x mid new.agenda old.mail.items new.mail.items locals new.sent.items

@@ -23,6 +23,7 @@ use std::alloc::AllocError;
 const LOCAL: u8 = 3;
 
 /// Puts a local event on the agenda, under its number within the tick.
+#[inline(always)]
 fn post_local(
     agenda: &mut Agenda,
     locals: &mut u128,
@@ -50,6 +51,7 @@ fn post_local(
 ///
 /// # Errors
 /// When memory runs out, or a link has carried 2^128 messages.
+#[inline(always)]
 fn post_message(
     mail: &mut Vec<Message>,
     sent: &mut Vec<u128>,
@@ -83,6 +85,7 @@ fn post_message(
 ///
 /// # Errors
 /// When memory runs out, or a link has carried 2^128 messages.
+#[inline(always)]
 fn post_out(
     agenda: &mut Agenda,
     mail: &mut Vec<Message>,

@@ -2,13 +2,14 @@
 
 ghost use Rattle.std.specs.Prelude.{◌≡◌, ◌+◌, ◌^◌, ◌≤◌, ◌<◌, ℕ, [], map, suc, max, length, unwrap_or, All, IfOk, OnOk, Some, None};
 ghost use Rattle.fb_types.specs.Headline.{system_of};
+ghost use Rattle.fb_types.specs.Keys.{changed_to};
 ghost use Rattle.fb_types.specs.Numbers.{path_at};
 ghost use Rattle.fb_types.specs.Reactions.{World};
 ghost use Rattle.fb_types.specs.States.{State, path_of};
 ghost use Rattle.fb_types.specs.Takes.{begun};
 ghost use Rattle.fb_types.specs.Takes as takes;
+ghost use Rattle.fb_types.specs.declared.key.Key as keys;
 ghost use Rattle.fb_types.specs.declared.run.TimerAsk.TheVariants.{Keep};
-ghost use Rattle.fb_agenda.specs.Agendas.{LiesIn};
 ghost use Rattle.fb_net.specs.Outs.{AreOuts, out_of};
 ghost use Rattle.fb_net.specs.Events.{Came, IsEventIn, IsNumbered, event_of};
 ghost use Rattle.fb_tree.specs.Worlds.{IsForest};
@@ -16,11 +17,12 @@ ghost use Rattle.fb_laws.specs.Typed.{AreTyped, IsTypedEvent};
 ghost use Rattle.fb_take.specs.Counts.{IsMetered, meter_of};
 ghost use Rattle.fb_take.specs.Posts.{CountsAre, IsMessage, IsPostable};
 ghost use Rattle.fb_take.specs.Takings.{AreReady, IsHere, IsLater, IsSettled, IsTakenHere};
-ghost use Rattle.fb_take.specs.Waiting.{IsInOrder};
+ghost use Rattle.fb_take.specs.Waiting.{IsInOrder, meaning};
 
 use crate::meter::Meter;
 use crate::post::post_all;
 use crate::queues::Queues;
+use fb_agenda::agenda::Agenda;
 use fb_net::outbox::Outbox;
 use fb_net::tree::Tree;
 use fb_st::meter::StepMeter;
@@ -78,19 +80,43 @@ fn take_in(
     }
 }
 
-/// Sets the timer of an instance and posts what was put out, as its reaction asks. Of the outbox the lines stay, and the
-/// room for what is put out.
+/// Sets the timer of the instance at which an event came, as its reaction asks.
+fn set_timer(
+    agenda: &mut Agenda,
+    ask: TimerAsk,
+    system: &System,
+    key: &Key,
+    event: &Event,
+) -> Result<(), AllocError>
+    requires event { IsEventIn system.now key.now.resource event.now }
+    requires due { length agenda.old.due ≡ length (system_of system.now).paths }
+    requires later { IsLater key.now.tick ask }
+    requires named { key.now.resource < length (system_of system.now).resource_names }
+    requires order { IsInOrder system.now key.now.tick agenda.old }
+    ensures set { OnOk result ((j : keys.Key) → meaning system.now agenda.new j ≡ changed_to (takes.timer_change (system_of system.now) key.now.resource (path_of (event_of system.now event.now)) ask j) (meaning system.now agenda.old j)) }
+    ensures order { OnOk result (IsInOrder system.now key.now.tick agenda.new) }
+    ensures due { length agenda.new.due ≡ length agenda.old.due }
+{
+    // Most reactions ask nothing, and then the instance is not looked up.
+    if let TimerAsk::Keep = ask {
+        return Ok(());
+    }
+    system.facts();
+    let instance = instance_of(system, event);
+    agenda.set_timer(key.resource, instance, ask)
+}
+
+/// Sets the timer of the instance at which an event came and posts what was put out, as its reaction asks. Of the outbox
+/// the lines stay, and the room for what is put out.
 fn settle(
     queues: &mut Queues,
     locals: &mut u128,
     system: &System,
     key: &Key,
-    instance: u32,
+    event: &Event,
 ) -> Result<(), AllocError>
-    requires instance { instance < length (system_of system.now).paths }
+    requires event { IsEventIn system.now key.now.resource event.now }
     requires due { length queues.old.agenda.due ≡ length (system_of system.now).paths }
-    requires lies { LiesIn key.now.resource instance queues.old.agenda }
-    requires here { (system_of system.now).resource (path_at (system_of system.now) instance) ≡ key.now.resource }
     requires later { IsLater key.now.tick queues.old.outbox.timer }
     requires outs { All (IsPostable (system_of system.now) key.now.resource) queues.old.outbox.outs.items }
     requires room { locals.old < 2 ^ 100 }
@@ -100,7 +126,7 @@ fn settle(
     requires order { IsInOrder system.now key.now.tick queues.old.agenda }
     requires mail { All (IsMessage system.now) queues.old.mail.items }
     ensures settled { OnOk result ((counts : ℕ → ℕ) → CountsAre queues.old.sent.items counts →
-        IsSettled system.now key.now instance queues.old.outbox.timer
+        IsSettled system.now key.now (path_of (event_of system.now event.now)) queues.old.outbox.timer
         (takes.post_all (system_of system.now) key.now (map (out_of (system_of system.now)) queues.old.outbox.outs.items) (record { locals = locals.old; sent = counts; raised = []; messages = [] }))
         queues.old queues.new locals.new) }
     ensures few { OnOk result (locals.new ≤ locals.old + 2 ^ 64) }
@@ -113,9 +139,7 @@ fn settle(
     ensures none { OnOk result (queues.new.outbox.outs.items ≡ []) }
     ensures keeps { OnOk result (queues.new.outbox.timer ≡ Keep) }
 {
-    queues
-        .agenda
-        .set_timer(key.resource, instance, queues.outbox.timer)?;
+    set_timer(&mut queues.agenda, queues.outbox.timer, system, key, event)?;
     queues.outbox.timer = TimerAsk::Keep;
     let _count = queues.outbox.outs.len();
     post_all(
@@ -177,9 +201,8 @@ pub fn take(
         event,
     )?;
     system.facts();
-    let instance = instance_of(system, event);
     // A reaction that stops posts what it had put out before.
-    settle(queues, &mut begun.locals, system, key, instance)?;
+    settle(queues, &mut begun.locals, system, key, event)?;
     *meter = begun;
     Ok(stop)
 }

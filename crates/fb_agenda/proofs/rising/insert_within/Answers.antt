@@ -23,5 +23,18 @@ pub returns-in_err-insert-in-Err-clause-absent : goal.returns-in_err-insert-in-E
 returns-in_err-insert-in-Err-clause-absent c =
     let es = c.args.events.now.items in
     let parted = c.in-Err.ensures.position (λ e. e.0) (answers_always _ _ _ (λ f a r g called. search rules)) (searchable c.args.key es c.requires) in
-    err_known c.from_residual.result
+    err_known c.from_residual-in_err-insert-in-Err.result
     (absent_between c.args.key es c.in-Err.index (λ j d less. parted.0 j d (omega arith) less) (λ j d le less. parted.1 j d le less))
+
+-- the place was near the back
+pub returns-in-Some-clause-ok : goal.returns-in-Some-clause-ok
+returns-in-Some-clause-ok c =
+    let es = c.args.events.now.items in
+    let place = c.in-Some.ensures in
+    c.in_ok-insert.ensures.items ∙ put_between c.args.key c.args.event es c.in-Some.index place.within place.below place.above
+
+pub returns-in_err-insert-clause-absent : goal.returns-in_err-insert-clause-absent
+returns-in_err-insert-clause-absent c =
+    let es = c.args.events.now.items in
+    let place = c.in-Some.ensures in
+    err_known c.from_residual.result (absent_between c.args.key es c.in-Some.index place.below place.above)

@@ -1,9 +1,6 @@
-use Rattle.fb_take.proofs.ReadyIs.{order_timer}
+use Rattle.fb_take.proofs.ReadyIs.{when_ok}
 use Rattle.fb_take.proofs.take.settle.Goals as goal
 
-pub post_all-requires-clause-order : goal.post_all-requires-clause-order
-post_all-requires-clause-order c =
-    let r = c.requires in
-    let queues = c.args.queues.now in
-    order_timer c.args.system.now c.args.key.now.tick c.args.key.now.resource c.args.instance queues.outbox.timer queues.agenda c.set_timer.new.self
-    r.instance r.here r.named r.later c.in_ok-set_timer.ensures.changed c.in_ok-set_timer.ensures.timed r.order
+pub returns-clause-settled : goal.returns-clause-settled
+returns-clause-settled c =
+    when_ok c.post_all.result c.post_all.ensures.posted (λ posted counts are. record { mid = c.set_timer.new.agenda; set = c.in_ok-set_timer.ensures.set; posted = posted counts are })

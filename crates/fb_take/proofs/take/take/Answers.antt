@@ -5,7 +5,7 @@ use Rattle.fb_net.specs.Outs.{IsOut}
 use Rattle.fb_net.specs.Events.{IsEventIn, event_of}
 use Rattle.fb_laws.proofs.Accepted.{accepted_typed}
 use Rattle.fb_take.specs.Counts.{meter_of}
-use Rattle.fb_take.proofs.ReadyIs.{came_good, lies_in, metered_after}
+use Rattle.fb_take.proofs.ReadyIs.{came_good, metered_after}
 use Rattle.fb_take.proofs.TakenIs.{taken_none, taken_one}
 use Rattle.fb_take.proofs.take.take.Goals as goal
 
@@ -23,12 +23,6 @@ pub take_in-requires-clause-belongs : goal.take_in-requires-clause-belongs
 take_in-requires-clause-belongs c =
     let stands = c.requires.stands in
     (world_of stands.0 c.args.key.now.resource, stands.1.blocks, stands.1.typed c.args.key.now.resource)
-
-pub settle-requires-clause-lies : goal.settle-requires-clause-lies
-settle-requires-clause-lies c =
-    let i = c.args.system.now in
-    lies_in i c.args.key.now.tick c.args.key.now.resource c.instance_of-instance.result c.args.queues.now.agenda c.requires.queues.order
-    (ap (system_of i).resource c.instance_of-instance.ensures.path ∙ c.requires.event.here)
 
 pub settle-requires-clause-later : goal.settle-requires-clause-later
 settle-requires-clause-later c =
@@ -54,10 +48,8 @@ pub returns-clause-taken : goal.returns-clause-taken
 returns-clause-taken c s here counts =
     let i = c.args.system.now in
     let k = c.args.key.now in
-    let instance = c.instance_of-instance.result in
-    taken_one i c.args.limit s k c.args.event.now instance c.begin.new.self _ _ _ c.args.queues.now _ _ c.args.tree.now c.args.meter.now c.take_in.new.tree c.take_in.new.outbox
+    taken_one i c.args.limit s k c.args.event.now c.begin.new.self _ _ _ c.args.queues.now _ _ c.args.tree.now c.args.meter.now c.take_in.new.tree c.take_in.new.outbox
     (accepted_typed i c.facts.ensures.accepted).system c.requires.typed
-    (c.facts.ensures.numbered instance c.instance_of-instance.ensures.instance) c.instance_of-instance.ensures.path
     here counts (ap (begun c.args.limit k.tick) here.meter ∙ sym c.begin.ensures.begun) (omega (arith, c.if-begun-eq0.false))
     (c.in_ok-stop.ensures.came (world_of s k.resource) here.blocks) refl c.in_ok-settle.ensures.settled c.begin.ensures.tick c.in_ok-settle.ensures.lines
 

@@ -1,9 +1,9 @@
-use Rattle.std.proofs.Common.{◌≡◌, ◌∙◌, Some, None, ap}
+use Rattle.std.proofs.Common.{◌≡◌, ◌∙◌, Some, None, ap, ◌++◌, arith}
 use Rattle.std.specs.Prelude.{slice_set}
 use Rattle.std.specs.Map.{lookup}
 use Rattle.std.proofs.lemmas.List.{nil_from_length}
 use Rattle.fb_types.specs.Keys.{or_else, same_key}
-use Rattle.fb_agenda.proofs.Calendars.{alone, err_known, few_sets, few_split, lookup_both, many_sets, many_split, over_is, put_absent, put_both, put_rises, put_sets, put_split}
+use Rattle.fb_agenda.proofs.Calendars.{alone, err_known, few_sets, few_split, kept_both, lookup_both, many_sets, many_split, over_is, put_absent, put_both, put_rises, put_sets, put_split, quiet_put, quiet_result}
 use Rattle.fb_agenda.proofs.calendar.Calendar.insert.Goals as goal
 
 -- ---- The tree is empty
@@ -13,21 +13,27 @@ invariant_of-self c =
     let few = c.self.inside.few.items in
     let many = c.self.inside.many.entries in
     let none : lookup (same_key c.args.key) many ≡ None = ap (lookup (same_key c.args.key)) (nil_from_length many (c.is_empty.ensures.0 c.if-is_empty.true)) in
-    put_split few many c.self.invariant c.args.key c.args.event c.insert.result c.insert.new.events.items none c.insert.ensures.ok c.insert.ensures.err
+    let r = c.insert.result in
+    let new = c.insert.new.events.items in
+    record {
+      split = put_split few many c.self.invariant.split c.args.key c.args.event r new none c.insert.ensures.ok c.insert.ensures.err;
+      quiet = quiet_result c.self.inside.quiet c.min-self-inside.result c.args.key c.args.event (few ++ many) (new ++ many) c.self.invariant.quiet r
+          (put_both few many c.self.invariant.split c.args.key c.args.event r new none c.insert.ensures.ok) (kept_both few new many r c.insert.ensures.err) (omega (arith, c.min-self-inside.ensures)) (omega (arith, c.min-self-inside.ensures));
+    }
 
 pub returns-then-len-lt-FEW-clause-put : goal.returns-then-len-lt-FEW-clause-put
 returns-then-len-lt-FEW-clause-put c =
     let few = c.self.inside.few.items in
     let many = c.self.inside.many.entries in
     let none : lookup (same_key c.args.key) many ≡ None = ap (lookup (same_key c.args.key)) (nil_from_length many (c.is_empty.ensures.0 c.if-is_empty.true)) in
-    rw (← c.self.view_is) (put_both few many c.self.invariant c.args.key c.args.event c.insert.result c.insert.new.events.items none c.insert.ensures.ok)
+    rw (← c.self.view_is) (put_both few many c.self.invariant.split c.args.key c.args.event c.insert.result c.insert.new.events.items none c.insert.ensures.ok)
 
 pub returns-then-len-lt-FEW-clause-absent : goal.returns-then-len-lt-FEW-clause-absent
 returns-then-len-lt-FEW-clause-absent c =
     let few = c.self.inside.few.items in
     let many = c.self.inside.many.entries in
     let none : lookup (same_key c.args.key) many ≡ None = ap (lookup (same_key c.args.key)) (nil_from_length many (c.is_empty.ensures.0 c.if-is_empty.true)) in
-    rw (← c.self.view_is) (put_absent few many c.self.invariant c.args.key c.args.event c.insert.result c.insert.new.events.items none c.insert.ensures.absent)
+    rw (← c.self.view_is) (put_absent few many c.self.invariant.split c.args.key c.args.event c.insert.result c.insert.new.events.items none c.insert.ensures.absent)
 
 -- ---- The key is in the row
 
@@ -39,8 +45,13 @@ invariant_of-self-in-Some c =
     let e = c.args.event in
     let i = c.in-Some.index in
     let new = slice_set few i (k, e) in
-    let is = over_is few k e i c.self.invariant.rising c.in-Some.ensures.there in
-    few_split few many c.self.invariant k (Some e) new (put_sets few new k e is) (put_rises few new k e c.self.invariant.rising is) (alone few many c.self.invariant k i c.in-Some.ensures.there)
+    let is = over_is few k e i c.self.invariant.split.rising c.in-Some.ensures.there in
+    let sets = put_sets few new k e is in
+    let none = alone few many c.self.invariant.split k i c.in-Some.ensures.there in
+    record {
+      split = few_split few many c.self.invariant.split k (Some e) new sets (put_rises few new k e c.self.invariant.split.rising is) none;
+      quiet = quiet_put c.self.inside.quiet c.min-self-inside.result k (Some e) (few ++ many) (new ++ many) c.self.invariant.quiet (few_sets few many c.self.invariant.split k (Some e) new sets none) (omega (arith, c.min-self-inside.ensures)) (omega (arith, c.min-self-inside.ensures));
+    }
 
 pub returns-in-Some-clause-put : goal.returns-in-Some-clause-put
 returns-in-Some-clause-put c =
@@ -50,8 +61,8 @@ returns-in-Some-clause-put c =
     let e = c.args.event in
     let i = c.in-Some.index in
     let new = slice_set few i (k, e) in
-    let is = over_is few k e i c.self.invariant.rising c.in-Some.ensures.there in
-    rw (← c.self.view_is) (few_sets few many c.self.invariant k (Some e) new (put_sets few new k e is) (alone few many c.self.invariant k i c.in-Some.ensures.there))
+    let is = over_is few k e i c.self.invariant.split.rising c.in-Some.ensures.there in
+    rw (← c.self.view_is) (few_sets few many c.self.invariant.split k (Some e) new (put_sets few new k e is) (alone few many c.self.invariant.split k i c.in-Some.ensures.there))
 
 -- ---- The key is not in the row
 
@@ -65,9 +76,17 @@ returns-in_err-insert-clause-absent c =
 
 pub invariant_of-self-2 : goal.invariant_of-self-2
 invariant_of-self-2 c =
-    many_split c.self.inside.few.items c.self.inside.many.entries c.self.invariant c.args.key (Some c.args.event) c.insert-2.new.self.entries c.in_ok-insert.ensures.updates.0 c.in_default.ensures.absent
+    let few = c.self.inside.few.items in
+    let many = c.self.inside.many.entries in
+    let new = c.insert-2.new.self.entries in
+    let sets = c.in_ok-insert.ensures.updates.0 in
+    record {
+      split = many_split few many c.self.invariant.split c.args.key (Some c.args.event) new sets c.in_default.ensures.absent;
+      quiet = quiet_put c.self.inside.quiet c.min-self-inside.result c.args.key (Some c.args.event) (few ++ many) (few ++ new) c.self.invariant.quiet
+          (many_sets few many c.self.invariant.split c.args.key (Some c.args.event) new sets c.in_default.ensures.absent) (omega (arith, c.min-self-inside.ensures)) (omega (arith, c.min-self-inside.ensures));
+    }
 
 pub returns-clause-put : goal.returns-clause-put
 returns-clause-put c =
     rw (← c.self.view_is)
-    (many_sets c.self.inside.few.items c.self.inside.many.entries c.self.invariant c.args.key (Some c.args.event) c.insert-2.new.self.entries c.in_ok-insert.ensures.updates.0 c.in_default.ensures.absent)
+    (many_sets c.self.inside.few.items c.self.inside.many.entries c.self.invariant.split c.args.key (Some c.args.event) c.insert-2.new.self.entries c.in_ok-insert.ensures.updates.0 c.in_default.ensures.absent)

@@ -1,0 +1,58 @@
+use Rattle.std.proofs.Common.{◌++◌, arith}
+use Rattle.std.proofs.lemmas.List.{nil_from_length}
+use Rattle.fb_agenda.proofs.Calendars.{begins_both, below_first, front_before, front_kept, front_left, front_split, front_value, leads_none, quiet_popped}
+use Rattle.fb_agenda.proofs.calendar.Calendar.pop_below.Goals as goal
+
+-- ---- The tree is empty
+
+pub invariant_of-self : goal.invariant_of-self
+invariant_of-self c =
+    let few = c.self.inside.few.items in
+    let many = c.self.inside.many.entries in
+    let leads = leads_none few many (nil_from_length many (c.is_empty.ensures.0 c.if-is_empty.true)) in
+    let rest = c.pop_below.new.events.items in
+    let o = c.pop_below.result in
+    let items = c.pop_below.ensures.items in
+    record {
+      split = front_split few many c.self.invariant.split leads rest o items;
+      quiet = quiet_popped c.self.inside.quiet (few ++ many) (rest ++ many) c.self.invariant.quiet o (front_left few many c.self.invariant.split leads rest o items) (front_kept few rest many o items);
+    }
+
+pub returns-then-is_empty-clause-value : goal.returns-then-is_empty-clause-value
+returns-then-is_empty-clause-value c =
+    let few = c.self.inside.few.items in
+    let many = c.self.inside.many.entries in
+    let leads = leads_none few many (nil_from_length many (c.is_empty.ensures.0 c.if-is_empty.true)) in
+    rw (← c.self.view_is) (front_value few many c.self.invariant.split leads c.pop_below.new.events.items c.pop_below.result c.pop_below.ensures.items)
+
+pub returns-then-is_empty-clause-none_before : goal.returns-then-is_empty-clause-none_before
+returns-then-is_empty-clause-none_before c =
+    let few = c.self.inside.few.items in
+    let many = c.self.inside.many.entries in
+    let leads = leads_none few many (nil_from_length many (c.is_empty.ensures.0 c.if-is_empty.true)) in
+    rw (← c.self.view_is) (front_before few many c.self.invariant.split leads c.pop_below.new.events.items c.pop_below.result c.pop_below.ensures.items)
+
+pub returns-then-is_empty-clause-left : goal.returns-then-is_empty-clause-left
+returns-then-is_empty-clause-left c =
+    let few = c.self.inside.few.items in
+    let many = c.self.inside.many.entries in
+    let leads = leads_none few many (nil_from_length many (c.is_empty.ensures.0 c.if-is_empty.true)) in
+    rw (← c.self.view_is) (front_left few many c.self.invariant.split leads c.pop_below.new.events.items c.pop_below.result c.pop_below.ensures.items)
+
+pub returns-then-is_empty-clause-none : goal.returns-then-is_empty-clause-none
+returns-then-is_empty-clause-none c =
+    let few = c.self.inside.few.items in
+    let many = c.self.inside.many.entries in
+    rw (← c.self.view_is) (begins_both few many (nil_from_length many (c.is_empty.ensures.0 c.if-is_empty.true)) c.args.horizon c.pop_below.result c.pop_below.ensures.none)
+
+pub returns-then-is_empty-clause-kept : goal.returns-then-is_empty-clause-kept
+returns-then-is_empty-clause-kept c =
+    let few = c.self.inside.few.items in
+    let many = c.self.inside.many.entries in
+    rw (← c.self.view_is) (front_kept few c.pop_below.new.events.items many c.pop_below.result c.pop_below.ensures.items)
+
+-- ---- Some are in the tree
+
+pub returns-clause-below : goal.returns-clause-below
+returns-clause-below c =
+    below_first c.args.self.now c.in_ok-first_tick.field-0 c.args.horizon c.in_ok-first_tick.ensures.some (omega (arith, c.if-branch-horizon.false)) c.pop_first.result c.pop_first.ensures.value c.pop_first.ensures.none_before
