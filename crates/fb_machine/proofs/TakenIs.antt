@@ -33,7 +33,8 @@ other_world : (i : Inputs) (k : Key) (e : AnEvent) (w v : World) (t : Forest) �
     → t.resource ≢ k.resource → (system_of i).resource (path_of e) ≡ k.resource
     → ((p : Path) → same_path p (path_of e) ≡ false → v.blocks p ≡ w.blocks p) → v.held ≡ w.held → IsForest i t v
 other_world i k e w v t forest other home blocks held = record {
-  blocks = λ n within here. subst (λ b. StandsAt i t.blocks n b) (sym (blocks (path_at (system_of i) n) (away n here))) (forest.blocks n within here);
+  blocks = λ n within here. subst (λ b. StandsAt i t.seats t.blocks n b) (sym (blocks (path_at (system_of i) n) (away n here))) (forest.blocks n within here);
+  apart = forest.apart;
   held = λ x variable read apart. forest.held x variable read apart ∙ ap (λ h. Some (h (variable_of (system_of i) x))) (sym held);
 }
   where

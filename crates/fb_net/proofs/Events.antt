@@ -1,7 +1,8 @@
 -- How the reactions of an event block stand among the blocks of its resource.
-use Rattle.std.proofs.Common.{◌≡◌, ◌++◌, ℕ, List, [], map, Option, Some, sym, ap, subst, ◌∙◌}
+use Rattle.std.proofs.Common.{◌≡◌, ◌<◌, ◌++◌, ℕ, List, [], length, map, Option, Some, Result, Ok, refl, sym, ap, subst, ◌∙◌, arith}
+use Rattle.std.specs.Prelude.{All, slice_get, slice_set}
 use Rattle.fb_types.specs.Names.{Name, Path}
-use Rattle.fb_types.specs.Blocks.{Event, ports_of_event_block, variable_names}
+use Rattle.fb_types.specs.Blocks.{Kind, Event, ports_of_event_block, variable_names}
 use Rattle.fb_types.specs.EventBlocks.{Memory, Reaction, reaction, expiry}
 use Rattle.fb_types.specs.Headline.{Inputs, system_of}
 use Rattle.fb_types.specs.Numbers.{by_place, event_at, path_at, ports_at}
@@ -10,18 +11,21 @@ use Rattle.fb_types.specs.States as model
 use Rattle.fb_types.specs.Systems.{System}
 use Rattle.fb_types.specs.declared.event_kind.EventKind.{EventKind}
 use Rattle.fb_types.specs.declared.run.Emission as run
+use Rattle.fb_types.specs.declared.run.Halt.{Halt}
 use Rattle.fb_types.specs.declared.run.TimerAsk.{TimerAsk}
 use Rattle.fb_types.specs.declared.value.Value.{Value}
-use Rattle.fb_event.specs.Reactions.{FitTheirTypes, emissions_of, expiry_of, meanings, reaction_to}
+use Rattle.fb_event.specs.Reactions.{FitTheirTypes, IsWellFormed, emissions_of, expiry_of, meanings, reaction_to}
 use Rattle.fb_event.specs.State.{State}
-use Rattle.fb_tree.specs.Blocks.{own_of}
 use Rattle.fb_tree.specs.Changes.{Changes, block_in, remembered, with_instance}
-use Rattle.fb_tree.specs.Worlds.{EventStands, Found, InForest, IsForest, ShellStands, StandsFor, input_names}
+use Rattle.fb_tree.specs.Worlds.{EventStands, Found, InForest, IsForest, NodeStands, ShellStands, StandsFor, input_names, seat_in, with_seated}
 use Rattle.fb_tree.specs.declared.block.EventBlock.{EventBlock}
 use Rattle.fb_tree.specs.declared.block.Block.{Block}
 use Rattle.fb_tree.specs.declared.block.Block.TheVariants as block
 use Rattle.fb_tree.specs.declared.resource.Forest.{Forest}
-use Rattle.fb_net.specs.Leaves.{EventCame, HasTypedInputs}
+use Rattle.fb_tree.proofs.Reading.{found_at}
+use Rattle.fb_tree.proofs.Writing.{AreNumbered, seated_forest}
+use Rattle.fb_system.specs.Lines.{IsEmission}
+use Rattle.fb_net.specs.Leaves.{Changed, EventCame, HasExpired, HasTypedInputs, IsOne, expiry_reaction}
 use Rattle.fb_net.proofs.Leaves.{event_is, reads_inputs, values_by_name}
 
 -- the block of an event block has its ports
@@ -59,7 +63,7 @@ pub stood_there : (i : Inputs) (k : ℕ) (w : World) (found : Option Block) (d :
     → EventStands (system_of i) (path_at (system_of i) k) kind x (block_in i w k) × ShellStands (system_of i) (path_at (system_of i) k) x.shell (block_in i w k)
 stood_there i k w found d x kind of_kind is event here =
     let same : here.block ≡ block.Event x = cc in
-    let stood = subst (λ (y : Block). StandsFor (system_of i) (path_at (system_of i) k) (own_of y) (block_in i w k)) same here.stands in
+    let stood = subst (λ (y : Block). StandsFor (system_of i) (path_at (system_of i) k) y (block_in i w k)) same here.stands in
     subst (λ T. T) (event_is (system_of i) (path_at (system_of i) k) kind x (block_in i w k) of_kind) stood
 
 -- the values of the data inputs are of their types
@@ -73,12 +77,34 @@ typed i k w found d x kind inputs of_kind is event here fit same s twin =
     subst (λ (j : EventKind). FitTheirTypes (ports_of_event_block j).inputs inputs) (sym (ap (λ (z : State). z.kind) twin ∙ stood.0.is_kind))
     (subst (λ (vs : List Value). FitTheirTypes (ports_of_event_block kind).inputs vs) hold fit)
 
--- the block is of the kind that it was
-pub of_its_kind : (i : Inputs) (k : ℕ) (w : World) (found : Option Block) (d : Block) (x : EventBlock) (kind : EventKind)
-    → (system_of i).kind (path_at (system_of i) k) ≡ Some (Event kind) → found ≡ Some d → d ≡ block.Event x → Found i k (block_in i w k) found
-    → (s : State) → s.kind ≡ x.state.kind → (system_of i).kind (path_at (system_of i) k) ≡ Some (Event s.kind)
-of_its_kind i k w found d x kind of_kind is event here s kept =
-    of_kind ∙ ap (λ (j : EventKind). Some (Event j)) (sym (kept ∙ (stood_there i k w found d x kind of_kind is event here).0.is_kind))
+-- where an instance is to be an event block, one stands
+as_event : (sys : System) (p : Path) (k : EventKind) (d : Block) (b : model.Block) → NodeStands sys p (Some (Event k)) d b → (y : EventBlock) × (d ≡ block.Event y)
+as_event sys p k (block.Basic y) b stands = absurd stands
+as_event sys p k (block.Event y) b stands = (y, refl)
+as_event sys p k (block.Composite y) b stands = absurd stands
+
+pub event_there : (i : Inputs) (old : Forest) (k : ℕ) (kind : EventKind) (w : World) → (system_of i).kind (path_at (system_of i) k) ≡ Some (Event kind) → k < length (system_of i).paths
+    → IsForest i old w → InForest i old k → (y : EventBlock) × (slice_get old.blocks (seat_in old.seats k) ≡ Some (block.Event y))
+event_there i old k kind w of_kind number forest lies =
+    let here = forest.blocks k number lies in
+    let y = as_event (system_of i) (path_at (system_of i) k) kind here.block (block_in i w k)
+    (subst (λ (o : Option Kind). NodeStands (system_of i) (path_at (system_of i) k) o here.block (block_in i w k)) of_kind here.stands) in
+    (y.0, here.stood ∙ ap Some y.1)
+
+-- the block remembers something else where it stands
+pub remembers : (i : Inputs) → AreNumbered i → (old : Forest) (k : ℕ) → k < length (system_of i).paths → (d : Block) (x : EventBlock) (kind : EventKind)
+    → (system_of i).kind (path_at (system_of i) k) ≡ Some (Event kind) → slice_get old.blocks (seat_in old.seats k) ≡ Some d → d ≡ block.Event x
+    → (s : State) → s.kind ≡ x.state.kind → Changes i old k (remembered s.memory) (with_seated old k (block.Event (record x { state = s })))
+remembers i numbered old k number d x kind of_kind is event s kept = record {
+  resource = refl;
+  stands = λ w forest lies.
+      (let stood = stood_there i k w (slice_get old.blocks (seat_in old.seats k)) d x kind of_kind is event (found_at i old k number (slice_get old.blocks (seat_in old.seats k)) refl w forest lies) in
+      let y : EventBlock = record x { state = s } in
+      let after : model.Block = remembered s.memory (block_in i w k) in
+      seated_forest i numbered old w forest k number lies (block.Event y) after
+      (subst (λ (o : Option Kind). NodeStands (system_of i) (path_at (system_of i) k) o (block.Event y) after) (sym of_kind)
+      (record { is_kind = kept ∙ stood.0.is_kind; memory = refl; variables = stood.0.variables }, record { slots = stood.1.slots; published = stood.1.published })));
+}
 
 -- A block of that kind has reacted so, which is what the model's does in each world.
 pub came : (i : Inputs) (old new : Forest) (k : ℕ) (kind : EventKind) (found : Option Block) (d : Block) (x : EventBlock) (t s : State) (r : Reaction) (model_r : World → Reaction)
@@ -104,3 +130,46 @@ came i old new k kind found d x t s r model_r ask before emits of_kind is event 
 -- Each instance has its block then.
 pub whole : (i : Inputs) (old new : Forest) (k : ℕ) (s : State) → Changes i old k (remembered s.memory) new → (w : World) → IsForest i old w → InForest i old k → (v : World) × IsForest i new v
 whole i old new k s changes w forest lies = (with_instance i k (remembered s.memory (block_in i w k)) w, changes.stands w forest lies)
+
+-- ---- The timer goes off where the block stands
+
+all_fit : (k : EventKind) (es : List run.Emission) → All (IsWellFormed k) es → All (IsEmission (ports_of_event_block k)) es
+all_fit k es fit n d h = record { event = (fit n d h).0; values = (fit n d h).1 }
+
+module _ (i : Inputs) (numbered : AreNumbered i) (old : Forest) (k : ℕ) (number : k < length (system_of i).paths) (kind : EventKind) (of_kind : (system_of i).kind (path_at (system_of i) k) ≡ Some (Event kind))
+    (seat : ℕ) (is_seat : seat ≡ seat_in old.seats k) (tick : ℕ) (emitted emits : List run.Emission) (ask : TimerAsk) (r : Result (Unit {0}) Halt) (bs : List Block)
+    (changed : Changed (HasExpired tick emitted ask emits) old.blocks seat r bs) where
+  found : slice_get old.blocks (seat_in old.seats k) ≡ Some changed.before
+  found = ap (slice_get old.blocks) (sym is_seat) ∙ changed.stood
+
+  pub expired_changes : Changes i old k (remembered changed.ends.state.memory) (record old { blocks = bs })
+  expired_changes =
+      subst (λ (cs : List Block). Changes i old k (remembered changed.ends.state.memory) (record old { blocks = cs }))
+      (sym (changed.stands ∙ ap (λ (s : ℕ). slice_set old.blocks s changed.after) is_seat ∙ ap (slice_set old.blocks (seat_in old.seats k)) changed.ends.is_event))
+      (remembers i numbered old k number changed.before changed.ends.event kind of_kind found changed.ends.was_event changed.ends.state changed.ends.kind)
+
+  kind_is : IsOne i old k → changed.ends.event.state.kind ≡ kind
+  kind_is (w, forest, lies) =
+      (stood_there i k w (slice_get old.blocks (seat_in old.seats k)) changed.before changed.ends.event kind of_kind found changed.ends.was_event
+      (found_at i old k number (slice_get old.blocks (seat_in old.seats k)) refl w forest lies)).0.is_kind
+
+  pub expired_fit : IsOne i old k → emitted ≡ [] → All (IsEmission (ports_of_event_block kind)) emits
+  expired_fit one fresh =
+      subst (λ (j : EventKind). All (IsEmission (ports_of_event_block j)) emits) (kind_is one)
+      (all_fit changed.ends.event.state.kind emits
+      (changed.ends.well_formed (subst (λ (es : List run.Emission). All (IsWellFormed changed.ends.event.state.kind) es) (sym fresh) (λ n d h. absurd (omega (arith, h))))))
+
+  pub expired_whole : IsOne i old k → (v : World) × IsForest i (record old { blocks = bs }) v
+  expired_whole (w, forest, lies) = whole i old (record old { blocks = bs }) k changed.ends.state expired_changes w forest lies
+
+pub expired_came : (i : Inputs) → AreNumbered i → (old : Forest) (k : ℕ) → k < length (system_of i).paths → (kind : EventKind) → (system_of i).kind (path_at (system_of i) k) ≡ Some (Event kind)
+    → (seat : ℕ) → seat ≡ seat_in old.seats k → (tick : ℕ) (emitted emits : List run.Emission) (ask : TimerAsk) (u : Unit {0}) (bs : List Block)
+    → Changed (HasExpired tick emitted ask emits) old.blocks seat (Ok u) bs → emitted ≡ []
+    → (w : World) → IsForest i old w → InForest i old k → EventCame i k kind (expiry_reaction i kind k tick w) (record old { blocks = bs }) ask emits w
+expired_came i numbered old k number kind of_kind seat is_seat tick emitted emits ask u bs changed fresh =
+    came i old (record old { blocks = bs }) k kind (slice_get old.blocks (seat_in old.seats k)) changed.before changed.ends.event changed.ends.event.state changed.ends.state
+    (expiry_of changed.ends.event.state tick) (expiry_reaction i kind k tick) ask emitted emits of_kind (ap (slice_get old.blocks) (sym is_seat) ∙ changed.stood) changed.ends.was_event refl
+    (λ w forest lies. found_at i old k number (slice_get old.blocks (seat_in old.seats k)) refl w forest lies)
+    (expired_changes i numbered old k number kind of_kind seat is_seat tick emitted emits ask (Ok u) bs changed)
+    (λ w stood. expired_agrees (system_of i) (path_at (system_of i) k) kind changed.ends.event (block_in i w k) tick stood)
+    changed.ends.memory changed.ends.timer fresh changed.ends.sent

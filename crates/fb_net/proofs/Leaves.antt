@@ -12,43 +12,19 @@ use Rattle.fb_types.specs.declared.event_kind.EventKind.{EventKind}
 use Rattle.fb_types.specs.declared.event_kind.EventKind.TheVariants as kind
 use Rattle.fb_types.specs.declared.library.BasicType.{BasicType}
 use Rattle.fb_types.specs.declared.value.Value.{Value}
-use Rattle.fb_tree.specs.Blocks.{components_in, components_of, composite_with, own_of}
 use Rattle.fb_tree.specs.Worlds.{BasicStands, EventStands, NodeStands, ShellStands, StandsFor}
 use Rattle.fb_tree.specs.declared.block.BasicBlock.{BasicBlock}
 use Rattle.fb_tree.specs.declared.block.EventBlock.{EventBlock}
-use Rattle.fb_tree.specs.declared.block.Block.{Block}
-use Rattle.fb_tree.specs.declared.block.Block.TheOpen.{Block-F}
 use Rattle.fb_tree.specs.declared.block.Block.TheVariants as block
-use Rattle.fb_tree.specs.declared.block.Block.TheViews.{out-Block, roll-Block, the_lemmas}
-use Rattle.fb_tree.specs.declared.block.CompositeBlock.{CompositeBlock}
-
-pub out_roll : (x : Block-F Block CompositeBlock) → out-Block (roll-Block x) ≡ x
-out_roll x = search (rules, the_lemmas)
-
-pub out_basic : (x : BasicBlock) → out-Block (block.Basic x) ≡ Block-F.Basic x
-out_basic x = search (rules, the_lemmas)
-
-out_event : (x : EventBlock) → out-Block (block.Event x) ≡ Block-F.Event x
-out_event x = search (rules, the_lemmas)
-
--- the own part of a leaf is the whole block
-own_basic : (x : BasicBlock) → out-Block (own_of (block.Basic x)) ≡ Block-F.Basic x
-own_basic x = out_roll (composite_with [] (out-Block (block.Basic x))) ∙ ap (composite_with []) (out_basic x)
-
-own_event : (x : EventBlock) → out-Block (own_of (block.Event x)) ≡ Block-F.Event x
-own_event x = out_roll (composite_with [] (out-Block (block.Event x))) ∙ ap (composite_with []) (out_event x)
-
-pub leaf_basic : (x : BasicBlock) → components_of (block.Basic x) ≡ []
-leaf_basic x = ap components_in (out_basic x)
 
 -- a basic block stands at a path by what it is
 pub basic_is : (sys : System) (p : Path) (t : BasicType) (x : BasicBlock) (b : model.Block) → sys.kind p ≡ Some (Basic t)
-    → StandsFor sys p (own_of (block.Basic x)) b ≡ (BasicStands t x.state b × ShellStands sys p x.shell b)
-basic_is sys p t x b k = ap (λ (n : Block-F Block CompositeBlock). NodeStands sys p (sys.kind p) n b) (own_basic x) ∙ ap (λ (o : Option Kind). NodeStands sys p o (Block-F.Basic x) b) k
+    → StandsFor sys p (block.Basic x) b ≡ (BasicStands t x.state b × ShellStands sys p x.shell b)
+basic_is sys p t x b k = ap (λ (o : Option Kind). NodeStands sys p o (block.Basic x) b) k
 
 pub event_is : (sys : System) (p : Path) (e : EventKind) (x : EventBlock) (b : model.Block) → sys.kind p ≡ Some (Event e)
-    → StandsFor sys p (own_of (block.Event x)) b ≡ (EventStands sys p e x b × ShellStands sys p x.shell b)
-event_is sys p e x b k = ap (λ (n : Block-F Block CompositeBlock). NodeStands sys p (sys.kind p) n b) (own_event x) ∙ ap (λ (o : Option Kind). NodeStands sys p o (Block-F.Event x) b) k
+    → StandsFor sys p (block.Event x) b ≡ (EventStands sys p e x b × ShellStands sys p x.shell b)
+event_is sys p e x b k = ap (λ (o : Option Kind). NodeStands sys p o (block.Event x) b) k
 
 -- ---- What an event block reads of its data inputs
 

@@ -1,5 +1,5 @@
 -- How a leaf reacts among the blocks of its resource (IEC 61499-1, 5.2.2; event blocks are this project's profile).
-use Rattle.std.specs.Prelude.{◌≡◌, ℕ, List, [], map, Option, Some, None, Result, Ok, Err}
+use Rattle.std.specs.Prelude.{◌≡◌, ◌++◌, ℕ, List, [], map, Option, Some, None, Result, Ok, Err, All, OnOk, slice_get, slice_set}
 use Rattle.fb_types.specs.Blocks.{inputs_with, ports_of_event_block}
 use Rattle.fb_types.specs.Charts.{Place, ChartReacts}
 use Rattle.fb_types.specs.EventBlocks.{Reaction, reaction, expiry, output_of}
@@ -20,18 +20,27 @@ use Rattle.fb_types.specs.declared.value.Value.{Value}
 use Rattle.fb_st.specs.Frames.{values_of}
 use Rattle.fb_ecc.specs.Places.{Ended, IsBlockOf, sampled, place as chart_at}
 use Rattle.fb_ecc.specs.declared.state.BasicState.{BasicState}
-use Rattle.fb_event.specs.Reactions.{FitTheirTypes}
+use Rattle.fb_event.specs.Reactions.{FitTheirTypes, IsWellFormed, emissions_of, expiry_of, meanings}
+use Rattle.fb_event.specs.State.{State}
 use Rattle.fb_tree.specs.Changes.{block_in, with_instance}
-use Rattle.fb_tree.specs.Trees.{block_at}
 use Rattle.fb_tree.specs.Worlds.{InForest, IsForest, input_names}
 use Rattle.fb_tree.specs.declared.block.BasicBlock.{BasicBlock}
 use Rattle.fb_tree.specs.declared.block.Block.{Block}
 use Rattle.fb_tree.specs.declared.block.Block.TheVariants as block
+use Rattle.fb_tree.specs.declared.block.EventBlock.{EventBlock}
 use Rattle.fb_tree.specs.declared.resource.Forest.{Forest}
 
 -- The blocks stand for a world, in which the instance lies in the resource.
 abbrev pub IsOne : Inputs → Forest → (instance : ℕ) → Type 0
 IsOne i f k = (w : World) × IsForest i f w × InForest i f k
+
+-- The block at a seat has become another one. Ends says what a block, a result and what the block has become have in common.
+pub record Changed {R : Type 0} (Ends : Block → R → Block → Type 0) (old : List Block) (seat : ℕ) (r : R) (new : List Block) : Type 0 where
+  pub before : Block
+  pub after : Block
+  pub stood : slice_get old seat ≡ Some before
+  pub ends : Ends before r after
+  pub stands : new ≡ slice_set old seat after
 
 -- ---- Basic blocks
 
@@ -66,10 +75,10 @@ ChartEnded i old at t values before (Ok _) new after emits = EachWorld i old at 
 ChartEnded i old at t values before (Err (halt.Stop r)) new after emits = EachWorld i old at (ChartCame i old at t values before (Some r) new after emits)
 ChartEnded i old at t values before (Err halt.Memory) new after emits = Unit {0}
 
--- A basic block of a type stands at a route, in a state from which its chart can go on.
-pub record IsReadyAt (t : BasicType) (blocks : List Block) (route : List ℕ) : Type 0 where
+-- A basic block of a type has its seat there, in a state from which its chart can go on.
+pub record IsReadyAt (t : BasicType) (blocks : List Block) (seat : ℕ) : Type 0 where
   pub basic : BasicBlock
-  pub stood : block_at blocks route ≡ Some (block.Basic basic)
+  pub stood : slice_get blocks seat ≡ Some (block.Basic basic)
   pub ready : IsBlockOf t basic.state
 
 -- A block has reacted by the chart of its type, and is otherwise what it was.
@@ -83,6 +92,22 @@ pub record HasCharted (t : BasicType) (event : ℕ) (values : List Value) (befor
   pub ready : IsBlockOf t state
 
 -- ---- Event blocks
+
+-- An event block has its seat there.
+abbrev pub IsEventAt : List Block → (seat : ℕ) → Type 0
+IsEventAt blocks seat = (x : EventBlock) × (slice_get blocks seat ≡ Some (block.Event x))
+
+-- An event block has reacted to its timer, and is otherwise what it was.
+pub record HasExpired (tick : ℕ) (emitted : List run.Emission) (ask : TimerAsk) (emits : List run.Emission) (was : Block) (r : Result (Unit {0}) Halt) (is : Block) : Type 0 where
+  pub event : EventBlock
+  pub state : State
+  pub was_event : was ≡ block.Event event
+  pub is_event : is ≡ block.Event (record event { state = state })
+  pub memory : OnOk r (state.memory ≡ (expiry_of event.state tick).memory)
+  pub timer : OnOk r (ask ≡ (expiry_of event.state tick).timer)
+  pub sent : OnOk r (meanings event.state.kind emits ≡ meanings event.state.kind emitted ++ emissions_of event.state.kind (expiry_of event.state tick))
+  pub kind : state.kind ≡ event.state.kind
+  pub well_formed : (let IsFit = IsWellFormed event.state.kind in All IsFit emitted → All IsFit emits)
 
 abbrev pub remembering_block : Reaction → model.Block → model.Block
 remembering_block x b = record b { memory = Remembers x.memory }

@@ -119,9 +119,7 @@ impl Taking<'_> {
         let alloc = *self.outbox.lines.allocator();
         let values = shown_values(alloc, self.forest, self.system, at)?;
         let event = at.event;
-        let mut emits = Emits::new(alloc);
-        emits.push(Emission { event, values })?;
-        self.emit_all(at.instance, emits)
+        self.emit_one(at.instance, Emission { event, values })
     }
 
     /// Tells an event that was taken at an event input of a basic block, and what its reaction emits.

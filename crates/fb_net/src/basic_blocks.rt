@@ -1,6 +1,6 @@
 //! The reaction of a basic block among the blocks of its resource.
 
-ghost use Rattle.std.specs.Prelude.{◌≡◌, ◌<◌, ◌≤◌, [], ◌∷◌, length, All, Some, false};
+ghost use Rattle.std.specs.Prelude.{◌≡◌, ◌<◌, ◌≤◌, [], length, All, Some, false};
 ghost use Rattle.fb_types.specs.Blocks.{Basic, inputs_with};
 ghost use Rattle.fb_types.specs.Headline.{system_of};
 ghost use Rattle.fb_types.specs.Numbers.{event_at, path_at};
@@ -9,15 +9,14 @@ ghost use Rattle.fb_ecc.specs.Places.{IsWellFormed};
 ghost use Rattle.fb_ecc.specs.Sound.{IsSound};
 ghost use Rattle.fb_system.specs.Lines.{IsEmission};
 ghost use Rattle.fb_system.specs.Ports.{IsPort};
-ghost use Rattle.fb_tree.specs.Trees.{Changed};
 ghost use Rattle.fb_tree.specs.Worlds.{IsForest};
-ghost use Rattle.fb_net.specs.Leaves.{ChartEnded, HasCharted, IsOne, IsReadyAt};
+ghost use Rattle.fb_net.specs.Leaves.{ChartEnded, Changed, HasCharted, IsOne, IsReadyAt};
 
 use fb_ecc::reaction::react;
 use fb_st::meter::StepMeter;
 use fb_system::system::System;
 use fb_tree::block::Block;
-use fb_tree::resource::{Forest, route};
+use fb_tree::resource::Forest;
 use fb_types::items::Items;
 use fb_types::library::BasicType;
 use fb_types::run::{Emits, Halt, Target};
@@ -53,19 +52,18 @@ pub fn react_basic(
     ensures whole { (w : World) × IsForest system.now forest.new w }
 {
     system.facts();
-    let (first, rest) = route(system, at.instance);
+    let seat = forest.seat(at.instance);
     let blocks = &mut forest.blocks;
-    react_at(blocks, first, rest, block, at.event, values, meter, emits)
+    react_at(blocks, seat, block, at.event, values, meter, emits)
 }
 
-/// The reaction of the basic block at a route, where it stands.
+/// The reaction of the basic block at a seat, where it stands.
 ///
 /// # Errors
 /// As of `react_basic`.
 fn react_at(
     blocks: &mut Items<Block>,
-    first: u32,
-    rest: &[u32],
+    seat: usize,
     block: &BasicType,
     event: u32,
     values: &[Value],
@@ -74,24 +72,16 @@ fn react_at(
 ) -> Result<(), Halt>
     requires sound { IsSound block.now }
     requires event { event < length block.now.ports.event_inputs }
-    requires ready { IsReadyAt block.now blocks.old (first ∷ rest.now) }
-    ensures reacted { Changed (HasCharted block.now event values.now meter.old.left emits.old meter.new.left emits.new) blocks.old (first ∷ rest.now) result blocks.new }
+    requires ready { IsReadyAt block.now blocks.old seat }
+    ensures reacted { Changed (HasCharted block.now event values.now meter.old.left emits.old meter.new.left emits.new) blocks.old seat result blocks.new }
     ensures fewer { meter.new.left ≤ meter.old.left }
     ensures well_formed { let IsFit = IsWellFormed block.now in All IsFit emits.old → All IsFit emits.new }
 {
-    let Some(place) = blocks.get_mut(first as usize) else {
+    let Some(place) = blocks.get_mut(seat) else {
         unreachable!()
     };
-    match rest {
-        [] => match place {
-            Block::Basic(basic) => react(&mut basic.state, block, event, values, meter, emits),
-            Block::Event(_) | Block::Composite(_) => unreachable!(),
-        },
-        [next, rest @ ..] => match place.components_mut() {
-            Some(components) => react_at(
-                components, *next, rest, block, event, values, meter, emits,
-            ),
-            None => unreachable!(),
-        },
+    match place {
+        Block::Basic(basic) => react(&mut basic.state, block, event, values, meter, emits),
+        Block::Event(_) | Block::Composite(_) => unreachable!(),
     }
 }

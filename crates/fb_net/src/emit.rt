@@ -168,8 +168,9 @@ fn carried_values(
 }
 
 impl Taking<'_> {
-    /// Emits one output event.
-    fn emit_one(&mut self, instance: u32, emission: Emission) -> Result<(), AllocError>
+    /// Emits one output event: its variables are published, it goes where its connections lead, and it has a line. The
+    /// error is that memory runs out; each instance has its block then too.
+    pub fn emit_one(&mut self, instance: u32, emission: Emission) -> Result<(), AllocError>
         requires place { MayEmit self.old instance }
         requires emission { IsEmission (ports_in self.old instance) emission }
         ensures emitted { OnOk result (EmitsWell self.old instance (emission ∷ []) self.new) }

@@ -8,14 +8,15 @@ ghost use Rattle.fb_types.specs.Reactions.{World};
 ghost use Rattle.fb_system.specs.Lines.{IsEmission};
 ghost use Rattle.fb_system.specs.Ports.{IsPort};
 ghost use Rattle.fb_tree.specs.Worlds.{InForest, IsForest};
-ghost use Rattle.fb_net.specs.Leaves.{EventCame, HasTypedInputs, IsOne, taken_reaction, expiry_reaction};
+ghost use Rattle.fb_net.specs.Leaves.{Changed, EventCame, HasExpired, HasTypedInputs, IsEventAt, IsOne, taken_reaction, expiry_reaction};
 
 use fb_event::reaction::{expire, react};
 use fb_system::system::System;
 use fb_tree::block::Block;
 use fb_tree::resource::Forest;
 use fb_types::event_kind::EventKind;
-use fb_types::run::{Emits, Target, TimerAsk};
+use fb_types::items::Items;
+use fb_types::run::{Emits, Halt, Target, TimerAsk};
 use std::alloc::AllocError;
 
 /// The reaction of an event block, which lies in the resource and has sampled its inputs, to one of its event inputs,
@@ -46,22 +47,18 @@ pub fn react_event(
     // Also where memory runs out.
     ensures whole { (w : World) × IsForest system.now forest.new w }
 {
-    match forest.block(system, at.instance) {
-        Some(Block::Event(event)) => {
-            let mut ask = TimerAsk::Keep;
-            // What it remembers is small, and is worked on aside, so that the block stays where it is.
-            let mut state = event.state.twin();
-            let inputs = event.inputs.as_slice();
-            match react(&mut state, at.event, tick, inputs, emits, &mut ask) {
-                Ok(()) => {
-                    forest.remember(system, at.instance, state);
-                    Ok(ask)
-                }
-                Err(_) => Err(AllocError),
-            }
-        }
-        // The instance is an event block.
-        _ => unreachable!(),
+    system.facts();
+    let Some(place) = forest.block_mut(at.instance) else {
+        unreachable!()
+    };
+    let Block::Event(event) = place else {
+        unreachable!()
+    };
+    let mut ask = TimerAsk::Keep;
+    let inputs = event.inputs.as_slice();
+    match react(&mut event.state, at.event, tick, inputs, emits, &mut ask) {
+        Ok(()) => Ok(ask),
+        Err(_) => Err(AllocError),
     }
 }
 
@@ -91,19 +88,33 @@ pub fn expire_event(
     // Also where memory runs out.
     ensures whole { (w : World) × IsForest system.now forest.new w }
 {
-    match forest.block(system, instance) {
-        Some(Block::Event(event)) => {
-            let mut ask = TimerAsk::Keep;
-            let mut state = event.state.twin();
-            match expire(&mut state, tick, emits, &mut ask) {
-                Ok(()) => {
-                    forest.remember(system, instance, state);
-                    Ok(ask)
-                }
-                Err(_) => Err(AllocError),
-            }
-        }
-        // The instance is an event block.
-        _ => unreachable!(),
+    system.facts();
+    let seat = forest.seat(instance);
+    let blocks = &mut forest.blocks;
+    let mut ask = TimerAsk::Keep;
+    match expire_at(blocks, seat, tick, emits, &mut ask) {
+        Ok(()) => Ok(ask),
+        Err(_) => Err(AllocError),
+    }
+}
+
+/// The reaction of the event block at a seat to its timer, where it stands.
+fn expire_at(
+    blocks: &mut Items<Block>,
+    seat: usize,
+    tick: u64,
+    emits: &mut Emits,
+    ask: &mut TimerAsk,
+) -> Result<(), Halt>
+    requires early { tick ≤ 10 ^ 12 }
+    requires event { IsEventAt blocks.old seat }
+    ensures { Changed (HasExpired tick emits.old ask.new emits.new) blocks.old seat result blocks.new }
+{
+    let Some(place) = blocks.get_mut(seat) else {
+        unreachable!()
+    };
+    match place {
+        Block::Event(event) => expire(&mut event.state, tick, emits, ask),
+        Block::Basic(_) | Block::Composite(_) => unreachable!(),
     }
 }

@@ -63,8 +63,18 @@ pub fn shown_values(
     ensures shown { IfOk result (AreShown system.now forest.now at) }
     ensures counted { IfOk result (λ vs. length vs ≡ length (names_out (system_of system.now) at)) }
 {
+    let places = system.outputs_with(at.instance, at.event);
+    if let [place] = places {
+        let output = Place {
+            instance: at.instance,
+            variable: *place,
+            is_output: true,
+        };
+        let value = forest.shown_inside(system, output);
+        return Values::from_slice(alloc, &[value]);
+    }
     let mut values = Values::new(alloc);
-    for place in system.outputs_with(at.instance, at.event) {
+    for place in places {
         let output = Place {
             instance: at.instance,
             variable: *place,

@@ -15,7 +15,7 @@ mod limits;
 mod messages;
 mod numbers;
 mod rows;
+mod seats;
 mod shared;
 mod timers;
-mod trees;
 mod wiring;

@@ -26,12 +26,9 @@ use Rattle.fb_ecc.specs.Opened.{IsOfDeclaration, IsOpened, slot_of}
 use Rattle.fb_ecc.specs.Places.{IsBlockOf, state_at}
 use Rattle.fb_ecc.specs.declared.state.BasicState.{BasicState}
 use Rattle.fb_system.specs.Stimuli.{initial_inputs, initial_outputs}
-use Rattle.fb_tree.specs.Blocks.{components_in, components_of, composite_with, own_of}
 use Rattle.fb_tree.specs.Worlds.{BasicStands, CompositeStands, EventStands, NodeStands, ShellStands, StandsFor, ValuesStand, begins}
 use Rattle.fb_tree.specs.declared.block.Block.{Block}
-use Rattle.fb_tree.specs.declared.block.Block.TheOpen.{Block-F}
 use Rattle.fb_tree.specs.declared.block.Block.TheVariants as block
-use Rattle.fb_tree.specs.declared.block.Block.TheViews.{out-Block, roll-Block, roll-CompositeBlock, the_lemmas}
 use Rattle.fb_tree.specs.declared.block.BasicBlock.{BasicBlock}
 use Rattle.fb_tree.specs.declared.block.CompositeBlock.{CompositeBlock}
 use Rattle.fb_tree.specs.declared.block.EventBlock.{EventBlock}
@@ -43,23 +40,6 @@ use Rattle.fb_types.proofs.Positions.{slice_get-Contains}
 use Rattle.fb_types.proofs.NameLaws.{any_from_contains}
 use Rattle.fb_tree.proofs.Frames.{begun_at, other_begins}
 use Rattle.fb_tree.proofs.Known.{basic_at, kind_there, known_of, once_of, parameter_input, stood}
-
-pub out_roll : (x : Block-F Block CompositeBlock) → out-Block (roll-Block x) ≡ x
-out_roll x = search (rules, the_lemmas)
-
-out_basic : (b : BasicBlock) → out-Block (block.Basic b) ≡ Block-F.Basic b
-out_basic b = search (rules, the_lemmas)
-
-out_composite : (c : CompositeBlock) → out-Block (block.Composite (roll-CompositeBlock (record { inputs = c.inputs; shell = c.shell; components = c.components }))) ≡ Block-F.Composite c
-out_composite c = search (rules, the_lemmas)
-
--- a block stands as what it is made of does
-stands_made :
-    (sys : System) (p : Path) (b : Block) (x : Block-F Block CompositeBlock) (k : Option Kind) (m : model.Block) → out-Block b ≡ x → sys.kind p ≡ k
-    → NodeStands sys p k (composite_with [] x) m → StandsFor sys p (own_of b) m
-stands_made sys p b x k m made is h =
-    let e : out-Block (own_of b) ≡ composite_with [] x = out_roll (composite_with [] (out-Block b)) ∙ ap (composite_with []) made in
-    subst (λ y. NodeStands sys p (sys.kind p) y m) (sym e) (subst (λ (k : Option Kind). NodeStands sys p k (composite_with [] x) m) (sym is) h)
 
 -- ---- Values
 
@@ -88,9 +68,9 @@ shell_begins sys p s slots published = record {
 pub composite_begins :
     (sys : System) (p : Path) (t : CompositeType) (c : CompositeBlock) → sys.kind p ≡ Some (Composite t)
     → c.inputs ≡ initial_inputs sys p → c.shell.slots ≡ initial_inputs sys p → c.shell.published ≡ initial_outputs sys p
-    → StandsFor sys p (own_of (block.Composite (roll-CompositeBlock (record { inputs = c.inputs; shell = c.shell; components = c.components })))) (opening_block sys p)
+    → StandsFor sys p (block.Composite c) (opening_block sys p)
 composite_begins sys p t c is inputs slots published =
-    stands_made sys p (block.Composite (roll-CompositeBlock (record { inputs = c.inputs; shell = c.shell; components = c.components }))) (Block-F.Composite c) (Some (Composite t)) (opening_block sys p) (out_composite c) is (
+    subst (λ (k : Option Kind). NodeStands sys p k (block.Composite c) (opening_block sys p)) (sym is) (
       record {
         memory = ap opening_memory is;
         variables = values_begin sys p (variable_names (ports_at sys p).inputs) c.inputs inputs;
@@ -101,9 +81,9 @@ composite_begins sys p t c is inputs slots published =
 pub basic_begins :
     (sys : System) (p : Path) (t : BasicType) (b : BasicBlock) → sys.kind p ≡ Some (Basic t) → BasicStands t b.state (opening_block sys p)
     → b.shell.slots ≡ initial_inputs sys p → b.shell.published ≡ initial_outputs sys p
-    → StandsFor sys p (own_of (block.Basic b)) (opening_block sys p)
+    → StandsFor sys p (block.Basic b) (opening_block sys p)
 basic_begins sys p t b is stands slots published =
-    stands_made sys p (block.Basic b) (Block-F.Basic b) (Some (Basic t)) (opening_block sys p) (out_basic b) is (stands, shell_begins sys p b.shell slots published)
+    subst (λ (k : Option Kind). NodeStands sys p k (block.Basic b) (opening_block sys p)) (sym is) (stands, shell_begins sys p b.shell slots published)
 
 -- ---- Basic blocks
 

@@ -1,6 +1,7 @@
 -- What is read at a place of a block is what the model's block holds for the name there.
 use Rattle.std.proofs.Common.{◌≡◌, ℕ, ◌<◌, suc, List, [], ◌∷◌, length, true, false, refl, ap, sym, ◌∙◌, subst}
 use Rattle.std.specs.Prelude.{Option, Some, None, unwrap_or, slice_get, if◌then◌else◌}
+use Rattle.std.proofs.lemmas.Option.{none-some}
 use Rattle.fb_types.specs.Names.{Path}
 use Rattle.fb_types.specs.Values.{Values}
 use Rattle.fb_types.specs.Blocks.{Kind, Basic, Event, Composite, variable_names}
@@ -14,19 +15,13 @@ use Rattle.fb_types.specs.declared.library.CompositeType.{CompositeType}
 use Rattle.fb_types.specs.declared.library.Variable.{Variable}
 use Rattle.fb_types.specs.declared.value.Value.{Value}
 use Rattle.fb_types.specs.declared.run.Place.{Place}
-use Rattle.fb_types.proofs.Options.{map_parts}
-use Rattle.fb_fabric.specs.Layouts.{route_to}
 use Rattle.fb_system.specs.Ports.{IsVariable, data_input, data_output, variable_of, variables_at}
-use Rattle.fb_tree.specs.Blocks.{inputs_in, inputs_of, own_of, shell_in, shell_of}
-use Rattle.fb_tree.specs.Trees.{block_at}
-use Rattle.fb_tree.specs.Worlds.{CompositeStands, Found, InForest, IsComposite, IsForest, NodeStands, Reads, ShellStands, StandsFor, ValuesStand, route_in_tree, value_in}
+use Rattle.fb_tree.specs.Blocks.{inputs_of, shell_of}
+use Rattle.fb_tree.specs.Worlds.{CompositeStands, Found, InForest, IsComposite, IsForest, NodeStands, Reads, ShellStands, StandsFor, ValuesStand, seat_in, value_in}
 use Rattle.fb_tree.specs.declared.block.Block.{Block}
-use Rattle.fb_tree.specs.declared.block.Block.TheOpen.{Block-F}
-use Rattle.fb_tree.specs.declared.block.Block.TheViews.{out-Block}
-use Rattle.fb_tree.specs.declared.block.CompositeBlock.{CompositeBlock}
+use Rattle.fb_tree.specs.declared.block.Block.TheVariants as node
 use Rattle.fb_tree.specs.declared.resource.Forest.{Forest}
 use Rattle.fb_types.proofs.ByPlace.{element_at}
-use Rattle.fb_tree.proofs.Shells.{shell_of-own, inputs_of-own}
 
 -- ---- Values
 
@@ -76,31 +71,29 @@ among_outputs sys x e = ap (λ o. if o then (ports_at sys (path_at sys x.instanc
 
 -- ---- One block
 
-pub shell_stands : (sys : System) (p : Path) (k : Option Kind) (x : Block-F Block CompositeBlock) (m : model.Block) → NodeStands sys p k x m → ShellStands sys p (shell_in x) m
-shell_stands sys p None (Block-F.Basic x) m s = absurd s
-shell_stands sys p None (Block-F.Event x) m s = absurd s
-shell_stands sys p None (Block-F.Composite x) m s = absurd s
-shell_stands sys p (Some (Basic t)) (Block-F.Basic x) m s = s.1
-shell_stands sys p (Some (Basic t)) (Block-F.Event x) m s = absurd s
-shell_stands sys p (Some (Basic t)) (Block-F.Composite x) m s = absurd s
-shell_stands sys p (Some (Event k)) (Block-F.Basic x) m s = absurd s
-shell_stands sys p (Some (Event k)) (Block-F.Event x) m s = s.1
-shell_stands sys p (Some (Event k)) (Block-F.Composite x) m s = absurd s
-shell_stands sys p (Some (Composite t)) (Block-F.Basic x) m s = absurd s
-shell_stands sys p (Some (Composite t)) (Block-F.Event x) m s = absurd s
-shell_stands sys p (Some (Composite t)) (Block-F.Composite x) m s = s.1
+pub shell_stands : (sys : System) (p : Path) (k : Option Kind) (x : Block) (m : model.Block) → NodeStands sys p k x m → ShellStands sys p (shell_of x) m
+shell_stands sys p None (node.Basic x) m s = absurd s
+shell_stands sys p None (node.Event x) m s = absurd s
+shell_stands sys p None (node.Composite x) m s = absurd s
+shell_stands sys p (Some (Basic t)) (node.Basic x) m s = s.1
+shell_stands sys p (Some (Basic t)) (node.Event x) m s = absurd s
+shell_stands sys p (Some (Basic t)) (node.Composite x) m s = absurd s
+shell_stands sys p (Some (Event k)) (node.Basic x) m s = absurd s
+shell_stands sys p (Some (Event k)) (node.Event x) m s = s.1
+shell_stands sys p (Some (Event k)) (node.Composite x) m s = absurd s
+shell_stands sys p (Some (Composite t)) (node.Basic x) m s = absurd s
+shell_stands sys p (Some (Composite t)) (node.Event x) m s = absurd s
+shell_stands sys p (Some (Composite t)) (node.Composite x) m s = s.1
 
-copies_stand : (sys : System) (p : Path) (t : CompositeType) (x : Block-F Block CompositeBlock) (m : model.Block) →
-    NodeStands sys p (Some (Composite t)) x m → CompositeStands sys p (inputs_in x) m
-copies_stand sys p t (Block-F.Basic x) m s = absurd s
-copies_stand sys p t (Block-F.Event x) m s = absurd s
-copies_stand sys p t (Block-F.Composite x) m s = s.0
+copies_stand : (sys : System) (p : Path) (t : CompositeType) (x : Block) (m : model.Block) →
+    NodeStands sys p (Some (Composite t)) x m → CompositeStands sys p (inputs_of x) m
+copies_stand sys p t (node.Basic x) m s = absurd s
+copies_stand sys p t (node.Event x) m s = absurd s
+copies_stand sys p t (node.Composite x) m s = s.0
 
-module _ (sys : System) (x : Place) (b : Block) (m : model.Block) (variable : IsVariable sys x) (stands : StandsFor sys (path_at sys x.instance) (own_of b) m) where
+module _ (sys : System) (x : Place) (b : Block) (m : model.Block) (variable : IsVariable sys x) (stands : StandsFor sys (path_at sys x.instance) b m) where
   shell : ShellStands sys (path_at sys x.instance) (shell_of b) m
-  shell =
-      subst (λ s. ShellStands sys (path_at sys x.instance) s m) (shell_of-own b)
-      (shell_stands sys (path_at sys x.instance) (sys.kind (path_at sys x.instance)) (out-Block (own_of b)) m stands)
+  shell = shell_stands sys (path_at sys x.instance) (sys.kind (path_at sys x.instance)) b m stands
 
   pub slot_stands : x.is_output ≡ false → value_in (shell_of b).slots x.variable ≡ m.slots (variable_of sys x).name
   slot_stands e =
@@ -114,13 +107,12 @@ module _ (sys : System) (x : Place) (b : Block) (m : model.Block) (variable : Is
 
   pub copy_stands : IsComposite sys x → x.is_output ≡ false → value_in (inputs_of b) x.variable ≡ m.variables (variable_of sys x).name
   copy_stands composite e =
-      let copies = copies_stand sys (path_at sys x.instance) composite.0 (out-Block (own_of b)) m
-      (subst (λ k. NodeStands sys (path_at sys x.instance) k (out-Block (own_of b)) m) composite.1 stands) in
-      ap (λ vs. value_in vs x.variable) (sym (inputs_of-own b))
-      ∙ reads_at sys (path_at sys x.instance) (variables_at sys x) _ (among_inputs sys x e) (inputs_of (own_of b)) m.variables copies.variables x.variable variable.variable
+      let copies = copies_stand sys (path_at sys x.instance) composite.0 b m
+      (subst (λ k. NodeStands sys (path_at sys x.instance) k b m) composite.1 stands) in
+      reads_at sys (path_at sys x.instance) (variables_at sys x) _ (among_inputs sys x e) (inputs_of b) m.variables copies.variables x.variable variable.variable
       ∙ ap m.variables (sym (name_is sys x))
 
--- ---- The trees
+-- ---- The seats
 
 same_found : {A : Type 0} (o : Option A) (a b : A) → o ≡ Some a → o ≡ Some b → a ≡ b
 same_found o a b e f = cc
@@ -128,23 +120,22 @@ same_found o a b e f = cc
 pub found_reads :
     (i : Inputs) (t : Forest) (x : Place) (part : model.Block → Values) (b : Block) (v : Value) (o : Option Block) → o ≡ Some b →
     ((w : World) → IsForest i t w → InForest i t x.instance → Found i x.instance (w.blocks (path_at (system_of i) x.instance)) o) →
-    ((m : model.Block) → StandsFor (system_of i) (path_at (system_of i) x.instance) (own_of b) m → v ≡ part m (variable_of (system_of i) x).name) →
+    ((m : model.Block) → StandsFor (system_of i) (path_at (system_of i) x.instance) b m → v ≡ part m (variable_of (system_of i) x).name) →
     Reads i t x part v
 found_reads i t x part b v o is found reads w tree within =
     let f = found w tree within in
     let p = path_at (system_of i) x.instance in
-    reads (w.blocks p) (subst (λ (y : Block). StandsFor (system_of i) p (own_of y) (w.blocks p)) (same_found o f.block b f.is is) f.stands)
+    reads (w.blocks p) (subst (λ (y : Block). StandsFor (system_of i) p y (w.blocks p)) (same_found o f.block b f.is is) f.stands)
     ∙ ap (λ q. part (w.blocks q) (variable_of (system_of i) x).name) (sym (at_is (system_of i) x))
 
--- the block at the route of an instance stands for it
+-- the block at the seat of an instance stands for it
 pub found_at :
-    (i : Inputs) (t : Forest) (k : ℕ) → k < length (system_of i).paths → (route : List ℕ) → route ≡ route_in_tree i k →
-    (o : Option Block) → o ≡ block_at t.blocks route → (w : World) → IsForest i t w → InForest i t k → Found i k (w.blocks (path_at (system_of i) k)) o
-found_at i t k number route is o at w forest lies =
-    let stands = forest.blocks k number lies in
-    let b = map_parts own_of (block_at t.blocks (route_in_tree i k)) stands.own stands.stood in
-    record {
-      block = b.0;
-      is = at ∙ ap (block_at t.blocks) is ∙ b.1;
-      stands = subst (λ own. StandsFor (system_of i) (path_at (system_of i) k) own (w.blocks (path_at (system_of i) k))) (sym b.2) stands.stands;
-    }
+    (i : Inputs) (t : Forest) (k : ℕ) → k < length (system_of i).paths → (o : Option Block) → o ≡ slice_get t.blocks (seat_in t.seats k) →
+    (w : World) → IsForest i t w → InForest i t k → Found i k (w.blocks (path_at (system_of i) k)) o
+found_at i t k number o at w forest lies =
+    let s = forest.blocks k number lies in record { block = s.block; is = at ∙ s.stood; stands = s.stands }
+
+-- each instance of the resource has a block
+pub never_absent : (i : Inputs) (t : Forest) (x : Place) (part : model.Block → Values) (v : Value) →
+    ((w : World) → IsForest i t w → InForest i t x.instance → Found i x.instance (w.blocks (path_at (system_of i) x.instance)) None) → Reads i t x part v
+never_absent i t x part v found w forest lies = (let f = found w forest lies in absurd (none-some f.block f.is))

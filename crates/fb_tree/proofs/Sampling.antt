@@ -11,7 +11,7 @@ use Rattle.fb_types.specs.declared.run.Place.{Place}
 use Rattle.fb_types.proofs.NameLaws.{any_from_contains}
 use Rattle.fb_system.specs.Ports.{IsSource, IsVariable, variable_of, variables_at}
 use Rattle.fb_tree.specs.Changes.{ShowsInside}
-use Rattle.fb_tree.specs.Worlds.{IsComposite, Samples, Shows}
+use Rattle.fb_tree.specs.Worlds.{IsComposite, Reads, Samples, Shows}
 use Rattle.fb_tree.specs.declared.resource.Forest.{Forest}
 use Rattle.fb_tree.proofs.Apart.{kind_apart}
 use Rattle.fb_types.proofs.ByPlace.{element_of_place}
@@ -72,4 +72,18 @@ pub source_inside :
     Some (variable_of (system_of i) s) ≡ (system_of i).source (variable_of (system_of i) x) → Shows i t s v → ShowsInside i t x v
 source_inside i t x s v is_x is_s comes shows w tree within =
     shows w tree (record { to = x; variable = is_x; within = within; source = sym comes }) is_s
+    ∙ ap (λ o. elim o [ None ↦ (w.blocks (variable_of (system_of i) x).at).published (variable_of (system_of i) x).name | Some q ↦ shown (system_of i) t.resource w q ]) comes
+
+-- without a source a data input has what a stimulus has set
+pub slot_sampled :
+    (i : Inputs) (t : Forest) (x : Place) (v : Value) → None ≡ (system_of i).source (variable_of (system_of i) x) → Reads i t x (λ b. b.slots) v → Samples i t x v
+slot_sampled i t x v comes reads w tree within =
+    reads w tree within
+    ∙ ap (λ o. elim o [ None ↦ (w.blocks (variable_of (system_of i) x).at).slots (variable_of (system_of i) x).name | Some q ↦ shown (system_of i) t.resource w q ]) comes
+
+-- .. and a data output of a composite what it showed before
+pub published_inside :
+    (i : Inputs) (t : Forest) (x : Place) (v : Value) → None ≡ (system_of i).source (variable_of (system_of i) x) → Reads i t x (λ b. b.published) v → ShowsInside i t x v
+published_inside i t x v comes reads w tree within =
+    reads w tree within
     ∙ ap (λ o. elim o [ None ↦ (w.blocks (variable_of (system_of i) x).at).published (variable_of (system_of i) x).name | Some q ↦ shown (system_of i) t.resource w q ]) comes

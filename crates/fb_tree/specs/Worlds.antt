@@ -1,5 +1,5 @@
--- What the blocks of one resource stand for in the model (IEC 61499-1, 5.2 and 5.3; that a resource has trees of its own instances, and held copies, is this project's profile).
-use Rattle.std.specs.Prelude.{◌≡◌, ◌<◌, ◌≢◌, ℕ, Bool, false, List, [], ◌∷◌, length, Option, Some, None, unwrap_or, slice_get}
+-- What the blocks of one resource stand for in the model (IEC 61499-1, 5.2 and 5.3; that a resource has blocks of its own instances, and held copies, is this project's profile).
+use Rattle.std.specs.Prelude.{◌≡◌, ◌<◌, ◌≢◌, ℕ, Bool, false, List, [], ◌∷◌, length, Option, Some, None, unwrap_or, slice_get, slice_set}
 use Rattle.std.specs.BTreeMap.{get}
 use Rattle.std.specs.Ordering.{nat_cmp, bool_cmp, ordering_then}
 use Rattle.std.specs.declared.cmp.Ordering.{Ordering}
@@ -19,16 +19,10 @@ use Rattle.fb_st.specs.Frames.{values_of}
 use Rattle.fb_ecc.specs.Places.{IsBlockOf, state_at}
 use Rattle.fb_ecc.specs.Sound.{IsSound}
 use Rattle.fb_ecc.specs.declared.state.BasicState.{BasicState}
-use Rattle.fb_fabric.specs.Layouts.{route_to}
 use Rattle.fb_types.specs.declared.run.Place.{Place}
-use Rattle.fb_system.specs.Linking.{rank}
 use Rattle.fb_system.specs.Ports.{IsCompositeAt, IsSource, IsVariable, variable_of}
-use Rattle.fb_tree.specs.Blocks.{own_of}
-use Rattle.fb_tree.specs.Trees.{own_at}
 use Rattle.fb_tree.specs.declared.block.Block.{Block}
-use Rattle.fb_tree.specs.declared.block.Block.TheOpen.{Block-F}
-use Rattle.fb_tree.specs.declared.block.Block.TheViews.{out-Block}
-use Rattle.fb_tree.specs.declared.block.CompositeBlock.{CompositeBlock}
+use Rattle.fb_tree.specs.declared.block.Block.TheVariants as node
 use Rattle.fb_tree.specs.declared.block.EventBlock.{EventBlock}
 use Rattle.fb_tree.specs.declared.resource.Forest.{Forest}
 use Rattle.fb_tree.specs.declared.shell.Shell.{Shell}
@@ -79,38 +73,43 @@ pub record CompositeStands (sys : System) (p : Path) (copies : List Value) (b : 
   pub variables : ValuesStand sys p (input_names sys p) copies b.variables
 
 -- what a block of that kind is, with its shell
-abbrev pub NodeStands : System → Path → Option Kind → Block-F Block CompositeBlock → model.Block → Type 0
-NodeStands sys p (Some (Basic t)) (Block-F.Basic x) b = BasicStands t x.state b × ShellStands sys p x.shell b
-NodeStands sys p (Some (Event k)) (Block-F.Event x) b = EventStands sys p k x b × ShellStands sys p x.shell b
-NodeStands sys p (Some (Composite t)) (Block-F.Composite x) b = CompositeStands sys p x.inputs b × ShellStands sys p x.shell b
+abbrev pub NodeStands : System → Path → Option Kind → Block → model.Block → Type 0
+NodeStands sys p (Some (Basic t)) (node.Basic x) b = BasicStands t x.state b × ShellStands sys p x.shell b
+NodeStands sys p (Some (Event k)) (node.Event x) b = EventStands sys p k x b × ShellStands sys p x.shell b
+NodeStands sys p (Some (Composite t)) (node.Composite x) b = CompositeStands sys p x.inputs b × ShellStands sys p x.shell b
 NodeStands sys p k x b = ⊥
 
--- The block stands for that one at a path. Its components stand for others.
+-- The block stands for that one at a path.
 abbrev pub StandsFor : System → Path → Block → model.Block → Type 0
-StandsFor sys p x b = NodeStands sys p (sys.kind p) (out-Block x) b
+StandsFor sys p x b = NodeStands sys p (sys.kind p) x b
 
--- ---- The trees of one resource
+-- ---- The seats of one resource
 
--- a route that begins with another place
-abbrev pub ranked : (ℕ → ℕ) → List ℕ → List ℕ
-ranked rank_of [] = []
-ranked rank_of (place ∷ rest) = rank_of place ∷ rest
+-- the place of an instance's block among those of its resource
+abbrev pub seat_in : List ℕ → (instance : ℕ) → ℕ
+seat_in seats k = unwrap_or (slice_get seats k) 0
 
--- the route of an instance in the trees of its resource
-abbrev pub route_in_tree : Inputs → (instance : ℕ) → List ℕ
-route_in_tree i k = ranked (rank i.library i.plan) (route_to i.library (path_at (system_of i) k))
+-- the blocks with another one at the seat of an instance
+abbrev pub with_seated : Forest → (instance : ℕ) → Block → Forest
+with_seated t k b = record t { blocks = slice_set t.blocks (seat_in t.seats k) b }
 
--- The own part of a block among the trees stands for an instance.
-pub record StandsAt (i : Inputs) (blocks : List Block) (k : ℕ) (b : model.Block) : Type 0 where
-  pub own : Block
-  pub stood : own_at blocks (route_in_tree i k) ≡ Some own
-  pub stands : StandsFor (system_of i) (path_at (system_of i) k) own b
+-- The block at the seat of an instance stands for it.
+pub record StandsAt (i : Inputs) (seats : List ℕ) (blocks : List Block) (k : ℕ) (b : model.Block) : Type 0 where
+  pub block : Block
+  pub stood : slice_get blocks (seat_in seats k) ≡ Some block
+  pub stands : StandsFor (system_of i) (path_at (system_of i) k) block b
 
 -- A block was found that stands for an instance.
 pub record Found (i : Inputs) (k : ℕ) (b : model.Block) (found : Option Block) : Type 0 where
   pub block : Block
   pub is : found ≡ Some block
-  pub stands : StandsFor (system_of i) (path_at (system_of i) k) (own_of block) b
+  pub stands : StandsFor (system_of i) (path_at (system_of i) k) block b
+
+-- No two of the first instances of a resource, of which there are so many, have one seat.
+unfoldable pub AreApart : Inputs → (resource count : ℕ) → List ℕ → Type 0
+AreApart i r n seats =
+    (j k : ℕ) → j < n → k < n → (system_of i).resource (path_at (system_of i) j) ≡ r → (system_of i).resource (path_at (system_of i) k) ≡ r →
+    seat_in seats j ≡ seat_in seats k → j ≡ k
 
 -- ---- Held copies
 
@@ -129,14 +128,15 @@ pub record IsRead (sys : System) (resource : ℕ) (x : Place) : Type 0 where
 
 -- ---- The world of one resource
 
--- Each instance of the resource has its block, and each variable of another resource that one is connected to has its held copy.
+-- Each instance of the resource has its block at a seat of its own, and each variable of another resource that one is connected to has its held copy.
 pub record IsForest (i : Inputs) (t : Forest) (w : World) : Type 0 where
   pub blocks : (k : ℕ) → k < length (system_of i).paths → (system_of i).resource (path_at (system_of i) k) ≡ t.resource →
-      StandsAt i t.blocks k (w.blocks (path_at (system_of i) k))
+      StandsAt i t.seats t.blocks k (w.blocks (path_at (system_of i) k))
+  pub apart : AreApart i t.resource (length (system_of i).paths) t.seats
   pub held : (x : Place) → IsVariable (system_of i) x → IsRead (system_of i) t.resource x → (system_of i).resource (path_at (system_of i) x.instance) ≢ t.resource →
       get key_cmp t.held (key_of x) ≡ Some (w.held (variable_of (system_of i) x))
 
--- ---- What is read of a tree
+-- ---- What is read of the blocks
 
 abbrev pub InForest : Inputs → Forest → (instance : ℕ) → Type 0
 InForest i t k = (system_of i).resource (path_at (system_of i) k) ≡ t.resource
@@ -144,13 +144,13 @@ InForest i t k = (system_of i).resource (path_at (system_of i) k) ≡ t.resource
 abbrev pub IsComposite : System → Place → Type 0
 IsComposite sys x = IsCompositeAt sys x.instance
 
--- The value is what a part of the instance's block holds for a variable, in each world that the tree stands for.
+-- The value is what a part of the instance's block holds for a variable, in each world that the blocks stand for.
 abbrev pub Reads : Inputs → Forest → Place → (model.Block → Values) → Value → Type 0
 Reads i t x part v =
     let sys = system_of i in
     (w : World) → IsForest i t w → InForest i t x.instance → v ≡ part (w.blocks (variable_of sys x).at) (variable_of sys x).name
 
--- The value is what a source in the resource shows, in each world that the tree stands for.
+-- The value is what a source in the resource shows, in each world that the blocks stand for.
 abbrev pub Sees : Inputs → Forest → Place → Value → Type 0
 Sees i t x v = (w : World) → IsForest i t w → InForest i t x.instance → IsSource (system_of i) x → v ≡ seen (system_of i) w (variable_of (system_of i) x)
 

@@ -1,6 +1,6 @@
-//! A function block with what stands inside it.
+//! A function block with its variables.
 
-ghost use Rattle.std.specs.Prelude.{◌≡◌, [], IfSome, IfNone, List};
+ghost use Rattle.std.specs.Prelude.{◌≡◌, IfSome, IfNone, List};
 
 use crate::shell::Shell;
 use fb_ecc::state::BasicState;
@@ -23,18 +23,14 @@ pub struct EventBlock {
     pub shell: Shell,
 }
 
-/// A composite block: its copies of its data inputs, its shell, and its components in the order of the
-/// declaration.
-#[cycle(block)]
+/// A composite block: its copies of its data inputs, and its shell. Its components are instances themselves.
 #[derive(Drop)]
 pub struct CompositeBlock {
     pub inputs: Items<Value>,
     pub shell: Shell,
-    pub components: Items<Block>,
 }
 
-/// A function block with what stands inside it.
-#[cycle(block)]
+/// A function block with its variables.
 #[derive(Drop)]
 pub enum Block {
     Basic(BasicBlock),
@@ -46,12 +42,10 @@ impl Block {
     ghost use Rattle.std.specs.Borrow.{Lends, LendsIf, sem};
     ghost use Rattle.fb_types.specs.contracts.value.Value.{the_row as value_row};
     ghost use Rattle.fb_types.specs.declared.value.Value.{Value};
-    ghost use Rattle.fb_event.specs.State.{State};
-    ghost use Rattle.fb_event.specs.contracts.state.EventState.{the_row as state_row};
     ghost use Rattle.fb_tree.specs.contracts.shell.Shell.{the_row as shell_row};
     ghost use Rattle.fb_tree.specs.contracts.block.Block.{the_row};
     ghost use Rattle.fb_types.specs.contracts.items.Items.{the_row as items_row};
-    ghost use Rattle.fb_tree.specs.Blocks.{components_of, with_components, shell_of, with_shell, inputs_of, with_inputs, with_state};
+    ghost use Rattle.fb_tree.specs.Blocks.{shell_of, with_shell, inputs_of, with_inputs};
 
     /// The slots of the data inputs, and the published outputs.
     pub fn shell(&self) -> &Shell
@@ -98,39 +92,6 @@ impl Block {
             Block::Basic(_) => None,
             Block::Event(event) => Some(&mut event.inputs),
             Block::Composite(composite) => Some(&mut composite.inputs),
-        }
-    }
-
-    /// What an event block remembers, to be changed. Other blocks have no such memory.
-    pub(crate) fn state_mut(&mut self) -> Option<&mut EventState>
-        ensures* writes_back { sem 𝓛 (LendsIf the_row state_row self.entry result (with_state self.old) self.old) }
-        ensures none { IfNone result ((s : State) → with_state self.old s ≡ self.old) }
-    {
-        match self {
-            Block::Event(event) => Some(&mut event.state),
-            Block::Basic(_) | Block::Composite(_) => None,
-        }
-    }
-
-    /// The blocks inside the block: those of a composite block. Other blocks have none.
-    pub fn components(&self) -> &[Block]
-        ensures { result.now ≡ components_of self.now }
-    {
-        match self {
-            Block::Composite(composite) => composite.components.as_slice(),
-            Block::Basic(_) | Block::Event(_) => &[],
-        }
-    }
-
-    /// The blocks inside a composite block, to be changed.
-    pub fn components_mut(&mut self) -> Option<&mut Items<Block>>
-        ensures* writes_back { sem 𝓛 (LendsIf the_row (items_row the_row) self.entry result (with_components self.old) self.old) }
-        ensures value { IfSome result (λ l. l.now ≡ components_of self.old) }
-        ensures none { IfNone result (components_of self.old ≡ []) }
-    {
-        match self {
-            Block::Composite(composite) => Some(&mut composite.components),
-            Block::Basic(_) | Block::Event(_) => None,
         }
     }
 }

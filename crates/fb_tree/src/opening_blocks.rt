@@ -1,15 +1,13 @@
 //! One block before the first event.
 
 ghost use Rattle.std.specs.Prelude.{◌≡◌, ◌<◌, length, map, Some, true, IfOk, OnOk};
-ghost use Rattle.fb_types.specs.Blocks.{Basic, Composite, variable_names};
+ghost use Rattle.fb_types.specs.Blocks.{Basic, variable_names};
 ghost use Rattle.fb_types.specs.Headline.{system_of};
 ghost use Rattle.fb_types.specs.Numbers.{path_at, ports_at};
 ghost use Rattle.fb_types.specs.Simulation.{opening_block};
-ghost use Rattle.fb_types.specs.declared.library.CompositeType.{CompositeType};
 ghost use Rattle.fb_st.specs.Frames.{declared_in, values_of};
 ghost use Rattle.fb_ecc.specs.Numbered.{chart_of};
 ghost use Rattle.fb_system.specs.Stimuli.{initial_inputs, initial_outputs};
-ghost use Rattle.fb_tree.specs.Blocks.{components_of, own_of};
 ghost use Rattle.fb_tree.specs.Worlds.{BasicStands, StandsFor};
 ghost use Rattle.fb_tree.specs.Opening.{AreCharts, AreDeclared, begun_all};
 
@@ -88,19 +86,17 @@ fn basic_of(
     Ok(state)
 }
 
-/// The block of an instance. Its components stand inside it where it is a composite. A basic block shares the chart of
-/// its type, which is put among the others where the block is the first of the type.
-pub(crate) fn block_with(
+/// The block of an instance. A basic block shares the chart of its type, which is put among the others where the block
+/// is the first of the type.
+pub(crate) fn block_of(
     alloc: Global,
     system: &System,
     instance: u32,
-    components: Vec<Block>,
     charts: &mut Charts,
 ) -> Result<Block, AllocError>
     requires instance { instance < length (system_of system.now).paths }
     requires charts { AreCharts system.now charts.old }
-    ensures stands { IfOk result (λ b. let p = path_at (system_of system.now) instance in StandsFor (system_of system.now) p (own_of b) (opening_block (system_of system.now) p)) }
-    ensures components { IfOk result (λ b. (c : CompositeType) → (system_of system.now).kind (path_at (system_of system.now) instance) ≡ Some (Composite c) → components_of b ≡ components.items) }
+    ensures stands { IfOk result (λ b. let p = path_at (system_of system.now) instance in StandsFor (system_of system.now) p b (opening_block (system_of system.now) p)) }
     ensures charts { OnOk result (AreCharts system.now charts.new) }
 {
     system.facts();
@@ -123,12 +119,7 @@ pub(crate) fn block_with(
             }
             Some(BlockType::Composite(_)) => {
                 let inputs = inputs_of(alloc, system, instance)?;
-                let components = Items::from_vec(components);
-                Ok(Block::Composite(CompositeBlock {
-                    inputs,
-                    shell,
-                    components,
-                }))
+                Ok(Block::Composite(CompositeBlock { inputs, shell }))
             }
             None => unreachable!(),
         },

@@ -1,21 +1,17 @@
 //! The blocks and the held copies of one resource.
 
-ghost use Rattle.std.specs.Prelude.{◌≡◌, ◌<◌, ◌∷◌, Some, length, true, false, unwrap_or};
+ghost use Rattle.std.specs.Prelude.{◌≡◌, ◌<◌, length, option_map, slice_get, true, false, unwrap_or};
 ghost use Rattle.std.specs.BTreeMap.{get};
 ghost use Rattle.std.specs.Option.{option_copied};
-ghost use Rattle.fb_types.specs.Blocks.{Event};
 ghost use Rattle.fb_types.specs.Flat.{zero_value};
 ghost use Rattle.fb_types.specs.Headline.{system_of};
 ghost use Rattle.fb_types.specs.Numbers.{path_at};
 ghost use Rattle.fb_types.specs.Reactions.{World};
 ghost use Rattle.fb_system.specs.Ports.{IsVariable, variable_of};
-ghost use Rattle.fb_tree.specs.Changes.{Changes, Holds, ShowsInside, input_sampled, output_shown, remembered, slot_set};
-ghost use Rattle.fb_tree.specs.Worlds.{TakesSamples, Found, InForest, IsComposite, IsForest, Reads, Samples, Sees, Shows, key_cmp, key_of, route_in_tree, value_in};
+ghost use Rattle.fb_tree.specs.Changes.{Changes, Holds, ShowsInside, input_sampled, output_shown, slot_set};
+ghost use Rattle.fb_tree.specs.Worlds.{TakesSamples, Found, InForest, IsComposite, IsForest, Reads, Samples, Sees, Shows, key_cmp, key_of, seat_in, value_in, with_seated};
 
 use crate::block::Block;
-use crate::tree::find;
-use crate::values::{publish, remember, set_input, set_slot};
-use fb_event::state::EventState;
 use fb_system::system::System;
 use fb_types::items::Items;
 use fb_types::run::Place;
@@ -32,7 +28,11 @@ pub type HeldCopies = BTreeMap<(u32, u32, bool), Value, Global>;
 pub struct Forest {
     /// The number of the resource.
     pub resource: usize,
-    /// The instances of the application that lie in the resource, in the order of the text.
+    /// For each instance of the system, the place of its block among those of the resource. That of an instance of
+    /// another resource means nothing.
+    pub seats: Items<u32>,
+    /// The blocks of the instances that lie in the resource, in the order of their numbers. Those inside a composite
+    /// stand beside it, so that each is found at once however deep it is.
     pub blocks: Items<Block>,
     pub held: HeldCopies,
 }
@@ -40,28 +40,40 @@ pub struct Forest {
 /// What stands for a value that is not there.
 const NOTHING: Value = Value::Whole(0);
 
-/// The route of an instance among the blocks of its resource: its first place there, and the rest.
-#[inline(always)]
-pub fn route(system: &System, instance: u32) -> (u32, &[u32])
-    requires { instance < length (system_of system.now).paths }
-    ensures { result.0 ∷ result.1.now ≡ route_in_tree system.now instance }
-{
-    system.facts();
-    match system.route(instance) {
-        [] => unreachable!(),
-        [place, rest @ ..] => (system.rank(*place), rest),
-    }
-}
-
 impl Forest {
+    ghost use Rattle.std.specs.Borrow.{LendsIf, sem};
+    ghost use Rattle.fb_tree.specs.contracts.block.Block.{the_row as block_row};
+    ghost use Rattle.fb_tree.specs.contracts.resource.Forest.{the_row};
+
+    /// The place of an instance's block among those of the resource, in which the instance lies.
+    #[inline(always)]
+    pub fn seat(&self, instance: u32) -> usize
+        ensures { result ≡ seat_in self.now.seats instance }
+    {
+        match self.seats.get(instance as usize) {
+            Some(seat) => *seat as usize,
+            None => 0,
+        }
+    }
+
     /// The block of an instance that lies in the resource.
     pub fn block(&self, system: &System, instance: u32) -> Option<&Block>
         requires { instance < length (system_of system.now).paths }
         ensures { (w : World) → IsForest system.now self.now w → InForest system.now self.now instance →
             Found system.now instance (w.blocks (path_at (system_of system.now) instance)) (option_copied result) }
     {
-        let (first, rest) = route(system, instance);
-        find(self.blocks.as_slice(), first, rest)
+        system.facts();
+        self.blocks.get(self.seat(instance))
+    }
+
+    /// The block of an instance that lies in the resource, to be changed.
+    #[inline(always)]
+    pub fn block_mut(&mut self, instance: u32) -> Option<&mut Block>
+        ensures* writes_back { sem 𝓛 (LendsIf the_row block_row self.entry result (with_seated self.old instance) self.old) }
+        ensures value { option_map (λ b. b.now) result ≡ slice_get self.old.blocks (seat_in self.old.seats instance) }
+    {
+        let seat = self.seat(instance);
+        self.blocks.get_mut(seat)
     }
 
     /// What a connection or a stimulus has set at a data input of an instance that lies in the resource.
@@ -168,9 +180,9 @@ impl Forest {
         ensures { Changes system.now self.old input.instance (slot_set (variable_of (system_of system.now) input).name value) self.new }
     {
         system.facts();
-        let (first, rest) = route(system, input.instance);
-        let place = input.variable as usize;
-        set_slot(&mut self.blocks, first, rest, place, value);
+        if let Some(block) = self.block_mut(input.instance) {
+            block.shell_mut().slots.set(input.variable as usize, value);
+        }
     }
 
     /// A data output of an instance that lies in the resource shows another value to connections.
@@ -180,9 +192,12 @@ impl Forest {
         ensures { Changes system.now self.old output.instance (output_shown (variable_of (system_of system.now) output).name value) self.new }
     {
         system.facts();
-        let (first, rest) = route(system, output.instance);
-        let place = output.variable as usize;
-        publish(&mut self.blocks, first, rest, place, value);
+        if let Some(block) = self.block_mut(output.instance) {
+            block
+                .shell_mut()
+                .published
+                .set(output.variable as usize, value);
+        }
     }
 
     /// An event block or a composite that lies in the resource samples a data input.
@@ -193,20 +208,11 @@ impl Forest {
         ensures { Changes system.now self.old input.instance (input_sampled (variable_of (system_of system.now) input).name value) self.new }
     {
         system.facts();
-        let (first, rest) = route(system, input.instance);
-        let place = input.variable as usize;
-        set_input(&mut self.blocks, first, rest, place, value);
-    }
-
-    /// An event block that lies in the resource remembers something else, as after its reaction.
-    pub fn remember(&mut self, system: &System, instance: u32, state: EventState)
-        requires instance { instance < length (system_of system.now).paths }
-        requires event { (system_of system.now).kind (path_at (system_of system.now) instance) ≡ Some (Event state.kind) }
-        ensures { Changes system.now self.old instance (remembered state.memory) self.new }
-    {
-        system.facts();
-        let (first, rest) = route(system, instance);
-        remember(&mut self.blocks, first, rest, state);
+        if let Some(block) = self.block_mut(input.instance) {
+            if let Some(inputs) = block.inputs_mut() {
+                inputs.set(input.variable as usize, value);
+            }
+        }
     }
 
     /// A message brings a value of a variable of another resource. Where nothing in this resource is connected to the

@@ -4,7 +4,7 @@ use Rattle.fb_types.specs.Headline.{system_of}
 use Rattle.fb_types.specs.Numbers.{path_at, ports_at}
 use Rattle.fb_types.specs.Reactions.{sampled_from}
 use Rattle.fb_net.specs.Samples.{AreSampled, names_in}
-use Rattle.fb_net.proofs.Reading.{read_all}
+use Rattle.fb_net.proofs.Reading.{read_all, read_more, sampled_at}
 use Rattle.fb_net.proofs.Sampling.{one-sampled}
 use Rattle.fb_net.proofs.samples.sampled_values.Goals as goal
 
@@ -21,3 +21,10 @@ returns-in-len1-clause-sampled c =
     IfOk-weaker c.from_slice.result (λ values. values ≡ c.sampled-value.result ∷ []) (AreSampled c.args.system.now c.args.forest.now c.args.at)
     (λ values is. one-sampled c.args.system.now c.args.forest.now c.args.at c.args.places.now c.sampled-value.result values c.requires.places one c.sampled-value.ensures is)
     c.from_slice.ensures
+
+pub loop-place-preserved : goal.loop-place-preserved
+loop-place-preserved c =
+    let i = c.args.system.now in
+    let f = c.args.forest.now in
+    let k = c.args.at.instance in
+    read_more i f k (sampled_at i f k) c.loop-place.place-index c.args.places.now c.loop-place.values c.push.new.self c.sampled.result c.loop-place.invariant c.loop-place-test.true c.in_ok-push.ensures.ok c.sampled.ensures

@@ -1,13 +1,30 @@
+use Rattle.std.proofs.Common.{◌≡◌, ◌∷◌, [], length, arith}
+use Rattle.std.proofs.lemmas.Result.{IfOk-weaker}
 use Rattle.fb_types.specs.Headline.{system_of}
 use Rattle.fb_types.specs.Numbers.{path_at, ports_at}
 use Rattle.fb_types.specs.Reactions.{from_inside}
-use Rattle.fb_net.specs.Samples.{names_out}
-use Rattle.fb_net.proofs.Reading.{read_all}
+use Rattle.fb_net.specs.Samples.{AreShown, names_out}
+use Rattle.fb_net.proofs.Reading.{one-shown, read_all, read_more, shown_at}
 use Rattle.fb_net.proofs.samples.shown_values.Goals as goal
 
 pub returns-clause-shown : goal.returns-clause-shown
 returns-clause-shown c =
     let sys = system_of c.args.system.now in
     let p = path_at sys c.args.at.instance in
-    read_all (ports_at sys p).outputs (names_out sys c.args.at) (λ w n. from_inside sys c.args.forest.now.resource w p n) c.loop-place.place-index c.outputs_with-place-items.result.now c.loop-place.values
-    c.loop-place.invariant c.loop-place-test.false c.outputs_with-place-items.ensures
+    read_all (ports_at sys p).outputs (names_out sys c.args.at) (λ w n. from_inside sys c.args.forest.now.resource w p n) c.loop-place.place-index c.outputs_with-places.result.now c.loop-place.values
+    c.loop-place.invariant c.loop-place-test.false c.outputs_with-places.ensures
+
+pub returns-in-len1-clause-shown : goal.returns-in-len1-clause-shown
+returns-in-len1-clause-shown c =
+    let places = c.outputs_with-places.result.now in
+    let one : length places ≡ 1 = omega (arith, c.in-len1.len_at_least, c.in-len1.len_below) in
+    IfOk-weaker c.from_slice.result (λ values. values ≡ c.shown_inside-value.result ∷ []) (AreShown c.args.system.now c.args.forest.now c.args.at)
+    (λ values is. one-shown c.args.system.now c.args.forest.now c.args.at places c.shown_inside-value.result values c.outputs_with-places.ensures one c.shown_inside-value.ensures is)
+    c.from_slice.ensures
+
+pub loop-place-preserved : goal.loop-place-preserved
+loop-place-preserved c =
+    let i = c.args.system.now in
+    let f = c.args.forest.now in
+    let k = c.args.at.instance in
+    read_more i f k (shown_at i f k) c.loop-place.place-index c.outputs_with-places.result.now c.loop-place.values c.push.new.self c.shown_inside.result c.loop-place.invariant c.loop-place-test.true c.in_ok-push.ensures.ok c.shown_inside.ensures

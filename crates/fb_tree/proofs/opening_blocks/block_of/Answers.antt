@@ -7,7 +7,7 @@ use Rattle.fb_types.specs.declared.library.BlockType.TheVariants as block
 use Rattle.fb_types.specs.declared.library.Library.{Library}
 use Rattle.fb_tree.proofs.Begun.{basic_begins, composite_begins, of_declaration, typed}
 use Rattle.fb_tree.proofs.Charts.{charts_grow, known_chart}
-use Rattle.fb_tree.proofs.opening_blocks.block_with.Goals as goal
+use Rattle.fb_tree.proofs.opening_blocks.block_of.Goals as goal
 
 pub unreachable-requires : goal.unreachable-requires
 unreachable-requires c =
@@ -44,5 +44,5 @@ returns-in_ok-inputs-in-Some-Composite-clause-stands c =
     let sys = system_of c.args.system.now in
     let is : sys.kind (path_at sys c.args.instance) ≡ Some (Composite c.in-Some-Composite.field-0-0) = search rules in
     composite_begins sys (path_at sys c.args.instance) c.in-Some-Composite.field-0-0
-    (record { inputs = c.in_ok-inputs-in-Some-Composite.inputs; shell = c.in_ok-shell.shell; components = c.from_vec-components.result }) is
+    (record { inputs = c.in_ok-inputs-in-Some-Composite.inputs; shell = c.in_ok-shell.shell }) is
     c.in_ok-inputs-in-Some-Composite.ensures c.in_ok-shell.ensures.slots c.in_ok-shell.ensures.published

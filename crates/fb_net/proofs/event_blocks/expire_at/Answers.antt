@@ -1,0 +1,19 @@
+use Rattle.std.proofs.Common.{◌∙◌, ap, rules, sym}
+use Rattle.fb_tree.specs.declared.block.Block.TheVariants as block
+use Rattle.fb_net.proofs.Basics.{changed_here}
+use Rattle.fb_net.proofs.event_blocks.expire_at.Goals as goal
+
+pub returns : goal.returns
+returns c =
+    changed_here _ c.args.blocks.now c.args.seat c.in-Some.place.now (sym c.in-Some.ensures.value) _ c.expire.result
+    (record {
+      event = _;
+      state = c.expire.new.state;
+      was_event = c.in-Event.is ∙ ap block.Event (sym c.in-Event.event-is);
+      is_event = search rules;
+      memory = c.expire.ensures.memory;
+      timer = c.expire.ensures.timer;
+      sent = c.expire.ensures.emitted;
+      kind = c.expire.ensures.kind;
+      well_formed = c.expire.ensures.well_formed;
+    })

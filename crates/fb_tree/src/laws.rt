@@ -1,9 +1,0 @@
-//! Laws of the definitions that contracts cite.
-
-ghost use Rattle.fb_tree.specs.Trees.{OthersStay};
-
-/// A block that becomes one with the same components changes alone: what belongs to any other block of the trees,
-/// above it, below it or beside it, stays as it was.
-pub fn others_stay()
-    ensures { OthersStay }
-{}
