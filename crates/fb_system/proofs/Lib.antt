@@ -14,3 +14,4 @@ pub mod Named
 pub mod Placing
 pub mod Naming
 pub mod Initial
+pub mod KeptHeads

@@ -8,3 +8,4 @@ pub mod Lookups
 pub mod Tables
 pub mod Begins
 pub mod Rows
+pub mod Heads

@@ -1,12 +1,14 @@
 -- What the tables of a system stand for (the numbers are this project's profile).
 use Rattle.std.specs.Prelude.{◌≡◌}
 use Rattle.fb_types.specs.EventPorts.{ArePortsOfKinds}
-use Rattle.fb_types.specs.Headline.{Inputs, AreAccepted}
+use Rattle.fb_types.specs.Headline.{Inputs, AreAccepted, system_of}
 use Rattle.fb_names.specs.Numbers.{IsResolved}
 use Rattle.fb_system.specs.Tables.{AreInterfaces}
 use Rattle.fb_system.specs.Linking.{AreHomes, IsLinked, holders_of}
 use Rattle.fb_system.specs.Rows.{AreRows}
+use Rattle.fb_system.specs.Heads.{AreHeads}
 use Rattle.fb_system.specs.declared.given.Given.{Given}
+use Rattle.fb_system.specs.declared.heads.Heads.{Heads}
 use Rattle.fb_system.specs.declared.whole.Whole.{Whole}
 
 -- what is known of inputs by number
@@ -28,3 +30,8 @@ pub record StandFor (w : Whole) : Type 0 where
   pub interfaces : AreInterfaces w.fabric w.interfaces
   pub rows : AreRows w.fabric w.stimuli w.rows
   pub homes : AreHomes w.fabric w.deploy w.homes
+
+-- .. and rows with the heads of the lines of the system
+pub record HaveHeads (w : Whole) (h : Heads) : Type 0 where
+  pub tables : StandFor w
+  pub heads : AreHeads (system_of (inputs_of w)) h.rows

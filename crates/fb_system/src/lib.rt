@@ -6,12 +6,15 @@
 //!
 //! To be read in this order: `system`, what is asked; `stimulus`; `whole`, what is kept; `types`. Then the tables:
 //! `links`, resources, ranks and links; `homes`, the resources of all instances; `interfaces` with `with_places` and
-//! `event_block_with_places`, the variables WITH each event; `initial_values`, what variables begin with; `rows`, the stimuli by
+//! `event_block_with_places`, the variables WITH each event; `heads` with `heads_of`, the heads of lines;
+//! `initial_values`, what variables begin with; `rows`, the stimuli by
 //! number. The check above fills them: `given`.
 #![tactic(auto)]
 
 mod event_block_with_places;
 pub mod given;
+pub mod heads;
+mod heads_of;
 mod homes;
 mod initial_values;
 pub mod interfaces;

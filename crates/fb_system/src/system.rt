@@ -11,11 +11,14 @@ ghost use Rattle.fb_system.specs.Stimuli.{IsStimulusAt, initial_inputs, initial_
 ghost use Rattle.fb_types.specs.Text.{path_text};
 ghost use Rattle.fb_fabric.specs.Layouts.{AreComponents, AreNumbers, IsParent, route_to};
 ghost use Rattle.fb_names.specs.Numbers.{kind_of_number};
+ghost use Rattle.fb_system.specs.Heads.{IsHead};
 ghost use Rattle.fb_system.specs.Linking.{AreHomes, IsLinked, rank};
 ghost use Rattle.fb_system.specs.Ports.{IsPort, IsSource, IsTarget, IsVariable, variable_of};
 ghost use Rattle.fb_system.specs.Systems.{inputs_of, IsGiven, StandFor};
 
 use crate::given::Given;
+use crate::heads::{Head, HeadOf, Heads};
+use crate::heads_of::heads_of;
 use crate::homes::homes_of;
 use crate::initial_values::{input_values, output_values};
 use crate::links::Links;
@@ -43,6 +46,7 @@ use std::sync::Arc;
 #[derive(Drop)]
 pub struct System {
     whole: Arc<Whole, Global>,
+    heads: Arc<Heads, Global>,
 }
 
 impl Model for System {
@@ -57,11 +61,11 @@ impl Model for System {
 
     ghost coded = { Prim.hlevel (codes, expr.the_row.coded, stmt.the_row.coded) };
 
-    ghost use Rattle.fb_system.specs.Systems.{inputs_of, StandFor};
+    ghost use Rattle.fb_system.specs.Systems.{inputs_of, HaveHeads};
 
     ghost view = { λ s. inputs_of (arc_value s.whole) };
 
-    ghost invariant = { λ s. StandFor (arc_value s.whole) };
+    ghost invariant = { λ s. HaveHeads (arc_value s.whole) (arc_value s.heads) };
 }
 
 impl System {
@@ -108,7 +112,18 @@ impl System {
     {
         tables.homes = homes_of(alloc, &tables.fabric, &tables.links)?;
         let whole = Arc::new(alloc, tables)?;
-        Ok(System { whole })
+        let heads = Arc::new(alloc, Heads::new(alloc))?;
+        let bare = System { whole, heads };
+        bare.with_heads(alloc)
+    }
+
+    /// The same system with the heads of its lines.
+    fn with_heads(&self, alloc: Global) -> Result<System, AllocError>
+        ensures { IfOk result (λ s. s ≡ self.now) }
+    {
+        let heads = Arc::new(alloc, heads_of(alloc, self)?)?;
+        let whole = Arc::try_clone(&self.whole)?;
+        Ok(System { whole, heads })
     }
 
     /// The same system. No table is copied.
@@ -116,7 +131,8 @@ impl System {
         ensures { IfOk result (λ s. s ≡ self.now) }
     {
         let whole = Arc::try_clone(&self.whole)?;
-        Ok(System { whole })
+        let heads = Arc::try_clone(&self.heads)?;
+        Ok(System { whole, heads })
     }
 
     /// What was accepted, and what every system keeps.
@@ -317,6 +333,14 @@ impl System {
     {
         let whole = &*self.whole;
         with_places_of_type(whole, whole.fabric.kind(instance))
+    }
+
+    /// The row with the text of a head, where one is kept: those of the first 65,536 events are, as far as they fit.
+    #[inline(always)]
+    pub fn head(&self, of: HeadOf) -> Option<&Head>
+        ensures { IfSome result (λ h. IsHead (system_of self.now) of h.now) }
+    {
+        self.heads.find(of)
     }
 
     /// The places of the data inputs WITH an event input of an instance, in the order in which the inputs are declared.

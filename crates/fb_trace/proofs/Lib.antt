@@ -12,3 +12,5 @@ pub mod Sorting
 pub mod Together
 pub mod Merged
 pub mod Taking
+pub mod Starts
+pub mod Tens

@@ -3,3 +3,4 @@ pub mod Progress
 pub mod End
 pub mod Merging
 pub mod Fronts
+pub mod Starts

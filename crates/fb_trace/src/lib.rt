@@ -3,7 +3,7 @@
 //! What is promised above: the lines of several resources become one list in the order of the trace; the writer gets
 //! exactly their text, or, where it fails, a beginning of it, and the fault tells how many bytes.
 //!
-//! To be read in this order: `merge`; `trace`, `lines` and `last`, what is written; `pieces`, `names` and `number`;
+//! To be read in this order: `merge`; `trace`, `lines` and `last`, what is written; `pieces`, `start`, `names` and `number`;
 //! `page`, `copy`, `front` and `fault`.
 #![tactic(auto)]
 
@@ -17,4 +17,5 @@ mod names;
 mod number;
 mod page;
 mod pieces;
+mod start;
 pub mod trace;

@@ -1,22 +1,68 @@
 //! The lines of a trace.
 
-ghost use Rattle.std.specs.Prelude.{◌≡◌, map, length, All, IfErr, IfOk, OnOk};
+ghost use Rattle.std.specs.Prelude.{◌≡◌, ◌+◌, ◌≤◌, drop, map, length, All, IfErr, IfOk, OnOk};
 ghost use Rattle.std.specs.Io.KnownBytes.{Appends};
 ghost use Rattle.fb_types.specs.Headline.{system_of};
 ghost use Rattle.fb_types.specs.Numbers.{line_of, path_at, ports_at};
 ghost use Rattle.fb_types.specs.Text.{line_text, lines_text, values_text};
+ghost use Rattle.fb_types.specs.declared.run.Form.TheVariants.{One};
+ghost use Rattle.fb_system.specs.Heads.{IsHead};
 ghost use Rattle.fb_system.specs.Lines.{BelongsTo};
+ghost use Rattle.fb_trace.specs.Starts.{head_of_line};
 ghost use Rattle.fb_trace.specs.Progress.{Gathers, IsPartWritten, bounded};
 
 use crate::fault::WriteFault;
-use crate::names::{event_name, shown_by};
+use crate::names::{event_name, head_of, shown_by};
 use crate::number::Noted;
-use crate::page::Page;
+use crate::page::{Page, SIZE};
 use crate::pieces::{put_head, put_key, put_values};
+use crate::start::{START, append_start};
+use fb_system::heads::Head;
 use fb_system::system::System;
 use fb_types::library::Ports;
 use fb_types::run::{Form, Line};
 use std::io::Write;
+
+/// Puts the values of a line behind the first, each with the name of its variable.
+#[inline(never)]
+fn put_more<W: Write>(
+    page: &mut Page,
+    out: &mut W,
+    system: &System,
+    line: &Line,
+) -> Result<(), WriteFault>
+    requires belongs { BelongsTo (system_of system.now) line.now }
+    requires some { 1 ≤ length line.now.values }
+    ensures text { Gathers (W.contents out.old) (W.contents out.new) page.old page.new
+        (values_text (drop 1 (line_of (system_of system.now) line.now).values)) result }
+    ensures room { OnOk result (length page.new.waiting + 1 ≤ SIZE) }
+{
+    let ports = system.ports(line.instance);
+    let shown = shown_by(system, ports, line);
+    let values = line.values.as_slice();
+    put_values(page, out, shown.variables, &shown.places[1..], &values[1..])?;
+    page.make_room(out, 1)
+}
+
+/// Puts the values of a line behind the first, if there are any, and leaves room for the end of the line.
+#[inline(always)]
+fn put_others<W: Write>(
+    page: &mut Page,
+    out: &mut W,
+    system: &System,
+    line: &Line,
+) -> Result<(), WriteFault>
+    requires belongs { BelongsTo (system_of system.now) line.now }
+    requires room { length page.old.waiting + 1 ≤ SIZE }
+    ensures text { Gathers (W.contents out.old) (W.contents out.new) page.old page.new
+        (values_text (drop 1 (line_of (system_of system.now) line.now).values)) result }
+    ensures room { OnOk result (length page.new.waiting + 1 ≤ SIZE) }
+{
+    if line.values.as_slice().len() <= 1 {
+        return Ok(());
+    }
+    put_more(page, out, system, line)
+}
 
 /// Puts the values of a line, each with the name of its variable.
 fn put_bindings<W: Write>(
@@ -44,6 +90,60 @@ fn put_bindings<W: Write>(
     )
 }
 
+/// Puts a line of form one by the names of what it tells of. The tick is noted with its digits.
+#[inline(never)]
+fn put_by_names<W: Write>(
+    page: &mut Page,
+    out: &mut W,
+    system: &System,
+    tick: &Noted,
+    line: &Line,
+) -> Result<(), WriteFault>
+    requires belongs { BelongsTo (system_of system.now) line.now }
+    requires tick { tick.now ≡ line.now.key.tick }
+    ensures { Gathers (W.contents out.old) (W.contents out.new) page.old page.new
+        (let sys = system_of system.now in line_text One sys (line_of sys line.now)) result }
+{
+    let ports = system.ports(line.instance);
+    put_head(
+        page,
+        out,
+        tick,
+        system.resource_name(line.key.resource as usize),
+        line.taken,
+        system.path(line.instance),
+        event_name(ports, line),
+    )?;
+    put_bindings(page, out, system, ports, line)?;
+    page.make_room(out, 1)?;
+    page.append(b"\n");
+    Ok(())
+}
+
+/// Puts a line of form one whose head is kept. The tick is noted with its digits. There is room on the page for all but the
+/// values behind the first, so that no other piece has to ask for it.
+#[inline(always)]
+fn put_by_head<W: Write>(
+    page: &mut Page,
+    out: &mut W,
+    system: &System,
+    tick: &Noted,
+    head: &Head,
+    line: &Line,
+) -> Result<(), WriteFault>
+    requires belongs { BelongsTo (system_of system.now) line.now }
+    requires tick { tick.now ≡ line.now.key.tick }
+    requires head { IsHead (system_of system.now) (head_of_line line.now) head.now }
+    ensures { Gathers (W.contents out.old) (W.contents out.new) page.old page.new
+        (let sys = system_of system.now in line_text One sys (line_of sys line.now)) result }
+{
+    page.make_room(out, START + 1)?;
+    append_start(page, tick, head, line.values.as_slice());
+    put_others(page, out, system, line)?;
+    page.append(b"\n");
+    Ok(())
+}
+
 /// Puts the text of a line. The tick is noted with its digits.
 fn put_line<W: Write>(
     page: &mut Page,
@@ -59,20 +159,10 @@ fn put_line<W: Write>(
 {
     put_key(page, out, form, &line.key)?;
     tick.note(line.key.tick);
-    let ports = system.ports(line.instance);
-    put_head(
-        page,
-        out,
-        tick,
-        system.resource_name(line.key.resource as usize),
-        line.taken,
-        system.path(line.instance),
-        event_name(ports, line),
-    )?;
-    put_bindings(page, out, system, ports, line)?;
-    page.make_room(out, 1)?;
-    page.append(b"\n");
-    Ok(())
+    match system.head(head_of(line)) {
+        Some(head) => put_by_head(page, out, system, tick, head, line),
+        None => put_by_names(page, out, system, tick, line),
+    }
 }
 
 /// Puts the text of lines.

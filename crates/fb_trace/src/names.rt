@@ -5,10 +5,25 @@ ghost use Rattle.fb_types.specs.Headline.{system_of};
 ghost use Rattle.fb_types.specs.Numbers.{event_at, path_at, ports_at};
 ghost use Rattle.fb_system.specs.Stands.{ArePlaces};
 ghost use Rattle.fb_system.specs.Lines.{BelongsTo, line_variables};
+ghost use Rattle.fb_trace.specs.Starts.{head_of_line};
 
+use fb_system::heads::HeadOf;
 use fb_system::system::System;
 use fb_types::library::{Ports, Variable};
 use fb_types::run::Line;
+
+/// What the head of a line is of.
+#[inline(always)]
+pub(crate) fn head_of(line: &Line) -> HeadOf
+    ensures { result ≡ head_of_line line.now }
+{
+    HeadOf {
+        resource: line.key.resource,
+        instance: line.instance,
+        event: line.event,
+        taken: line.taken,
+    }
+}
 
 /// The name of a line's event, by the interface of its instance.
 #[inline(always)]

@@ -39,24 +39,25 @@ pub(crate) const NOTED: usize = 24;
 #[derive(Drop)]
 pub(crate) struct Noted {
     number: u64,
+    /// The number without its last digit.
+    tens: u64,
     text: [u8; NOTED],
     width: usize,
 }
 
 impl Model for Noted {
-    ghost use Rattle.std.specs.Prelude.{◌≡◌, ◌≤◌, ◌++◌, ℕ, codes, decimal, take};
+    ghost use Rattle.std.specs.Prelude.{◌≡◌, ◌≤◌, ◌/◌, ◌++◌, ℕ, codes, decimal, take};
     ghost use Rattle.fb_trace.specs.declared.number.TheConstants.{NOTED};
 
     ghost Value = { ℕ };
 
     ghost view = { λ n. n.number };
 
-    ghost invariant = { λ n. (n.width ≤ NOTED) × (take n.width n.text ≡ decimal n.number ++ codes " ") };
+    ghost invariant = { λ n. (n.width ≤ NOTED) × (take n.width n.text ≡ decimal n.number ++ codes " ") × (n.tens ≡ n.number / 10) };
 }
 
 impl Noted {
     /// A number as its digits and a blank.
-    #[inline(always)]
     pub(crate) fn of(number: u64) -> Noted
         ensures { result ≡ number }
     {
@@ -68,18 +69,33 @@ impl Noted {
         text[count] = b' ';
         Noted {
             number,
+            tens: number / 10,
             text,
             width: count + 1,
         }
     }
 
-    /// Notes a number in the place of the one before.
+    /// Notes a number of another ten in the place of the one before.
+    #[inline(never)]
+    fn renew(&mut self, number: u64)
+        ensures { self.new ≡ number }
+    {
+        *self = Noted::of(number);
+    }
+
+    /// Notes a number in the place of the one before. Of one of the same ten only the last digit is another.
     #[inline(always)]
     pub(crate) fn note(&mut self, number: u64)
         ensures { self.new ≡ number }
     {
-        if number != self.number {
-            *self = Noted::of(number);
+        if number == self.number {
+            return;
+        }
+        if number / 10 == self.tens {
+            self.text[self.width - 2] = b'0' + (number % 10) as u8;
+            self.number = number;
+        } else {
+            self.renew(number);
         }
     }
 

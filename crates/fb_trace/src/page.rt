@@ -7,7 +7,7 @@ ghost use Rattle.fb_trace.specs.Progress.{Gathers, Fails, bounded};
 use crate::copy::copy_text;
 use crate::fault::WriteFault;
 use crate::front::write_front;
-use crate::number::{MOST_DIGITS, NOTED, write_digits};
+use crate::number::{MOST_DIGITS, write_digits};
 use std::io::Write;
 use std::marker::Model;
 
@@ -129,14 +129,14 @@ impl Page {
     /// Puts the first of a row of bytes behind those that wait, where there is room for the row. As many bytes are
     /// copied for each row, which is sooner than to copy as many as are wanted.
     #[inline(always)]
-    pub(crate) fn append_front(&mut self, row: &[u8; NOTED], count: usize)
-        requires count { count ≤ NOTED }
-        requires room { length self.old.waiting + NOTED ≤ SIZE }
+    pub(crate) fn append_front(&mut self, row: &[u8], count: usize)
+        requires count { count ≤ length row.now }
+        requires room { length self.old.waiting + length row.now ≤ SIZE }
         ensures text { self.new ≡ record self.old { waiting = self.old.waiting ++ take count row.now } }
         ensures length { length self.new.waiting ≡ length self.old.waiting + count }
     {
         let used = self.used;
-        self.bytes[used..used + NOTED].copy_from_slice(row);
+        self.bytes[used..used + row.len()].copy_from_slice(row);
         self.used = used + count;
     }
 

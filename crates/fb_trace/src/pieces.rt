@@ -66,8 +66,11 @@ const HEAD: usize = NOTED + SIGN + 1;
 /// How long the sign of an event is.
 const SIGN: usize = 3;
 
-/// What stands before and behind the name of a value, and a number with its sign, takes no more bytes.
-const BINDING: usize = 42;
+/// A number with its sign takes no more bytes.
+pub(crate) const VALUE: usize = 40;
+
+/// What stands before and behind the name of a value, and the value, take no more bytes.
+const BINDING: usize = VALUE + 2;
 
 /// Puts what stands before the path, where there is room for it: the sign of an event that was taken, or of one that was
 /// emitted.
@@ -157,8 +160,9 @@ pub(crate) fn put_head<W: Write>(
 /// Puts a whole number, where there is room for it. Most have few digits and no sign.
 #[inline(always)]
 fn append_whole(page: &mut Page, number: i128)
-    requires { length page.old.waiting + 40 ≤ SIZE }
-    ensures { page.new ≡ record page.old { waiting = page.old.waiting ++ value_text (Value.Whole number) } }
+    requires { length page.old.waiting + VALUE ≤ SIZE }
+    ensures text { page.new ≡ record page.old { waiting = page.old.waiting ++ value_text (Value.Whole number) } }
+    ensures length { length page.new.waiting ≤ length page.old.waiting + VALUE }
 {
     if number >= 0 && number < 10000 {
         return page.append_four(number as u32);
@@ -171,9 +175,10 @@ fn append_whole(page: &mut Page, number: i128)
 
 /// Puts a value, where there is room for it.
 #[inline(always)]
-fn append_value(page: &mut Page, value: Value)
-    requires { length page.old.waiting + 40 ≤ SIZE }
-    ensures { page.new ≡ record page.old { waiting = page.old.waiting ++ value_text value } }
+pub(crate) fn append_value(page: &mut Page, value: Value)
+    requires { length page.old.waiting + VALUE ≤ SIZE }
+    ensures text { page.new ≡ record page.old { waiting = page.old.waiting ++ value_text value } }
+    ensures length { length page.new.waiting ≤ length page.old.waiting + VALUE }
 {
     match value {
         Value::Bool(true) => page.append(b"TRUE"),

@@ -1,63 +1,21 @@
-use Rattle.std.proofs.Common.{[], ap, sym, ◌∙◌, codes, decimal}
-use Rattle.std.proofs.lemmas.Option.{unwrap_or-slice_get}
 use Rattle.fb_types.specs.Headline.{system_of}
 use Rattle.fb_types.specs.Numbers.{line_of}
-use Rattle.fb_types.specs.Text.{key_text, place_text, path_text}
-use Rattle.fb_trace.specs.Progress.{Puts}
-use Rattle.fb_trace.proofs.LineParts.{after_event, after_key, after_values, behind, sign_text, until_event}
-use Rattle.fb_trace.proofs.Steps.{Fails-after, Fails-before, Fails-first, Gathers-passed, Puts-appended, Puts-more}
-use Rattle.fb_trace.proofs.lines.put_line.Given as given
+use Rattle.fb_trace.proofs.Starts.{with_key}
+use Rattle.fb_trace.proofs.Steps.{Fails-before, Gathers-after, Gathers-passed}
 use Rattle.fb_trace.proofs.lines.put_line.Goals as goal
-use Rattle.fb_trace.proofs.lines.put_line.Goals.{In_ok-put_head}
 
 pub returns-in_err-put_key : goal.returns-in_err-put_key
 returns-in_err-put_key g c =
     let sys = system_of c.args.system.now in
-    Gathers-passed _ c.from_residual.ensures.1 (Fails-first (after_key sys (line_of sys c.args.line.now)) c.in_err-put_key.ensures.part)
+    Gathers-passed _ c.from_residual.ensures.1
+    (rw (← with_key c.args.form sys (line_of sys c.args.line.now)) (Fails-before _ c.in_err-put_key.ensures.part))
 
-pub returns-in_err-put_head : goal.returns-in_err-put_head
-returns-in_err-put_head g c =
+pub returns-in-Some : goal.returns-in-Some
+returns-in-Some g c =
     let sys = system_of c.args.system.now in
-    let l = line_of sys c.args.line.now in
-    let tick = ap decimal c.note.ensures in
-    let event = rw c.ports-ports.ensures at c.event_name.ensures in
-    let name = c.resource_name.ensures ∙ sym (unwrap_or-slice_get sys.resource_names l.key.resource []) in
-    Gathers-passed _ c.from_residual-in_err-put_head.ensures.1
-    (Fails-first {x = until_event c.args.form sys l} (after_event l)
-    (rw (← behind (key_text c.args.form l.key) (place_text sys l.key.tick l.key.resource) (sign_text l) (path_text l.at) (codes ".") l.event)
-    (Fails-after c.in_ok-put_key.ensures.whole (rw (tick, name, c.path.ensures, event) at c.in_err-put_head.ensures.part))))
+    rw (← with_key c.args.form sys (line_of sys c.args.line.now)) (Gathers-after _ c.in_ok-put_key.ensures.whole c.put_by_head.ensures)
 
--- what was put up to the name of the event
-put_until_event :
-    (g : given.Over) (c : In_ok-put_head g)
-    → let sys = system_of c.args.system.now in
-    Puts (g.W.Write.contents c.args.out.now) (g.W.Write.contents c.put_head.new.out) c.args.page.now c.put_head.new.page
-    (until_event c.args.form sys (line_of sys c.args.line.now))
-put_until_event g c =
+pub returns-in-None : goal.returns-in-None
+returns-in-None g c =
     let sys = system_of c.args.system.now in
-    let l = line_of sys c.args.line.now in
-    let tick = ap decimal c.note.ensures in
-    let event = rw c.ports-ports.ensures at c.event_name.ensures in
-    let name = c.resource_name.ensures ∙ sym (unwrap_or-slice_get sys.resource_names l.key.resource []) in
-    rw (← behind (key_text c.args.form l.key) (place_text sys l.key.tick l.key.resource) (sign_text l) (path_text l.at) (codes ".") l.event)
-    (Puts-more c.in_ok-put_key.ensures.whole (rw (tick, name, c.path.ensures, event) at c.in_ok-put_head.ensures.whole))
-
-pub returns-in_err-put_bindings : goal.returns-in_err-put_bindings
-returns-in_err-put_bindings g c =
-    Gathers-passed _ c.from_residual-in_err-put_bindings.ensures.1
-    (Fails-first after_values (Fails-after (put_until_event g (goal.at.returns-in_err-put_bindings g c).In_ok-put_head) c.in_err-put_bindings.ensures.part))
-
-pub returns-in_err-make_room : goal.returns-in_err-make_room
-returns-in_err-make_room g c =
-    Gathers-passed _ c.from_residual-in_err-make_room.ensures.1
-    (Fails-after (Puts-more (put_until_event g (goal.at.returns-in_err-make_room g c).In_ok-put_head) c.in_ok-put_bindings.ensures.whole)
-    (Fails-before _ c.in_err-make_room.ensures.text.part))
-
-pub returns : goal.returns
-returns g c =
-    record {
-      whole =
-          Puts-more (Puts-more (put_until_event g (goal.at.returns g c).In_ok-put_head) c.in_ok-put_bindings.ensures.whole)
-          (Puts-more c.in_ok-make_room.ensures.text.whole (Puts-appended _ c.append.ensures.text));
-      part = tt;
-    }
+    rw (← with_key c.args.form sys (line_of sys c.args.line.now)) (Gathers-after _ c.in_ok-put_key.ensures.whole c.put_by_names.ensures)

@@ -5,4 +5,4 @@ pub returns : goal.returns
 returns c a =
     Puts-more
     (Puts-more (Puts-more (Puts-appended a c.append.ensures.text) (Puts-appended a c.append-2.ensures.text)) (Puts-appended a c.append-3.ensures.text))
-    (Puts-appended a c.append_value.ensures)
+    (Puts-appended a c.append_value.ensures.text)

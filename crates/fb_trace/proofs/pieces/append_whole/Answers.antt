@@ -4,8 +4,8 @@ use Rattle.fb_trace.proofs.Steps.{appended-more}
 use Rattle.fb_trace.proofs.pieces.append_whole.Goals as goal
 use Rattle.fb_trace.proofs.pieces.append_whole.Goals.{then-number-lt0, else-number-lt0}
 
-pub returns : goal.returns
-returns c =
+pub returns-clause-text : goal.returns-clause-text
+returns-clause-text c =
     let z = c.args.number in
     let back = to_z-of_z c.ranges.number in
     let text = rw (rw back at c.unsigned_abs.ensures.value) at c.append_number.ensures.text in

@@ -26,6 +26,6 @@ returns g c =
           Puts-more
           (Puts-more (Puts-more c.in_ok-put.ensures.whole c.in_ok-put-2.ensures.whole)
           (Puts-more c.in_ok-make_room.ensures.text.whole (Puts-appended _ c.append.ensures.text)))
-          (Puts-appended _ c.append_value.ensures);
+          (Puts-appended _ c.append_value.ensures.text);
       part = tt;
     }

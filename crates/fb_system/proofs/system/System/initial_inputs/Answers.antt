@@ -10,22 +10,22 @@ parameters-requires c = within_seen _ _ _ _ c.deref.ensures c.self.view_is c.req
 
 pub input_values-requires-clause-places : goal.input_values-requires-clause-places
 input_values-requires-clause-places c =
-    (inputs_seen _ _ c.args.self.now c.args.instance _ _ _ _ c.deref.ensures c.self.view_is (accepted_seen _ _ c.self.invariant c.self.view_is) c.declared-declared.ensures
+    (inputs_seen _ _ c.args.self.now c.args.instance _ _ _ _ c.deref.ensures c.self.view_is (accepted_seen _ _ c.self.invariant.tables c.self.view_is) c.declared-declared.ensures
     c.parameters.ensures c.ports.ensures c.as_slice.ensures).places
 
 pub input_values-requires-clause-inputs : goal.input_values-requires-clause-inputs
 input_values-requires-clause-inputs c =
-    (inputs_seen _ _ c.args.self.now c.args.instance _ _ _ _ c.deref.ensures c.self.view_is (accepted_seen _ _ c.self.invariant c.self.view_is) c.declared-declared.ensures
+    (inputs_seen _ _ c.args.self.now c.args.instance _ _ _ _ c.deref.ensures c.self.view_is (accepted_seen _ _ c.self.invariant.tables c.self.view_is) c.declared-declared.ensures
     c.parameters.ensures c.ports.ensures c.as_slice.ensures).inputs
 
 pub input_values-requires-clause-parameters : goal.input_values-requires-clause-parameters
 input_values-requires-clause-parameters c =
-    (inputs_seen _ _ c.args.self.now c.args.instance _ _ _ _ c.deref.ensures c.self.view_is (accepted_seen _ _ c.self.invariant c.self.view_is) c.declared-declared.ensures
+    (inputs_seen _ _ c.args.self.now c.args.instance _ _ _ _ c.deref.ensures c.self.view_is (accepted_seen _ _ c.self.invariant.tables c.self.view_is) c.declared-declared.ensures
     c.parameters.ensures c.ports.ensures c.as_slice.ensures).parameters
 
 pub returns : goal.returns
 returns c =
     let begun =
-    inputs_seen _ _ c.args.self.now c.args.instance _ _ _ _ c.deref.ensures c.self.view_is (accepted_seen _ _ c.self.invariant c.self.view_is) c.declared-declared.ensures
+    inputs_seen _ _ c.args.self.now c.args.instance _ _ _ _ c.deref.ensures c.self.view_is (accepted_seen _ _ c.self.invariant.tables c.self.view_is) c.declared-declared.ensures
     c.parameters.ensures c.ports.ensures c.as_slice.ensures in
     ok_seen _ _ _ begun.begins c.input_values.ensures

@@ -3,4 +3,4 @@ use Rattle.fb_system.proofs.Seen.{receiver_seen}
 use Rattle.fb_system.proofs.system.System.receiver.Goals as goal
 
 pub returns : goal.returns
-returns c = c.receiver.ensures ∙ receiver_seen _ _ _ _ c.self.invariant c.deref.ensures c.self.view_is
+returns c = c.receiver.ensures ∙ receiver_seen _ _ _ _ c.self.invariant.tables c.deref.ensures c.self.view_is

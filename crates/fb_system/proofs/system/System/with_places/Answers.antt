@@ -6,7 +6,7 @@ pub kind-requires : goal.kind-requires
 kind-requires c = within_seen _ _ _ _ c.deref-whole.ensures c.self.view_is c.requires
 
 pub with_places_of_type-requires : goal.with_places_of_type-requires
-with_places_of_type-requires c = record { tables = stand_seen _ _ c.deref-whole.ensures c.self.invariant; known = c.kind.ensures.known }
+with_places_of_type-requires c = record { tables = stand_seen _ _ c.deref-whole.ensures c.self.invariant.tables; known = c.kind.ensures.known }
 
 pub returns : goal.returns
 returns c = with_places_of_instance _ _ _ _ _ _ c.deref-whole.ensures c.self.view_is c.kind.ensures.is c.kind.ensures.known c.with_places_of_type.ensures

@@ -28,4 +28,4 @@ pub invariant_of-result : goal.invariant_of-result
 invariant_of-result c =
     let w = c.write_digits-start in
     let few = few_digits c.args.number w.result w.new.digits w.ensures.length w.ensures.written c.ranges.number.fits in
-    (omega (arith, few), with_blank c.args.number w.result w.new.digits c.copy_text.new.to _ w.ensures.length w.ensures.written c.copy_text.ensures few refl)
+    (omega (arith, few), with_blank c.args.number w.result w.new.digits c.copy_text.new.to _ w.ensures.length w.ensures.written c.copy_text.ensures few refl, refl)

@@ -1,0 +1,116 @@
+-- Rows with the heads of lines: what is read of them, and what they are made of.
+use Rattle.std.proofs.Common.{◌≡◌, ℕ, Bool, true, false, ◌&&◌, ◌<◌, List, [], ◌∷◌, ◌++◌, length, map, get_or, Option, Some, None, Bor, refl, sym, ◌∙◌, ap, subst, append-nil, append_assoc}
+use Rattle.std.specs.Prelude.{codes, slice_get, IfNone, IfSome}
+use lib.Dec.{eqb}
+use mathlib.Core.Bool.{beq}
+use Rattle.std.proofs.lemmas.Bool.{and_parts, eqb-true, true≢false}
+use Rattle.std.proofs.lemmas.List.Elements.{All-nil}
+use Rattle.std.proofs.lemmas.Option.{get_or_from_slice_get, same_Some, slice_get-get_or, slice_get-map, slice_get_within, slice_get_read}
+use Rattle.fb_types.specs.Names.{Name}
+use Rattle.fb_types.specs.Headline.{Inputs, system_of}
+use Rattle.fb_types.specs.Numbers.{event_at}
+use Rattle.fb_types.specs.Systems.{System}
+use Rattle.fb_types.specs.declared.library.EventPort.{EventPort}
+use Rattle.fb_types.specs.declared.library.Variable.{Variable}
+use Rattle.fb_system.specs.Heads.{AreHeads, IsHead, IsRowOfHead, first_text}
+use Rattle.fb_system.specs.Stands.{ArePlaces, variable_at}
+use Rattle.fb_system.specs.Systems.{HaveHeads, inputs_of, StandFor}
+use Rattle.fb_system.specs.declared.heads.Head.{Head}
+use Rattle.fb_system.specs.declared.heads.HeadOf.{HeadOf}
+use Rattle.fb_system.specs.declared.heads.Heads.{Heads}
+use Rattle.fb_system.specs.declared.whole.Whole.{Whole}
+
+-- ---- Reading
+
+taken_same : (x y : Bool) → beq x y ≡ true → x ≡ y
+taken_same true true h = refl
+taken_same true false h = absurd (true≢false (sym h))
+taken_same false true h = absurd (true≢false (sym h))
+taken_same false false h = refl
+
+-- what is compared of two heads
+pub same_heads :
+    (x y : HeadOf) → true ≡ (eqb x.resource y.resource && (eqb x.instance y.instance && (eqb x.event y.event && beq x.taken y.taken))) → x ≡ y
+same_heads x y h =
+    let a = and_parts (eqb x.resource y.resource) (eqb x.instance y.instance && (eqb x.event y.event && beq x.taken y.taken)) (sym h) in
+    let b = and_parts (eqb x.instance y.instance) (eqb x.event y.event && beq x.taken y.taken) a.1 in
+    let c = and_parts (eqb x.event y.event) (beq x.taken y.taken) b.1 in
+    let resource = eqb-true x.resource y.resource a.0 in
+    let instance = eqb-true x.instance y.instance b.0 in
+    let event = eqb-true x.event y.event c.0 in
+    let taken = taken_same x.taken y.taken c.1 in
+    λ j. record { resource = resource j; instance = instance j; event = event j; taken = taken j }
+
+pub row_there :
+    (sys : System) (rows : List Head) (i : ℕ) (h : Head) (x : HeadOf) → AreHeads sys rows → slice_get rows i ≡ Some h → 0 < h.width → h.of ≡ x
+    → IsHead sys x h
+row_there sys rows i h x all there some same =
+    let row : IsRowOfHead sys h = subst (λ (r : Head). IsRowOfHead sys r) (get_or_from_slice_get rows i h h there) (all i h (slice_get_within rows i h there)) in
+    subst (λ (y : HeadOf). IsHead sys y h) same (row some)
+
+-- the rows of the inputs as which a system is seen
+pub heads_seen : (h k : Heads) (w : Whole) (i : Inputs) → h ≡ k → inputs_of w ≡ i → HaveHeads w k → AreHeads (system_of i) h.rows
+heads_seen h k w i e s is =
+    subst (λ (i : Inputs). AreHeads (system_of i) h.rows) s (subst (λ (h : Heads). AreHeads (system_of (inputs_of w)) h.rows) (sym e) is.heads)
+
+-- ---- Making
+
+-- a system without rows
+pub without_rows : (v w : Whole) (h k : Heads) → v ≡ w → h ≡ k → k.rows ≡ [] → StandFor w → HaveHeads v h
+without_rows v w h k e f none is =
+    let sys = system_of (inputs_of v) in
+    record {
+      tables = subst (λ (w : Whole). StandFor w) (sym e) is;
+      heads = subst (λ (rows : List Head). AreHeads sys rows) (sym (ap (λ (h : Heads). h.rows) f ∙ none)) (All-nil (IsRowOfHead sys));
+    }
+
+-- .. and with them
+pub with_rows : (v w : Whole) (h k : Heads) (i : Inputs) → v ≡ w → h ≡ k → inputs_of w ≡ i → StandFor w → AreHeads (system_of i) k.rows → HaveHeads v h
+with_rows v w h k i e f s is all =
+    record {
+      tables = subst (λ (w : Whole). StandFor w) (sym e) is;
+      heads =
+          subst (λ (h : Heads). AreHeads (system_of (inputs_of v)) h.rows) (sym f)
+          (subst (λ (i : Inputs). AreHeads (system_of i) k.rows) (sym (ap inputs_of e ∙ s)) all);
+    }
+
+-- ---- What a head is made of
+
+-- the name of the first variable behind what stands before it
+pub first_added :
+    (o : Option (Bor Name)) (old new f : List ℕ) → IfNone o (f ≡ []) → IfSome o (λ n. f ≡ codes " " ++ n.now ++ codes "=") → IfNone o (new ≡ old)
+    → IfSome o (λ n. new ≡ old ++ codes " " ++ n.now ++ codes "=") → new ≡ old ++ f
+first_added None old new f none some kept added = kept ∙ sym (append-nil old) ∙ ap (λ (t : List ℕ). old ++ t) (sym none)
+first_added (Some n) old new f none some kept added =
+    added
+    ∙ ap (λ (t : List ℕ). t ++ codes "=") (append_assoc old (codes " ") n.now)
+    ∙ append_assoc old (codes " " ++ n.now) (codes "=")
+    ∙ ap (λ (t : List ℕ). old ++ t) (sym some)
+
+-- the name of an event
+pub event_read : (es fs : List EventPort) (i : ℕ) (e : EventPort) → fs ≡ es → i < length es → e ≡ get_or fs i e → e.name ≡ event_at es i
+event_read es fs i e same within read =
+    rw (slice_get-map (λ (x : EventPort). x.name) es i, slice_get_read es (length es) i e refl within (rw same at read)) refl
+
+-- the place of the first variable, and its name
+pub first_within : (vs : List Variable) (names : List Name) (places : List ℕ) (k : ℕ) → ArePlaces vs names places → slice_get places 0 ≡ Some k → k < length vs
+first_within vs names [] k are there = absurd (cc)
+first_within vs names (p ∷ ps) k are there =
+    subst (λ (n : ℕ). n < length vs) (same_Some p k there) (are.within 0 k (slice_get_within (p ∷ ps) 0 k there))
+
+variable_read : (vs : List Variable) (k : ℕ) (d : Variable) → k < length vs → variable_at vs k ≡ (get_or vs k d).name
+variable_read vs k d within = rw (slice_get-map (λ (x : Variable). x.name) vs k, slice_get-get_or vs k d within) refl
+
+pub first_named :
+    (vs : List Variable) (names : List Name) (places : List ℕ) (k : ℕ) (d : Variable) → ArePlaces vs names places → slice_get places 0 ≡ Some k
+    → first_text names ≡ codes " " ++ (get_or vs k d).name ++ codes "="
+first_named vs names [] k d are there = absurd (cc)
+first_named vs names (p ∷ ps) k d are there =
+    let same : p ≡ k = same_Some p k there in
+    ap first_text (sym are.named)
+    ∙ ap (λ (n : Name). codes " " ++ n ++ codes "=")
+    (ap (variable_at vs) same ∙ variable_read vs k d (first_within vs names (p ∷ ps) k are there))
+
+pub none_named : (vs : List Variable) (names : List Name) (places : List ℕ) → ArePlaces vs names places → slice_get places 0 ≡ None → first_text names ≡ []
+none_named vs names [] are none = ap first_text (sym are.named)
+none_named vs names (p ∷ ps) are none = absurd (cc)

@@ -1,0 +1,6 @@
+use Rattle.fb_types.specs.Headline.{system_of}
+use Rattle.fb_system.proofs.KeptHeads.{heads_seen}
+use Rattle.fb_system.proofs.system.System.head.Goals as goal
+
+pub returns : goal.returns
+returns c = c.find.ensures (system_of c.args.self.now) (heads_seen _ _ _ _ c.deref.ensures c.self.view_is c.self.invariant)

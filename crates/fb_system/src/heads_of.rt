@@ -1,0 +1,208 @@
+//! The heads of the lines of a system.
+
+ghost use Rattle.std.specs.Prelude.{◌≡◌, ◌<◌, List, [], ◌++◌, codes, length, if◌then◌else◌, IfNone, IfOk, IfSome, OnOk};
+ghost use Rattle.fb_types.specs.Headline.{system_of};
+ghost use Rattle.fb_types.specs.Names.{Name};
+ghost use Rattle.fb_system.specs.Stands.{ArePlaces};
+ghost use Rattle.fb_system.specs.Heads.{AreHeads, IsOfHead, IsRowOfHead, first_text, head_event, head_variables};
+
+use crate::heads::{Firsts, Head, HeadOf, Heads, MOST_ROWS, ROW};
+use crate::rows::number_of;
+use crate::system::System;
+use fb_types::items::Items;
+use fb_types::library::{Ports, Variable};
+use std::alloc::{AllocError, Global};
+
+/// The name of the event of a head.
+fn event_name(system: &System, of: HeadOf) -> &[u8]
+    requires { IsOfHead (system_of system.now) of }
+    ensures { result.now ≡ head_event (system_of system.now) of }
+{
+    let ports = system.ports(of.instance);
+    let event = of.event as usize;
+    if of.taken {
+        ports.event_inputs.as_slice()[event].name.as_bytes()
+    } else {
+        ports.event_outputs.as_slice()[event].name.as_bytes()
+    }
+}
+
+/// The name of the variable at the first of these places, if there is one.
+fn name_at_first<'a>(variables: &'a [Variable], places: &[u32]) -> Option<&'a [u8]>
+    requires { (names : List Name) × ArePlaces variables.now names places.now }
+    ensures none { (names : List Name) → ArePlaces variables.now names places.now → IfNone result (first_text names ≡ []) }
+    ensures some { (names : List Name) → ArePlaces variables.now names places.now → IfSome result (λ n. first_text names ≡ codes " " ++ n.now ++ codes "=") }
+{
+    match places.first() {
+        Some(place) => Some(variables[*place as usize].name.as_bytes()),
+        None => None,
+    }
+}
+
+/// The name of the first variable WITH the event of a head, if there is one.
+fn first_name(system: &System, of: HeadOf) -> Option<&[u8]>
+    requires { IsOfHead (system_of system.now) of }
+    ensures none { IfNone result (first_text (head_variables (system_of system.now) of) ≡ []) }
+    ensures some { IfSome result (λ n. first_text (head_variables (system_of system.now) of) ≡ codes " " ++ n.now ++ codes "=") }
+{
+    let ports = system.ports(of.instance);
+    if of.taken {
+        let places = system.inputs_with(of.instance, of.event);
+        name_at_first(ports.inputs.as_slice(), places)
+    } else {
+        let places = system.outputs_with(of.instance, of.event);
+        name_at_first(ports.outputs.as_slice(), places)
+    }
+}
+
+/// The sign of an event that is taken, or of one that is emitted.
+fn sign(taken: bool) -> &'static [u8]
+    ensures { result.now ≡ (if taken then codes " > " else codes " < ") }
+{
+    if taken { b" > " } else { b" < " }
+}
+
+/// What a head is put together from.
+#[derive(Clone, Copy)]
+struct Parts<'a> {
+    resource: &'a [u8],
+    taken: bool,
+    path: &'a [u8],
+    event: &'a [u8],
+    /// The name of the first variable.
+    first: Option<&'a [u8]>,
+}
+
+/// Whether each part by itself fits in a row. Then they are soon put together, also where the whole is too long.
+fn are_short(parts: Parts) -> bool {
+    let first = match parts.first {
+        Some(name) => name.len(),
+        None => 0,
+    };
+    parts.resource.len() <= ROW
+        && parts.path.len() <= ROW
+        && parts.event.len() <= ROW
+        && first <= ROW
+}
+
+/// Puts the text of a head together, up to the name of its event.
+fn join(text: &mut Vec<u8>, parts: Parts) -> Result<(), AllocError>
+    ensures { OnOk result (text.new.items ≡ parts.entry.resource.now ++ (if parts.entry.taken then codes " > " else codes " < ")
+        ++ parts.entry.path.now ++ codes "." ++ parts.entry.event.now) }
+{
+    text.clear();
+    text.extend_from_slice(parts.resource)?;
+    text.extend_from_slice(sign(parts.taken))?;
+    text.extend_from_slice(parts.path)?;
+    text.extend_from_slice(b".")?;
+    text.extend_from_slice(parts.event)
+}
+
+/// Puts the name of the first variable behind a head.
+fn add_first(text: &mut Vec<u8>, first: Option<&[u8]>) -> Result<(), AllocError>
+    ensures none { IfNone first.entry (OnOk result (text.new.items ≡ text.old.items)) }
+    ensures some { IfSome first.entry (λ n. OnOk result (text.new.items ≡ text.old.items ++ codes " " ++ n.now ++ codes "=")) }
+{
+    let Some(name) = first else {
+        return Ok(());
+    };
+    text.extend_from_slice(b" ")?;
+    text.extend_from_slice(name)?;
+    text.extend_from_slice(b"=")
+}
+
+/// The row of a head. The text is put together in the buffer.
+fn row_of(system: &System, text: &mut Vec<u8>, of: HeadOf) -> Result<Head, AllocError>
+    requires { IsOfHead (system_of system.now) of }
+    ensures { IfOk result (IsRowOfHead (system_of system.now)) }
+{
+    let parts = Parts {
+        resource: system.resource_name(of.resource as usize),
+        taken: of.taken,
+        path: system.path(of.instance),
+        event: event_name(system, of),
+        first: first_name(system, of),
+    };
+    if !are_short(parts) {
+        return Ok(Head::none(of));
+    }
+    join(text, parts)?;
+    add_first(text, parts.first)?;
+    Ok(Head::with_text(of, text.as_slice()))
+}
+
+/// How many events a type's instances take, or emit.
+fn events_of(ports: &Ports, taken: bool) -> usize
+    ensures { result ≡ length (if taken then ports.now.event_inputs else ports.now.event_outputs) }
+{
+    if taken {
+        ports.event_inputs.len()
+    } else {
+        ports.event_outputs.len()
+    }
+}
+
+/// Adds the rows of the events that an instance takes, or emits, as far as there is room for them.
+fn add_rows(
+    rows: &mut Items<Head>,
+    system: &System,
+    text: &mut Vec<u8>,
+    resource: u32,
+    instance: u32,
+    taken: bool,
+) -> Result<(), AllocError>
+    requires resource { resource < length (system_of system.now).resource_names }
+    requires instance { instance < length (system_of system.now).paths }
+    requires rows { AreHeads (system_of system.now) rows.old }
+    ensures { OnOk result (AreHeads (system_of system.now) rows.new) }
+{
+    for event in 0..events_of(system.ports(instance), taken) {
+        if rows.len() >= MOST_ROWS {
+            return Ok(());
+        }
+        let of = HeadOf {
+            resource,
+            instance,
+            event: number_of(event)?,
+            taken,
+        };
+        rows.push(row_of(system, text, of)?)?;
+    }
+    Ok(())
+}
+
+/// Adds the heads of an instance.
+fn add_instance(
+    heads: &mut Heads,
+    system: &System,
+    text: &mut Vec<u8>,
+    instance: u32,
+) -> Result<(), AllocError>
+    requires instance { instance < length (system_of system.now).paths }
+    requires rows { AreHeads (system_of system.now) heads.old.rows }
+    ensures { OnOk result (AreHeads (system_of system.now) heads.new.rows) }
+{
+    let resource = system.resource(instance);
+    if resource >= system.resources() {
+        return Ok(());
+    }
+    let resource = number_of(resource)?;
+    let inputs = number_of(heads.rows.len())?;
+    add_rows(&mut heads.rows, system, text, resource, instance, true)?;
+    let outputs = number_of(heads.rows.len())?;
+    add_rows(&mut heads.rows, system, text, resource, instance, false)?;
+    heads.firsts.push(Firsts { inputs, outputs })
+}
+
+/// The heads of the lines of a system, as many as there is room for.
+pub(crate) fn heads_of(alloc: Global, system: &System) -> Result<Heads, AllocError>
+    ensures { IfOk result (λ h. AreHeads (system_of system.now) h.rows) }
+{
+    system.facts();
+    let mut text = Vec::new(alloc);
+    let mut heads = Heads::new(alloc);
+    for instance in 0..system.count() {
+        add_instance(&mut heads, system, &mut text, instance as u32)?;
+    }
+    Ok(heads)
+}

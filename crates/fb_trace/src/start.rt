@@ -1,0 +1,43 @@
+//! The start of a line whose head is kept: its tick, its head, and its first value.
+
+ghost use Rattle.std.specs.Prelude.{◌≡◌, ◌≤◌, ◌+◌, ◌++◌, codes, decimal, length, take};
+ghost use Rattle.fb_trace.specs.Starts.{first_value};
+
+use crate::number::{NOTED, Noted};
+use crate::page::{Page, SIZE};
+use crate::pieces::{VALUE, append_value};
+use fb_system::heads::{Head, ROW};
+use fb_types::value::Value;
+
+/// The rows of a tick and of a head, and a value, take no more bytes.
+pub(crate) const START: usize = NOTED + ROW + VALUE;
+
+/// Puts the first value, if there is one, where there is room for it.
+#[inline(always)]
+fn append_first(page: &mut Page, values: &[Value])
+    requires { length page.old.waiting + VALUE ≤ SIZE }
+    ensures text { page.new ≡ record page.old { waiting = page.old.waiting ++ first_value values.now } }
+    ensures length { length page.new.waiting ≤ length page.old.waiting + VALUE }
+{
+    match values.first() {
+        Some(value) => append_value(page, *value),
+        None => (),
+    }
+}
+
+/// Puts the start of a line with these values, where there is room for it.
+#[inline(always)]
+pub(crate) fn append_start(page: &mut Page, tick: &Noted, head: &Head, values: &[Value])
+    requires within { head.now.width ≤ ROW }
+    requires room { length page.old.waiting + START ≤ SIZE }
+    ensures text { page.new ≡ record page.old {
+      waiting = page.old.waiting
+          ++ (decimal tick.now ++ codes " " ++ take head.now.width head.now.text ++ first_value values.now);
+    } }
+    ensures length { length page.new.waiting ≤ length page.old.waiting + START }
+{
+    let (row, width) = tick.text();
+    page.append_front(row, width);
+    page.append_front(&head.text, head.width as usize);
+    append_first(page, values);
+}
