@@ -1,6 +1,7 @@
 -- The fields of a record of three.
-use Rattle.std.proofs.Common.{◌≡◌, ℕ, suc, eqb, false, ◌==◌, cond, List, [], ◌∷◌, length, Some, None, refl, arith}
+use Rattle.std.proofs.Common.{◌≡◌, ℕ, suc, eqb, false, ◌==◌, cond, [], ◌∷◌, length, Some, None, refl, sym, ap, arith}
 use Rattle.std.proofs.lemmas.Bool.Decides.{nat_tests}
+use Rattle.std.proofs.lemmas.Option.{same_Some}
 use Rattle.csv.specs.Records.{field_at}
 use Rattle.fb_inputs.specs.Lists.{◌>>=◌}
 use Rattle.fb_inputs.specs.Words.{Text}
@@ -17,3 +18,13 @@ three_fields (a ∷ []) = refl
 three_fields (a ∷ b ∷ []) = refl
 three_fields (a ∷ b ∷ c ∷ []) = refl
 three_fields (a ∷ b ∷ c ∷ d ∷ z) = rw (longer (length z)) refl
+
+pub three_row : (z : Row) (t e v : Text) → Some (t, e, v) ≡ three z → z ≡ t ∷ e ∷ v ∷ []
+unfolding three
+three_row [] t e v h = absurd (cc)
+three_row (a ∷ []) t e v h = absurd (cc)
+three_row (a ∷ b ∷ []) t e v h = absurd (cc)
+three_row (a ∷ b ∷ c ∷ []) t e v h =
+    let at : (a, b, c) ≡ (t, e, v) = sym (same_Some (t, e, v) (a, b, c) h) in
+    ap (λ (f : Text × Text × Text). f.0 ∷ f.1 ∷ f.2 ∷ []) at
+three_row (a ∷ b ∷ c ∷ d ∷ z) t e v h = absurd (cc)

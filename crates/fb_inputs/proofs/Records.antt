@@ -3,7 +3,7 @@ use Rattle.std.proofs.Common.{◌≡◌, ◌==◌, ℕ, zero, suc, ◌+◌, ◌<
 use Rattle.std.specs.Option.{IfSome}
 use Rattle.std.proofs.lemmas.Bool.{false≢true}
 use Rattle.csv.specs.Machine.{Read, ends_at_end, next_record, step, is_end, fields_after, field_after, in_field, start_field, start_record, after_end, ends_with}
-use Rattle.csv.specs.Reading.{ExplainsRead, Reached, ReadRecord, Ready, default_config, records_from, records_next, source_of}
+use Rattle.csv.specs.Reading.{ExplainsRead, Reached, ReadRecord, default_config, records_from, records_next, source_of}
 use Rattle.csv.specs.declared.error.ErrorKind.{ErrorKind}
 use Rattle.csv.specs.declared.error.ErrorKind.TheVariants as kind
 use Rattle.csv.specs.declared.iter.ByteRecordsIntoIter.{ByteRecordsIntoIter}
@@ -15,6 +15,7 @@ use Rattle.csv.specs.declared.parser.Terminator.TheVariants as term
 use Rattle.csv.specs.declared.reader.Reader.{Reader}
 use Rattle.csv.specs.declared.reader.Trim.TheVariants as trim
 use Rattle.csv.proofs.ReadFacts.{rows-end, rows-more}
+use Rattle.fb_inputs.specs.Readers.{IsAt, IsOpened, known, rows_from}
 use Rattle.fb_inputs.specs.Words.{Text}
 use Rattle.fb_inputs.specs.Rows.{Row}
 use Rattle.fb_inputs.specs.Stimuli.{IsOfReading}
@@ -81,9 +82,6 @@ leaves s fields field (c ∷ z) = by (is_end (step default_config s c).1) refl (
 
 -- ---- The records from a place on
 
-abbrev pub rows_from : State → Text → List Row
-rows_from s z = records_from default_config (length z + 1) s z
-
 enough : (k m : ℕ) (s : State) (z : Text) → ends_at_end s ≡ false → length z < k → length z < m → records_from default_config k s z ≡ records_from default_config m s z
 unfolding records_from
 enough zero m s z between k_more m_more = absurd (omega arith)
@@ -111,19 +109,6 @@ rows_from-more s z r between h =
     ap (λ (k : ℕ). records_from default_config k s z) turns ∙ ap (records_next (records_from default_config (length z))) h ∙ ap (λ (rows : List Row). r.0 ∷ rows) same
 
 -- ---- A reader of a text
-
-abbrev pub known : Bor (List ℕ) → Option (List ℕ)
-known s = Some s.now
-
--- the reader stands between records, with this text left
-pub record IsAt (it : ByteRecordsIntoIter (Bor (List ℕ))) (z : Text) : Type 0 where
-  pub trim : it.rdr.trim ≡ trim.None
-  pub ready : Ready it.rdr
-  pub left : 0 < it.left
-  pub config : it.rdr.config ≡ default_config
-  pub source : source_of known it.rdr ≡ Some z
-  pub between : ends_at_end it.rdr.state ≡ false
-  pub flexible : it.rdr.flexible ≡ true
 
 -- rows of any lengths are read as bytes, so that no other error comes
 pub of_reading : (it : ByteRecordsIntoIter (Bor (List ℕ))) (z : Text) (b : Reader (Bor (List ℕ))) (k : ErrorKind) → IsAt it z → ExplainsRead known it.rdr b false k → IsOfReading k
@@ -158,7 +143,7 @@ pub at_end : (a b : ByteRecordsIntoIter (Bor (List ℕ))) (z : Text) → IsAt a 
 at_end a b z here r = rows_from-none a.rdr.state z (rows-end known a.rdr b.rdr [] default_config z here.config here.source r)
 
 pub at_start : (it : ByteRecordsIntoIter (Bor (List ℕ))) (r : Reader (Bor (List ℕ))) (z : Text) → it.rdr ≡ r → 0 < it.left → r.trim ≡ trim.None → r.has_headers ≡ false → r.headers ≡ None
-    → r.config ≡ default_config → source_of known r ≡ Some z → r.state ≡ st.StartRecord → r.flexible ≡ true → IsAt it z × (it.rdr.state ≡ st.StartRecord)
+    → r.config ≡ default_config → source_of known r ≡ Some z → r.state ≡ st.StartRecord → r.flexible ≡ true → IsOpened it z
 at_start it r z same left trims heads none config source start flexible = (
   record {
     trim = ap (λ (x : Reader (Bor (List ℕ))). x.trim) same ∙ trims;

@@ -3,7 +3,7 @@ use Rattle.std.proofs.Common.{◌≡◌, ℕ, ◌+◌, ◌≤◌, true, false, L
 use Rattle.std.specs.Option.{IfSome}
 use Rattle.std.proofs.lemmas.List.{length_push}
 use Rattle.std.proofs.lemmas.Bool.{le-leb}
-use Rattle.csv.specs.Reading.{strip_bom}
+use Rattle.csv.specs.Reading.{default_config, records, strip_bom}
 use Rattle.csv.specs.declared.parser.State.{State}
 use Rattle.csv.specs.declared.parser.State.TheVariants as st
 use Rattle.fb_types.specs.declared.deploy.Stimulus.{Stimulus}
@@ -12,7 +12,7 @@ use Rattle.fb_inputs.specs.Refusals.{Outcome, ◌>>=◌, number_of, bad_row}
 use Rattle.fb_inputs.specs.Rows.{Row}
 use Rattle.fb_inputs.specs.Words.{Text}
 use Rattle.fb_inputs.specs.Stimuli.{stimulus, stimuli_from, stimuli, stimuli_of, is_head, most_bytes}
-use Rattle.fb_inputs.proofs.Records.{rows_from}
+use Rattle.fb_inputs.specs.Readers.{HasOtherHead, Opens, rows_from}
 
 -- what was found before, and what is still found
 abbrev pub all_behind : List Stimulus → Outcome (List Stimulus) → Outcome (List Stimulus)
@@ -51,24 +51,34 @@ none_left front rest total split so_far = rw split at so_far ∙ ap found_all (a
 
 -- ---- From the bytes to the first row
 
-opened : (bytes : Text) (s : State) (rows : List Row) → length bytes ≤ most_bytes → s ≡ st.StartRecord → rows_from s (strip_bom bytes) ≡ rows → stimuli_of bytes ≡ stimuli rows
-unfolding stimuli_of
-opened bytes s rows le start all = rw (le-leb (length bytes) most_bytes le) (ap stimuli (ap (λ (t : State). rows_from t (strip_bom bytes)) (sym start) ∙ all))
+pub start_read : (bytes : Text) (s : State) (all : List Row) → s ≡ st.StartRecord → rows_from s (strip_bom bytes) ≡ all → records default_config (strip_bom bytes) ≡ all
+start_read bytes s all start read = ap (λ (t : State). rows_from t (strip_bom bytes)) (sym start) ∙ read
 
-pub headed : (bytes : Text) (s : State) (head : Row) (rows : List Row) → length bytes ≤ most_bytes → s ≡ st.StartRecord → rows_from s (strip_bom bytes) ≡ head ∷ rows → is_head head ≡ true
+opened : (bytes : Text) (rows : List Row) → length bytes ≤ most_bytes → records default_config (strip_bom bytes) ≡ rows → stimuli_of bytes ≡ stimuli rows
+unfolding stimuli_of
+opened bytes rows le all = rw (le-leb (length bytes) most_bytes le) (ap stimuli all)
+
+pub headed : (bytes : Text) (head : Row) (rows : List Row) → length bytes ≤ most_bytes → records default_config (strip_bom bytes) ≡ head ∷ rows → is_head head ≡ true
     → stimuli_of bytes ≡ all_behind [] (stimuli_from 0 rows)
 unfolding stimuli
-headed bytes s head rows le start all yes_head = opened bytes s (head ∷ rows) le start all ∙ rw yes_head (nothing_before (stimuli_from 0 rows))
+headed bytes head rows le all yes_head = opened bytes (head ∷ rows) le all ∙ rw yes_head (nothing_before (stimuli_from 0 rows))
   where
     nothing_before : (o : Outcome (List Stimulus)) → o ≡ all_behind [] o
     nothing_before (Ok more) = refl
     nothing_before (Err n) = refl
 
-pub unheaded : (bytes : Text) (s : State) (head : Row) (rows : List Row) → length bytes ≤ most_bytes → s ≡ st.StartRecord → rows_from s (strip_bom bytes) ≡ head ∷ rows → is_head head ≡ false
+pub unheaded : (bytes : Text) (head : Row) (rows : List Row) → length bytes ≤ most_bytes → records default_config (strip_bom bytes) ≡ head ∷ rows → is_head head ≡ false
     → stimuli_of bytes ≡ Err bad_row
 unfolding stimuli
-unheaded bytes s head rows le start all no_head = opened bytes s (head ∷ rows) le start all ∙ rw no_head refl
+unheaded bytes head rows le all no_head = opened bytes (head ∷ rows) le all ∙ rw no_head refl
 
-pub empty : (bytes : Text) (s : State) → length bytes ≤ most_bytes → s ≡ st.StartRecord → rows_from s (strip_bom bytes) ≡ [] → stimuli_of bytes ≡ Ok []
+pub no_heading : (bytes : Text) (e : InputError) → length bytes ≤ most_bytes → Opens bytes (Err e) → IfSome (number_of e) (λ n. stimuli_of bytes ≡ Err n)
+no_heading bytes e le h = by (number_of e) h
+  where
+    by : (o : Option ℕ) → IfSome o (λ n. (n ≡ bad_row) × HasOtherHead bytes) → IfSome o (λ n. stimuli_of bytes ≡ Err n)
+    by None h = tt
+    by (Some n) h = rw h.0 (unheaded bytes h.1.first h.1.rows le h.1.read h.1.other)
+
+pub empty : (bytes : Text) → length bytes ≤ most_bytes → records default_config (strip_bom bytes) ≡ [] → stimuli_of bytes ≡ Ok []
 unfolding stimuli
-empty bytes s le start all = opened bytes s [] le start all
+empty bytes le all = opened bytes [] le all

@@ -5,5 +5,6 @@ pub mod Words
 pub mod Numbers
 pub mod Rows
 pub mod Stimuli
+pub mod Readers
 pub mod Documents
 pub mod Deployments

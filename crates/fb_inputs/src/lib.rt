@@ -16,7 +16,7 @@ mod number;
 mod row;
 pub mod stimuli;
 pub mod table;
-mod text;
+pub mod text;
 
 pub use deployment::read_deploy;
 pub use error::InputError;

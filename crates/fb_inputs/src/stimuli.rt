@@ -1,8 +1,9 @@
 //! Stimuli.
 
-ghost use Rattle.std.specs.Prelude.{◌≡◌, Ok, Err, map, IfOk, IfErr, IfSome, option_map};
-ghost use Rattle.csv.specs.Reading.{error_kind};
+ghost use Rattle.std.specs.Prelude.{◌≡◌, [], ◌∷◌, Ok, Err, map, IfOk, IfErr, IfSome, option_map};
+ghost use Rattle.csv.specs.Reading.{error_kind, strip_bom};
 ghost use Rattle.csv.specs.Records.{fields_of};
+ghost use Rattle.fb_inputs.specs.Readers.{IsOpened, Opens};
 ghost use Rattle.fb_inputs.specs.Refusals.{Answers, number_of};
 ghost use Rattle.fb_inputs.specs.Stimuli as spec;
 
@@ -10,7 +11,7 @@ use crate::beside::beside;
 use crate::error::InputError;
 use crate::number::natural;
 use crate::row::{Draft, draft_of, settings};
-use csv::{ByteRecord, Error, ErrorKind, ReaderBuilder};
+use csv::{ByteRecord, ByteRecordsIntoIter, Error, ErrorKind, ReaderBuilder};
 use fb_types::deploy::Stimulus;
 use fb_types::items::Items;
 use std::alloc::Global;
@@ -56,14 +57,17 @@ pub fn is_heading(row: ByteRecord) -> bool
     is_head(&row)
 }
 
-/// The stimulus of a row, before which so many rows come.
-#[tactic(auto, unfolding(crate::specs::Stimuli::stimulus))]
-fn stimulus_of(alloc: Global, before: usize, row: &ByteRecord) -> Result<Stimulus, InputError>
-    ensures { Answers (λ s. s) (spec.stimulus before (fields_of row.now)) result }
+/// The stimulus of a row of three fields, before which so many rows come.
+#[tactic(auto, unfolding(crate::specs::Stimuli::stimulus, crate::specs::Stimuli::three))]
+pub fn stimulus_of(
+    alloc: Global,
+    before: usize,
+    tick: &[u8],
+    event: &[u8],
+    values: &[u8],
+) -> Result<Stimulus, InputError>
+    ensures { Answers (λ s. s) (spec.stimulus before (tick.now ∷ event.now ∷ values.now ∷ [])) result }
 {
-    let Some((tick, event, values)) = columns(row) else {
-        return Err(InputError::Row);
-    };
     let Some(draft) = draft_of(alloc, event, values)? else {
         return Err(InputError::Row);
     };
@@ -90,11 +94,22 @@ fn stimulus_of(alloc: Global, before: usize, row: &ByteRecord) -> Result<Stimulu
     })
 }
 
-/// The stimulus of a row, before which so many rows come. The row is freed here, so that no caller holds it at its exits.
+/// The stimulus of a record, before which so many rows come.
+#[tactic(auto, unfolding(crate::specs::Stimuli::stimulus))]
+fn stimulus_at(alloc: Global, before: usize, row: &ByteRecord) -> Result<Stimulus, InputError>
+    ensures { Answers (λ s. s) (spec.stimulus before (fields_of row.now)) result }
+{
+    match columns(row) {
+        Some((tick, event, values)) => stimulus_of(alloc, before, tick, event, values),
+        None => Err(InputError::Row),
+    }
+}
+
+/// The stimulus of a record, before which so many rows come. It is freed here, so that no caller holds it at its exits.
 fn stimulus(alloc: Global, before: usize, row: ByteRecord) -> Result<Stimulus, InputError>
     ensures { Answers (λ s. s) (spec.stimulus before (fields_of row)) result }
 {
-    stimulus_of(alloc, before, &row)
+    stimulus_at(alloc, before, &row)
 }
 
 /// What an error of reading a record tells. Records of bytes, of any lengths, are refused for want of memory, or because
@@ -109,6 +124,38 @@ fn refusal(error: Error) -> InputError
     }
 }
 
+/// The reader of the records of bytes of CSV, of any lengths. One leading byte order mark is skipped.
+pub fn records_of(alloc: Global, bytes: &[u8]) -> ByteRecordsIntoIter<&[u8]>
+    ensures { IsOpened result (strip_bom bytes.now) }
+{
+    let reader = ReaderBuilder::new()
+        .has_headers(false)
+        .flexible(true)
+        .from_reader(alloc, bytes);
+    reader.into_byte_records()
+}
+
+/// The reader of the records behind the first one of bytes of CSV, which is `tick,event,values`, if there is any record.
+pub fn rows_of(
+    alloc: Global,
+    bytes: &[u8],
+) -> Result<Option<ByteRecordsIntoIter<&[u8]>>, InputError>
+    ensures { Opens bytes.now result }
+{
+    let mut rows = records_of(alloc, bytes);
+    let Some(first) = rows.next() else {
+        return Ok(None);
+    };
+    let head = match first {
+        Ok(head) => head,
+        Err(error) => return Err(refusal(error)),
+    };
+    if !is_heading(head) {
+        return Err(InputError::Row);
+    }
+    Ok(Some(rows))
+}
+
 /// The stimuli that bytes of CSV give: none without a record, else those of the rows behind the first record,
 /// which is `tick,event,values`. Ticks are milliseconds.
 ///
@@ -121,21 +168,10 @@ pub fn read_stimuli(alloc: Global, bytes: &[u8]) -> Result<Vec<Stimulus>, InputE
     if bytes.len() > MOST_BYTES {
         return Err(InputError::Limit);
     }
-    let reader = ReaderBuilder::new()
-        .has_headers(false)
-        .flexible(true)
-        .from_reader(alloc, bytes);
-    let mut rows = reader.into_byte_records();
-    let Some(first) = rows.next() else {
+    let opened = rows_of(alloc, bytes)?;
+    let Some(rows) = opened else {
         return Ok(Vec::new(alloc));
     };
-    let head = match first {
-        Ok(head) => head,
-        Err(error) => return Err(refusal(error)),
-    };
-    if !is_heading(head) {
-        return Err(InputError::Row);
-    }
     let mut found = Items::new(alloc);
     for next in rows {
         let row = match next {

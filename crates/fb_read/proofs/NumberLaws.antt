@@ -1,7 +1,7 @@
 -- Numbers that are too large.
-use Rattle.std.proofs.Common.{◌≡◌, ℕ, zero, ◌+◌, ◌-◌, ◌*◌, ◌/◌, ◌<◌, ◌≤◌, Bool, true, false, cond, eqb, [], ◌∷◌, length, get_or, drop, Option, None, refl, sym, ap, ◌∙◌, arith}
+use Rattle.std.proofs.Common.{◌≡◌, ℕ, ◌+◌, ◌*◌, ◌<◌, ◌≤◌, Bool, true, false, cond, eqb, [], ◌∷◌, length, get_or, drop, Option, None, refl, sym, ap, ◌∙◌, arith}
 use Rattle.std.specs.List.{fold}
-use Rattle.std.proofs.Math.Nat.{div-lt_iff_lt-mul, mul-le-mul_right}
+use Rattle.std.proofs.Math.Nat.{mul-le-mul_right}
 use Rattle.std.proofs.lemmas.List.{drop_more}
 use Rattle.std.proofs.lemmas.Bool.{lt-leb, eqb-true}
 use Rattle.fb_read.specs.Limits.{most}
@@ -31,20 +31,18 @@ one_digit : (base n b : ℕ) (rest : Text) → digit_of b < 16 → fold (with_di
 one_digit base n b rest lt = ap (λ (t : Bool). fold (with_digit base) (cond t n (base * n + digit_of b)) rest) (digit_not_mark b lt)
 
 too_large_value : (base : ℕ) (z : Text) (i n : ℕ) → 2 ≤ base → i < length z → digit_of (get_or z i 0) < 16 → fold (with_digit base) n (drop i z) ≡ value_of base z
-    → (most - digit_of (get_or z i 0)) / base < n → most < value_of base z
+    → most < base * n + digit_of (get_or z i 0) → most < value_of base z
 too_large_value base z i n some lt digit so_far over =
     let d = digit_of (get_or z i 0) in
     let turn : value_of base z ≡ fold (with_digit base) (base * n + d) (drop (i + 1) z) = sym so_far ∙ ap (fold (with_digit base) n) (drop_more z i 0 lt) ∙ one_digit base n (get_or z i 0) (drop (i + 1) z) digit in
-    let pos : zero < base = omega arith in
     let grows : base * n + d ≤ fold (with_digit base) (base * n + d) (drop (i + 1) z) = fold-grows base (base * n + d) (drop (i + 1) z) (omega arith) in
-    let step : most - d < n * base = (div-lt_iff_lt-mul {k = base} {x = most - d} {y = n} pos).0 over in
     omega arith
 
 abbrev none : Option ℕ
 none = None
 
 pub too_large : (base : ℕ) (z : Text) (i n : ℕ) → 2 ≤ base → i < length z → digit_of (get_or z i 0) < 16 → fold (with_digit base) n (drop i z) ≡ value_of base z
-    → (most - digit_of (get_or z i 0)) / base < n → None ≡ number base z
+    → most < base * n + digit_of (get_or z i 0) → None ≡ number base z
 unfolding number
 too_large base z i n some lt digit so_far over =
     rw (lt-leb (value_of base z) most (too_large_value base z i n some lt digit so_far over)) (go (are_digits base true z))

@@ -57,6 +57,19 @@ fn parts_start(z: &[u8], start: usize) -> usize
     }
 }
 
+/// The number of ticks, or less than 0 by it.
+fn signed(negative: bool, ticks: u128) -> i128
+    requires { ticks ≤ most }
+    ensures { result ≡ spec.signed negative ticks }
+{
+    let ticks = Magnitude::new(ticks);
+    if negative {
+        ticks.negative()
+    } else {
+        ticks.positive()
+    }
+}
+
 /// A time literal, by the place behind its `#`.
 #[tactic(auto, unfolding(crate::specs::Front::time))]
 fn time(alloc: Global, z: &[u8], start: usize) -> Result<(Token, usize), LexFault>
@@ -67,18 +80,11 @@ fn time(alloc: Global, z: &[u8], start: usize) -> Result<(Token, usize), LexFaul
 {
     let negative = at(z, start) == b'-';
     let first = parts_start(z, start);
-    let len = word_len(&z[first..]);
-    let text = in_upper(alloc, &z[first..first + len])?;
+    let parts = &z[first..];
+    let len = word_len(parts);
+    let text = in_upper(alloc, &parts[..len])?;
     match duration(text.as_slice()) {
-        Some(ticks) => {
-            let ticks = Magnitude::new(ticks);
-            let ticks = if negative {
-                ticks.negative()
-            } else {
-                ticks.positive()
-            };
-            Ok((Token::Time(ticks), first + len))
-        }
+        Some(ticks) => Ok((Token::Time(signed(negative, ticks)), first + len)),
         None => Err(LexFault::Token),
     }
 }
@@ -140,8 +146,9 @@ fn literal(z: &[u8]) -> Result<(Token, usize), LexFault>
     match base {
         Some(base) => {
             let start = end + 1;
-            let len = word_len(&z[start..]);
-            whole(start + len, number(base, &z[start..start + len]))
+            let digits = &z[start..];
+            let len = word_len(digits);
+            whole(start + len, number(base, &digits[..len]))
         }
         None => whole(end, number(10, &z[..end])),
     }

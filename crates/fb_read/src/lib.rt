@@ -6,13 +6,14 @@
 //!
 //! To be read in this order: `read`, the entry, and `error`; `token`, `tokens` and `front`, from bytes to tokens, with
 //! `blank`, `word`, `keyword`, `number` and `time`; `cursor`, `rule` and `fault`, how a rule reads; `block`, `ports`,
-//! `network`, `chart`, `operator`, `expression` and `statement`, the rules; `laws`.
+//! `network`, `chart`, `operator`, `expression` and `statement`, the rules; `laws`; `discard`, which frees what was read.
 #![tactic(auto)]
 
 mod blank;
 mod block;
 mod chart;
 mod cursor;
+pub mod discard;
 pub mod error;
 mod expression;
 mod fault;

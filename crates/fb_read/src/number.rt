@@ -1,6 +1,6 @@
 //! The numbers that digits make.
 
-ghost use Rattle.std.specs.Prelude.{◌≡◌, ◌≤◌};
+ghost use Rattle.std.specs.Prelude.{◌≡◌, ◌≤◌, ◌<◌, ◌+◌, ◌*◌, MatchOption};
 ghost use Rattle.std.specs.Option.{ForSome};
 ghost use Rattle.fb_read.specs.Limits.{most};
 ghost use Rattle.fb_read.specs.Numbers as spec;
@@ -18,6 +18,15 @@ fn digit_of(b: u8) -> u8
         b'a'..=b'f' => b - b'a' + 10,
         _ => 16,
     }
+}
+
+/// The number that one more digit makes, where it is not too large.
+fn with_digit(base: u8, value: u128, digit: u8) -> Option<u128>
+    ensures { MatchOption result (most < base * value + digit) (λ n. (n ≡ base * value + digit) × (n ≤ most)) }
+{
+    let shifted = u128::from(base).checked_mul(value)?;
+    let longer = shifted.checked_add(u128::from(digit))?;
+    if longer <= MOST { Some(longer) } else { None }
 }
 
 /// The number that digits of this base make, with single underscores between them. `None` where they are
@@ -40,10 +49,10 @@ pub fn number(base: u8, digits: &[u8]) -> Option<u128>
         if digit >= base {
             return None;
         }
-        if value > (MOST - u128::from(digit)) / u128::from(base) {
+        let Some(longer) = with_digit(base, value, digit) else {
             return None;
-        }
-        value = u128::from(base) * value + u128::from(digit);
+        };
+        value = longer;
         wanted = false;
     }
     if wanted { None } else { Some(value) }

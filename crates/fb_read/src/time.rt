@@ -78,18 +78,18 @@ fn next_part(z: &[u8]) -> &[u8]
     }
 }
 
-fn small_product(a: u128, b: u128) -> Option<u128>
-    ensures { result ≡ spec.small_product (Some a) b }
+fn small_product(a: Option<u128>, b: u128) -> Option<u128>
+    ensures { result ≡ spec.small_product a b }
 {
-    let product = a.checked_mul(b)?;
+    let product = a?.checked_mul(b)?;
     if product <= MOST { Some(product) } else { None }
 }
 
-fn small_sum(a: u128, b: u128) -> Option<u128>
-    ensures value { result ≡ spec.small_sum (Some a) (Some b) }
+fn small_sum(a: Option<u128>, b: Option<u128>) -> Option<u128>
+    ensures value { result ≡ spec.small_sum a b }
     ensures small { ForSome result (λ n. n ≤ most) }
 {
-    let sum = a.checked_add(b)?;
+    let sum = a?.checked_add(b?)?;
     if sum <= MOST { Some(sum) } else { None }
 }
 
@@ -108,13 +108,11 @@ fn parts(units: &[Unit], z: &[u8]) -> Option<u128>
     if name != unit.name() {
         return parts(less, z);
     }
-    let part = small_product(number(10, digits)?, unit.ticks())?;
-    let more = if rest.is_empty() {
-        0
-    } else {
-        parts(less, next_part(rest))?
-    };
-    small_sum(part, more)
+    let part = small_product(number(10, digits), unit.ticks());
+    if rest.is_empty() {
+        return small_sum(part, Some(0));
+    }
+    small_sum(part, parts(less, next_part(rest)))
 }
 
 /// The ticks of a duration in upper case.

@@ -14,13 +14,9 @@ use Rattle.fb_inputs.specs.Lists as lists
 use Rattle.fb_inputs.specs.Lists.{each}
 use Rattle.fb_inputs.specs.Stimuli.{most_bytes, most_rows, stimuli_of, stimulus, three}
 use Rattle.fb_why_bytes.specs.RowParts.{FailsAt, has_value, is_event, is_tick, is_valued, is_word}
-use Rattle.fb_why_bytes.specs.RowTexts.{row_text}
-use Rattle.fb_why_bytes.specs.RowVerdicts.{IsFine, IsNumberFault, IsRefusedFor, IsShapeFault, IsShortVerdict, IsVerdict}
+use Rattle.fb_why_bytes.specs.RowVerdicts.{IsFine, IsNumberFault, IsRefusedFor, IsShapeFault}
 use Rattle.fb_why_bytes.specs.declared.place.RowFault.{RowFault}
 use Rattle.fb_why_bytes.specs.declared.place.RowFault.TheVariants as fault
-use Rattle.fb_why_bytes.specs.declared.row_verdict.RowVerdict.{RowVerdict}
-use Rattle.fb_why_bytes.specs.declared.row_verdict.RowVerdict.TheVariants as verdict
-use Rattle.fb_why_bytes.proofs.RowTexts.{one-refused, one-taken, row-judged}
 use Rattle.fb_why_bytes.proofs.RowJudgements.{crowded, first_word, late, no_draft, no_number, refused_anywhere, taken_below, whole_settings}
 use Rattle.fb_why_bytes.proofs.WordLists.{shown}
 use Rattle.fb_types.proofs.Options.{none_from_is_some}
@@ -30,17 +26,6 @@ use Rattle.fb_types.proofs.Options.{none_from_is_some}
 pub answers : {T E : Type 0} (P Q : T → Type 0) (r : Result T E) → ((x : T) → P x → Q x) → IfOk r P → IfOk r Q
 answers P Q (Ok x) gives h = gives x h
 answers P Q (Err e) gives h = h
-
--- ---- The reader's word on a text, and on its row
-
-short_row : (t e v z : Text) → z ≡ row_text t e v → length z ≤ most_bytes → stimuli_of z ≡ (stimulus 0 (t ∷ e ∷ v ∷ []) >>= λ s. Ok (s ∷ []))
-short_row t e v z made short = ap stimuli_of made ∙ row-judged t e v (subst (λ (y : Text). length y ≤ most_bytes) made short)
-
-pub row_verdict : (t e v z : Text) (w : RowVerdict) → z ≡ row_text t e v → IsShortVerdict z w → IsVerdict (t ∷ e ∷ v ∷ []) w
-row_verdict t e v z verdict.Taken made h = one-taken (stimulus 0 (t ∷ e ∷ v ∷ [])) h.1.0 (sym (short_row t e v z made h.0) ∙ h.1.1)
-row_verdict t e v z verdict.Shape made h = one-refused (stimulus 0 (t ∷ e ∷ v ∷ [])) bad_row (sym (short_row t e v z made h.0) ∙ h.1)
-row_verdict t e v z verdict.Number made h = one-refused (stimulus 0 (t ∷ e ∷ v ∷ [])) bad_number (sym (short_row t e v z made h.0) ∙ h.1)
-row_verdict t e v z verdict.Limit made h = one-refused (stimulus 0 (t ∷ e ∷ v ∷ [])) over_limit (sym (short_row t e v z made h.0) ∙ h.1)
 
 -- ---- Words
 
@@ -143,16 +128,6 @@ pub late_told : (before : ℕ) (t e v : Text) → stimulus 0 (row_of t e v) ≡ 
 late_told before t e v refused = (refused_anywhere before over_limit t e v refused, ((t, e, v), three_is t e v, late t e v refused))
 
 -- ---- Rows of other counts
-
-pub three_row : (z : Row) (t e v : Text) → Some (t, e, v) ≡ three z → z ≡ row_of t e v
-unfolding three
-three_row [] t e v h = absurd (cc)
-three_row (a ∷ []) t e v h = absurd (cc)
-three_row (a ∷ b ∷ []) t e v h = absurd (cc)
-three_row (a ∷ b ∷ c ∷ []) t e v h =
-    let at : (a, b, c) ≡ (t, e, v) = sym (same_Some (t, e, v) (a, b, c) h) in
-    ap (λ (f : Text × Text × Text). row_of f.0 f.1 f.2) at
-three_row (a ∷ b ∷ c ∷ d ∷ z) t e v h = absurd (cc)
 
 pub other_fields : (before : ℕ) (z : Row) → None ≡ three z → IsRefusedFor before z fault.Fields
 unfolding stimulus

@@ -1,8 +1,7 @@
 -- What the reader's word on a row says of its parts.
-use Rattle.std.proofs.Common.{◌≡◌, ◌<◌, ◌≤◌, ◌+◌, ◌-◌, ◌^◌, ℕ, zero, suc, nat_eq, nat_le, nat_lt, Bool, true, false, ◌&&◌, cond, List, [], ◌∷◌, length, get_or, take, Option, Some, None, Ok, Err, refl, sym, ap, ◌∙◌, arith}
+use Rattle.std.proofs.Common.{◌≡◌, ◌<◌, ◌≤◌, ◌^◌, ℕ, nat_le, nat_lt, Bool, true, false, ◌&&◌, cond, List, [], ◌∷◌, Option, Some, None, Ok, Err, refl, sym, ap, ◌∙◌, arith}
 use Rattle.std.specs.Prelude.{is_some, option_map}
 use Rattle.std.specs.List.{list_all}
-use Rattle.std.proofs.lemmas.List.{take_all}
 use Rattle.std.proofs.lemmas.Bool.{and_parts, leb-false, ltb-true, lt-ltb, le-ltb, true≢false}
 use Rattle.fb_types.specs.declared.deploy.Setting.{Setting}
 use Rattle.fb_types.specs.declared.deploy.Stimulus.{Stimulus}
@@ -16,7 +15,6 @@ use Rattle.fb_inputs.specs.Refusals.{Outcome, ◌>>=◌, or_refuse, bad_row, bad
 use Rattle.fb_inputs.specs.Rows.{Row, event, word, words, draft, setting}
 use Rattle.fb_inputs.specs.Words.{Text, is_keyword, name, parted}
 use Rattle.fb_inputs.specs.Stimuli.{stimulus, three, most_rows}
-use Rattle.fb_inputs.proofs.Parts.{parted_at}
 use Rattle.fb_why_bytes.specs.RowParts.{is_event, is_tick, is_word, is_valued, has_value, IsSingle}
 use Rattle.fb_why_bytes.specs.RowVerdicts.{IsVerdict, has_numbers, has_shape, is_taken}
 use Rattle.fb_why_bytes.specs.declared.row_verdict.RowVerdict.{RowVerdict}
@@ -448,27 +446,3 @@ value_said w verdict.Taken single h = by (word w) (sym (word_is w single) ∙ h.
 value_said w verdict.Shape single h = word_unvalued (word w) bad_row (sym (word_is w single) ∙ h)
 value_said w verdict.Number single h = word_unvalued (word w) bad_number (sym (word_is w single) ∙ h)
 value_said w verdict.Limit single h = word_unvalued (word w) over_limit (sym (word_is w single) ∙ h)
-
--- ---- A text is a name where it is the event of an instance
-
-a_name : name (65 ∷ []) ≡ Some (65 ∷ [])
-unfolding name is_keyword
-a_name = refl
-
-before_mark : (z : Text) (k : ℕ) → k < 1 → nat_eq 46 (get_or (65 ∷ 46 ∷ z) k 0) ≡ false
-before_mark z zero lt = refl
-before_mark z (suc k) lt = absurd (omega arith)
-
-a_parted : (z : Text) → parted 46 (65 ∷ 46 ∷ z) ≡ Some (65 ∷ [], z)
-a_parted z =
-    let left : length (65 ∷ 46 ∷ z) - (1 + 1) ≡ length z = omega arith in
-    sym (parted_at 46 (65 ∷ 46 ∷ z) 1 (omega arith) (before_mark z) refl)
-    ∙ ap (λ (n : ℕ). Some (65 ∷ [], take n z)) left ∙ ap (λ (y : Text). Some (65 ∷ [], y)) (take_all (length z) z (omega arith))
-
-pub event_named : (z : Text) → is_event (65 ∷ 46 ∷ z) ≡ is_some (name z)
-unfolding event
-event_named z = rw (a_parted z, a_name) (by (name z))
-  where
-    by : (o : Option Text) → is_some {T = Text × Text} (lists.◌>>=◌ o (λ e. Some (65 ∷ [], e))) ≡ is_some o
-    by None = refl
-    by (Some e) = refl

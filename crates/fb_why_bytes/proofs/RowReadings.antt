@@ -1,8 +1,10 @@
 -- Records of stimuli, read one after the other up to the first that is refused.
 use Rattle.std.proofs.Common.{◌≡◌, ◌<◌, ◌+◌, ℕ, true, List, [], ◌∷◌, ◌++◌, length, Some, Ok, Err, Bor, refl, sym, ap, ◌∙◌, append_assoc, Fits, w64, arith}
-use Rattle.std.specs.Prelude.{slice_get}
+use Rattle.std.specs.Prelude.{MatchOption, Option, Result, slice_get}
 use Rattle.std.proofs.lemmas.List.{length_push}
 use Rattle.csv.specs.Reading.{records, default_config, strip_bom}
+use Rattle.csv.specs.Records.{fields_of}
+use Rattle.csv.specs.declared.record.ByteRecord.{ByteRecord}
 use Rattle.csv.specs.declared.iter.ByteRecordsIntoIter.{ByteRecordsIntoIter}
 use Rattle.csv.specs.declared.parser.State.{State}
 use Rattle.csv.specs.declared.parser.State.TheVariants as st
@@ -10,9 +12,11 @@ use Rattle.fb_types.specs.declared.deploy.Stimulus.{Stimulus}
 use Rattle.fb_inputs.specs.Rows.{Row}
 use Rattle.fb_inputs.specs.Words.{Text}
 use Rattle.fb_inputs.specs.Stimuli.{is_head, most_rows, stimuli_from, stimuli_of, stimulus}
-use Rattle.fb_inputs.proofs.Records.{IsAt, rows_from}
+use Rattle.fb_inputs.specs.Readers.{IsAt, rows_from}
 use Rattle.fb_inputs.proofs.Rows.{all_behind, next_found, none_left}
 use Rattle.fb_why_bytes.specs.Rows.{AreTaken, IsRowAt}
+use Rattle.fb_why_bytes.specs.RowVerdicts.{IsFine, IsJudged, IsRefusedFor}
+use Rattle.fb_why_bytes.specs.declared.place.RowFault.{RowFault}
 use Rattle.fb_why_bytes.proofs.RowJudgements.{few_before}
 
 -- Behind a heading this many rows were read, and each was taken; the reader stands behind them.
@@ -79,9 +83,11 @@ next_stands bytes k a b row y x s there split taken =
 pub all_taken : (bytes : Text) (k : ℕ) (a : ByteRecordsIntoIter (Bor (List ℕ))) (s : Stands bytes k a) → rows_from a.rdr.state s.left ≡ [] → AreTaken bytes
 all_taken bytes k a s none = (s.found, none_left s.found _ (stimuli_of bytes) none s.so_far)
 
--- the records of the bytes are those from the reader's first state
-pub start_read : (bytes : Text) (s : State) (all : List Row) → s ≡ st.StartRecord → rows_from s (strip_bom bytes) ≡ all → records default_config (strip_bom bytes) ≡ all
-start_read bytes s all start read = ap (λ (t : State). rows_from t (strip_bom bytes)) (sym start) ∙ read
+-- the record that was judged
+pub judged : {E : Type 0} (before : ℕ) (next : Result ByteRecord E) (o : Option RowFault) → IsJudged before next o
+    → (row : ByteRecord) × (next ≡ Ok row) × MatchOption o (IsFine before (fields_of row)) (IsRefusedFor before (fields_of row))
+judged before (Ok row) o h = (row, refl, h)
+judged before (Err e) o h = absurd h
 
 -- so few rows can be counted
 pub few_rows : (k : ℕ) (row : Row) (x : Stimulus) → stimulus k row ≡ Ok x → Fits w64 (k + 1)

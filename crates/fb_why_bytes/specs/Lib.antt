@@ -1,7 +1,6 @@
 pub mod Places
 pub mod TextVerdicts
 pub mod Faults
-pub mod RowTexts
 pub mod Rows
 pub mod RowParts
 pub mod RowVerdicts

@@ -1,11 +1,13 @@
 -- What the reader of stimuli says of a row, and what is wrong with the row then (this project's profile).
-use Rattle.std.specs.Prelude.{◌≡◌, ◌≤◌, ℕ, Bool, true, false, List, length, Some, None, Ok, Err, slice_get}
+use Rattle.std.specs.Prelude.{◌≡◌, ℕ, Bool, true, false, Option, Some, None, MatchOption, Result, Ok, Err, slice_get}
+use Rattle.csv.specs.Records.{fields_of}
+use Rattle.csv.specs.declared.record.ByteRecord.{ByteRecord}
 use Rattle.fb_types.specs.declared.deploy.Stimulus.{Stimulus}
 use Rattle.fb_inputs.specs.Refusals.{bad_row, bad_number, over_limit}
 use Rattle.fb_inputs.specs.Words.{Text}
 use Rattle.fb_inputs.specs.Numbers.{natural}
 use Rattle.fb_inputs.specs.Rows.{Row, event, word, words}
-use Rattle.fb_inputs.specs.Stimuli.{most_bytes, stimuli_of, stimulus}
+use Rattle.fb_inputs.specs.Stimuli.{stimulus}
 use Rattle.fb_why_bytes.specs.Rows.{IsRowFault, number_of_row}
 use Rattle.fb_why_bytes.specs.RowParts.{is_valued}
 use Rattle.fb_why_bytes.specs.declared.place.RowFault.{RowFault}
@@ -36,19 +38,14 @@ abbrev pub is_taken : RowVerdict → Bool
 is_taken verdict.Taken = true
 is_taken _ = false
 
--- what is said of a text of stimuli, which is not too long
-abbrev pub IsTextVerdict : Text → RowVerdict → Type 0
-IsTextVerdict text verdict.Taken = (all : List Stimulus) × (stimuli_of text ≡ Ok all)
-IsTextVerdict text verdict.Shape = stimuli_of text ≡ Err bad_row
-IsTextVerdict text verdict.Number = stimuli_of text ≡ Err bad_number
-IsTextVerdict text verdict.Limit = stimuli_of text ≡ Err over_limit
-
-abbrev pub IsShortVerdict : Text → RowVerdict → Type 0
-IsShortVerdict text v = (length text ≤ most_bytes) × IsTextVerdict text v
-
 -- The row is refused for what is wrong with it.
 abbrev pub IsRefusedFor : ℕ → Row → RowFault → Type 0
 IsRefusedFor before row why = (stimulus before row ≡ Err (number_of_row why)) × IsRowFault before row why
+
+-- A record was read, and this is wrong with it, if something is.
+abbrev pub IsJudged : {E : Type 0} → ℕ → Result ByteRecord E → Option RowFault → Type 0
+IsJudged before (Ok row) o = MatchOption o (IsFine before (fields_of row)) (IsRefusedFor before (fields_of row))
+IsJudged before (Err e) o = ⊥
 
 -- This is wrong with the shape of an event and of words.
 abbrev pub IsShapeFault : Text → Text → RowFault → Type 0

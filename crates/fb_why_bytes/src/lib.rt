@@ -7,9 +7,9 @@
 //!
 //! To be read in this order: `text_place`; `text_verdict`, what the reader of declarations says of a text, and `discard`, which
 //! frees what it read; `applies`, whether a refusal applies at a place; `scan` and `find`, where it may; `expected` and
-//! `tell_text`. Then `place`; `row_text` and `row_verdict`, by which the reader of stimuli itself judges a row, a word or a name;
-//! `words`, `row`, `stimuli`; `names`, `table`, `numbers`, `deployment`; `text`, `tell_stimuli`, `tell_deployment`. All of it runs
-//! behind a refusal alone, and reads the text of a declaration some hundred times at most.
+//! `tell_text`. Then `place`; `row_verdict`, by which the reader of stimuli itself judges a row or a word; `words`, `row`,
+//! `stimuli`; `names`, `table`, `numbers`, `deployment`; `text`, `tell_stimuli`, `tell_deployment`. All of it runs behind a
+//! refusal alone, and reads the text of a declaration some hundred times at most.
 #![tactic(auto)]
 
 mod applies;
@@ -21,7 +21,6 @@ mod names;
 mod numbers;
 pub mod place;
 mod row;
-mod row_text;
 mod row_verdict;
 mod scan;
 pub mod stimuli;

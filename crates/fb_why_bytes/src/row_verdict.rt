@@ -3,9 +3,8 @@
 ghost use Rattle.std.specs.Prelude.{◌≡◌, ◌∷◌, [], IfOk};
 ghost use Rattle.fb_why_bytes.specs.RowVerdicts as spec;
 
-use crate::row_text::row_text;
 use fb_inputs::error::InputError;
-use fb_inputs::stimuli::{MOST_BYTES, read_stimuli};
+use fb_inputs::stimuli::stimulus_of;
 use std::alloc::{AllocError, Global};
 
 /// What is said of a row.
@@ -41,16 +40,18 @@ pub fn is_taken(verdict: RowVerdict) -> bool
     matches!(verdict, RowVerdict::Taken)
 }
 
-/// What the reader says of a text. One that is too long is not judged, as without memory for it.
-fn judge_text(alloc: Global, text: &[u8]) -> Result<RowVerdict, AllocError>
-    ensures { IfOk result (spec.IsShortVerdict text.now) }
+/// What the reader says of a row with these fields, before which no other comes.
+pub fn judge_row(
+    alloc: Global,
+    tick: &[u8],
+    event: &[u8],
+    values: &[u8],
+) -> Result<RowVerdict, AllocError>
+    ensures { IfOk result (spec.IsVerdict (tick.now ∷ event.now ∷ values.now ∷ [])) }
 {
-    if text.len() > MOST_BYTES {
-        return Err(AllocError);
-    }
-    match read_stimuli(alloc, text) {
-        Ok(stimuli) => {
-            drop(stimuli);
+    match stimulus_of(alloc, 0, tick, event, values) {
+        Ok(stimulus) => {
+            drop(stimulus);
             Ok(RowVerdict::Taken)
         }
         Err(error) => match error {
@@ -60,18 +61,4 @@ fn judge_text(alloc: Global, text: &[u8]) -> Result<RowVerdict, AllocError>
             _ => Err(AllocError),
         },
     }
-}
-
-/// What the reader says of a row with these fields. A row for which there is no text that is short enough is not
-/// judged, as without memory for it.
-pub fn judge_row(
-    alloc: Global,
-    tick: &[u8],
-    event: &[u8],
-    values: &[u8],
-) -> Result<RowVerdict, AllocError>
-    ensures { IfOk result (spec.IsVerdict (tick.now ∷ event.now ∷ values.now ∷ [])) }
-{
-    let text = row_text(alloc, tick, event, values)?;
-    judge_text(alloc, text.as_slice())
 }

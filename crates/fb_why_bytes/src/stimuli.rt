@@ -4,12 +4,13 @@ ghost use Rattle.std.specs.Prelude.{IfOk, MatchOption};
 ghost use Rattle.csv.specs.Reading.{error_kind};
 ghost use Rattle.csv.specs.Records.{fields_of};
 ghost use Rattle.fb_why_bytes.specs.Rows.{AreTaken, IsRefusedAt};
-ghost use Rattle.fb_why_bytes.specs.RowVerdicts.{IsFine, IsRefusedFor};
+ghost use Rattle.fb_why_bytes.specs.RowVerdicts.{IsFine, IsJudged, IsRefusedFor};
 
 use crate::place::{RowFault, StimuliPlace};
 use crate::row::row_fault;
-use csv::{ByteRecord, ReaderBuilder};
-use fb_inputs::stimuli::{MOST_BYTES, columns, is_heading};
+use csv::{ByteRecord, Error};
+use fb_inputs::error::InputError;
+use fb_inputs::stimuli::{MOST_BYTES, columns, rows_of};
 use std::alloc::{AllocError, Global};
 
 /// What is wrong with a record behind the heading, before which so many others come.
@@ -26,11 +27,19 @@ fn record_fault(
     }
 }
 
-/// What is wrong with a record behind the heading. It is freed here, so that no caller holds it at its exits.
-fn fault_of(alloc: Global, before: usize, row: ByteRecord) -> Result<Option<RowFault>, AllocError>
-    ensures { IfOk result (λ o. MatchOption o (IsFine before (fields_of row)) (IsRefusedFor before (fields_of row))) }
+/// What is wrong with the next record behind the heading. It is freed here, so that no caller holds it at its exits. One that
+/// was not read is not judged: memory was wanting.
+fn fault_of(
+    alloc: Global,
+    before: usize,
+    next: Result<ByteRecord, Error>,
+) -> Result<Option<RowFault>, AllocError>
+    ensures { IfOk result (IsJudged before next) }
 {
-    record_fault(alloc, before, &row)
+    match next {
+        Ok(row) => record_fault(alloc, before, &row),
+        Err(_) => Err(AllocError),
+    }
 }
 
 /// Where the stimuli that bytes of CSV are meant to be are refused, or `None` where they are taken.
@@ -40,26 +49,17 @@ pub fn stimuli_place(alloc: Global, bytes: &[u8]) -> Result<Option<StimuliPlace>
     if bytes.len() > MOST_BYTES {
         return Ok(Some(StimuliPlace::Bytes));
     }
-    let reader = ReaderBuilder::new()
-        .has_headers(false)
-        .flexible(true)
-        .from_reader(alloc, bytes);
-    let mut rows = reader.into_byte_records();
-    let Some(first) = rows.next() else {
+    let opened = match rows_of(alloc, bytes) {
+        Ok(opened) => opened,
+        Err(InputError::Row) => return Ok(Some(StimuliPlace::Heading)),
+        Err(_) => return Err(AllocError),
+    };
+    let Some(rows) = opened else {
         return Ok(None);
     };
-    let Ok(head) = first else {
-        return Err(AllocError);
-    };
-    if !is_heading(head) {
-        return Ok(Some(StimuliPlace::Heading));
-    }
     let mut row = 0;
     for next in rows {
-        let Ok(record) = next else {
-            return Err(AllocError);
-        };
-        if let Some(fault) = fault_of(alloc, row, record)? {
+        if let Some(fault) = fault_of(alloc, row, next)? {
             return Ok(Some(StimuliPlace::Row { row, fault }));
         }
         row += 1;

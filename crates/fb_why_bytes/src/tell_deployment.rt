@@ -2,7 +2,7 @@
 
 use crate::place::{DeployKey, DeployPlace, TableFault, TablePlace};
 use crate::table::{key_text, value_at};
-use crate::text::{push_number, push_place, push_quoted};
+use crate::text::Text;
 use std::alloc::{AllocError, Global};
 use toml::{Table, Value};
 
@@ -12,31 +12,26 @@ pub fn tell_deployment(
     bytes: &[u8],
     place: DeployPlace,
 ) -> Result<String, AllocError> {
-    let mut text = String::new(alloc);
-    push_deployment(alloc, &mut text, bytes, place)?;
-    Ok(text)
+    let mut text = Text::new(alloc);
+    push_deployment(alloc, &mut text, bytes, place);
+    text.into_string()
 }
 
-fn push_deployment(
-    alloc: Global,
-    text: &mut String,
-    bytes: &[u8],
-    place: DeployPlace,
-) -> Result<(), AllocError> {
-    text.push_str("deployment: ")?;
+fn push_deployment(alloc: Global, text: &mut Text, bytes: &[u8], place: DeployPlace) {
+    text.words("deployment: ");
     match place {
-        DeployPlace::Bytes => text.push_str("there are more than 1,048,576 bytes"),
+        DeployPlace::Bytes => text.words("there are more than 1,048,576 bytes"),
         DeployPlace::Document(at) => push_position(text, bytes, at),
         DeployPlace::Shape { table, fault } => {
-            push_table(text, table)?;
-            push_fault(alloc, text, bytes, table, fault)
+            push_table(text, table);
+            push_fault(alloc, text, bytes, table, fault);
         }
         _ => push_numbers(text, place),
     }
 }
 
 /// The line and the column of a byte, both counted from 1. A column counts characters.
-fn push_position(text: &mut String, bytes: &[u8], at: usize) -> Result<(), AllocError> {
+fn push_position(text: &mut Text, bytes: &[u8], at: usize) {
     let mut line = 1usize;
     let mut column = 1usize;
     for byte in bytes.iter().take(at) {
@@ -47,62 +42,53 @@ fn push_position(text: &mut String, bytes: &[u8], at: usize) -> Result<(), Alloc
             column = column.saturating_add(1);
         }
     }
-    text.push_str("line ")?;
-    push_number(text, line)?;
-    text.push_str(", column ")?;
-    push_number(text, column)?;
-    text.push_str(": this is no TOML")
+    text.words("line ");
+    text.number(line);
+    text.words(", column ");
+    text.number(column);
+    text.words(": this is no TOML");
 }
 
-fn push_table(text: &mut String, table: TablePlace) -> Result<(), AllocError> {
+fn push_table(text: &mut Text, table: TablePlace) {
     match table {
-        TablePlace::Top => Ok(()),
+        TablePlace::Top => {}
         TablePlace::Resource(place) => {
-            push_place(text, place)?;
-            text.push_str(" resource: ")
+            text.place(place);
+            text.words(" resource: ");
         }
         TablePlace::Link(place) => push_link(text, place),
     }
 }
 
-fn push_link(text: &mut String, link: usize) -> Result<(), AllocError> {
-    push_place(text, link)?;
-    text.push_str(" link: ")
+fn push_link(text: &mut Text, link: usize) {
+    text.place(link);
+    text.words(" link: ");
 }
 
 /// What is wrong with the table.
-fn push_fault(
-    alloc: Global,
-    text: &mut String,
-    bytes: &[u8],
-    table: TablePlace,
-    fault: TableFault,
-) -> Result<(), AllocError> {
+fn push_fault(alloc: Global, text: &mut Text, bytes: &[u8], table: TablePlace, fault: TableFault) {
     match fault {
-        TableFault::NoTable => text.push_str("it is no table"),
+        TableFault::NoTable => text.words("it is no table"),
         TableFault::Missing(DeployKey::Latency) => {
-            text.push_str("there is neither latency nor latencies")
+            text.words("there is neither latency nor latencies");
         }
         TableFault::Missing(key) => {
-            text.push_str("there is no ")?;
-            text.push_str(key_text(key))
+            text.words("there is no ");
+            text.words(key_text(key));
         }
         TableFault::Wrong(key) => {
-            text.push_str(key_text(key))?;
-            text.push_str(kind_of(key))
+            text.words(key_text(key));
+            text.words(kind_of(key));
         }
         TableFault::Element(key, place) => {
-            text.push_str(key_text(key))?;
-            text.push_str(": the ")?;
-            push_place(text, place)?;
-            text.push_str(match key {
-                DeployKey::Instances => " element is not a name",
-                _ => " entry is not two whole numbers",
-            })
+            text.words(key_text(key));
+            text.words(": the ");
+            text.place(place);
+            text.words(kind_of_element(key));
         }
-        TableFault::Empty => text.push_str("there is no resource"),
-        TableFault::Both => text.push_str("there are both latency and latencies"),
-        TableFault::Itself => text.push_str("it leads to the resource that it comes from"),
+        TableFault::Empty => text.words("there is no resource"),
+        TableFault::Both => text.words("there are both latency and latencies"),
+        TableFault::Itself => text.words("it leads to the resource that it comes from"),
         TableFault::Further => push_further(alloc, text, bytes, table),
     }
 }
@@ -114,6 +100,14 @@ fn kind_of(key: DeployKey) -> &'static str {
         DeployKey::Device | DeployKey::Name | DeployKey::From | DeployKey::To => " is not a name",
         DeployKey::Instances | DeployKey::Latencies => " is not an array",
         DeployKey::Latency => " is not a whole number",
+    }
+}
+
+/// What an element of the array at a key is not.
+fn kind_of_element(key: DeployKey) -> &'static str {
+    match key {
+        DeployKey::Instances => " element is not a name",
+        _ => " entry is not two whole numbers",
     }
 }
 
@@ -132,34 +126,36 @@ fn known_keys(table: TablePlace) -> &'static [DeployKey] {
 }
 
 /// Tells the first key that is not known.
-fn push_further(
-    alloc: Global,
-    text: &mut String,
-    bytes: &[u8],
-    table: TablePlace,
-) -> Result<(), AllocError> {
-    text.push_str("there is a further key")?;
+fn push_further(alloc: Global, text: &mut Text, bytes: &[u8], table: TablePlace) {
+    text.words("there is a further key");
     match toml::table_from_slice(alloc, bytes) {
         Ok(keys) => push_unknown(text, &keys, table),
-        Err(_) => Err(AllocError),
+        Err(_) => text.give_up(),
     }
 }
 
 /// Adds the first key of the table that is not known.
-fn push_unknown(text: &mut String, keys: &Table, table: TablePlace) -> Result<(), AllocError> {
+fn push_unknown(text: &mut Text, keys: &Table, table: TablePlace) {
     let Some(keys) = table_at(keys, table) else {
-        return Ok(());
+        return;
     };
     for (key, _) in keys {
-        if !known_keys(table)
-            .iter()
-            .any(|known| key_text(*known) == key.as_str())
-        {
-            text.push_str(", ")?;
-            return push_quoted(text, key.as_str().as_bytes());
+        if !is_known(table, key.as_str()) {
+            text.words(", ");
+            text.quoted(key.as_str().as_bytes());
+            return;
         }
     }
-    Ok(())
+}
+
+/// Whether a table may have a key.
+fn is_known(table: TablePlace, key: &str) -> bool {
+    for known in known_keys(table) {
+        if key_text(*known) == key {
+            return true;
+        }
+    }
+    false
 }
 
 /// The table of a document that is told.
@@ -176,36 +172,36 @@ fn element_at(value: &Value, place: usize) -> Option<&Table> {
 }
 
 /// What is wrong with the numbers of a deployment.
-fn push_numbers(text: &mut String, place: DeployPlace) -> Result<(), AllocError> {
+fn push_numbers(text: &mut Text, place: DeployPlace) {
     match place {
         DeployPlace::Latency { link, entry } => {
-            push_link(text, link)?;
-            text.push_str("the latency of the ")?;
-            push_place(text, entry)?;
-            text.push_str(" entry is not within 1 to 1,000,000")
+            push_link(text, link);
+            text.words("the latency of the ");
+            text.place(entry);
+            text.words(" entry is not within 1 to 1,000,000");
         }
         DeployPlace::NoEntry { link } => {
-            push_link(text, link)?;
-            text.push_str("latencies has no entry")
+            push_link(text, link);
+            text.words("latencies has no entry");
         }
         DeployPlace::Entry { link, entry: 0 } => {
-            push_link(text, link)?;
-            text.push_str("the 1st entry is not at tick 0")
+            push_link(text, link);
+            text.words("the 1st entry is not at tick 0");
         }
         DeployPlace::Entry { link, entry } => {
-            push_link(text, link)?;
-            text.push_str("the tick of the ")?;
-            push_place(text, entry)?;
-            text.push_str(
+            push_link(text, link);
+            text.words("the tick of the ");
+            text.place(entry);
+            text.words(
                 " entry is not behind that of the entry before it, or is over 1,000,000,000,000",
-            )
+            );
         }
-        DeployPlace::Resources => text.push_str("there are more than 256 resources"),
-        DeployPlace::Links => text.push_str("there are more than 1,024 links"),
+        DeployPlace::Resources => text.words("there are more than 256 resources"),
+        DeployPlace::Links => text.words("there are more than 1,024 links"),
         DeployPlace::Entries { link } => {
-            push_link(text, link)?;
-            text.push_str("there are more than 64 entries")
+            push_link(text, link);
+            text.words("there are more than 64 entries");
         }
-        _ => Ok(()),
+        _ => {}
     }
 }

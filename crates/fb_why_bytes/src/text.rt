@@ -1,6 +1,6 @@
 //! Texts that are put together.
 
-use std::alloc::AllocError;
+use std::alloc::{AllocError, Global};
 
 /// The greatest number of bytes of which one is told as they stand.
 const MOST_TOLD: usize = 60;
@@ -16,31 +16,80 @@ fn ending(place: usize) -> &'static str {
     }
 }
 
-/// Adds a number.
-pub fn push_number(text: &mut String, number: usize) -> Result<(), AllocError> {
-    write!(text, "{number}")
+/// How a byte is told: one that is no printing character of ASCII as a question mark.
+fn shown(byte: u8) -> u8 {
+    match byte {
+        b' '..=b'~' => byte,
+        _ => b'?',
+    }
 }
 
-/// Adds a place that is counted from 0, as in 1st for 0.
-pub fn push_place(text: &mut String, place: usize) -> Result<(), AllocError> {
-    let counted = place.saturating_add(1);
-    push_number(text, counted)?;
-    text.push_str(ending(counted))
+/// A text that grows. Where there is no memory for a part of it, it grows no more, and there is no text in the end: what writes
+/// to it need not look at that.
+#[derive(Drop)]
+pub struct Text {
+    all: String,
+    /// Whether there was memory for all of it so far.
+    written: Result<(), AllocError>,
 }
 
-/// Adds bytes between quotes, not too many of them. One that is no printing character of ASCII is told as a question
-/// mark.
-pub fn push_quoted(text: &mut String, bytes: &[u8]) -> Result<(), AllocError> {
-    text.push_str("\"")?;
-    for byte in bytes.iter().take(MOST_TOLD) {
-        match *byte {
-            b' '..=b'~' => text.push(char::from(*byte))?,
-            _ => text.push_str("?")?,
+impl Text {
+    pub fn new(alloc: Global) -> Text {
+        Text {
+            all: String::new(alloc),
+            written: Ok(()),
         }
     }
-    text.push_str(if bytes.len() > MOST_TOLD {
-        "\".."
-    } else {
-        "\""
-    })
+
+    /// What it has grown to.
+    pub fn into_string(self) -> Result<String, AllocError> {
+        let Text { all, written } = self;
+        written?;
+        Ok(all)
+    }
+
+    /// There was no memory for what was to be told.
+    pub fn give_up(&mut self) {
+        self.written = Err(AllocError);
+    }
+
+    /// Words, as they are.
+    pub fn words(&mut self, words: &str) {
+        if self.written.is_ok() {
+            self.written = self.all.push_str(words);
+        }
+    }
+
+    /// A letter of ASCII.
+    pub fn letter(&mut self, byte: u8) {
+        if self.written.is_ok() {
+            self.written = self.all.push(char::from(byte));
+        }
+    }
+
+    pub fn number(&mut self, number: usize) {
+        if self.written.is_ok() {
+            self.written = write!(self.all, "{number}");
+        }
+    }
+
+    /// A place that is counted from 0, as in 1st for 0.
+    pub fn place(&mut self, place: usize) {
+        let counted = place.saturating_add(1);
+        self.number(counted);
+        self.words(ending(counted));
+    }
+
+    /// Bytes between quotes, not too many of them.
+    pub fn quoted(&mut self, bytes: &[u8]) {
+        self.words("\"");
+        for byte in bytes.iter().take(MOST_TOLD) {
+            self.letter(shown(*byte));
+        }
+        self.words(if bytes.len() > MOST_TOLD {
+            "\".."
+        } else {
+            "\""
+        });
+    }
 }

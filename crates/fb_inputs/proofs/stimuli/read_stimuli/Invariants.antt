@@ -1,7 +1,7 @@
 use Rattle.std.proofs.Common.{◌≡◌, length}
 use Rattle.fb_inputs.specs.Words.{Text}
 use Rattle.fb_inputs.specs.Stimuli.{stimuli_from, stimuli_of}
-use Rattle.fb_inputs.proofs.Records.{IsAt, rows_from}
+use Rattle.fb_inputs.specs.Readers.{IsAt, rows_from}
 use Rattle.fb_inputs.proofs.Rows.{all_behind}
 use Rattle.fb_inputs.proofs.stimuli.read_stimuli.Given as goal
 

@@ -3,6 +3,6 @@ use Rattle.std.proofs.lemmas.Grind.{common_steps}
 use Rattle.fb_read.proofs.NumberLaws.{too_large}
 use Rattle.fb_read.proofs.number.number.Goals as goal
 
-pub returns-then-value-from-clause-value : goal.returns-then-value-from-clause-value
-returns-then-value-from-clause-value c =
-    too_large c.args.base c.args.digits.now c.loop-b.b-index c.loop-b.value c.requires.low c.loop-b-test.true (grind (arith, common_steps)) c.loop-b.invariant.sum (grind (arith, common_steps))
+pub returns-in_default-clause-value : goal.returns-in_default-clause-value
+returns-in_default-clause-value c =
+    too_large c.args.base c.args.digits.now c.loop-b.b-index c.loop-b.value c.requires.low c.loop-b-test.true (grind (arith, common_steps)) c.loop-b.invariant.sum (grind (arith, common_steps, c.in_default.ensures))

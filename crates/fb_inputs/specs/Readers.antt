@@ -1,0 +1,56 @@
+-- A reader of the records of a text.
+use Rattle.std.specs.Prelude.{◌≡◌, ◌<◌, ◌+◌, ℕ, true, false, List, [], ◌∷◌, length, Option, Some, None, IfSome, Result, Ok, Err}
+use Rattle.std.specs.Borrow.{Bor}
+use Rattle.csv.specs.Machine.{ends_at_end}
+use Rattle.csv.specs.Reading.{Ready, default_config, records, records_from, source_of, strip_bom}
+use Rattle.csv.specs.declared.iter.ByteRecordsIntoIter.{ByteRecordsIntoIter}
+use Rattle.csv.specs.declared.parser.State.{State}
+use Rattle.csv.specs.declared.parser.State.TheVariants as st
+use Rattle.csv.specs.declared.reader.Trim.TheVariants as trim
+use Rattle.fb_inputs.specs.declared.error.InputError.{InputError}
+use Rattle.fb_inputs.specs.Refusals.{bad_row, number_of}
+use Rattle.fb_inputs.specs.Rows.{Row}
+use Rattle.fb_inputs.specs.Stimuli.{is_head}
+use Rattle.fb_inputs.specs.Words.{Text}
+
+abbrev pub known : Bor (List ℕ) → Option (List ℕ)
+known s = Some s.now
+
+-- the reader stands between records, with this text left
+pub record IsAt (it : ByteRecordsIntoIter (Bor (List ℕ))) (z : Text) : Type 0 where
+  pub trim : it.rdr.trim ≡ trim.None
+  pub ready : Ready it.rdr
+  pub left : 0 < it.left
+  pub config : it.rdr.config ≡ default_config
+  pub source : source_of known it.rdr ≡ Some z
+  pub between : ends_at_end it.rdr.state ≡ false
+  pub flexible : it.rdr.flexible ≡ true
+
+-- the reader has read nothing of this text
+abbrev pub IsOpened : ByteRecordsIntoIter (Bor (List ℕ)) → Text → Type 0
+IsOpened it z = IsAt it z × (it.rdr.state ≡ st.StartRecord)
+
+-- the records from a place on
+abbrev pub rows_from : State → Text → List Row
+rows_from s z = records_from default_config (length z + 1) s z
+
+-- the reader stands behind a heading
+pub record IsHeaded (bytes : Text) (it : ByteRecordsIntoIter (Bor (List ℕ))) : Type 0 where
+  pub left : Text
+  pub here : IsAt it left
+  pub head : Row
+  pub headed : is_head head ≡ true
+  pub read : records default_config (strip_bom bytes) ≡ head ∷ rows_from it.rdr.state left
+
+-- the first record is no heading
+pub record HasOtherHead (bytes : Text) : Type 0 where
+  pub first : Row
+  pub rows : List Row
+  pub read : records default_config (strip_bom bytes) ≡ first ∷ rows
+  pub other : is_head first ≡ false
+
+-- where a reader stands that has read a heading, if there is any record, or why none stands there
+abbrev pub Opens : Text → Result (Option (ByteRecordsIntoIter (Bor (List ℕ)))) InputError → Type 0
+Opens bytes (Ok None) = records default_config (strip_bom bytes) ≡ []
+Opens bytes (Ok (Some it)) = IsHeaded bytes it
+Opens bytes (Err e) = IfSome (number_of e) (λ n. (n ≡ bad_row) × HasOtherHead bytes)
