@@ -26,8 +26,8 @@ pub fn tell_stimulus(
     place: StimulusPlace,
 ) -> Result<String, AllocError> {
     let mut text = Text::new(alloc);
-    push_stimulus(&mut text, library, stimuli, place)?;
-    Ok(text.into_string())
+    push_stimulus(&mut text, library, stimuli, place);
+    text.into_string()
 }
 
 /// Which limit is passed.
@@ -36,57 +36,48 @@ pub fn tell_limit(alloc: Global, limit: Limit) -> Result<String, AllocError> {
     text.words(match limit {
         Limit::Instances => "application: there are more than 4,096 instances, components included",
         Limit::Stimuli => "stimuli: there are more than 100,000 rows",
-    })?;
-    Ok(text.into_string())
+    });
+    text.into_string()
 }
 
-fn push_stimulus(
-    text: &mut Text,
-    library: &Library,
-    stimuli: &[Stimulus],
-    place: StimulusPlace,
-) -> Result<(), AllocError> {
-    push_place(text, "stimuli: ", place.row)?;
-    text.words(" row behind the heading: ")?;
-    match stimuli.get(place.row) {
-        Some(stimulus) => push_fault(text, library, stimulus, place.fault),
-        None => Ok(()),
+fn push_stimulus(text: &mut Text, library: &Library, stimuli: &[Stimulus], place: StimulusPlace) {
+    push_place(text, "stimuli: ", place.row);
+    text.words(" row behind the heading: ");
+    if let Some(stimulus) = stimuli.get(place.row) {
+        push_fault(text, library, stimulus, place.fault);
     }
 }
 
 /// Words, and behind them a place that is counted from 0, as in 1st for 0.
-fn push_place(text: &mut Text, words: &str, place: usize) -> Result<(), AllocError> {
+fn push_place(text: &mut Text, words: &str, place: usize) {
     let counted = place.saturating_add(1);
-    text.numbered(words, counted as i128)?;
-    text.words(ending(counted))
+    text.numbered(words, counted as i128);
+    text.words(ending(counted));
 }
 
-fn push_fault(
-    text: &mut Text,
-    library: &Library,
-    stimulus: &Stimulus,
-    fault: StimulusFault,
-) -> Result<(), AllocError> {
+fn push_fault(text: &mut Text, library: &Library, stimulus: &Stimulus, fault: StimulusFault) {
     match fault {
         StimulusFault::Event => push_event(text, library, stimulus),
-        StimulusFault::Setting(place) => match stimulus.settings.get(place) {
-            Some(setting) => push_setting(text, library, stimulus, setting),
-            None => Ok(()),
-        },
+        StimulusFault::Setting(place) => {
+            if let Some(setting) = stimulus.settings.get(place) {
+                push_setting(text, library, stimulus, setting);
+            }
+        }
         StimulusFault::Twice => push_twice(text, stimulus),
     }
 }
 
-fn push_event(text: &mut Text, library: &Library, stimulus: &Stimulus) -> Result<(), AllocError> {
+fn push_event(text: &mut Text, library: &Library, stimulus: &Stimulus) {
     let instances = library.application.network.instances.as_slice();
     for instance in instances {
         if instance.name.is(&stimulus.instance) {
-            text.named("instance ", &instance.name)?;
-            text.named(" : ", &instance.block_type)?;
-            return text.named(" has no event input ", &stimulus.event);
+            text.named("instance ", &instance.name);
+            text.named(" : ", &instance.block_type);
+            text.named(" has no event input ", &stimulus.event);
+            return;
         }
     }
-    text.named("there is no instance ", &stimulus.instance)
+    text.named("there is no instance ", &stimulus.instance);
 }
 
 /// Whether a data connection leads to the variable of the instance.
@@ -107,33 +98,29 @@ fn is_connected(library: &Library, instance: &Name, variable: &Name) -> bool {
     false
 }
 
-fn push_setting(
-    text: &mut Text,
-    library: &Library,
-    stimulus: &Stimulus,
-    setting: &Setting,
-) -> Result<(), AllocError> {
-    text.name(&setting.variable)?;
-    text.words("=")?;
-    text.value(setting.value)?;
+fn push_setting(text: &mut Text, library: &Library, stimulus: &Stimulus, setting: &Setting) {
+    text.name(&setting.variable);
+    text.words("=");
+    text.value(setting.value);
     if is_connected(library, &stimulus.instance, &setting.variable) {
-        return text.words(": a data connection leads to the variable");
+        text.words(": a data connection leads to the variable");
+        return;
     }
-    text.named(": no data input that goes WITH ", &stimulus.event)?;
-    text.words(" has this name and holds this value")
+    text.named(": no data input that goes WITH ", &stimulus.event);
+    text.words(" has this name and holds this value");
 }
 
 /// Tells the first variable that is set twice.
-fn push_twice(text: &mut Text, stimulus: &Stimulus) -> Result<(), AllocError> {
+fn push_twice(text: &mut Text, stimulus: &Stimulus) {
     let settings = stimulus.settings.as_slice();
     for (place, setting) in settings.iter().enumerate() {
         let before = settings.iter().take(place);
         for other in before {
             if other.variable.is(&setting.variable) {
-                text.name(&setting.variable)?;
-                return text.words(" is set twice");
+                text.name(&setting.variable);
+                text.words(" is set twice");
+                return;
             }
         }
     }
-    Ok(())
 }

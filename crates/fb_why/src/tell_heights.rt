@@ -13,36 +13,31 @@ pub fn tell_too_high(
     place: Descent,
 ) -> Result<String, AllocError> {
     let mut text = Text::new(alloc);
-    push_descent(&mut text, library, place)?;
-    Ok(text.into_string())
+    push_descent(&mut text, library, place);
+    text.into_string()
 }
 
-fn push_descent(text: &mut Text, library: &Library, place: Descent) -> Result<(), AllocError> {
+fn push_descent(text: &mut Text, library: &Library, place: Descent) {
     let (block, instance) = match place {
         Descent::Circle(block, instance) => (block, instance),
         Descent::Height(block, instance) => (block, instance),
     };
     let Some(BlockType::Composite(composite)) = library.blocks.get(block) else {
-        return Ok(());
+        return;
     };
-    push_inside(text, composite, instance)?;
+    push_inside(text, composite, instance);
     match place {
         Descent::Circle(_, _) => {
-            text.named(": ", &composite.name)?;
-            text.words(" holds itself through it")
+            text.named(": ", &composite.name);
+            text.words(" holds itself through it");
         }
         Descent::Height(_, _) => text.words(": composites nest more than 16 deep through it"),
     }
 }
 
-fn push_inside(
-    text: &mut Text,
-    composite: &CompositeType,
-    instance: usize,
-) -> Result<(), AllocError> {
-    text.named("block type ", &composite.name)?;
-    match composite.network.instances.get(instance) {
-        Some(instance) => push_instance(text, instance),
-        None => Ok(()),
+fn push_inside(text: &mut Text, composite: &CompositeType, instance: usize) {
+    text.named("block type ", &composite.name);
+    if let Some(instance) = composite.network.instances.get(instance) {
+        push_instance(text, instance);
     }
 }

@@ -9,36 +9,32 @@ use std::alloc::{AllocError, Global};
 /// The line that tells which two data connections lead to one port.
 pub fn tell_joined(alloc: Global, library: &Library, place: Joined) -> Result<String, AllocError> {
     let mut text = Text::new(alloc);
-    push_joined(&mut text, library, place)?;
-    Ok(text.into_string())
+    push_joined(&mut text, library, place);
+    text.into_string()
 }
 
-fn push_joined(text: &mut Text, library: &Library, place: Joined) -> Result<(), AllocError> {
+fn push_joined(text: &mut Text, library: &Library, place: Joined) {
     match place {
         Joined::Application(pair) => {
-            text.named("application ", &library.application.name)?;
-            push_pair(text, &library.application.network, pair)
+            text.named("application ", &library.application.name);
+            push_pair(text, &library.application.network, pair);
         }
         Joined::Inside(place, pair) => match library.blocks.get(place) {
             Some(BlockType::Composite(composite)) => {
-                text.named("block type ", &composite.name)?;
-                push_pair(text, &composite.network, pair)
+                text.named("block type ", &composite.name);
+                push_pair(text, &composite.network, pair);
             }
-            _ => Ok(()),
+            _ => {}
         },
     }
 }
 
-fn push_pair(
-    text: &mut Text,
-    network: &Network,
-    (first, second): Repeat,
-) -> Result<(), AllocError> {
+fn push_pair(text: &mut Text, network: &Network, (first, second): Repeat) {
     if let Some(connection) = network.data_connections.get(first) {
-        text.connection(": data connections ", connection)?;
+        text.connection(": data connections ", connection);
     }
     if let Some(connection) = network.data_connections.get(second) {
-        text.connection(" and ", connection)?;
+        text.connection(" and ", connection);
     }
-    text.words(" lead to one port")
+    text.words(" lead to one port");
 }

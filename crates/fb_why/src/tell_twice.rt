@@ -20,23 +20,18 @@ pub fn tell_twice(
     given: GivenTwice,
 ) -> Result<String, AllocError> {
     let mut text = Text::new(alloc);
-    push_given(&mut text, library, plan, given)?;
-    Ok(text.into_string())
+    push_given(&mut text, library, plan, given);
+    text.into_string()
 }
 
-fn push_given(
-    text: &mut Text,
-    library: &Library,
-    plan: &Plan,
-    given: GivenTwice,
-) -> Result<(), AllocError> {
+fn push_given(text: &mut Text, library: &Library, plan: &Plan, given: GivenTwice) {
     match given {
         GivenTwice::EventBlock(place) => push_event_block(text, library, place),
         GivenTwice::Type(pair) => push_again(text, "block type ", library.blocks.as_slice(), pair),
         GivenTwice::Block(place, found) => push_block(text, library, place, found),
         GivenTwice::Application(found) => {
-            text.named("application ", &library.application.name)?;
-            push_in_network(text, &library.application.network, found)
+            text.named("application ", &library.application.name);
+            push_in_network(text, &library.application.network, found);
         }
         GivenTwice::Resource(pair) => push_again(
             text,
@@ -48,124 +43,94 @@ fn push_given(
     }
 }
 
-fn push_event_block(text: &mut Text, library: &Library, place: usize) -> Result<(), AllocError> {
-    match library.blocks.get(place) {
-        Some(block) => {
-            text.named("block type ", block.name())?;
-            text.words(": an event block has this name")
-        }
-        None => Ok(()),
+fn push_event_block(text: &mut Text, library: &Library, place: usize) {
+    if let Some(block) = library.blocks.get(place) {
+        text.named("block type ", block.name());
+        text.words(": an event block has this name");
     }
 }
 
-fn push_block(
-    text: &mut Text,
-    library: &Library,
-    place: usize,
-    found: InBlock,
-) -> Result<(), AllocError> {
-    match library.blocks.get(place) {
-        Some(block) => {
-            text.named("block type ", block.name())?;
-            push_in_block(text, block, found)
-        }
-        None => Ok(()),
+fn push_block(text: &mut Text, library: &Library, place: usize, found: InBlock) {
+    if let Some(block) = library.blocks.get(place) {
+        text.named("block type ", block.name());
+        push_in_block(text, block, found);
     }
 }
 
-fn push_link(text: &mut Text, plan: &Plan, (_, place): Repeat) -> Result<(), AllocError> {
-    match plan.links.get(place) {
-        Some(link) => {
-            text.named("link from ", &link.from)?;
-            text.named(" to ", &link.to)?;
-            text.words(AGAIN)
-        }
-        None => Ok(()),
+fn push_link(text: &mut Text, plan: &Plan, (_, place): Repeat) {
+    if let Some(link) = plan.links.get(place) {
+        text.named("link from ", &link.from);
+        text.named(" to ", &link.to);
+        text.words(AGAIN);
     }
 }
 
 /// What stands at the second of two places has the name of the first.
-fn push_again<T: Called>(
-    text: &mut Text,
-    words: &str,
-    items: &[T],
-    (_, place): Repeat,
-) -> Result<(), AllocError> {
-    match items.get(place) {
-        Some(item) => {
-            text.named(words, item.name())?;
-            text.words(AGAIN)
-        }
-        None => Ok(()),
+fn push_again<T: Called>(text: &mut Text, words: &str, items: &[T], (_, place): Repeat) {
+    if let Some(item) = items.get(place) {
+        text.named(words, item.name());
+        text.words(AGAIN);
     }
 }
 
-fn push_in_network(text: &mut Text, network: &Network, found: InNetwork) -> Result<(), AllocError> {
+fn push_in_network(text: &mut Text, network: &Network, found: InNetwork) {
     match found {
         InNetwork::Instance(pair) => {
-            push_again(text, ": instance ", network.instances.as_slice(), pair)
+            push_again(text, ": instance ", network.instances.as_slice(), pair);
         }
-        InNetwork::Parameter(place, pair) => match network.instances.get(place) {
-            Some(instance) => push_parameter(text, instance, pair),
-            None => Ok(()),
-        },
-        InNetwork::Connection((_, place)) => match network.event_connections.get(place) {
-            Some(connection) => {
-                text.connection(": event connection ", connection)?;
-                text.words(AGAIN)
+        InNetwork::Parameter(place, pair) => {
+            if let Some(instance) = network.instances.get(place) {
+                push_parameter(text, instance, pair);
             }
-            None => Ok(()),
-        },
+        }
+        InNetwork::Connection((_, place)) => {
+            if let Some(connection) = network.event_connections.get(place) {
+                text.connection(": event connection ", connection);
+                text.words(AGAIN);
+            }
+        }
     }
 }
 
-fn push_parameter(text: &mut Text, instance: &Instance, pair: Repeat) -> Result<(), AllocError> {
-    push_instance(text, instance)?;
-    push_again(text, ", parameter ", instance.parameters.as_slice(), pair)
+fn push_parameter(text: &mut Text, instance: &Instance, pair: Repeat) {
+    push_instance(text, instance);
+    push_again(text, ", parameter ", instance.parameters.as_slice(), pair);
 }
 
-fn push_in_block(text: &mut Text, block: &BlockType, found: InBlock) -> Result<(), AllocError> {
+fn push_in_block(text: &mut Text, block: &BlockType, found: InBlock) {
     match found {
         InBlock::Port(pair) => push_ports(text, block, pair),
         InBlock::WithInput(place, pair) => {
             let events = block.ports().event_inputs.as_slice();
-            push_with(text, ": event input ", events.get(place), pair)
+            push_with(text, ": event input ", events.get(place), pair);
         }
         InBlock::WithOutput(place, pair) => {
             let events = block.ports().event_outputs.as_slice();
-            push_with(text, ": event output ", events.get(place), pair)
+            push_with(text, ": event output ", events.get(place), pair);
         }
         _ => push_inside(text, block, found),
     }
 }
 
-fn push_with(
-    text: &mut Text,
-    words: &str,
-    event: Option<&EventPort>,
-    pair: Repeat,
-) -> Result<(), AllocError> {
-    match event {
-        Some(event) => {
-            text.named(words, &event.name)?;
-            push_again(text, " WITH ", event.with.as_slice(), pair)
-        }
-        None => Ok(()),
+fn push_with(text: &mut Text, words: &str, event: Option<&EventPort>, pair: Repeat) {
+    if let Some(event) = event {
+        text.named(words, &event.name);
+        push_again(text, " WITH ", event.with.as_slice(), pair);
     }
 }
 
-fn push_inside(text: &mut Text, block: &BlockType, found: InBlock) -> Result<(), AllocError> {
+fn push_inside(text: &mut Text, block: &BlockType, found: InBlock) {
     match (block, found) {
         (BlockType::Basic(basic), InBlock::State(pair)) => {
-            push_again(text, ": state ", basic.states.as_slice(), pair)
+            push_again(text, ": state ", basic.states.as_slice(), pair);
         }
         (BlockType::Basic(basic), InBlock::Algorithm(pair)) => {
-            push_again(text, ": algorithm ", basic.algorithms.as_slice(), pair)
+            push_again(text, ": algorithm ", basic.algorithms.as_slice(), pair);
         }
         (BlockType::Composite(composite), InBlock::Inside(found)) => {
-            push_in_network(text, &composite.network, found)
+            push_in_network(text, &composite.network, found);
         }
-        _ => Ok(()),
+        _ => {}
     }
 }
 
@@ -213,23 +178,16 @@ fn variable_at(block: &BlockType, place: usize) -> Option<(&'static str, &Name)>
     }
 }
 
-fn push_ports(
-    text: &mut Text,
-    block: &BlockType,
-    (first, second): Repeat,
-) -> Result<(), AllocError> {
+fn push_ports(text: &mut Text, block: &BlockType, (first, second): Repeat) {
     let Some((sort, name)) = variable_at(block, first) else {
-        return Ok(());
+        return;
     };
-    text.named(": ", name)?;
-    text.words(AGAIN)?;
-    text.words(", as ")?;
-    text.words(sort)?;
-    match variable_at(block, second) {
-        Some((sort, _)) => {
-            text.words(" and as ")?;
-            text.words(sort)
-        }
-        None => Ok(()),
+    text.named(": ", name);
+    text.words(AGAIN);
+    text.words(", as ");
+    text.words(sort);
+    if let Some((sort, _)) = variable_at(block, second) {
+        text.words(" and as ");
+        text.words(sort);
     }
 }

@@ -14,18 +14,13 @@ pub fn tell_unlinked(
     place: Unlinked,
 ) -> Result<String, AllocError> {
     let mut text = Text::new(alloc);
-    push_unlinked(&mut text, library, plan, place)?;
-    Ok(text.into_string())
+    push_unlinked(&mut text, library, plan, place);
+    text.into_string()
 }
 
-fn push_unlinked(
-    text: &mut Text,
-    library: &Library,
-    plan: &Plan,
-    place: Unlinked,
-) -> Result<(), AllocError> {
+fn push_unlinked(text: &mut Text, library: &Library, plan: &Plan, place: Unlinked) {
     let application = &library.application;
-    text.named("application ", &application.name)?;
+    text.named("application ", &application.name);
     let (words, connection) = match place {
         Unlinked::Event(place) => (
             ": event connection ",
@@ -36,25 +31,18 @@ fn push_unlinked(
             application.network.data_connections.get(place),
         ),
     };
-    match connection {
-        Some(connection) => push_connection(text, plan, words, connection),
-        None => Ok(()),
+    if let Some(connection) = connection {
+        push_connection(text, plan, words, connection);
     }
 }
 
-fn push_connection(
-    text: &mut Text,
-    plan: &Plan,
-    words: &str,
-    connection: &Connection,
-) -> Result<(), AllocError> {
-    text.connection(words, connection)?;
-    text.words(": there is no link")?;
+fn push_connection(text: &mut Text, plan: &Plan, words: &str, connection: &Connection) {
+    text.connection(words, connection);
+    text.words(": there is no link");
     if let Some(resource) = plan.resources.get(resource_of(plan, &connection.from)) {
-        text.named(" from resource ", &resource.name)?;
+        text.named(" from resource ", &resource.name);
     }
-    match plan.resources.get(resource_of(plan, &connection.to)) {
-        Some(resource) => text.named(" to resource ", &resource.name),
-        None => Ok(()),
+    if let Some(resource) = plan.resources.get(resource_of(plan, &connection.to)) {
+        text.named(" to resource ", &resource.name);
     }
 }

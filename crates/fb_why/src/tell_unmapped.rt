@@ -16,25 +16,19 @@ pub fn tell_unmapped(
     place: Unmapped,
 ) -> Result<String, AllocError> {
     let mut text = Text::new(alloc);
-    push_unmapped(&mut text, library, plan, place)?;
-    Ok(text.into_string())
+    push_unmapped(&mut text, library, plan, place);
+    text.into_string()
 }
 
-fn push_unmapped(
-    text: &mut Text,
-    library: &Library,
-    plan: &Plan,
-    place: Unmapped,
-) -> Result<(), AllocError> {
-    text.named("application ", &library.application.name)?;
+fn push_unmapped(text: &mut Text, library: &Library, plan: &Plan, place: Unmapped) {
+    text.named("application ", &library.application.name);
     match place {
-        Unmapped::Unlisted(place) => match library.application.network.instances.get(place) {
-            Some(instance) => {
-                text.named(": instance ", &instance.name)?;
-                text.words(": no resource lists it")
+        Unmapped::Unlisted(place) => {
+            if let Some(instance) = library.application.network.instances.get(place) {
+                text.named(": instance ", &instance.name);
+                text.words(": no resource lists it");
             }
-            None => Ok(()),
-        },
+        }
         Unmapped::Again(pair) => push_again(text, plan, pair),
     }
 }
@@ -52,19 +46,19 @@ fn listed_at(plan: &Plan, place: usize) -> Option<(&ResourceEntry, &Name)> {
     None
 }
 
-fn push_again(text: &mut Text, plan: &Plan, (first, second): Repeat) -> Result<(), AllocError> {
+fn push_again(text: &mut Text, plan: &Plan, (first, second): Repeat) {
     let Some((one, name)) = listed_at(plan, first) else {
-        return Ok(());
+        return;
     };
-    text.named(": instance ", name)?;
+    text.named(": instance ", name);
     match listed_at(plan, second) {
         Some((other, _)) if !one.name.is(&other.name) => {
-            text.named(": resource ", &one.name)?;
-            text.named(" lists it, and so does resource ", &other.name)
+            text.named(": resource ", &one.name);
+            text.named(" lists it, and so does resource ", &other.name);
         }
         _ => {
-            text.named(": resource ", &one.name)?;
-            text.words(" lists it twice")
+            text.named(": resource ", &one.name);
+            text.words(" lists it twice");
         }
     }
 }

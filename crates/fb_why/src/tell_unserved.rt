@@ -14,37 +14,26 @@ pub fn tell_unserved(
     place: usize,
 ) -> Result<String, AllocError> {
     let mut text = Text::new(alloc);
-    push_unserved(&mut text, library, plan, place)?;
-    Ok(text.into_string())
+    push_unserved(&mut text, library, plan, place);
+    text.into_string()
 }
 
-fn push_unserved(
-    text: &mut Text,
-    library: &Library,
-    plan: &Plan,
-    place: usize,
-) -> Result<(), AllocError> {
+fn push_unserved(text: &mut Text, library: &Library, plan: &Plan, place: usize) {
     let application = &library.application;
-    text.named("application ", &application.name)?;
-    match application.network.data_connections.get(place) {
-        Some(connection) => push_connection(text, plan, connection),
-        None => Ok(()),
+    text.named("application ", &application.name);
+    if let Some(connection) = application.network.data_connections.get(place) {
+        push_connection(text, plan, connection);
     }
 }
 
-fn push_connection(
-    text: &mut Text,
-    plan: &Plan,
-    connection: &Connection,
-) -> Result<(), AllocError> {
-    text.connection(": data connection ", connection)?;
-    text.words(": no output event")?;
+fn push_connection(text: &mut Text, plan: &Plan, connection: &Connection) {
+    text.connection(": data connection ", connection);
+    text.words(": no output event");
     if let Some(component) = &connection.from.component {
-        text.named(" of ", component)?;
+        text.named(" of ", component);
     }
-    text.named(" WITH ", &connection.from.port)?;
-    match plan.resources.get(resource_of(plan, &connection.to)) {
-        Some(resource) => text.named(" goes to resource ", &resource.name),
-        None => Ok(()),
+    text.named(" WITH ", &connection.from.port);
+    if let Some(resource) = plan.resources.get(resource_of(plan, &connection.to)) {
+        text.named(" goes to resource ", &resource.name);
     }
 }

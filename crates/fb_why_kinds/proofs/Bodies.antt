@@ -1,5 +1,5 @@
 -- An algorithm is right where each of its statements is, by itself.
-use Rattle.std.proofs.Common.{◌≡◌, ℕ, zero, suc, ◌+◌, ◌<◌, arith, Bool, true, false, ◌&&◌, List, [], ◌∷◌, ◌++◌, drop, get_or, length, Option, Some, None, refl, rules, subst, sym, ◌∙◌, ap}
+use Rattle.std.proofs.Common.{◌≡◌, ℕ, zero, suc, ◌+◌, ◌<◌, arith, Bool, true, false, ◌&&◌, List, [], ◌∷◌, ◌++◌, drop, get_or, length, Option, Some, None, refl, subst, sym, ◌∙◌, ap}
 use Rattle.std.specs.Prelude.{MatchOption, slice_get}
 use Rattle.std.specs.List.{list_all}
 use Rattle.std.proofs.lemmas.List.{at_drop_more}
@@ -8,11 +8,12 @@ use Rattle.fb_types.specs.Kinds.{is_right, body_right, choices_right, branches_r
 use Rattle.fb_types.specs.Syntax.{Stmt, Empty, Exit, Return, Assign, If, Case, For, While, Repeat, Stmts, no_stmt, then_stmts, Choices, no_choice, then_choices, Branches, no_branch, then_branches, body_of, expr_of}
 use Rattle.fb_types.specs.declared.library.Algorithm.{Algorithm}
 use Rattle.fb_types.specs.declared.library.BasicType.{BasicType}
-use Rattle.fb_types.specs.declared.text.Choice.{Choice, fold_out-Choice, out-Choice}
+use Rattle.fb_types.specs.declared.text.Choice.{Choice, out-Choice}
 use Rattle.fb_kinds.specs.Checks.{algorithm_right, in_place}
-use Rattle.fb_kinds.specs.Trees.{all_of, choice_of, choices_of}
+use Rattle.fb_kinds.specs.Trees.{choice_of, choices_of}
 use Rattle.fb_why_kinds.specs.declared.place.StatementPart.{StatementPart}
 use Rattle.fb_why_kinds.specs.declared.statements.Standing as code
+use Rattle.fb_why_kinds.proofs.Says.{choice_says}
 use Rattle.fb_why_kinds.specs.Statements.{Standing, WrongAmong, all_standing, standing_of, choice_right, conditions_right, each_in_body, each_in_branches, each_in_choices, each_inside, own_right, stands_right}
 
 -- ---- Truth values
@@ -92,9 +93,6 @@ mutual
       both_right t (each_in_body l body) (each_in_branches l rest) (body_right (in_place t l) body) (branches_right (in_place t l) rest) (body_each t l body) (branches_each t l rest)
 
 -- ---- Conditions
-
-choice_says : (c : Choice) → choice_of c ≡ (expr_of (out-Choice c).condition, all_of (out-Choice c).body)
-choice_says c = search (rules, fold_out-Choice)
 
 pub choice_at :
     (p : Place) (cs : List Choice) (k : ℕ) (c : Choice) → k < length cs → c ≡ get_or cs k c

@@ -10,3 +10,9 @@ mod Bodies
 mod Placed
 mod Parts
 mod Applying
+mod Searches
+mod Says
+mod Added
+mod Mentioned
+mod Inside
+mod Sorted

@@ -1,6 +1,6 @@
 -- The types of variables by their names, and what the names of types stand for.
 use Rattle.std.proofs.Common.{◌≡◌, ◌++◌, List, [], ◌∷◌, Option, Some, None, cond, true, false, refl, sym, ◌∙◌, ap}
-use Rattle.std.specs.Prelude.{option_map}
+use Rattle.std.specs.Prelude.{option_map, unwrap_or}
 use Rattle.std.specs.List.{find}
 use Rattle.fb_types.specs.Names.{Name, same_name}
 use Rattle.fb_types.specs.Blocks.{Kind, Event, named, event_blocks, event_block_named}
@@ -11,6 +11,7 @@ use Rattle.fb_types.specs.declared.library.BlockType.{BlockType}
 use Rattle.fb_types.specs.declared.library.Library.{Library}
 use Rattle.fb_types.specs.declared.library.Variable.{Variable}
 use Rattle.fb_types.specs.declared.value.Ty.{Ty}
+use Rattle.fb_types.specs.declared.value.Ty.TheVariants.{Bool as Boolean}
 use Rattle.fb_types.proofs.NameLaws.{find-named}
 use Rattle.fb_kinds.specs.Roles.{type_named}
 
@@ -35,6 +36,17 @@ type_back n (z ∷ zs) ys h =
       | true ↦ λ g. absurd (cc)
       | false ↦ λ g. type_back n zs ys g
     ] h
+
+-- what is no variable has the type BOOL
+pub type_or_boolean :
+    (n : Name) (vs : List Variable)
+    → unwrap_or (type_named vs n) Boolean ≡ elim (named (λ (v : Variable). v.name) n vs) [ None ↦ Boolean | Some v ↦ v.ty ]
+type_or_boolean n vs =
+    elim (named (λ (v : Variable). v.name) n vs) as
+    (λ o. unwrap_or (option_map (λ (v : Variable). v.ty) o) Boolean ≡ elim o [ None ↦ Boolean | Some v ↦ v.ty ]) [
+      | None ↦ refl
+      | Some v ↦ refl
+    ]
 
 -- ---- Types
 

@@ -97,5 +97,10 @@ impl Called for BlockType {
 pub(crate) fn is_called<T: Called>(items: &[T], name: &Name) -> bool
     ensures { result ≡ list_any (λ x. same_name name.now (T.called x)) items.now }
 {
-    items.iter().any(|item| name.is(item.name()))
+    for item in items {
+        if name.is(item.name()) {
+            return true;
+        }
+    }
+    false
 }

@@ -1,6 +1,6 @@
 //! The first statement of an algorithm of which a part has the wrong kind (IEC 61131-3, 7.3.3).
 
-ghost use Rattle.std.specs.Prelude.{◌≡◌, ◌++◌, IfOk, MatchOption, true, false};
+ghost use Rattle.std.specs.Prelude.{◌≡◌, ◌∷◌, ◌++◌, [], IfOk, MatchOption, true, false};
 ghost use Rattle.std.specs.List.{list_all};
 ghost use Rattle.fb_types.specs.Kinds.{is_condition, is_whole, place_in};
 ghost use Rattle.fb_types.specs.Syntax.{Assign, For, body_of, expr_of, no_stmt, stmt_of, step_of};
@@ -25,6 +25,18 @@ pub struct Standing<'a> {
     pub in_loop: bool,
 }
 
+/// Adds a statement.
+fn push_standing<'a>(
+    all: &mut Vec<Standing<'a>>,
+    statement: &'a Stmt,
+    in_loop: bool,
+) -> Result<(), AllocError>
+    ensures { IfOk result (λ _. all_standing all.new.items ≡ all_standing all.old.items ++ ((in_loop, stmt_of statement.now) ∷ [])) }
+{
+    all.push(Standing { statement, in_loop })?;
+    Ok(())
+}
+
 /// Adds statements and those inside of them, in the order in which they begin in the text.
 #[cycle(statement)]
 fn push_statements<'a>(
@@ -35,7 +47,7 @@ fn push_statements<'a>(
     ensures { IfOk result (λ _. all_standing all.new.items ≡ all_standing all.old.items ++ each_in_body in_loop (all_of statements.now)) }
 {
     for statement in statements {
-        all.push(Standing { statement, in_loop })?;
+        push_standing(all, statement, in_loop)?;
         push_inside(all, statement, in_loop)?;
     }
     Ok(())

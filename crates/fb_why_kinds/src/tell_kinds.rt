@@ -21,7 +21,7 @@ use std::alloc::{AllocError, Global};
 pub fn tell_misfit(alloc: Global, library: &Library, place: Misfit) -> Result<String, AllocError> {
     let mut text = Text::new(alloc);
     push_misfit(alloc, &mut text, library, place)?;
-    Ok(text.into_string())
+    text.into_string()
 }
 
 /// The line that tells which data connection leads out of a range.
@@ -31,8 +31,8 @@ pub fn tell_misjoin(
     place: Misjoin,
 ) -> Result<String, AllocError> {
     let mut text = Text::new(alloc);
-    push_misjoin(&mut text, library, place)?;
-    Ok(text.into_string())
+    push_misjoin(&mut text, library, place);
+    text.into_string()
 }
 
 fn push_misfit(
@@ -47,16 +47,16 @@ fn push_misfit(
             variables,
             variable,
         } => {
-            push_block(text, library, block)?;
-            push_initial(text, library.blocks.get(block), variables, variable)
+            push_block(text, library, block);
+            push_initial(text, library.blocks.get(block), variables, variable);
         }
         Misfit::Parameter {
             site,
             instance,
             parameter,
         } => {
-            push_site(text, library, site)?;
-            push_parameter(text, library, site, (instance, parameter))
+            push_site(text, library, site);
+            push_parameter(text, library, site, (instance, parameter));
         }
         Misfit::Guard { block, transition } => push_guard(text, library, block, transition),
         Misfit::Statement {
@@ -64,25 +64,23 @@ fn push_misfit(
             algorithm,
             statement,
             part,
-        } => push_statement(alloc, text, library, (block, algorithm), (statement, part)),
+        } => {
+            push_statement(alloc, text, library, (block, algorithm), (statement, part))?;
+        }
     }
+    Ok(())
 }
 
 /// That a value of the type is wanted.
-fn push_wanted(text: &mut Text, ty: Ty) -> Result<(), AllocError> {
-    text.words(": a value of ")?;
-    text.words(type_words(ty))?;
-    text.words(" is wanted")
+fn push_wanted(text: &mut Text, ty: Ty) {
+    text.words(": a value of ");
+    text.words(type_words(ty));
+    text.words(" is wanted");
 }
 
-fn push_initial(
-    text: &mut Text,
-    block: Option<&BlockType>,
-    variables: Variables,
-    variable: usize,
-) -> Result<(), AllocError> {
+fn push_initial(text: &mut Text, block: Option<&BlockType>, variables: Variables, variable: usize) {
     let Some(block) = block else {
-        return Ok(());
+        return;
     };
     let ports = block.ports();
     let (words, list) = match variables {
@@ -90,19 +88,18 @@ fn push_initial(
         Variables::Outputs => (": data output ", ports.outputs.as_slice()),
         Variables::Internals => (": variable ", internals_of(block)),
     };
-    match list.get(variable) {
-        Some(variable) => push_variable(text, words, variable),
-        None => Ok(()),
+    if let Some(variable) = list.get(variable) {
+        push_variable(text, words, variable);
     }
 }
 
-fn push_variable(text: &mut Text, words: &str, variable: &Variable) -> Result<(), AllocError> {
-    text.named(words, &variable.name)?;
+fn push_variable(text: &mut Text, words: &str, variable: &Variable) {
+    text.named(words, &variable.name);
     if let Some(value) = variable.initial {
-        text.words(" := ")?;
-        text.value(value)?;
+        text.words(" := ");
+        text.value(value);
     }
-    push_wanted(text, variable.ty)
+    push_wanted(text, variable.ty);
 }
 
 fn push_parameter(
@@ -110,55 +107,42 @@ fn push_parameter(
     library: &Library,
     site: Site,
     (instance, parameter): (usize, usize),
-) -> Result<(), AllocError> {
+) {
     let Some(scope) = scope_of(library, site) else {
-        return Ok(());
+        return;
     };
-    match scope.network.instances.get(instance) {
-        Some(instance) => push_set(text, library, instance, parameter),
-        None => Ok(()),
+    if let Some(instance) = scope.network.instances.get(instance) {
+        push_set(text, library, instance, parameter);
     }
 }
 
-fn push_set(
-    text: &mut Text,
-    library: &Library,
-    instance: &Instance,
-    parameter: usize,
-) -> Result<(), AllocError> {
-    push_instance(text, instance)?;
+fn push_set(text: &mut Text, library: &Library, instance: &Instance, parameter: usize) {
+    push_instance(text, instance);
     let Some(parameter) = instance.parameters.get(parameter) else {
-        return Ok(());
+        return;
     };
-    text.named(", parameter ", &parameter.name)?;
-    text.words(" := ")?;
-    text.value(parameter.value)?;
+    text.named(", parameter ", &parameter.name);
+    text.words(" := ");
+    text.value(parameter.value);
     let Some(kind) = type_named(library, &instance.block_type) else {
-        return Ok(());
+        return;
     };
-    match kind.input_type(&parameter.name) {
-        Some(ty) => push_wanted(text, ty),
-        None => Ok(()),
+    if let Some(ty) = kind.input_type(&parameter.name) {
+        push_wanted(text, ty);
     }
 }
 
-fn push_guard(
-    text: &mut Text,
-    library: &Library,
-    block: usize,
-    transition: usize,
-) -> Result<(), AllocError> {
-    let Some(basic) = push_basic(text, library, block)? else {
-        return Ok(());
+fn push_guard(text: &mut Text, library: &Library, block: usize, transition: usize) {
+    let Some(basic) = push_basic(text, library, block) else {
+        return;
     };
     let Some(transition) = basic.transitions.get(transition) else {
-        return Ok(());
+        return;
     };
-    text.named(": transition ", &transition.from)?;
-    text.named(" TO ", &transition.to)?;
-    match &transition.condition.guard {
-        Some(guard) => push_kind(text, basic, ": guard", (Sort::TruthValue, guard)),
-        None => Ok(()),
+    text.named(": transition ", &transition.from);
+    text.named(" TO ", &transition.to);
+    if let Some(guard) = &transition.condition.guard {
+        push_kind(text, basic, ": guard", (Sort::TruthValue, guard));
     }
 }
 
@@ -170,20 +154,15 @@ fn words_for(sort: Sort) -> &'static str {
 }
 
 /// Words for an expression, which kind of it is wanted, and what it has.
-fn push_kind(
-    text: &mut Text,
-    basic: &BasicType,
-    words: &str,
-    (wanted, expr): (Sort, &Expr),
-) -> Result<(), AllocError> {
-    text.words(words)?;
-    text.words(": ")?;
-    text.words(words_for(wanted))?;
-    text.words(" is wanted, and ")?;
+fn push_kind(text: &mut Text, basic: &BasicType, words: &str, (wanted, expr): (Sort, &Expr)) {
+    text.words(words);
+    text.words(": ");
+    text.words(words_for(wanted));
+    text.words(" is wanted, and ");
     match sort_of(expr, basic) {
         Some(sort) => {
-            text.words("it is ")?;
-            text.words(words_for(sort))
+            text.words("it is ");
+            text.words(words_for(sort));
         }
         None => text.words("an operand or an argument in it is wrong"),
     }
@@ -196,15 +175,16 @@ fn push_statement(
     (block, algorithm): (usize, usize),
     found: (usize, StatementPart),
 ) -> Result<(), AllocError> {
-    let Some(basic) = push_basic(text, library, block)? else {
+    let Some(basic) = push_basic(text, library, block) else {
         return Ok(());
     };
     let Some(algorithm) = basic.algorithms.get(algorithm) else {
         return Ok(());
     };
-    text.named(": algorithm ", &algorithm.name)?;
+    text.named(": algorithm ", &algorithm.name);
     let statements = all_statements(alloc, &algorithm.body)?;
-    push_found(text, basic, statements.as_slice(), found)
+    push_found(text, basic, statements.as_slice(), found);
+    Ok(())
 }
 
 fn push_found(
@@ -212,33 +192,25 @@ fn push_found(
     basic: &BasicType,
     statements: &[Standing],
     (place, part): (usize, StatementPart),
-) -> Result<(), AllocError> {
-    match statements.get(place) {
-        Some(standing) => {
-            text.numbered(": statement ", place as i128 + 1)?;
-            text.words(": ")?;
-            push_part(text, basic, standing.statement, part)
-        }
-        None => Ok(()),
+) {
+    if let Some(standing) = statements.get(place) {
+        text.numbered(": statement ", place as i128 + 1);
+        text.words(": ");
+        push_part(text, basic, standing.statement, part);
     }
 }
 
-fn push_part(
-    text: &mut Text,
-    basic: &BasicType,
-    statement: &Stmt,
-    part: StatementPart,
-) -> Result<(), AllocError> {
+fn push_part(text: &mut Text, basic: &BasicType, statement: &Stmt, part: StatementPart) {
     match statement {
-        Stmt::Empty | Stmt::Return => Ok(()),
+        Stmt::Empty | Stmt::Return => {}
         Stmt::Exit => text.words("EXIT: a loop around it is wanted"),
         Stmt::Assign(variable, expr) => push_assignment(text, basic, variable, expr, part),
         Stmt::If(choices, _) => push_choice(text, basic, choices.as_slice(), part),
         Stmt::Case(selector, _, _) => {
-            push_kind(text, basic, "CASE ..", (Sort::WholeNumber, selector))
+            push_kind(text, basic, "CASE ..", (Sort::WholeNumber, selector));
         }
         Stmt::While(condition, _) => {
-            push_kind(text, basic, "WHILE ..", (Sort::TruthValue, condition))
+            push_kind(text, basic, "WHILE ..", (Sort::TruthValue, condition));
         }
         Stmt::Repeat(_, condition) => push_kind(
             text,
@@ -247,16 +219,16 @@ fn push_part(
             (Sort::TruthValue, condition),
         ),
         Stmt::For(variable, start, end, step, _) => {
-            push_for(text, basic, variable, (start, end, step), part)
+            push_for(text, basic, variable, (start, end, step), part);
         }
     }
 }
 
 /// That a data input is assigned, or controls a FOR.
-fn push_assigned(text: &mut Text, words: &str, variable: &Reference) -> Result<(), AllocError> {
-    text.named(words, variable.name())?;
-    text.named(" := ..: ", variable.name())?;
-    text.words(" is a data input")
+fn push_assigned(text: &mut Text, words: &str, variable: &Reference) {
+    text.named(words, variable.name());
+    text.named(" := ..: ", variable.name());
+    text.words(" is a data input");
 }
 
 fn push_assignment(
@@ -265,34 +237,30 @@ fn push_assignment(
     variable: &Reference,
     expr: &Expr,
     part: StatementPart,
-) -> Result<(), AllocError> {
+) {
     if let StatementPart::Assigned = part {
-        return push_assigned(text, "", variable);
+        push_assigned(text, "", variable);
+        return;
     }
-    text.name(variable.name())?;
+    text.name(variable.name());
     let wanted = sort_of_type(type_of(basic, variable.name()));
-    push_kind(text, basic, " := ..", (wanted, expr))
+    push_kind(text, basic, " := ..", (wanted, expr));
 }
 
-fn push_choice(
-    text: &mut Text,
-    basic: &BasicType,
-    choices: &[Choice],
-    part: StatementPart,
-) -> Result<(), AllocError> {
+fn push_choice(text: &mut Text, basic: &BasicType, choices: &[Choice], part: StatementPart) {
     let StatementPart::Choice(place) = part else {
-        return Ok(());
+        return;
     };
     let Some(choice) = choices.get(place) else {
-        return Ok(());
+        return;
     };
     let words = if place == 0 {
         "IF .."
     } else {
-        text.numbered("IF .., ELSIF number ", place as i128)?;
+        text.numbered("IF .., ELSIF number ", place as i128);
         ""
     };
-    push_kind(text, basic, words, (Sort::TruthValue, &choice.condition))
+    push_kind(text, basic, words, (Sort::TruthValue, &choice.condition));
 }
 
 fn push_for(
@@ -301,30 +269,31 @@ fn push_for(
     variable: &Reference,
     (start, end, step): (&Expr, &Expr, &Option<Expr>),
     part: StatementPart,
-) -> Result<(), AllocError> {
+) {
     if let StatementPart::Assigned = part {
-        return push_assigned(text, "FOR ", variable);
+        push_assigned(text, "FOR ", variable);
+        return;
     }
-    text.named("FOR ", variable.name())?;
+    text.named("FOR ", variable.name());
     match part {
         StatementPart::Start => push_kind(text, basic, " := ..", (Sort::WholeNumber, start)),
         StatementPart::End => push_kind(text, basic, " TO ..", (Sort::WholeNumber, end)),
-        StatementPart::Step => match step {
-            Some(step) => push_kind(text, basic, " BY ..", (Sort::WholeNumber, step)),
-            None => Ok(()),
-        },
+        StatementPart::Step => {
+            if let Some(step) = step {
+                push_kind(text, basic, " BY ..", (Sort::WholeNumber, step));
+            }
+        }
         _ => text.words(": a number is wanted, and it is a truth value"),
     }
 }
 
-fn push_misjoin(text: &mut Text, library: &Library, place: Misjoin) -> Result<(), AllocError> {
-    push_site(text, library, place.site)?;
+fn push_misjoin(text: &mut Text, library: &Library, place: Misjoin) {
+    push_site(text, library, place.site);
     let Some(scope) = scope_of(library, place.site) else {
-        return Ok(());
+        return;
     };
-    match scope.network.data_connections.get(place.connection) {
-        Some(connection) => push_connection(text, library, &scope, connection),
-        None => Ok(()),
+    if let Some(connection) = scope.network.data_connections.get(place.connection) {
+        push_connection(text, library, &scope, connection);
     }
 }
 
@@ -333,17 +302,17 @@ fn push_connection(
     library: &Library,
     scope: &PlacedNetwork,
     connection: &Connection,
-) -> Result<(), AllocError> {
-    text.connection(": data connection ", connection)?;
+) {
+    text.connection(": data connection ", connection);
     let from = type_at_end(library, scope, &connection.from);
     let to = type_at_end(library, scope, &connection.to);
     match (from, to) {
         (Some(from), Some(to)) => {
-            text.words(": ")?;
-            text.words(type_words(from))?;
-            text.words(" does not fit ")?;
-            text.words(type_words(to))
+            text.words(": ");
+            text.words(type_words(from));
+            text.words(" does not fit ");
+            text.words(type_words(to));
         }
-        _ => Ok(()),
+        _ => {}
     }
 }

@@ -4,17 +4,11 @@ use crate::networks::PlacedNetwork;
 use crate::place::Site;
 use crate::words::Text;
 use fb_types::library::{BasicType, BlockType, Instance, Library};
-use std::alloc::AllocError;
 
 /// Words for a block type.
-pub(crate) fn push_block(
-    text: &mut Text,
-    library: &Library,
-    block: usize,
-) -> Result<(), AllocError> {
-    match library.blocks.get(block) {
-        Some(block) => text.named("block type ", block.type_name()),
-        None => Ok(()),
+pub(crate) fn push_block(text: &mut Text, library: &Library, block: usize) {
+    if let Some(block) = library.blocks.get(block) {
+        text.named("block type ", block.type_name());
     }
 }
 
@@ -23,16 +17,16 @@ pub(crate) fn push_basic<'a>(
     text: &mut Text,
     library: &'a Library,
     block: usize,
-) -> Result<Option<&'a BasicType>, AllocError> {
-    push_block(text, library, block)?;
+) -> Option<&'a BasicType> {
+    push_block(text, library, block);
     match library.blocks.get(block) {
-        Some(BlockType::Basic(basic)) => Ok(Some(basic)),
-        _ => Ok(None),
+        Some(BlockType::Basic(basic)) => Some(basic),
+        _ => None,
     }
 }
 
 /// Words for the network of a site.
-pub(crate) fn push_site(text: &mut Text, library: &Library, site: Site) -> Result<(), AllocError> {
+pub(crate) fn push_site(text: &mut Text, library: &Library, site: Site) {
     match site {
         Site::Application => text.named("application ", &library.application.name),
         Site::Inside(block) => push_block(text, library, block),
@@ -57,7 +51,7 @@ pub(crate) fn scope_of(library: &Library, site: Site) -> Option<PlacedNetwork> {
 }
 
 /// Words for an instance and its type.
-pub fn push_instance(text: &mut Text, instance: &Instance) -> Result<(), AllocError> {
-    text.named(": instance ", &instance.name)?;
-    text.named(" : ", &instance.block_type)
+pub fn push_instance(text: &mut Text, instance: &Instance) {
+    text.named(": instance ", &instance.name);
+    text.named(" : ", &instance.block_type);
 }

@@ -42,7 +42,7 @@ pub fn tell_unknown(
 fn told(alloc: Global, inputs: &Documents, place: UnknownName) -> Result<String, AllocError> {
     let mut text = Text::new(alloc);
     tell_place(alloc, &mut text, inputs, place)?;
-    Ok(text.into_string())
+    text.into_string()
 }
 
 fn tell_place(
@@ -66,26 +66,22 @@ fn tell_place(
         } => tell_end(text, inputs, site, (flow, connection, side)),
         UnknownName::Mapped { resource, instance } => tell_mapped(text, inputs, resource, instance),
         UnknownName::LinkEnd { link, side } => tell_link(text, inputs, link, side),
-        _ => tell_in_block(alloc, text, inputs.library, place),
+        _ => return tell_in_block(alloc, text, inputs.library, place),
     }
+    Ok(())
 }
 
 fn instance_of(library: &Library, site: Site, instance: usize) -> Option<&Instance> {
     scope_of(library, site)?.network.instances.get(instance)
 }
 
-fn tell_type(
-    text: &mut Text,
-    inputs: &Documents,
-    site: Site,
-    instance: usize,
-) -> Result<(), AllocError> {
-    push_site(text, inputs.library, site)?;
+fn tell_type(text: &mut Text, inputs: &Documents, site: Site, instance: usize) {
+    push_site(text, inputs.library, site);
     let Some(instance) = instance_of(inputs.library, site, instance) else {
-        return Ok(());
+        return;
     };
-    push_instance(text, instance)?;
-    text.named(": there is no block type ", &instance.block_type)
+    push_instance(text, instance);
+    text.named(": there is no block type ", &instance.block_type);
 }
 
 fn tell_parameter(
@@ -93,26 +89,23 @@ fn tell_parameter(
     inputs: &Documents,
     site: Site,
     (instance, parameter): (usize, usize),
-) -> Result<(), AllocError> {
-    push_site(text, inputs.library, site)?;
+) {
+    push_site(text, inputs.library, site);
     let Some(instance) = instance_of(inputs.library, site, instance) else {
-        return Ok(());
+        return;
     };
-    push_instance(text, instance)?;
+    push_instance(text, instance);
     let Some(parameter) = instance.parameters.get(parameter) else {
-        return Ok(());
+        return;
     };
-    text.named(", parameter ", &parameter.name)?;
-    match inputs.types.ports_named(&instance.block_type) {
-        Some(ports) => {
-            text.lacks(
-                &instance.block_type,
-                PortSort::Input,
-                &parameter.name,
-                ports,
-            )
-        }
-        None => Ok(()),
+    text.named(", parameter ", &parameter.name);
+    if let Some(ports) = inputs.types.ports_named(&instance.block_type) {
+        text.lacks(
+            &instance.block_type,
+            PortSort::Input,
+            &parameter.name,
+            ports,
+        );
     }
 }
 
@@ -131,19 +124,19 @@ fn tell_end(
     inputs: &Documents,
     site: Site,
     (flow, connection, side): (FlowKind, usize, Side),
-) -> Result<(), AllocError> {
-    push_site(text, inputs.library, site)?;
+) {
+    push_site(text, inputs.library, site);
     let Some(PlacedNetwork { composite, network }) = scope_of(inputs.library, site) else {
-        return Ok(());
+        return;
     };
     let (words, connections) = match flow {
         FlowKind::Events => (": event connection ", &network.event_connections),
         FlowKind::Data => (": data connection ", &network.data_connections),
     };
     let Some(connection) = connections.get(connection) else {
-        return Ok(());
+        return;
     };
-    text.connection(words, connection)?;
+    text.connection(words, connection);
     let end = match side {
         Side::From => &connection.from,
         Side::To => &connection.to,
@@ -167,12 +160,12 @@ fn tell_boundary(
     composite: Option<&CompositeType>,
     sort: PortSort,
     wanted: &Name,
-) -> Result<(), AllocError> {
+) {
     match composite {
         Some(composite) => { text.lacks(&composite.name, sort, wanted, &composite.ports) }
         None => {
-            text.named(": ", wanted)?;
-            text.words(" has no instance before it, and an application has no ports")
+            text.named(": ", wanted);
+            text.words(" has no instance before it, and an application has no ports");
         }
     }
 }
@@ -183,47 +176,37 @@ fn tell_port(
     inputs: &Documents,
     instance: &Instance,
     (sort, wanted): (PortSort, &Name),
-) -> Result<(), AllocError> {
+) {
     match inputs.types.ports_named(&instance.block_type) {
         Some(ports) => { text.lacks(&instance.block_type, sort, wanted, ports) }
         None => text.named(": there is no block type ", &instance.block_type),
     }
 }
 
-fn tell_mapped(
-    text: &mut Text,
-    inputs: &Documents,
-    resource: usize,
-    instance: usize,
-) -> Result<(), AllocError> {
+fn tell_mapped(text: &mut Text, inputs: &Documents, resource: usize, instance: usize) {
     let Some(resource) = inputs.plan.resources.get(resource) else {
-        return Ok(());
+        return;
     };
-    text.named("resource ", &resource.name)?;
+    text.named("resource ", &resource.name);
     let Some(instance) = resource.instances.get(instance) else {
-        return Ok(());
+        return;
     };
-    text.named(": instance ", instance)?;
-    text.named(": application ", &inputs.library.application.name)?;
-    text.named(" has no instance ", instance)
+    text.named(": instance ", instance);
+    text.named(": application ", &inputs.library.application.name);
+    text.named(" has no instance ", instance);
 }
 
-fn tell_link(
-    text: &mut Text,
-    inputs: &Documents,
-    link: usize,
-    side: Side,
-) -> Result<(), AllocError> {
+fn tell_link(text: &mut Text, inputs: &Documents, link: usize, side: Side) {
     let Some(link) = inputs.plan.links.get(link) else {
-        return Ok(());
+        return;
     };
-    text.named("link from ", &link.from)?;
-    text.named(" to ", &link.to)?;
+    text.named("link from ", &link.from);
+    text.named(" to ", &link.to);
     let wanted = match side {
         Side::From => &link.from,
         Side::To => &link.to,
     };
-    text.named(": there is no resource ", wanted)
+    text.named(": there is no resource ", wanted);
 }
 
 /// The same of places in a block type.
@@ -255,14 +238,15 @@ fn tell_in_block(
             block,
             transition,
             mention,
-        } => tell_guard(alloc, text, library, block, (transition, mention)),
+        } => return tell_guard(alloc, text, library, block, (transition, mention)),
         UnknownName::Body {
             block,
             algorithm,
             mention,
-        } => tell_body(alloc, text, library, block, (algorithm, mention)),
-        _ => Ok(()),
+        } => return tell_body(alloc, text, library, block, (algorithm, mention)),
+        _ => {}
     }
+    Ok(())
 }
 
 fn tell_with(
@@ -271,10 +255,10 @@ fn tell_with(
     block: usize,
     direction: Direction,
     (event, variable): (usize, usize),
-) -> Result<(), AllocError> {
-    push_block(text, library, block)?;
+) {
+    push_block(text, library, block);
     let Some(block) = library.blocks.get(block) else {
-        return Ok(());
+        return;
     };
     let ports = block.ports();
     let (words, sort, events) = match direction {
@@ -282,14 +266,14 @@ fn tell_with(
         Direction::Output => (": event output ", PortSort::Output, &ports.event_outputs),
     };
     let Some(event) = events.get(event) else {
-        return Ok(());
+        return;
     };
-    text.named(words, &event.name)?;
+    text.named(words, &event.name);
     let Some(variable) = event.with.get(variable) else {
-        return Ok(());
+        return;
     };
-    text.named(" WITH ", variable)?;
-    text.lacks(block.type_name(), sort, variable, ports)
+    text.named(" WITH ", variable);
+    text.lacks(block.type_name(), sort, variable, ports);
 }
 
 fn tell_body(
@@ -299,21 +283,22 @@ fn tell_body(
     block: usize,
     (algorithm, mention): (usize, usize),
 ) -> Result<(), AllocError> {
-    let Some(basic) = push_basic(text, library, block)? else {
+    let Some(basic) = push_basic(text, library, block) else {
         return Ok(());
     };
     let Some(algorithm) = basic.algorithms.get(algorithm) else {
         return Ok(());
     };
-    text.named(": algorithm ", &algorithm.name)?;
+    text.named(": algorithm ", &algorithm.name);
     let mut mentions = Vec::new(alloc);
     push_body(&mut mentions, &algorithm.body)?;
-    tell_mention(text, basic, mentions.as_slice(), mention)
+    tell_mention(text, basic, mentions.as_slice(), mention);
+    Ok(())
 }
 
-fn push_transition(text: &mut Text, transition: &Transition) -> Result<(), AllocError> {
-    text.named(": transition ", &transition.from)?;
-    text.named(" TO ", &transition.to)
+fn push_transition(text: &mut Text, transition: &Transition) {
+    text.named(": transition ", &transition.from);
+    text.named(" TO ", &transition.to);
 }
 
 fn tell_transition(
@@ -322,28 +307,29 @@ fn tell_transition(
     block: usize,
     transition: usize,
     part: TransitionPart,
-) -> Result<(), AllocError> {
-    let Some(basic) = push_basic(text, library, block)? else {
-        return Ok(());
+) {
+    let Some(basic) = push_basic(text, library, block) else {
+        return;
     };
     let Some(transition) = basic.transitions.get(transition) else {
-        return Ok(());
+        return;
     };
-    push_transition(text, transition)?;
+    push_transition(text, transition);
     match part {
         TransitionPart::From => tell_state(text, basic, &transition.from),
         TransitionPart::To => tell_state(text, basic, &transition.to),
-        TransitionPart::Event => match &transition.condition.event {
-            Some(event) => text.lacks(&basic.name, PortSort::EventInput, event, &basic.ports),
-            None => Ok(()),
-        },
+        TransitionPart::Event => {
+            if let Some(event) = &transition.condition.event {
+                text.lacks(&basic.name, PortSort::EventInput, event, &basic.ports);
+            }
+        }
     }
 }
 
-fn tell_state(text: &mut Text, basic: &BasicType, wanted: &Name) -> Result<(), AllocError> {
-    text.named(": ", &basic.name)?;
-    text.named(" has no state ", wanted)?;
-    text.names(basic.states.as_slice())
+fn tell_state(text: &mut Text, basic: &BasicType, wanted: &Name) {
+    text.named(": ", &basic.name);
+    text.named(" has no state ", wanted);
+    text.names(basic.states.as_slice());
 }
 
 fn tell_action(
@@ -352,36 +338,30 @@ fn tell_action(
     block: usize,
     (state, action): (usize, usize),
     part: ActionPart,
-) -> Result<(), AllocError> {
-    let Some(basic) = push_basic(text, library, block)? else {
-        return Ok(());
+) {
+    let Some(basic) = push_basic(text, library, block) else {
+        return;
     };
     let Some(state) = basic.states.get(state) else {
-        return Ok(());
+        return;
     };
-    text.named(": state ", &state.name)?;
-    match state.actions.get(action) {
-        Some(action) => tell_action_part(text, basic, action, part),
-        None => Ok(()),
+    text.named(": state ", &state.name);
+    if let Some(action) = state.actions.get(action) {
+        tell_action_part(text, basic, action, part);
     }
 }
 
-fn tell_action_part(
-    text: &mut Text,
-    basic: &BasicType,
-    action: &Action,
-    part: ActionPart,
-) -> Result<(), AllocError> {
+fn tell_action_part(text: &mut Text, basic: &BasicType, action: &Action, part: ActionPart) {
     match (part, &action.algorithm, &action.output) {
         (ActionPart::Algorithm, Some(algorithm), _) => {
-            text.named(": ", &basic.name)?;
-            text.named(" has no algorithm ", algorithm)?;
-            text.names(basic.algorithms.as_slice())
+            text.named(": ", &basic.name);
+            text.named(" has no algorithm ", algorithm);
+            text.names(basic.algorithms.as_slice());
         }
         (ActionPart::Output, _, Some(output)) => {
-            text.lacks(&basic.name, PortSort::EventOutput, output, &basic.ports)
+            text.lacks(&basic.name, PortSort::EventOutput, output, &basic.ports);
         }
-        _ => Ok(()),
+        _ => {}
     }
 }
 
@@ -392,36 +372,32 @@ fn tell_guard(
     block: usize,
     (transition, mention): (usize, usize),
 ) -> Result<(), AllocError> {
-    let Some(basic) = push_basic(text, library, block)? else {
+    let Some(basic) = push_basic(text, library, block) else {
         return Ok(());
     };
     let Some(transition) = basic.transitions.get(transition) else {
         return Ok(());
     };
-    push_transition(text, transition)?;
+    push_transition(text, transition);
     let Some(guard) = &transition.condition.guard else {
         return Ok(());
     };
     let mut mentions = Vec::new(alloc);
     push_expression(&mut mentions, guard)?;
-    tell_mention(text, basic, mentions.as_slice(), mention)
+    tell_mention(text, basic, mentions.as_slice(), mention);
+    Ok(())
 }
 
-fn tell_mention(
-    text: &mut Text,
-    basic: &BasicType,
-    mentions: &[Mention],
-    mention: usize,
-) -> Result<(), AllocError> {
+fn tell_mention(text: &mut Text, basic: &BasicType, mentions: &[Mention], mention: usize) {
     match mentions.get(mention) {
         Some(Mention::Variable(name)) => {
-            text.named(": ", &basic.name)?;
-            text.named(" has no variable ", name)
+            text.named(": ", &basic.name);
+            text.named(" has no variable ", name);
         }
         Some(Mention::Function(name)) => {
-            text.named(": there is no function ", name)?;
-            text.words(" (there are MIN, MAX, ABS, LIMIT, SEL)")
+            text.named(": there is no function ", name);
+            text.words(" (there are MIN, MAX, ABS, LIMIT, SEL)");
         }
-        None => Ok(()),
+        None => {}
     }
 }

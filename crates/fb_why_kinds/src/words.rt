@@ -7,10 +7,13 @@ use fb_types::name::Name;
 use fb_types::value::{Ty, Value};
 use std::alloc::{AllocError, Global};
 
-/// A text that grows.
+/// A text that grows. Where there is no memory for a part of it, it grows no more, and there is no text in the end: what writes
+/// to it need not look at that.
 #[derive(Drop)]
 pub struct Text {
     all: String,
+    /// Whether there was memory for all of it so far.
+    written: Result<(), AllocError>,
 }
 
 impl Text {
@@ -18,42 +21,53 @@ impl Text {
     pub fn new(alloc: Global) -> Text {
         Text {
             all: String::new(alloc),
+            written: Ok(()),
         }
     }
 
     /// What it has grown to.
-    pub fn into_string(self) -> String {
-        let Text { all } = self;
-        all
+    pub fn into_string(self) -> Result<String, AllocError> {
+        let Text { all, written } = self;
+        written?;
+        Ok(all)
     }
 
     /// Words, as they are.
-    pub fn words(&mut self, words: &str) -> Result<(), AllocError> {
-        self.all.push_str(words)
+    pub fn words(&mut self, words: &str) {
+        if self.written.is_ok() {
+            self.written = self.all.push_str(words);
+        }
+    }
+
+    fn letter(&mut self, byte: u8) {
+        if self.written.is_ok() {
+            self.written = self.all.push(char::from(byte));
+        }
     }
 
     /// A name.
-    pub fn name(&mut self, name: &Name) -> Result<(), AllocError> {
+    pub fn name(&mut self, name: &Name) {
         for byte in name.as_bytes() {
-            self.all.push(char::from(*byte))?;
+            self.letter(*byte);
         }
-        Ok(())
     }
 
     /// Words, and a name behind them.
-    pub fn named(&mut self, words: &str, name: &Name) -> Result<(), AllocError> {
-        self.words(words)?;
-        self.name(name)
+    pub fn named(&mut self, words: &str, name: &Name) {
+        self.words(words);
+        self.name(name);
     }
 
     /// Words, and a number behind them.
-    pub fn numbered(&mut self, words: &str, number: i128) -> Result<(), AllocError> {
-        self.words(words)?;
-        write!(self.all, "{number}")
+    pub fn numbered(&mut self, words: &str, number: i128) {
+        self.words(words);
+        if self.written.is_ok() {
+            self.written = write!(self.all, "{number}");
+        }
     }
 
     /// A value, a time as its ticks.
-    pub fn value(&mut self, value: Value) -> Result<(), AllocError> {
+    pub fn value(&mut self, value: Value) {
         match value {
             Value::Bool(true) => self.words("TRUE"),
             Value::Bool(false) => self.words("FALSE"),
@@ -62,41 +76,35 @@ impl Text {
     }
 
     /// The name of a port, behind that of its instance where it has one.
-    pub fn port(&mut self, port: &PortName) -> Result<(), AllocError> {
+    pub fn port(&mut self, port: &PortName) {
         if let Some(component) = &port.component {
-            self.name(component)?;
-            self.words(".")?;
+            self.name(component);
+            self.words(".");
         }
-        self.name(&port.port)
+        self.name(&port.port);
     }
 
     /// Words, and a connection behind them.
-    pub fn connection(&mut self, words: &str, connection: &Connection) -> Result<(), AllocError> {
-        self.words(words)?;
-        self.port(&connection.from)?;
-        self.words(" TO ")?;
-        self.port(&connection.to)
+    pub fn connection(&mut self, words: &str, connection: &Connection) {
+        self.words(words);
+        self.port(&connection.from);
+        self.words(" TO ");
+        self.port(&connection.to);
     }
 
     /// What there is in place of what was wanted.
-    pub(crate) fn names<T: Called>(&mut self, items: &[T]) -> Result<(), AllocError> {
-        self.words(" (it has ")?;
+    pub(crate) fn names<T: Called>(&mut self, items: &[T]) {
+        self.words(" (it has ");
         for (place, item) in items.iter().enumerate() {
-            self.named(if place == 0 { "" } else { ", " }, item.name())?;
+            self.named(if place == 0 { "" } else { ", " }, item.name());
         }
-        self.words(if items.is_empty() { "none)" } else { ")" })
+        self.words(if items.is_empty() { "none)" } else { ")" });
     }
 
     /// What has no port of the sort by the name, and which ports it has.
-    pub fn lacks(
-        &mut self,
-        owner: &Name,
-        sort: PortSort,
-        wanted: &Name,
-        ports: &Ports,
-    ) -> Result<(), AllocError> {
-        self.named(": ", owner)?;
-        self.named(words_for(sort), wanted)?;
+    pub fn lacks(&mut self, owner: &Name, sort: PortSort, wanted: &Name, ports: &Ports) {
+        self.named(": ", owner);
+        self.named(words_for(sort), wanted);
         match sort {
             PortSort::EventInput => self.names(ports.event_inputs.as_slice()),
             PortSort::EventOutput => self.names(ports.event_outputs.as_slice()),

@@ -1,0 +1,37 @@
+-- The statements inside of statements, each by its parts.
+use Rattle.std.proofs.Common.{◌≡◌, Bool, List, ◌++◌, sym, ◌∙◌, ap}
+use Rattle.fb_types.specs.Syntax.{stmt_of}
+use Rattle.fb_types.specs.declared.text.Expr.{Expr}
+use Rattle.fb_types.specs.declared.text.Stmt as read
+use Rattle.fb_types.specs.declared.text.Stmt.{Stmt}
+use Rattle.fb_types.specs.declared.text.Branch.{Branch, out-Branch}
+use Rattle.fb_types.specs.declared.text.Choice.{Choice, out-Choice}
+use Rattle.fb_kinds.specs.Trees.{all_of, branch_of, branches_of, choice_of, choices_of}
+use Rattle.fb_why_kinds.specs.Statements.{Standing, each_in_body, each_in_branches, each_in_choices, each_inside}
+use Rattle.fb_why_kinds.proofs.Says.{branch_says, case_says, choice_says, if_says}
+
+abbrev inside : Bool → Stmt → List Standing
+inside l s = each_inside l (stmt_of s)
+
+abbrev each_in : Bool → List Stmt → List Standing
+each_in l ss = each_in_body l (all_of ss)
+
+-- the lists are those that the code goes through
+pub inside_if :
+    (l : Bool) (s : Stmt) (cs ds : List Choice) (os ps : List Stmt) → s ≡ read.If ds ps → cs ≡ ds → os ≡ ps
+    → inside l s ≡ each_in_choices l (choices_of cs) ++ each_in l os
+inside_if l s cs ds os ps is choices others =
+    ap (inside l) is ∙ ap (each_inside l) (if_says ds ps) ∙ (λ i. each_in_choices l (choices_of (sym choices i)) ++ each_in l (sym others i))
+
+pub inside_case :
+    (l : Bool) (s : Stmt) (e : Expr) (bs ds : List Branch) (os ps : List Stmt) → s ≡ read.Case e ds ps → bs ≡ ds → os ≡ ps
+    → inside l s ≡ each_in_branches l (branches_of bs) ++ each_in l os
+inside_case l s e bs ds os ps is branches others =
+    ap (inside l) is ∙ ap (each_inside l) (case_says e ds ps) ∙ (λ i. each_in_branches l (branches_of (sym branches i)) ++ each_in l (sym others i))
+
+-- behind a condition and behind labels
+pub inside_choice : (l : Bool) (c : Choice) (os : List Stmt) → os ≡ (out-Choice c).body → each_in_body l (choice_of c).1 ≡ each_in l os
+inside_choice l c os body = ap (λ r. each_in_body l r.1) (choice_says c) ∙ ap (each_in l) (sym body)
+
+pub inside_branch : (l : Bool) (b : Branch) (os : List Stmt) → os ≡ (out-Branch b).body → each_in_body l (branch_of b).1 ≡ each_in l os
+inside_branch l b os body = ap (λ r. each_in_body l r.1) (branch_says b) ∙ ap (each_in l) (sym body)

@@ -1,0 +1,14 @@
+use Rattle.std.proofs.Common.{sym, ◌∙◌}
+use Rattle.fb_types.specs.Blocks.{among}
+use Rattle.fb_names.specs.Sorts.{names_of_sort}
+use Rattle.fb_why_kinds.proofs.Searches.{at_hand, holds_on}
+use Rattle.fb_why_kinds.proofs.charts.unknown_variable.Goals as goal
+
+pub returns-then-not-has_port : goal.returns-then-not-has_port
+returns-then-not-has_port c =
+    (c.index-names-place.result, at_hand c.args.names.now c.loop-place.place c.index-names-place.result c.loop-place-test.true c.index-names-place.is, sym c.has_port.ensures ∙ c.if-not-has_port.true)
+
+pub loop-place-preserved : goal.loop-place-preserved
+loop-place-preserved c =
+    holds_on (among (names_of_sort c.args.sort c.args.ports.now)) c.args.names.now c.loop-place.place c.index-names-place.result c.loop-place-test.true c.index-names-place.is c.loop-place.invariant
+    (sym c.has_port.ensures ∙ c.if-not-has_port.false)

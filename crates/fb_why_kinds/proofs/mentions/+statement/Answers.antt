@@ -1,0 +1,93 @@
+use Rattle.std.proofs.Common.{◌++◌, List, refl, sym, ◌∙◌, ap}
+use Rattle.fb_types.specs.Syntax.{stmt_of}
+use Rattle.fb_types.specs.Unknown.{mentions, mentions_body, mentions_branches, mentions_choices, mentions_in}
+use Rattle.fb_types.specs.declared.text.Branch.{Branch}
+use Rattle.fb_types.specs.declared.text.Choice.{Choice}
+use Rattle.fb_types.specs.declared.text.Stmt.{Stmt}
+use Rattle.fb_kinds.specs.Trees.{all_of, branch_of, branches_of, choice_of, choices_of}
+use Rattle.fb_why_kinds.specs.Mentions.{meant_all}
+use Rattle.fb_why_kinds.proofs.Added.{both_added, list_added, one_added, then_added}
+use Rattle.fb_why_kinds.proofs.Mentioned.{assign_names, branch_names, case_names, choice_names, for_names, if_names, repeat_names, while_names}
+use Rattle.fb_why_kinds.proofs.mentions.+statement.Goals as goal
+
+pub push_branches-loop-branch-preserved : goal.push_branches-loop-branch-preserved
+push_branches-loop-branch-preserved t c =
+    let old = meant_all c.loop-branch.all.items in
+    one_added (λ (bs : List Branch). mentions_branches (branches_of bs)) (λ (b : Branch). mentions_body (branch_of b).1) c.args.branches.now
+    c.loop-branch.branch-index c.branch-item.result old (meant_all c.push_statements.new.all.items) _ (λ _ _. refl) c.loop-branch-test.true c.branch-item.is
+    (c.in_ok-push_statements.ensures ∙ ap (λ ms. old ++ ms) (sym (branch_names c.branch-item.result c.as_slice.result.now c.as_slice.ensures)))
+    c.loop-branch.invariant
+
+pub push_branches-returns : goal.push_branches-returns
+push_branches-returns t c =
+    list_added (λ (bs : List Branch). mentions_branches (branches_of bs)) c.args.branches.now c.loop-branch.branch-index (meant_all c.loop-branch.all.items) _ refl
+    c.loop-branch-test.false c.loop-branch.invariant
+
+pub push_choices-loop-choice-preserved : goal.push_choices-loop-choice-preserved
+push_choices-loop-choice-preserved t c =
+    let old = meant_all c.loop-choice.all.items in
+    one_added (λ (cs : List Choice). mentions_choices (choices_of cs)) (λ (c : Choice). mentions (choice_of c).0 ++ mentions_body (choice_of c).1) c.args.choices.now
+    c.loop-choice.choice-index c.choice-item.result old (meant_all c.push_statements.new.all.items) _ (λ _ _. refl) c.loop-choice-test.true c.choice-item.is
+    (both_added old (meant_all c.push_expression.new.all.items) _ _ _ c.in_ok-push_expression.ensures c.in_ok-push_statements.ensures
+    ∙ ap (λ ms. old ++ ms) (sym (choice_names c.choice-item.result c.as_slice.result.now c.as_slice.ensures)))
+    c.loop-choice.invariant
+
+pub push_choices-returns : goal.push_choices-returns
+push_choices-returns t c =
+    list_added (λ (cs : List Choice). mentions_choices (choices_of cs)) c.args.choices.now c.loop-choice.choice-index (meant_all c.loop-choice.all.items) _ refl
+    c.loop-choice-test.false c.loop-choice.invariant
+
+pub push_statement-returns-in_ok-push_mention-in-Assign : goal.push_statement-returns-in_ok-push_mention-in-Assign
+push_statement-returns-in_ok-push_mention-in-Assign t c =
+    then_added c.push_expression.result (meant_all c.args.all.now.items) (meant_all c.push_mention.new.all.items) (meant_all c.push_expression.new.all.items) _ _ _
+    (assign_names c.args.statement.now c.name.result.now c.in-Assign.variable c.in-Assign.expr c.in-Assign.is c.name.ensures)
+    c.in_ok-push_mention-in-Assign.ensures c.push_expression.ensures
+
+pub push_statement-returns-in_ok-push_choices-in-If : goal.push_statement-returns-in_ok-push_choices-in-If
+push_statement-returns-in_ok-push_choices-in-If t c =
+    then_added c.push_statements.result (meant_all c.args.all.now.items) (meant_all c.push_choices.new.all.items) (meant_all c.push_statements.new.all.items) _ _ _
+    (if_names c.args.statement.now c.as_slice.result.now c.in-If.choices c.as_slice-in-If.result.now c.in-If.others c.in-If.is c.as_slice.ensures c.as_slice-in-If.ensures)
+    c.in_ok-push_choices-in-If.ensures c.push_statements.ensures
+
+pub push_statement-returns-in_ok-push_branches-in-Case : goal.push_statement-returns-in_ok-push_branches-in-Case
+push_statement-returns-in_ok-push_branches-in-Case t c =
+    then_added c.push_statements-in-Case.result (meant_all c.args.all.now.items) (meant_all c.push_branches.new.all.items)
+    (meant_all c.push_statements-in-Case.new.all.items) _ _ _
+    (case_names c.args.statement.now c.in-Case.selector c.as_slice-in-Case.result.now c.in-Case.branches c.as_slice-in-Case-2.result.now c.in-Case.others
+    c.in-Case.is c.as_slice-in-Case.ensures c.as_slice-in-Case-2.ensures)
+    (both_added (meant_all c.args.all.now.items) (meant_all c.push_expression-in-Case.new.all.items) _ _ _
+    c.in_ok-push_expression-in-Case.ensures c.in_ok-push_branches-in-Case.ensures)
+    c.push_statements-in-Case.ensures
+
+pub push_statement-returns-in_ok-push_control-in-For : goal.push_statement-returns-in_ok-push_control-in-For
+push_statement-returns-in_ok-push_control-in-For t c =
+    let f = c.in-For in
+    then_added c.push_statements-in-For.result (meant_all c.args.all.now.items) (meant_all c.push_control.new.all.items)
+    (meant_all c.push_statements-in-For.new.all.items) _ _ _
+    (for_names c.args.statement.now f.variable f.start f.end f.step c.as_slice-in-For.result.now f.body f.is c.as_slice-in-For.ensures)
+    c.in_ok-push_control-in-For.ensures c.push_statements-in-For.ensures
+
+pub push_statement-returns-in_ok-push_expression-in-While : goal.push_statement-returns-in_ok-push_expression-in-While
+push_statement-returns-in_ok-push_expression-in-While t c =
+    then_added c.push_statements-in-While.result (meant_all c.args.all.now.items) (meant_all c.push_expression-in-While.new.all.items)
+    (meant_all c.push_statements-in-While.new.all.items) _ _ _
+    (while_names c.args.statement.now c.in-While.condition c.as_slice-in-While.result.now c.in-While.body c.in-While.is c.as_slice-in-While.ensures)
+    c.in_ok-push_expression-in-While.ensures c.push_statements-in-While.ensures
+
+pub push_statement-returns-in_ok-push_statements-in-Repeat : goal.push_statement-returns-in_ok-push_statements-in-Repeat
+push_statement-returns-in_ok-push_statements-in-Repeat t c =
+    then_added c.push_expression-in-Repeat.result (meant_all c.args.all.now.items) (meant_all c.push_statements-in-Repeat.new.all.items)
+    (meant_all c.push_expression-in-Repeat.new.all.items) _ _ _
+    (repeat_names c.args.statement.now c.as_slice-in-Repeat.result.now c.in-Repeat.body c.in-Repeat.condition c.in-Repeat.is c.as_slice-in-Repeat.ensures)
+    c.in_ok-push_statements-in-Repeat.ensures c.push_expression-in-Repeat.ensures
+
+pub push_statements-loop-statement-preserved : goal.push_statements-loop-statement-preserved
+push_statements-loop-statement-preserved t c =
+    one_added (λ (ss : List Stmt). mentions_body (all_of ss)) (λ (s : Stmt). mentions_in (stmt_of s)) c.args.statements.now c.loop-statement.statement-index
+    c.statement-item.result (meant_all c.loop-statement.all.items) (meant_all c.push_statement.new.all.items) _ (λ _ _. refl) c.loop-statement-test.true
+    c.statement-item.is c.in_ok-push_statement.ensures c.loop-statement.invariant
+
+pub push_statements-returns : goal.push_statements-returns
+push_statements-returns t c =
+    list_added (λ (ss : List Stmt). mentions_body (all_of ss)) c.args.statements.now c.loop-statement.statement-index (meant_all c.loop-statement.all.items) _ refl
+    c.loop-statement-test.false c.loop-statement.invariant

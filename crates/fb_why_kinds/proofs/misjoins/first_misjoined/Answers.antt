@@ -1,0 +1,14 @@
+use Rattle.std.proofs.Common.{sym, ◌∙◌}
+use Rattle.fb_why_kinds.specs.Misjoins.{is_joined}
+use Rattle.fb_why_kinds.specs.Sites.{placed}
+use Rattle.fb_why_kinds.proofs.Searches.{at_hand, holds_on}
+use Rattle.fb_why_kinds.proofs.misjoins.first_misjoined.Goals as goal
+
+pub returns-then-not-is_joined : goal.returns-then-not-is_joined
+returns-then-not-is_joined c =
+    (c.index-connections-place.result, at_hand c.args.connections.now c.loop-place.place c.index-connections-place.result c.loop-place-test.true c.index-connections-place.is, sym c.is_joined.ensures ∙ c.if-not-is_joined.true)
+
+pub loop-place-preserved : goal.loop-place-preserved
+loop-place-preserved c =
+    holds_on (is_joined c.args.library.now (placed c.args.scope.now)) c.args.connections.now c.loop-place.place c.index-connections-place.result c.loop-place-test.true c.index-connections-place.is c.loop-place.invariant
+    (sym c.is_joined.ensures ∙ c.if-not-is_joined.false)
