@@ -276,12 +276,14 @@ pub none_bad : (lib : Library) (plan : Plan) (ss : List Stimulus) → ¬ (NameTw
 none_bad lib plan ss once known none bad =
     let names : Known lib = record { plan = plan; once = once; known = known } in none (bad.0, bad.1, λ take. bad.2 (good_from lib bad.0 names take))
 
+pub none_exactly :
+    {A : Type 0} (o : Option A) (b : Bool) (E : Type 0) (P : A → Type 0) → ((x : A) → P x → ¬ E) → is_some o ≡ not b → MatchOption o E P → IsTrue b ↔ E
+none_exactly None true E P apart is h = (λ _. h, λ _. refl)
+none_exactly None false E P apart is h = absurd (true≢false (sym is))
+none_exactly (Some x) true E P apart is h = absurd (true≢false is)
+none_exactly (Some x) false E P apart is h = (λ t. absurd (true≢false (sym t)), λ f. absurd (apart x h f))
+
 pub bad_is :
     (lib : Library) (ss : List Stimulus) (o : Option (List StimulusRow)) (b : Bool) → is_some o ≡ not b → MatchOption o (BadStimulus lib ss) (AreTaken lib ss)
     → (IsTrue b ↔ BadStimulus lib ss)
-bad_is lib ss None b is bad = (λ _. bad, λ _. from b is)
-  where
-    from : (b : Bool) → false ≡ not b → b ≡ true
-    from true h = refl
-    from false h = absurd (true≢false (sym h))
-bad_is lib ss (Some rows) b is taken = (λ h. absurd (true≢false (is ∙ ap not h)), λ bad. absurd (taken.good bad))
+bad_is lib ss o b is h = none_exactly o b (BadStimulus lib ss) (AreTaken lib ss) (λ rows taken. taken.good) is h

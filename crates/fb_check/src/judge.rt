@@ -83,6 +83,28 @@ fn judge_limits(alloc: Global, case: &Case, resolved: &Resolved) -> Result<(), C
     Ok(())
 }
 
+/// The checks from E22 on, by the places and the numbers of names. For each instance of the application the resource
+/// that holds it, and the stimuli by number.
+fn judge_by_numbers(
+    alloc: Global,
+    case: &Case,
+    catalog: &Catalog,
+    resolved: &Resolved,
+) -> Result<(Items<usize>, Items<StimulusRow>), CheckError>
+    requires catalog { IsCatalog case.now.library.now case.now.plan.now catalog.now }
+    requires resolved { IsResolved case.now.library.now case.now.plan.now resolved.now }
+    ensures accepted { IfOk result (λ _. AreAccepted case.now) }
+    ensures holders { IfOk result (λ made. made.0 ≡ holders_of case.now.library.now case.now.plan.now) }
+    ensures rows { IfOk result (λ made. AreRows case.now.library.now case.now.stimuli.now made.1) }
+    ensures refused { IfErr result (IsRightly (inputs_in case.now)) }
+{
+    judge_networks(alloc, case, catalog, resolved)?;
+    let holders = judge_mapping(alloc, case, resolved)?;
+    let rows = judge_stimuli(alloc, case, catalog)?;
+    judge_limits(alloc, case, resolved)?;
+    Ok((holders, rows))
+}
+
 /// What is made of inputs that are accepted. Else the error is as with `judge`.
 pub fn judged<'a>(alloc: Global, case: &Case<'a>) -> Result<Judged<'a>, CheckError>
     ensures accepted { IfOk result (λ _. AreAccepted case.now) }
@@ -94,10 +116,7 @@ pub fn judged<'a>(alloc: Global, case: &Case<'a>) -> Result<Judged<'a>, CheckErr
 {
     let catalog = catalog(alloc, case)?;
     let numbers = numbers(alloc, case, &catalog)?;
-    judge_networks(alloc, case, &catalog, &numbers)?;
-    let holders = judge_mapping(alloc, case, &numbers)?;
-    let rows = judge_stimuli(alloc, case, &catalog)?;
-    judge_limits(alloc, case, &numbers)?;
+    let (holders, rows) = judge_by_numbers(alloc, case, &catalog, &numbers)?;
     Ok(Judged {
         catalog,
         numbers,

@@ -3,6 +3,7 @@
 ghost use Rattle.std.specs.Prelude.{◌≡◌, ◌↔◌, ◌++◌, map, IfOk, IsTrue, MatchOption};
 ghost use Rattle.std.specs.Option.{option_copied};
 ghost use Rattle.fb_types.specs.Accepted.{BadStimulus, set_names};
+ghost use Rattle.fb_types.specs.EventPorts.{ArePortsOfKinds};
 ghost use Rattle.fb_types.specs.Repeated.{Twice};
 ghost use Rattle.fb_types.specs.Unknown.{NameUnknown};
 ghost use Rattle.fb_types.specs.declared.deploy.Plan.{Plan};
@@ -19,7 +20,7 @@ use fb_system::rows::{SlotValue, StimulusRow, number_of};
 use fb_types::deploy::{Setting, Stimulus};
 use fb_types::event_ports::all_ports;
 use fb_types::items::Items;
-use fb_types::library::Library;
+use fb_types::library::{Library, Ports};
 use fb_types::name::Name;
 use fb_types::value::Value;
 use std::alloc::{AllocError, Global};
@@ -152,6 +153,44 @@ fn row_of<'a>(
     }
 }
 
+/// The stimuli by number, each at its row, by what they may name; or `None` where one can't be taken.
+fn rows_by<'a>(
+    alloc: Global,
+    library: &Library,
+    catalog: &Catalog,
+    directory: &Directory<'a>,
+    stimuli: &'a [Stimulus],
+) -> Result<Option<Items<StimulusRow>>, AllocError>
+    requires names { (plan : Plan) × IsCatalog library.now plan catalog.now × ¬ (NameUnknown library.now plan) }
+    requires directory { IsDirectory library.now directory.now }
+    ensures { IfOk result (λ o. MatchOption o (BadStimulus library.now stimuli.now) (AreTaken library.now stimuli.now)) }
+{
+    let mut rows = Items::new(alloc);
+    for stimulus in stimuli {
+        match row_of(alloc, library, catalog, directory, stimulus)? {
+            Some(row) => rows.push(row)?,
+            None => return Ok(None),
+        }
+    }
+    Ok(Some(rows))
+}
+
+/// The stimuli by number, each at its row, by the interfaces of the event blocks.
+fn rows_in(
+    alloc: Global,
+    library: &Library,
+    catalog: &Catalog,
+    interfaces: &[Ports],
+    stimuli: &[Stimulus],
+) -> Result<Option<Items<StimulusRow>>, AllocError>
+    requires names { (plan : Plan) × IsCatalog library.now plan catalog.now × ¬ (NameUnknown library.now plan) }
+    requires interfaces { ArePortsOfKinds interfaces.now }
+    ensures { IfOk result (λ o. MatchOption o (BadStimulus library.now stimuli.now) (AreTaken library.now stimuli.now)) }
+{
+    let directory = directory_of(alloc, library, interfaces)?;
+    rows_by(alloc, library, catalog, &directory, stimuli)
+}
+
 /// The stimuli by number, each at its row, in near linear time; or `None` where one names no event input of an instance
 /// of the application, or sets a variable that is not WITH the event, is connected, is set twice, or can't hold the
 /// value (E29).
@@ -169,15 +208,7 @@ pub fn rows_of(
     ensures { IfOk result (λ o. MatchOption o (BadStimulus library.now stimuli.now) (AreTaken library.now stimuli.now)) }
 {
     let interfaces = all_ports(alloc)?;
-    let directory = directory_of(alloc, library, interfaces.as_slice())?;
-    let mut rows = Items::new(alloc);
-    for stimulus in stimuli {
-        match row_of(alloc, library, catalog, &directory, stimulus)? {
-            Some(row) => rows.push(row)?,
-            None => return Ok(None),
-        }
-    }
-    Ok(Some(rows))
+    rows_in(alloc, library, catalog, interfaces.as_slice(), stimuli)
 }
 
 /// Whether one of the stimuli can't be taken (E29).

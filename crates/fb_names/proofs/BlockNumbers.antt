@@ -1,9 +1,8 @@
 -- The networks of the first block types by numbers.
-use Rattle.std.proofs.Common.{◌≡◌, ℕ, ◌<◌, ◌+◌, List, [], ◌∷◌, ◌++◌, length, get_or, Some, None, Option, MatchOption, refl, sym, ◌∙◌, ap, subst, length-append}
+use Rattle.std.proofs.Common.{◌≡◌, ℕ, ◌<◌, ◌+◌, List, [], ◌∷◌, ◌++◌, length, get_or, Some, Option, refl, sym, ◌∙◌, ap, subst, length-append}
 use Rattle.std.specs.Prelude.{slice_get}
 use Rattle.std.proofs.lemmas.Option.{slice_get_within, slice_get_read, same_Some}
 use Rattle.fb_types.specs.Repeated.{Placed, networks_in, instance_names}
-use Rattle.fb_types.specs.declared.library.BasicType.{BasicType}
 use Rattle.fb_types.specs.declared.library.BlockType.{BlockType}
 use Rattle.fb_types.specs.declared.library.BlockType.TheVariants as block
 use Rattle.fb_types.specs.declared.library.CompositeType.{CompositeType}
@@ -12,19 +11,12 @@ use Rattle.fb_names.specs.Places.{IsIndex}
 use Rattle.fb_names.specs.declared.catalog.BlockPlaces.{BlockPlaces}
 use Rattle.fb_names.specs.declared.catalog.Catalog.{Catalog}
 use Rattle.fb_types.proofs.Elements.{Contains-here, Contains-flat_map}
-use Rattle.fb_names.specs.Numbers.{IsNetwork}
 use Rattle.fb_names.specs.Sorts.{ArePlacesOf}
 use Rattle.fb_names.specs.Types.{HasTypes}
-use Rattle.fb_names.specs.Unknown.{AreBlocks, BlockUnknown, NetworkUnknown}
+use Rattle.fb_names.specs.Unknown.{AreBlocks, BlockUnknown, IsBlockNumbers, NetworkUnknown}
 use Rattle.fb_names.specs.declared.numbers.NetworkNumbers.{NetworkNumbers}
-use Rattle.fb_types.proofs.Options.{match_none, match_some}
 use Rattle.fb_types.proofs.ByPlace.{element_of_place, slice_get-push, element_at}
 use Rattle.fb_names.proofs.Lookups.{block_places}
-
--- the network of a block type by numbers, none of a basic type
-abbrev pub IsBlockNumbers : Library → BlockType → Option NetworkNumbers → Type 0
-IsBlockNumbers lib (block.Basic t) o = o ≡ None
-IsBlockNumbers lib (block.Composite t) o = (x : NetworkNumbers) × (o ≡ Some x) × IsNetwork lib (Some t, t.network) x
 
 -- those of the first n types
 pub record AreFirst (lib : Library) (n : ℕ) (all : List (Option NetworkNumbers)) : Type 0 where
@@ -47,54 +39,40 @@ first_more lib n t o all more at is so_far grown =
     })
 
 -- the type that a loop over the types has reached
-reached :
-    (lib : Library) (bs : List BlockType) (n : ℕ) (b t : BlockType) → bs ≡ lib.blocks → n < length bs → b ≡ get_or bs n b → b ≡ t
-    → slice_get lib.blocks n ≡ Some t
-reached lib bs n b t e h at is =
-    ap (λ (bs : List BlockType). slice_get bs n) (sym e) ∙ slice_get_read bs (length bs) n b refl h at ∙ ap (λ (b : BlockType). Some b) is
+pub reached : (lib : Library) (bs : List BlockType) (n : ℕ) (b : BlockType) → bs ≡ lib.blocks → n < length bs → b ≡ get_or bs n b → slice_get lib.blocks n ≡ Some b
+reached lib bs n b e h at = ap (λ (bs : List BlockType). slice_get bs n) (sym e) ∙ slice_get_read bs (length bs) n b refl h at
 
--- the steps of a loop over the types
-pub next_basic :
-    (lib : Library) (bs : List BlockType) (n : ℕ) (b : BlockType) (t : BasicType) (all more : List (Option NetworkNumbers)) → bs ≡ lib.blocks → n < length bs
-    → b ≡ get_or bs n b → b ≡ block.Basic t → AreFirst lib n all → more ≡ all ++ None ∷ [] → AreFirst lib (n + 1) more
-next_basic lib bs n b t all more e h at is so_far grown =
-    first_more lib n (block.Basic t) None all more (reached lib bs n b (block.Basic t) e h at is) refl so_far grown
-
-pub next_composite :
-    (lib : Library) (bs : List BlockType) (n : ℕ) (b : BlockType) (t : CompositeType) (o : Option NetworkNumbers) (x : NetworkNumbers)
-    (all more : List (Option NetworkNumbers)) → bs ≡ lib.blocks → n < length bs → b ≡ get_or bs n b → b ≡ block.Composite t
-    → MatchOption o (NetworkUnknown lib (Some t, t.network)) (IsNetwork lib (Some t, t.network)) → o ≡ Some x
-    → AreFirst lib n all → more ≡ all ++ Some x ∷ [] → AreFirst lib (n + 1) more
-next_composite lib bs n b t o x all more e h at is answer some so_far grown =
-    first_more lib n (block.Composite t) (Some x) all more (reached lib bs n b (block.Composite t) e h at is)
-    (x, refl, match_some o (NetworkUnknown lib (Some t, t.network)) (IsNetwork lib (Some t, t.network)) x answer some) so_far grown
+-- the step of a loop over the types
+pub next_block :
+    (lib : Library) (bs : List BlockType) (n : ℕ) (b : BlockType) (o : Option NetworkNumbers) (all more : List (Option NetworkNumbers)) → bs ≡ lib.blocks
+    → n < length bs → b ≡ get_or bs n b → IsBlockNumbers lib b o → AreFirst lib n all → more ≡ all ++ o ∷ [] → AreFirst lib (n + 1) more
+next_block lib bs n b o all more e h at is so_far grown = first_more lib n b o all more (reached lib bs n b e h at) is so_far grown
 
 pub composite_unknown :
-    (lib : Library) (bs : List BlockType) (n : ℕ) (b : BlockType) (t : CompositeType) (o : Option NetworkNumbers) → bs ≡ lib.blocks → n < length bs
-    → b ≡ get_or bs n b → b ≡ block.Composite t
-    → MatchOption o (NetworkUnknown lib (Some t, t.network)) (IsNetwork lib (Some t, t.network)) → o ≡ None → BlockUnknown lib
-composite_unknown lib bs n b t o e h at is answer none =
+    (lib : Library) (n : ℕ) (t : CompositeType) → slice_get lib.blocks n ≡ Some (block.Composite t) → NetworkUnknown lib (Some t, t.network) → BlockUnknown lib
+composite_unknown lib n t at unknown =
     let place : Placed = (Some t, t.network) in (
       place,
-      Contains-flat_map networks_in lib.blocks (block.Composite t) place
-          (element_of_place lib.blocks n (block.Composite t) (reached lib bs n b (block.Composite t) e h at is)) (Contains-here place []),
-      match_none o (NetworkUnknown lib (Some t, t.network)) (IsNetwork lib (Some t, t.network)) answer none,
+      Contains-flat_map networks_in lib.blocks (block.Composite t) place (element_of_place lib.blocks n (block.Composite t) at) (Contains-here place []),
+      unknown,
     )
+
+pub has_places : (lib : Library) (c : Catalog) (n : ℕ) (t : BlockType) → HasTypes lib c → slice_get lib.blocks n ≡ Some t → n < length c.blocks.items
+has_places lib c n t has at = subst (λ (m : ℕ). n < m) (sym has.counted) (slice_get_within lib.blocks n t at)
 
 -- the places of its ports and of its instances
 pub composite_ports :
-    (lib : Library) (c : Catalog) (bs : List BlockType) (n : ℕ) (b : BlockType) (t : CompositeType) (x : BlockPlaces) → HasTypes lib c → bs ≡ lib.blocks
-    → n < length bs → b ≡ get_or bs n b → b ≡ block.Composite t → x ≡ get_or c.blocks.items n x → ArePlacesOf t.ports x.ports
-composite_ports lib c bs n b t x has e h at is there =
-    let within : n < length c.blocks.items = subst (λ (m : ℕ). n < m) (ap length e ∙ sym has.counted) h in
-    block_places lib c c.blocks.items n (block.Composite t) x t.ports has (reached lib bs n b (block.Composite t) e h at is) refl within there refl
+    (lib : Library) (c : Catalog) (n : ℕ) (t : CompositeType) (x : BlockPlaces) → HasTypes lib c → slice_get lib.blocks n ≡ Some (block.Composite t)
+    → x ≡ get_or c.blocks.items n x → ArePlacesOf t.ports x.ports
+composite_ports lib c n t x has at there =
+    block_places lib c c.blocks.items n (block.Composite t) x t.ports has at refl (has_places lib c n (block.Composite t) has at) there refl
 
 pub composite_instances :
-    (lib : Library) (c : Catalog) (bs : List BlockType) (n : ℕ) (b : BlockType) (t : CompositeType) (x : BlockPlaces) → HasTypes lib c → bs ≡ lib.blocks
-    → n < length bs → b ≡ get_or bs n b → b ≡ block.Composite t → x ≡ get_or c.blocks.items n x → IsIndex (instance_names t.network) x.instances
-composite_instances lib c bs n b t x has e h at is there =
-    let within : n < length c.blocks.items = subst (λ (m : ℕ). n < m) (ap length e ∙ sym has.counted) h in
-    (has.blocks n (block.Composite t) x (reached lib bs n b (block.Composite t) e h at is) (slice_get_read c.blocks.items (length c.blocks.items) n x refl within there)).instances
+    (lib : Library) (c : Catalog) (n : ℕ) (t : CompositeType) (x : BlockPlaces) → HasTypes lib c → slice_get lib.blocks n ≡ Some (block.Composite t)
+    → x ≡ get_or c.blocks.items n x → IsIndex (instance_names t.network) x.instances
+composite_instances lib c n t x has at there =
+    (has.blocks n (block.Composite t) x at
+    (slice_get_read c.blocks.items (length c.blocks.items) n x refl (has_places lib c n (block.Composite t) has at) there)).instances
 
 pub first_all : (lib : Library) (n : ℕ) (all : List (Option NetworkNumbers)) → n ≡ length lib.blocks → AreFirst lib n all → AreBlocks lib all
 first_all lib n all counted are =

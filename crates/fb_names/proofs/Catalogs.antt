@@ -1,5 +1,6 @@
 -- What the tests of all parts together answer.
-use Rattle.std.proofs.Common.{◌≡◌, ℕ, List, map, Option, None, Contains, Bor, sym, subst}
+use Rattle.std.proofs.Common.{◌≡◌, ℕ, List, map, Option, Result, Vec, Global, Contains, Bor, sym, subst}
+use Rattle.std.specs.Prelude.{Ok, IfOk, MatchOption}
 use Rattle.std.specs.BTreeMap.{BTreeMap}
 use Rattle.fb_types.specs.Names.{Name}
 use Rattle.fb_types.specs.Flat.{type_name, resource_names_of}
@@ -7,12 +8,14 @@ use Rattle.fb_types.specs.Repeated.{NameTwice, instance_names}
 use Rattle.fb_types.specs.declared.library.Library.{Library}
 use Rattle.fb_types.specs.declared.library.BlockType.{BlockType}
 use Rattle.fb_types.specs.declared.deploy.Plan.{Plan}
+use Rattle.fb_names.specs.declared.catalog.BlockPlaces.{BlockPlaces}
 use Rattle.fb_names.specs.declared.catalog.Catalog.{Catalog}
+use Rattle.fb_names.specs.Both.{both_of}
 use Rattle.fb_names.specs.Catalog.{IsCatalog}
 use Rattle.fb_names.specs.GivenTwice.{Unless, AreBlocks, BlockTwice, NetworkTwice, PlanTwice, TypeTwice}
 use Rattle.fb_names.specs.Places.{IsIndex}
 use Rattle.fb_names.proofs.NameTwice.{types_twice, block_twice, network_twice, plan_twice, name_once}
-use Rattle.fb_names.proofs.Unless.{Unless-none}
+use Rattle.fb_names.proofs.BothFound.{both_answer}
 
 abbrev Places : Type 0
 Places = BTreeMap (Bor Name) ℕ
@@ -20,30 +23,6 @@ Places = BTreeMap (Bor Name) ℕ
 -- a block type gives something twice
 abbrev SomeBlockTwice : List BlockType → Type 0
 SomeBlockTwice ts = (t : BlockType) × Contains ts t × BlockTwice t
-
--- ---- A part answers None
-
-pub types_fault :
-    (lib : Library) (plan : Plan) (ts : List BlockType) (o : Option Places) → ts ≡ lib.blocks → o ≡ None
-    → Unless (TypeTwice ts) (IsIndex (map type_name ts)) o → NameTwice lib plan
-types_fault lib plan ts o same none h =
-    types_twice lib plan (subst (λ (ts : List BlockType). TypeTwice ts) same (Unless-none o (TypeTwice ts) (IsIndex (map type_name ts)) none h))
-
-pub blocks_fault :
-    {X : Type 0} (lib : Library) (plan : Plan) (ts : List BlockType) (o : Option X) (P : X → Type 0) → ts ≡ lib.blocks → o ≡ None
-    → Unless (SomeBlockTwice ts) P o → NameTwice lib plan
-blocks_fault lib plan ts o P same none h =
-    let t = Unless-none o (SomeBlockTwice ts) P none h in
-    block_twice lib plan t.0 (subst (λ (ts : List BlockType). Contains ts t.0) same t.1) t.2
-
-pub network_fault :
-    (lib : Library) (plan : Plan) (o : Option Places) → o ≡ None
-    → Unless (NetworkTwice lib.application.network) (IsIndex (instance_names lib.application.network)) o → NameTwice lib plan
-network_fault lib plan o none h =
-    network_twice lib plan (Unless-none o (NetworkTwice lib.application.network) (IsIndex (instance_names lib.application.network)) none h)
-
-pub plan_fault : (lib : Library) (plan : Plan) (o : Option Places) → o ≡ None → Unless (PlanTwice plan) (IsIndex (resource_names_of plan)) o → NameTwice lib plan
-plan_fault lib plan o none h = plan_twice lib plan (Unless-none o (PlanTwice plan) (IsIndex (resource_names_of plan)) none h)
 
 -- ---- Every part answers places
 
@@ -69,3 +48,33 @@ catalog_answer lib plan c ts us same types same' blocks instances resources =
       instances = instances.1;
       resources = resources.1;
     }
+
+-- ---- All parts
+
+-- the places of the types' names and of what is in them, and of the application's instances and the resources
+abbrev pub AreAll : Library → Plan → (Places × Vec BlockPlaces Global) × (Places × Places) → Type 0
+AreAll lib plan z = IsCatalog lib plan (record { types = z.0.0; blocks = z.0.1; instances = z.1.0; resources = z.1.1 })
+
+pub catalog_found :
+    {X : Type 0} (lib : Library) (plan : Plan) (ts : List BlockType) (types instances resources : Result (Option Places) X)
+    (blocks : Result (Option (Vec BlockPlaces Global)) X) (declared : Result (Option (Places × Vec BlockPlaces Global)) X)
+    (placed : Result (Option (Places × Places)) X) (o : Option ((Places × Vec BlockPlaces Global) × (Places × Places)))
+    → ts ≡ lib.blocks → declared ≡ both_of types blocks → placed ≡ both_of instances resources → Ok o ≡ both_of declared placed
+    → IfOk types (Unless (TypeTwice ts) (IsIndex (map type_name ts)))
+    → IfOk blocks (Unless (SomeBlockTwice ts) (λ xs. AreBlocks ts xs.items))
+    → IfOk instances (Unless (NetworkTwice lib.application.network) (IsIndex (instance_names lib.application.network)))
+    → IfOk resources (Unless (PlanTwice plan) (IsIndex (resource_names_of plan)))
+    → MatchOption o (NameTwice lib plan) (AreAll lib plan)
+catalog_found lib plan ts types instances resources blocks declared placed o same of_declared of_placed found t b i r =
+    let Fault : Type 0 = NameTwice lib plan in
+    let T : Places → Type 0 = λ x. ¬ (TypeTwice ts) × IsIndex (map type_name ts) x in
+    let B : Vec BlockPlaces Global → Type 0 = λ xs. ¬ (SomeBlockTwice ts) × AreBlocks ts xs.items in
+    let I : Places → Type 0 = λ x. ¬ (NetworkTwice lib.application.network) × IsIndex (instance_names lib.application.network) x in
+    let R : Places → Type 0 = λ x. ¬ (PlanTwice plan) × IsIndex (resource_names_of plan) x in
+    let first = both_answer declared types blocks (TypeTwice ts) (SomeBlockTwice ts) Fault T B (λ z. T z.0 × B z.1) of_declared
+    (λ f. types_twice lib plan (subst (λ (us : List BlockType). TypeTwice us) same f))
+    (λ f. block_twice lib plan f.0 (subst (λ (us : List BlockType). Contains us f.0) same f.1) f.2) (λ x y p q. (p, q)) t b in
+    let second = both_answer placed instances resources (NetworkTwice lib.application.network) (PlanTwice plan) Fault I R (λ z. I z.0 × R z.1) of_placed
+    (network_twice lib plan) (plan_twice lib plan) (λ x y p q. (p, q)) i r in
+    both_answer (Ok o) declared placed Fault Fault Fault (λ z. T z.0 × B z.1) (λ z. I z.0 × R z.1) (AreAll lib plan) found (λ f. f) (λ f. f)
+    (λ x y p q. catalog_answer lib plan (record { types = x.0; blocks = x.1; instances = y.0; resources = y.1 }) ts ts same p.0 same p.1 q.0 q.1) first second

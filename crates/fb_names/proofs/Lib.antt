@@ -2,6 +2,8 @@ pub mod Seen
 pub mod TwiceIn
 pub mod NameTwice
 pub mod Unless
+pub mod Somewhere
+pub mod BothFound
 pub mod PartAnswers
 pub mod Catalogs
 pub mod Each

@@ -1,6 +1,6 @@
 -- What a network names and nothing stands for, where it gets no numbers (E21).
-use Rattle.std.proofs.Common.{◌≡◌, ◌&&◌, ◌||◌, ℕ, Bool, true, false, List, [], map, Some, None, Option, Contains, refl, sym, ◌∙◌, ap, inl, inr}
-use Rattle.std.specs.Prelude.{flat_map, is_some, slice_get, option_map, option_and_then}
+use Rattle.std.proofs.Common.{◌≡◌, ◌&&◌, ◌||◌, ℕ, Bool, true, false, List, [], map, Some, None, Option, Result, MatchOption, Contains, refl, sym, ◌∙◌, ap, inl, inr}
+use Rattle.std.specs.Prelude.{Ok, IfOk, flat_map, is_some, slice_get, option_map, option_and_then}
 use Rattle.std.specs.List.{list_any, list_all}
 use Rattle.std.proofs.lemmas.Bool.{true≢false, false_from_ne_true}
 use Rattle.std.proofs.lemmas.List.Folds.{list_all-append, list_any-append}
@@ -28,6 +28,8 @@ use Rattle.fb_names.specs.declared.numbers.TypeNumber.TheVariants as number
 use Rattle.fb_names.specs.declared.numbers.Wire.{Wire}
 use Rattle.fb_types.proofs.Options.{is_some-option_map}
 use Rattle.fb_types.proofs.ListTests.{fails_at, fails_from, list_all-map, list_all-flat_map, list_all-agree, list_all-both}
+use Rattle.fb_names.specs.Both.{both_of}
+use Rattle.fb_names.proofs.BothFound.{both_answer, told}
 use Rattle.fb_names.proofs.Each.{is_some-each}
 use Rattle.fb_names.proofs.Lookups.{kind_known, kind_of_numbered, type_named-number}
 
@@ -210,11 +212,11 @@ unknown_type lib n h =
     let typed : list_all (is_typed lib) n.1.instances ≡ false = sym (is_some-each (λ (i : Instance). type_number lib i.block_type) n.1.instances) ∙ ap is_some h in
     inl (unmet_wanted (network_wanted lib n) (wanted_met lib n ∙ ap (λ b. b && list_all met (flat_map (parameters_wanted lib) n.1.instances)) typed))
 
-pub unknown_parameter : (lib : Library) (n : Placed) → each_or_none (parameter_numbers lib) n.1.instances ≡ None → NetworkUnknown lib n
+unknown_parameter : (lib : Library) (n : Placed) → each_or_none (parameter_numbers lib) n.1.instances ≡ None → NetworkUnknown lib n
 unknown_parameter lib n h =
     inl (unmet_wanted (network_wanted lib n) (wanted_met lib n ∙ parameters_met lib n ∙ ap is_some h))
 
-pub unknown_event : (lib : Library) (n : Placed) → each_or_none (event_wire lib n) n.1.event_connections ≡ None → NetworkUnknown lib n
+unknown_event : (lib : Library) (n : Placed) → each_or_none (event_wire lib n) n.1.event_connections ≡ None → NetworkUnknown lib n
 unknown_event lib n h =
     inr (ends_met lib n ∙ ap (λ (o : Option (List Wire)). is_some o && is_some (each_or_none (data_wire lib n) n.1.data_connections)) h)
 
@@ -222,7 +224,7 @@ and-false : (b : Bool) → (b && false) ≡ false
 and-false true = refl
 and-false false = refl
 
-pub unknown_data : (lib : Library) (n : Placed) → each_or_none (data_wire lib n) n.1.data_connections ≡ None → NetworkUnknown lib n
+unknown_data : (lib : Library) (n : Placed) → each_or_none (data_wire lib n) n.1.data_connections ≡ None → NetworkUnknown lib n
 unknown_data lib n h =
     inr (ends_met lib n
     ∙ ap (λ (o : Option (List Wire)). is_some (each_or_none (event_wire lib n) n.1.event_connections) && is_some o) h
@@ -235,3 +237,40 @@ network_known lib n x is unknown =
       | inl w ↦ met_wanted (network_wanted lib n) (wanted_met lib n ∙ parameters_met lib n ∙ ap is_some is.parameters) w.0 w.1 w.2
       | inr f ↦ true≢false (sym (ends_met lib n ∙ (λ i. is_some (is.event_wires i) && is_some (is.data_wires i))) ∙ f)
     ]
+
+-- ---- All of a network
+
+abbrev Typed : Type 0
+Typed = List TypeNumber × List (List ℕ)
+
+abbrev Wires : Type 0
+Wires = List Wire × List Wire
+
+-- the types and the parameters, and the connections of events and of data
+abbrev pub AreAll : Library → Placed → Typed × Wires → Type 0
+AreAll lib n z = IsNetwork lib n (record { types = z.0.0; parameters = z.0.1; event_wires = z.1.0; data_wires = z.1.1 })
+
+pub network_found :
+    {X : Type 0} (lib : Library) (n : Placed) (is : List Instance) (es ds : List Connection) (kinds : List TypeNumber)
+    (parameters : Result (Option (List (List ℕ))) X) (events values : Result (Option (List Wire)) X) (typed : Result (Option Typed) X) (wires : Result (Option Wires) X)
+    (o : Option (Typed × Wires)) → is ≡ n.1.instances → es ≡ n.1.event_connections → ds ≡ n.1.data_connections
+    → each_or_none (λ i. type_number lib i.block_type) n.1.instances ≡ Some kinds
+    → typed ≡ both_of (Ok (Some kinds)) parameters → wires ≡ both_of events values → Ok o ≡ both_of typed wires
+    → IfOk parameters (λ o. o ≡ each_or_none (parameter_numbers lib) is) → IfOk events (λ o. o ≡ each_or_none (event_wire lib n) es)
+    → IfOk values (λ o. o ≡ each_or_none (data_wire lib n) ds) → MatchOption o (NetworkUnknown lib n) (AreAll lib n)
+network_found {X} lib n is es ds kinds parameters events values typed wires o same_is same_es same_ds numbered of_typed of_wires found p e d =
+    let Fault : Type 0 = NetworkUnknown lib n in
+    let T : List TypeNumber → Type 0 = λ ts. each_or_none (λ (i : Instance). type_number lib i.block_type) n.1.instances ≡ Some ts in
+    let P : List (List ℕ) → Type 0 = λ ps. each_or_none (parameter_numbers lib) n.1.instances ≡ Some ps in
+    let E : List Wire → Type 0 = λ ws. each_or_none (event_wire lib n) n.1.event_connections ≡ Some ws in
+    let D : List Wire → Type 0 = λ ws. each_or_none (data_wire lib n) n.1.data_connections ≡ Some ws in
+    let kept : Result (Option (List TypeNumber)) X = Ok (Some kinds) in
+    let first = both_answer typed kept parameters Fault (each_or_none (parameter_numbers lib) n.1.instances ≡ None) Fault T P (λ z. T z.0 × P z.1) of_typed
+    (λ f. f) (unknown_parameter lib n) (λ x y a b. (a, b)) numbered
+    (told parameters (each_or_none (parameter_numbers lib) is) (each_or_none (parameter_numbers lib) n.1.instances) (ap (each_or_none (parameter_numbers lib)) same_is) p) in
+    let second = both_answer wires events values (each_or_none (event_wire lib n) n.1.event_connections ≡ None) (each_or_none (data_wire lib n) n.1.data_connections ≡ None)
+    Fault E D (λ z. E z.0 × D z.1) of_wires (unknown_event lib n) (unknown_data lib n) (λ x y a b. (a, b))
+    (told events (each_or_none (event_wire lib n) es) (each_or_none (event_wire lib n) n.1.event_connections) (ap (each_or_none (event_wire lib n)) same_es) e)
+    (told values (each_or_none (data_wire lib n) ds) (each_or_none (data_wire lib n) n.1.data_connections) (ap (each_or_none (data_wire lib n)) same_ds) d) in
+    both_answer (Ok o) typed wires Fault Fault Fault (λ z. T z.0 × P z.1) (λ z. E z.0 × D z.1) (AreAll lib n) found (λ f. f) (λ f. f)
+    (λ x y a b. record { types = a.0; parameters = a.1; event_wires = b.0; data_wires = b.1 }) first second

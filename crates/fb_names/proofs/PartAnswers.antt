@@ -164,7 +164,7 @@ is_some-named f g n (x ∷ xs) =
       | false ↦ λ e. rw (same_name-flip (f x) n ∙ e) (is_some-named f g n xs)
     ] refl
 
-abbrev has_event_name : BlockType → Bool
+abbrev pub has_event_name : BlockType → Bool
 has_event_name t = is_some (event_block_named (type_name t))
 
 any_from_some : (ts : List BlockType) (t : BlockType) → Contains ts t → has_event_name t ≡ true → list_any has_event_name ts ≡ true

@@ -1,6 +1,6 @@
 -- What is unknown in a declaration and a deployment, by its parts (E21).
-use Rattle.std.proofs.Common.{◌≡◌, ◌&&◌, ℕ, ◌+◌, Bool, true, false, List, [], ◌∷◌, ◌++◌, Some, None, Option, Bor, Contains, MatchOption, refl, sym, ◌∙◌, ap, subst, inl, inr}
-use Rattle.std.specs.Prelude.{flat_map, is_some, option_map, option_and_then}
+use Rattle.std.proofs.Common.{◌≡◌, ◌&&◌, ℕ, Bool, true, false, List, [], ◌∷◌, ◌++◌, Some, None, Option, Result, Bor, Contains, MatchOption, refl, sym, ◌∙◌, ap, subst, inl, inr}
+use Rattle.std.specs.Prelude.{Ok, IfOk, flat_map, is_some, option_map, option_and_then}
 use Rattle.std.specs.List.{list_all}
 use Rattle.std.specs.BTreeMap.{BTreeMap}
 use Rattle.std.proofs.lemmas.Bool.{true≢false}
@@ -24,9 +24,10 @@ use Rattle.fb_names.specs.Numbers.{IsNetwork, IsResolved, each_or_none, place_of
 use Rattle.fb_names.specs.Unknown.{NetworkUnknown, BlockUnknown, DeploymentUnknown, AreBlocks}
 use Rattle.fb_names.specs.declared.numbers.LinkEnds.{LinkEnds}
 use Rattle.fb_names.specs.declared.numbers.NetworkNumbers.{NetworkNumbers}
-use Rattle.fb_types.proofs.Options.{match_none, match_some}
 use Rattle.fb_types.proofs.ByPlace.{place_of_element}
 use Rattle.fb_types.proofs.ListTests.{list_all-flat_map, list_all-agree}
+use Rattle.fb_names.specs.Both.{both_of}
+use Rattle.fb_names.proofs.BothFound.{both_answer, told}
 use Rattle.fb_names.proofs.Each.{is_some-each, each-agree}
 use Rattle.fb_names.proofs.NetworkUnknown.{met, places_met, unmet_wanted, met_wanted, network_known}
 
@@ -85,11 +86,11 @@ of_network lib plan n c unknown =
 abbrev pub of_application_at : Library → Placed
 of_application_at lib = (None, lib.application.network)
 
-pub of_application : (lib : Library) (plan : Plan) → NetworkUnknown lib (None, lib.application.network) → NameUnknown lib plan
+of_application : (lib : Library) (plan : Plan) → NetworkUnknown lib (None, lib.application.network) → NameUnknown lib plan
 of_application lib plan unknown =
     of_network lib plan (of_application_at lib) (Contains-here (of_application_at lib) (flat_map networks_in lib.blocks)) unknown
 
-pub of_block : (lib : Library) (plan : Plan) → BlockUnknown lib → NameUnknown lib plan
+of_block : (lib : Library) (plan : Plan) → BlockUnknown lib → NameUnknown lib plan
 of_block lib plan unknown =
     of_network lib plan unknown.0 (Contains-there (of_application_at lib) (flat_map networks_in lib.blocks) unknown.0 unknown.1) unknown.2
 
@@ -176,13 +177,13 @@ and-false : (b : Bool) → (b && false) ≡ false
 and-false true = refl
 and-false false = refl
 
-pub unknown_instance : (lib : Library) (plan : Plan) → each_or_none (held_numbers lib) plan.resources ≡ None → NameUnknown lib plan
+unknown_instance : (lib : Library) (plan : Plan) → each_or_none (held_numbers lib) plan.resources ≡ None → NameUnknown lib plan
 unknown_instance lib plan h =
     of_deployment lib plan
     (unmet_wanted (deployment_wanted lib plan)
     (deployment_met lib plan ∙ ap (λ (o : Option (List (List ℕ))). is_some o && is_some (each_or_none (link_ends plan) plan.links)) h))
 
-pub unknown_resource : (lib : Library) (plan : Plan) → each_or_none (link_ends plan) plan.links ≡ None → NameUnknown lib plan
+unknown_resource : (lib : Library) (plan : Plan) → each_or_none (link_ends plan) plan.links ≡ None → NameUnknown lib plan
 unknown_resource lib plan h =
     of_deployment lib plan
     (unmet_wanted (deployment_wanted lib plan)
@@ -196,14 +197,14 @@ deployment_known lib plan hs ls h g unknown =
     met_wanted (deployment_wanted lib plan) (deployment_met lib plan ∙ (λ i. is_some (h i) && is_some (g i))) unknown.0 unknown.1 unknown.2
 
 -- the numbers by the maps of places
-pub held_are :
+held_are :
     (lib : Library) (places : BTreeMap (Bor Name) ℕ) (rs : List ResourceEntry) → IsIndex (instance_names lib.application.network) places
     → each_or_none (λ r. each_or_none (place_in places) r.instances) rs ≡ each_or_none (held_numbers lib) rs
 held_are lib places rs is =
     each-agree (λ (r : ResourceEntry). each_or_none (place_in places) r.instances) (held_numbers lib)
     (λ r. each-agree (place_in places) (place_of (instance_names lib.application.network)) is.place r.instances) rs
 
-pub links_are :
+links_are :
     (plan : Plan) (places : BTreeMap (Bor Name) ℕ) (ls : List Link) → IsIndex (resource_names_of plan) places
     → each_or_none (λ l. both_places (place_in places l.from) (place_in places l.to)) ls ≡ each_or_none (link_ends plan) ls
 links_are plan places ls is =
@@ -235,53 +236,56 @@ networks_known lib x xs is are n c =
 
 -- ---- All numbers
 
-pub held_by :
-    (lib : Library) (places : BTreeMap (Bor Name) ℕ) (rs qs : List ResourceEntry) (o : Option (List (List ℕ))) → IsIndex (instance_names lib.application.network) places
-    → qs ≡ rs → o ≡ each_or_none (λ r. each_or_none (place_in places) r.instances) qs → each_or_none (held_numbers lib) rs ≡ o
-held_by lib places rs qs o is e made =
-    sym (made ∙ ap (each_or_none (λ (r : ResourceEntry). each_or_none (place_in places) r.instances)) e ∙ held_are lib places rs is)
-
-pub links_by :
-    (plan : Plan) (places : BTreeMap (Bor Name) ℕ) (ls ks : List Link) (o : Option (List LinkEnds)) → IsIndex (resource_names_of plan) places
-    → ks ≡ ls → o ≡ each_or_none (λ l. both_places (place_in places l.from) (place_in places l.to)) ks → each_or_none (link_ends plan) ls ≡ o
-links_by plan places ls ks o is e made =
-    sym (made ∙ ap (each_or_none (λ (l : Link). both_places (place_in places l.from) (place_in places l.to))) e ∙ links_are plan places ls is)
-
--- what the answers for the parts are
-abbrev pub ApplicationAnswer : Library → Library → Option NetworkNumbers → Type 0
-ApplicationAnswer lib its o = MatchOption o (NetworkUnknown its (None, lib.application.network)) (IsNetwork its (None, lib.application.network))
-
-pub application_unknown :
-    (lib its : Library) (plan : Plan) (o : Option NetworkNumbers) → its ≡ lib → ApplicationAnswer lib its o → o ≡ None → NameUnknown lib plan
-application_unknown lib its plan o same answer none =
-    of_application lib plan
-    (subst (λ (l : Library). NetworkUnknown l (None, lib.application.network)) same
-    (match_none o (NetworkUnknown its (None, lib.application.network)) (IsNetwork its (None, lib.application.network)) answer none))
-
-pub block_unknown :
-    (lib its : Library) (plan : Plan) (o : Option (List (Option NetworkNumbers))) → its ≡ lib → MatchOption o (BlockUnknown its) (AreBlocks its) → o ≡ None
-    → NameUnknown lib plan
-block_unknown lib its plan o same answer none =
-    of_block lib plan (subst (λ (l : Library). BlockUnknown l) same (match_none o (BlockUnknown its) (AreBlocks its) answer none))
-
-pub resolved :
-    (lib its : Library) (plan : Plan) (o : Option NetworkNumbers) (x : NetworkNumbers) (os : Option (List (Option NetworkNumbers))) (xs : List (Option NetworkNumbers))
-    (hs : List (List ℕ)) (ls : List LinkEnds) → ArePartsKnown lib → its ≡ lib → ApplicationAnswer lib its o → o ≡ Some x
-    → MatchOption os (BlockUnknown its) (AreBlocks its) → os ≡ Some xs
+resolved :
+    (lib : Library) (plan : Plan) (x : NetworkNumbers) (xs : List (Option NetworkNumbers)) (hs : List (List ℕ)) (ls : List LinkEnds) → ArePartsKnown lib
+    → IsNetwork lib (None, lib.application.network) x → AreBlocks lib xs
     → each_or_none (held_numbers lib) plan.resources ≡ Some hs → each_or_none (link_ends plan) plan.links ≡ Some ls
     → IsResolved lib plan (record { application = x; blocks = xs; held = hs; links = ls })
-resolved lib its plan o x os xs hs ls parts same answer some answers somes held links =
-    let is : IsNetwork lib (None, lib.application.network) x =
-    subst (λ (l : Library). IsNetwork l (None, lib.application.network) x) same
-    (match_some o (NetworkUnknown its (None, lib.application.network)) (IsNetwork its (None, lib.application.network)) x answer some) in
-    let are : AreBlocks lib xs =
-    subst (λ (l : Library). AreBlocks l xs) same (match_some os (BlockUnknown its) (AreBlocks its) xs answers somes) in
-    record {
-      known = all_known lib plan parts (networks_known lib x xs is are) (deployment_known lib plan hs ls held links);
-      application = is;
-      counted = are.counted;
-      basics = are.basics;
-      composites = are.composites;
-      held = held;
-      links = links;
-    }
+resolved lib plan x xs hs ls parts is are held links = record {
+  known = all_known lib plan parts (networks_known lib x xs is are) (deployment_known lib plan hs ls held links);
+  application = is;
+  counted = are.counted;
+  basics = are.basics;
+  composites = are.composites;
+  held = held;
+  links = links;
+}
+
+abbrev Networks : Type 0
+Networks = NetworkNumbers × List (Option NetworkNumbers)
+
+abbrev Deployed : Type 0
+Deployed = List (List ℕ) × List LinkEnds
+
+-- the networks of the application and of the block types, and what the deployment names
+abbrev pub AreAll : Library → Plan → Networks × Deployed → Type 0
+AreAll lib plan z = IsResolved lib plan (record { application = z.0.0; blocks = z.0.1; held = z.1.0; links = z.1.1 })
+
+pub numbers_found :
+    {X : Type 0} (lib : Library) (plan : Plan) (instances resources : BTreeMap (Bor Name) ℕ) (rs : List ResourceEntry) (ls : List Link)
+    (application : Result (Option NetworkNumbers) X) (blocks : Result (Option (List (Option NetworkNumbers))) X)
+    (held : Result (Option (List (List ℕ))) X) (links : Result (Option (List LinkEnds)) X)
+    (networks : Result (Option Networks) X) (deployed : Result (Option Deployed) X) (o : Option (Networks × Deployed)) → ArePartsKnown lib
+    → IsIndex (instance_names lib.application.network) instances → IsIndex (resource_names_of plan) resources → rs ≡ plan.resources → ls ≡ plan.links
+    → networks ≡ both_of application blocks → deployed ≡ both_of held links → Ok o ≡ both_of networks deployed
+    → IfOk application (λ o. MatchOption o (NetworkUnknown lib (None, lib.application.network)) (IsNetwork lib (None, lib.application.network)))
+    → IfOk blocks (λ o. MatchOption o (BlockUnknown lib) (AreBlocks lib))
+    → IfOk held (λ o. o ≡ each_or_none (λ r. each_or_none (place_in instances) r.instances) rs)
+    → IfOk links (λ o. o ≡ each_or_none (λ l. both_places (place_in resources l.from) (place_in resources l.to)) ls)
+    → MatchOption o (NameUnknown lib plan) (AreAll lib plan)
+numbers_found lib plan instances resources rs ls application blocks held links networks deployed o parts is_instances is_resources same_rs same_ls of_networks of_deployed found
+    a b h k =
+    let Fault : Type 0 = NameUnknown lib plan in
+    let N : NetworkNumbers → Type 0 = IsNetwork lib (None, lib.application.network) in
+    let H : List (List ℕ) → Type 0 = λ hs. each_or_none (held_numbers lib) plan.resources ≡ Some hs in
+    let L : List LinkEnds → Type 0 = λ es. each_or_none (link_ends plan) plan.links ≡ Some es in
+    let first = both_answer networks application blocks (NetworkUnknown lib (None, lib.application.network)) (BlockUnknown lib) Fault N (AreBlocks lib)
+    (λ z. N z.0 × AreBlocks lib z.1) of_networks (of_application lib plan) (of_block lib plan) (λ x y p q. (p, q)) a b in
+    let second = both_answer deployed held links (each_or_none (held_numbers lib) plan.resources ≡ None) (each_or_none (link_ends plan) plan.links ≡ None) Fault H L
+    (λ z. H z.0 × L z.1) of_deployed (unknown_instance lib plan) (unknown_resource lib plan) (λ x y p q. (p, q))
+    (told held (each_or_none (λ (r : ResourceEntry). each_or_none (place_in instances) r.instances) rs) (each_or_none (held_numbers lib) plan.resources)
+    (ap (each_or_none (λ (r : ResourceEntry). each_or_none (place_in instances) r.instances)) same_rs ∙ held_are lib instances plan.resources is_instances) h)
+    (told links (each_or_none (λ (l : Link). both_places (place_in resources l.from) (place_in resources l.to)) ls) (each_or_none (link_ends plan) plan.links)
+    (ap (each_or_none (λ (l : Link). both_places (place_in resources l.from) (place_in resources l.to))) same_ls ∙ links_are plan resources plan.links is_resources) k) in
+    both_answer (Ok o) networks deployed Fault Fault Fault (λ z. N z.0 × AreBlocks lib z.1) (λ z. H z.0 × L z.1) (AreAll lib plan) found (λ f. f) (λ f. f)
+    (λ x y p q. resolved lib plan x.0 x.1 y.0 y.1 parts p.0 p.1 q.0 q.1) first second

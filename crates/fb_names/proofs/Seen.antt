@@ -1,6 +1,6 @@
 -- What a map or a set of the names so far says of one more name.
-use Rattle.std.proofs.Common.{◌≡◌, ℕ, ◌<◌, ◌+◌, Bool, true, false, not, cond, List, [], ◌∷◌, ◌++◌, length, map, take, get_or, Option, Some, None, Contains, Ordering, Bor, refl, sym, ◌∙◌, ap, subst, inl, inr, arith}
-use Rattle.std.specs.Prelude.{position, is_some}
+use Rattle.std.proofs.Common.{◌≡◌, ◌↔◌, ℕ, ◌<◌, ◌≤◌, ◌+◌, Bool, true, false, not, cond, List, [], ◌∷◌, ◌++◌, length, map, take, get_or, Option, Some, None, Contains, Ordering, Bor, refl, sym, ◌∙◌, ap, subst, inl, inr, arith}
+use Rattle.std.specs.Prelude.{position, is_some, IsTrue}
 use Rattle.std.specs.List.{list_any}
 use Rattle.std.specs.Bool.{Decides}
 use Rattle.std.specs.Ordering.{nat_cmp, is_eq, ordering_then}
@@ -10,7 +10,7 @@ use Rattle.std.specs.Cmp.Lexicographic.{slice_cmp}
 use Rattle.std.specs.Map.{lookup}
 use Rattle.std.specs.BTreeMap as tree
 use Rattle.std.specs.BTreeSet as set
-use Rattle.std.proofs.lemmas.List.{length-map, length-take}
+use Rattle.std.proofs.lemmas.List.{length-map, length-take, take_all}
 use Rattle.std.proofs.lemmas.Map.Text.{is_eq-slice_cmp}
 use Rattle.std.proofs.lemmas.Slice.Eq.{bytes_eq-Decides}
 use Rattle.std.proofs.lemmas.Bool.{false_from_ne_true, true≢false}
@@ -162,6 +162,14 @@ pub seen_twice_of_part :
 seen_twice_of_part cmp view f xs i x s k b h e g seen added old =
     let there : set.contains cmp s k ≡ true = grind (arith, added, old) in
     twice_of_part f xs i x (view k) h e g (seen_twice cmp view (map f (take i xs)) s k seen there)
+
+-- the end of a loop
+pub seen_all :
+    {A K Y : Type 0} (cmp : K → K → Ordering) (view : K → Y) (f : A → Y) (xs : List A) (i : ℕ) (s : set.BTreeSet K) → length xs ≤ i
+    → IsSeen cmp view (map f (take i xs)) s → IsTrue false ↔ Twice (map f xs)
+seen_all {A} cmp view f xs i s h seen =
+    let once : ¬ (Twice (map f xs)) = subst (λ (ys : List A). ¬ (Twice (map f ys))) (take_all i xs h) seen.once in
+    (λ t. absurd (true≢false (sym t)), λ t. absurd (once t))
 
 -- ---- The index
 

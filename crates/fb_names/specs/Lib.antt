@@ -8,3 +8,4 @@ pub mod Sorts
 pub mod Types
 pub mod Scopes
 pub mod Unknown
+pub mod Both

@@ -4,6 +4,7 @@ use Rattle.fb_types.specs.Repeated.{Placed, networks_in}
 use Rattle.fb_types.specs.Unknown.{Wanted, types_wanted, parameters_wanted, deployment_wanted, ends_known}
 use Rattle.fb_types.specs.declared.library.Library.{Library}
 use Rattle.fb_types.specs.declared.library.BasicType.{BasicType}
+use Rattle.fb_types.specs.declared.library.BlockType.{BlockType}
 use Rattle.fb_types.specs.declared.library.BlockType.TheVariants as block
 use Rattle.fb_types.specs.declared.library.CompositeType.{CompositeType}
 use Rattle.fb_types.specs.declared.deploy.Plan.{Plan}
@@ -25,6 +26,11 @@ BlockUnknown lib = (n : Placed) × Contains (flat_map networks_in lib.blocks) n 
 -- A mapped instance or an end of a link is unknown.
 abbrev pub DeploymentUnknown : Library → Plan → Type 0
 DeploymentUnknown lib plan = (w : Wanted) × Contains (deployment_wanted lib plan) w × ¬ (Contains w.1 w.0)
+
+-- the network of a block type by numbers, none of a basic type
+abbrev pub IsBlockNumbers : Library → BlockType → Option NetworkNumbers → Type 0
+IsBlockNumbers lib (block.Basic t) o = o ≡ None
+IsBlockNumbers lib (block.Composite t) o = (x : NetworkNumbers) × (o ≡ Some x) × IsNetwork lib (Some t, t.network) x
 
 -- the networks of the composite types, each at the place of its type
 pub record AreBlocks (lib : Library) (xs : List (Option NetworkNumbers)) : Type 0 where

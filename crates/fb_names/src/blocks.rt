@@ -1,8 +1,8 @@
 //! The networks of all composite types by numbers.
 
-ghost use Rattle.std.specs.Prelude.{IfOk, MatchOption};
+ghost use Rattle.std.specs.Prelude.{◌≡◌, Some, IfOk, MatchOption, slice_get};
 ghost use Rattle.fb_names.specs.Types.{AreTypes};
-ghost use Rattle.fb_names.specs.Unknown.{AreBlocks, BlockUnknown};
+ghost use Rattle.fb_names.specs.Unknown.{AreBlocks, BlockUnknown, IsBlockNumbers};
 
 use crate::ends::NetworkScope;
 use crate::networks::network_numbers;
@@ -11,6 +11,35 @@ use crate::types::Types;
 use fb_types::items::Items;
 use fb_types::library::BlockType;
 use std::alloc::{AllocError, Global};
+
+/// The network of the block type at a place by numbers, none for a basic type. It is `None` where the network names
+/// something unknown.
+fn block_numbers(
+    alloc: Global,
+    types: &Types,
+    place: usize,
+    block: &BlockType,
+) -> Result<Option<Option<NetworkNumbers>>, AllocError>
+    requires types { AreTypes types.now }
+    requires place { slice_get types.now.library.now.blocks place ≡ Some block.now }
+    ensures { IfOk result (λ o. MatchOption o (BlockUnknown types.now.library.now) (IsBlockNumbers types.now.library.now block.now)) }
+{
+    match block {
+        BlockType::Basic(_) => Ok(Some(None)),
+        BlockType::Composite(composite) => {
+            let places = &types.catalog.blocks[place];
+            let scope = NetworkScope {
+                composite: Some((composite, &places.ports)),
+                network: &composite.network,
+                instances: &places.instances,
+            };
+            match network_numbers(alloc, types, &scope)? {
+                Some(numbers) => Ok(Some(Some(numbers))),
+                None => Ok(None),
+            }
+        }
+    }
+}
 
 /// For each block type of the declaration its network, none for a basic type. It is `None` where a composite type's
 /// network names something unknown.
@@ -24,20 +53,9 @@ pub fn blocks_of(
     let blocks = types.library.blocks.as_slice();
     let mut all = Items::new(alloc);
     for (place, block) in blocks.iter().enumerate() {
-        match block {
-            BlockType::Basic(_) => all.push(None)?,
-            BlockType::Composite(composite) => {
-                let places = &types.catalog.blocks[place];
-                let scope = NetworkScope {
-                    composite: Some((composite, &places.ports)),
-                    network: &composite.network,
-                    instances: &places.instances,
-                };
-                match network_numbers(alloc, types, &scope)? {
-                    Some(numbers) => all.push(Some(numbers))?,
-                    None => return Ok(None),
-                }
-            }
+        match block_numbers(alloc, types, place, block)? {
+            Some(numbers) => all.push(numbers)?,
+            None => return Ok(None),
         }
     }
     Ok(Some(all))

@@ -4,6 +4,7 @@ ghost use Rattle.std.specs.Prelude.{◌≡◌, IfOk, MatchOption};
 ghost use Rattle.fb_types.specs.Repeated.{NameTwice};
 ghost use Rattle.fb_names.specs.Catalog.{IsCatalog};
 
+use crate::both::both;
 use crate::places::Places;
 use crate::spaces::{blocks_places, network_places, resource_places, type_places};
 use fb_types::deploy::Plan;
@@ -44,22 +45,24 @@ pub fn catalog_of<'a>(
 ) -> Result<Option<Catalog<'a>>, AllocError>
     ensures { IfOk result (λ o. MatchOption o (NameTwice library.now plan.now) (IsCatalog library.now plan.now)) }
 {
-    let Some(types) = type_places(alloc, library.blocks.as_slice())? else {
-        return Ok(None);
-    };
-    let Some(blocks) = blocks_places(alloc, library.blocks.as_slice())? else {
-        return Ok(None);
-    };
-    let Some(instances) = network_places(alloc, &library.application.network)? else {
-        return Ok(None);
-    };
-    let Some(resources) = resource_places(alloc, plan)? else {
-        return Ok(None);
-    };
-    Ok(Some(Catalog {
-        types,
-        blocks,
-        instances,
-        resources,
-    }))
+    let blocks = library.blocks.as_slice();
+    let declared = both(type_places(alloc, blocks), blocks_places(alloc, blocks));
+    let placed = both(
+        network_places(alloc, &library.application.network),
+        resource_places(alloc, plan),
+    );
+    let found = both(declared, placed)?;
+    match found {
+        Some((declared, placed)) => {
+            let (types, blocks) = declared;
+            let (instances, resources) = placed;
+            Ok(Some(Catalog {
+                types,
+                blocks,
+                instances,
+                resources,
+            }))
+        }
+        None => Ok(None),
+    }
 }

@@ -5,12 +5,13 @@
 //! `resolve::resolve` gives types, ports, instances, resources and links by their places, or none exactly where such a
 //! name stands for nothing of the wanted sort.
 //!
-//! To be read in this order: `named` and `places`, the names of one list; `spaces`, those of a type, a network or a
+//! To be read in this order: `both`; `named` and `places`, the names of one list; `spaces`, those of a type, a network or a
 //! deployment; `repeats`; `catalog`. Then `numbers`, what is answered; `types`, `ports` and `ends`; `networks`, `blocks`
 //! and `deployment`; `resolve`.
 #![tactic(auto)]
 
 mod blocks;
+mod both;
 pub mod catalog;
 mod deployment;
 mod ends;

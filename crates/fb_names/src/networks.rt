@@ -6,6 +6,7 @@ ghost use Rattle.fb_names.specs.Scopes.{IsScope, placed};
 ghost use Rattle.fb_names.specs.Types.{AreTypes};
 ghost use Rattle.fb_names.specs.Unknown.{NetworkUnknown};
 
+use crate::both::both;
 use crate::ends::{DATA, EVENTS, NetworkScope, wires_of};
 use crate::numbers::{NetworkNumbers, TypeNumber};
 use crate::ports::PortSort;
@@ -89,21 +90,24 @@ pub fn network_numbers(
     let Some(kinds) = types_of(alloc, types, instances)? else {
         return Ok(None);
     };
-    let Some(parameters) = parameters_of(alloc, types, instances)? else {
-        return Ok(None);
-    };
     let events = network.event_connections.as_slice();
-    let Some(event_wires) = wires_of(alloc, types, scope, &kinds, EVENTS, events)? else {
-        return Ok(None);
-    };
+    let event_wires = wires_of(alloc, types, scope, &kinds, EVENTS, events);
     let data = network.data_connections.as_slice();
-    let Some(data_wires) = wires_of(alloc, types, scope, &kinds, DATA, data)? else {
-        return Ok(None);
-    };
-    Ok(Some(NetworkNumbers {
-        types: kinds,
-        parameters,
-        event_wires,
-        data_wires,
-    }))
+    let data_wires = wires_of(alloc, types, scope, &kinds, DATA, data);
+    let typed = both(Ok(Some(kinds)), parameters_of(alloc, types, instances));
+    let wires = both(event_wires, data_wires);
+    let found = both(typed, wires)?;
+    match found {
+        Some((typed, wires)) => {
+            let (types, parameters) = typed;
+            let (event_wires, data_wires) = wires;
+            Ok(Some(NetworkNumbers {
+                types,
+                parameters,
+                event_wires,
+                data_wires,
+            }))
+        }
+        None => Ok(None),
+    }
 }

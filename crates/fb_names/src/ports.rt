@@ -1,12 +1,12 @@
 //! Ports of a type by their places among the ports of their sort.
 
-ghost use Rattle.std.specs.Prelude.{◌≡◌, ◌<◌, ◌≤◌, ◌-◌, None, MatchOption, SomeIff, position};
-ghost use Rattle.fb_types.specs.Names.{same_name};
+ghost use Rattle.std.specs.Prelude.{◌≡◌, ◌<◌, ◌≤◌, ◌-◌, None, MatchOption, SomeIff, map};
 ghost use Rattle.fb_names.specs.Numbers as spec;
 ghost use Rattle.fb_names.specs.Sorts.{names_of_sort, ArePlacesOf};
 
+use crate::named::Named;
 use crate::places::{Places, place_of};
-use fb_types::library::{EventPort, Ports, Variable};
+use fb_types::library::Ports;
 use fb_types::name::Name;
 
 /// A sort of ports, each with a direction.
@@ -18,16 +18,16 @@ pub enum PortSort {
     Output,
 }
 
-fn event_place(events: &[EventPort], name: &Name) -> Option<usize>
-    ensures { result ≡ position (λ p. same_name p.name name.now) events.now }
+/// The place of what has a name in a list.
+fn place_named<T: Named>(items: &[T], name: &Name) -> Option<usize>
+    ensures { result ≡ spec.place_of (map T.called items.now) name.now }
 {
-    events.iter().position(|event| event.name.is(name))
-}
-
-fn variable_place(variables: &[Variable], name: &Name) -> Option<usize>
-    ensures { result ≡ position (λ v. same_name v.name name.now) variables.now }
-{
-    variables.iter().position(|variable| variable.name.is(name))
+    for (place, item) in items.iter().enumerate() {
+        if name.is(item.name()) {
+            return Some(place);
+        }
+    }
+    None
 }
 
 /// The place of a port among those of its sort. It goes through all of them, as suits an interface with few.
@@ -35,10 +35,10 @@ pub(crate) fn place_among(ports: &Ports, sort: PortSort, name: &Name) -> Option<
     ensures { result ≡ spec.place_of (names_of_sort sort ports.now) name.now }
 {
     match sort {
-        PortSort::EventInput => event_place(ports.event_inputs.as_slice(), name),
-        PortSort::EventOutput => event_place(ports.event_outputs.as_slice(), name),
-        PortSort::Input => variable_place(ports.inputs.as_slice(), name),
-        PortSort::Output => variable_place(ports.outputs.as_slice(), name),
+        PortSort::EventInput => place_named(ports.event_inputs.as_slice(), name),
+        PortSort::EventOutput => place_named(ports.event_outputs.as_slice(), name),
+        PortSort::Input => place_named(ports.inputs.as_slice(), name),
+        PortSort::Output => place_named(ports.outputs.as_slice(), name),
     }
 }
 

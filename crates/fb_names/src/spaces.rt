@@ -1,10 +1,10 @@
 //! The places of the names of one block type, one network or one deployment.
 
-ghost use Rattle.std.specs.Prelude.{◌≡◌, ◌⊎◌, [], map, is_some, Contains, IfOk};
+ghost use Rattle.std.specs.Prelude.{◌≡◌, ◌⊎◌, [], map, is_some, Contains, IfOk, OnOk};
 ghost use Rattle.std.specs.List.{list_any};
 ghost use Rattle.fb_names.specs.Catalog.{IsBlock};
 ghost use Rattle.fb_names.specs.GivenTwice.{Unless, AreBlocks, BlockTwice, NetworkTwice, PlanTwice, PortTwice, TypeTwice, names_of_ports};
-ghost use Rattle.fb_names.specs.Places.{IsIndex};
+ghost use Rattle.fb_names.specs.Places.{IsIndex, names_in};
 ghost use Rattle.fb_types.specs.Blocks.{event_block_named};
 ghost use Rattle.fb_types.specs.Flat.{type_name, resource_names_of};
 ghost use Rattle.fb_types.specs.Repeated.{instance_names};
@@ -18,8 +18,26 @@ use crate::repeats::{has_connection_twice, has_link_twice, has_parameter_twice, 
 use fb_types::deploy::Plan;
 use fb_types::event_ports::kind_named;
 use fb_types::library::{BasicType, BlockType, CompositeType, Network, Ports, Variable};
+use fb_types::name::Name;
 use std::alloc::{AllocError, Global};
 use std::collections::BTreeMap;
+
+/// Puts the names of ports and of internal variables into a list that is empty.
+fn push_port_names<'a>(
+    names: &mut Vec<&'a Name>,
+    ports: &'a Ports,
+    internals: &'a [Variable],
+) -> Result<(), AllocError>
+    requires { names.old.items ≡ [] }
+    ensures { OnOk result (names_in names.new.items ≡ names_of_ports ports.now internals.now) }
+{
+    push_names(names, ports.event_inputs.as_slice())?;
+    push_names(names, ports.event_outputs.as_slice())?;
+    push_names(names, ports.inputs.as_slice())?;
+    push_names(names, ports.outputs.as_slice())?;
+    push_names(names, internals)?;
+    Ok(())
+}
 
 /// The places of ports and of internal variables, as one list, or `None` where a name or a variable WITH
 /// an event is given twice.
@@ -37,11 +55,7 @@ fn port_places<'a>(
         return Ok(None);
     }
     let mut names = Vec::new(alloc);
-    push_names(&mut names, ports.event_inputs.as_slice())?;
-    push_names(&mut names, ports.event_outputs.as_slice())?;
-    push_names(&mut names, ports.inputs.as_slice())?;
-    push_names(&mut names, ports.outputs.as_slice())?;
-    push_names(&mut names, internals)?;
+    push_port_names(&mut names, ports, internals)?;
     places_of(alloc, names.as_slice())
 }
 
@@ -138,9 +152,12 @@ pub fn blocks_places<'a>(
 fn has_event_block(blocks: &[BlockType]) -> bool
     ensures { result ≡ list_any (λ t. is_some (event_block_named (type_name t))) blocks.now }
 {
-    blocks
-        .iter()
-        .any(|block| kind_named(block.name().as_bytes()).is_some())
+    for block in blocks {
+        if kind_named(block.name().as_bytes()).is_some() {
+            return true;
+        }
+    }
+    false
 }
 
 /// The places of the block types, or `None` where a name is given twice or is an event block's.

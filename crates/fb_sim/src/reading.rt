@@ -1,6 +1,6 @@
 //! What is read before a run, in its order: the declaration, the deployment, the stimuli, and the check of them all.
 
-ghost use Rattle.std.specs.Prelude.{IfOk, IfErr, OnOk};
+ghost use Rattle.std.specs.Prelude.{◌≡◌, Ok, Err, IfOk, IfErr, OnOk};
 ghost use Rattle.fb_read.specs.Whole.{IsLibraryText};
 ghost use Rattle.fb_types.specs.Headline.{inputs as inputs_from};
 ghost use Rattle.fb_sim.specs.Serial.{AreStimuli, Declares, IsDeclared, IsPlan, IsRefusal, Reads};
@@ -78,14 +78,28 @@ fn stimuli_of(
     }
 }
 
+/// What was found, beside what is read next.
+///
+/// A value of a type parameter is dropped by one call, so what was found is let go here where the next reading fails, and no
+/// reading is followed by the drop of all that was read before.
+fn beside<A: Drop, B: Drop>(found: A, read: Result<B, RunError>) -> Result<(A, B), RunError>
+    ensures found { IfOk result (λ both. both.0 ≡ found) }
+    ensures read { IfOk result (λ both. read ≡ Ok both.1) }
+    ensures error { IfErr result (λ error. read ≡ Err error) }
+{
+    Ok((found, read?))
+}
+
 /// Reads what is given.
 fn read(alloc: Global, inputs: &Inputs<'_>) -> Result<Reading, RunError>
     ensures read { IfOk result (λ r. Reads inputs.now (inputs_from r.library r.deploy r.stimuli.items)) }
     ensures refused { IfErr result (IsRefusal inputs.now) }
 {
     let library = library_of(alloc, inputs)?;
-    let deploy = deploy_of(alloc, inputs, &library)?;
-    let stimuli = stimuli_of(alloc, inputs, &library, &deploy)?;
+    let deploy = deploy_of(alloc, inputs, &library);
+    let (library, deploy) = beside(library, deploy)?;
+    let stimuli = stimuli_of(alloc, inputs, &library, &deploy);
+    let ((library, deploy), stimuli) = beside((library, deploy), stimuli)?;
     Ok(Reading {
         library,
         deploy,
@@ -93,12 +107,12 @@ fn read(alloc: Global, inputs: &Inputs<'_>) -> Result<Reading, RunError>
     })
 }
 
-/// Reads what is given, and judges it.
-pub(crate) fn judge_inputs(alloc: Global, inputs: &Inputs<'_>) -> Result<(), RunError>
+/// Judges what was read.
+fn judge_reading(alloc: Global, inputs: &Inputs<'_>, read: &Reading) -> Result<(), RunError>
+    requires { Reads inputs.now (inputs_from read.now.library read.now.deploy read.now.stimuli.items) }
     ensures accepted { OnOk result (IsDeclared inputs.now) }
     ensures refused { IfErr result (IsRefusal inputs.now) }
 {
-    let read = read(alloc, inputs)?;
     let case = Case {
         library: &read.library,
         plan: read.deploy.plan(),
@@ -109,6 +123,15 @@ pub(crate) fn judge_inputs(alloc: Global, inputs: &Inputs<'_>) -> Result<(), Run
         Err(CheckError::Memory) => Err(RunError::Memory),
         Err(CheckError::Refused(fault)) => Err(RunError::Refused(Refusal::Check(fault))),
     }
+}
+
+/// Reads what is given, and judges it.
+pub(crate) fn judge_inputs(alloc: Global, inputs: &Inputs<'_>) -> Result<(), RunError>
+    ensures accepted { OnOk result (IsDeclared inputs.now) }
+    ensures refused { IfErr result (IsRefusal inputs.now) }
+{
+    let read = read(alloc, inputs)?;
+    judge_reading(alloc, inputs, &read)
 }
 
 /// Reads what is given, and makes the system that stands for it: that of the simulation, and of a trace that is looked at.

@@ -1,39 +1,25 @@
-use Rattle.std.proofs.Common.{◌≡◌, ℕ, length, Bor, ap, ◌∙◌, subst, arith}
-use Rattle.std.specs.BTreeMap.{BTreeMap}
-use Rattle.std.proofs.lemmas.Option.{same_Some}
-use Rattle.fb_types.specs.Names.{Name}
-use Rattle.fb_types.specs.declared.library.BlockType.TheVariants as block
-use Rattle.fb_types.specs.declared.library.CompositeType.{CompositeType}
-use Rattle.fb_names.specs.Sorts.{ArePlacesOf}
-use Rattle.fb_names.proofs.BlockNumbers.{composite_ports, composite_instances, composite_unknown, first_all, next_basic, next_composite}
+use Rattle.std.proofs.Common.{◌≡◌, length, ap, ◌∙◌, arith}
+use Rattle.fb_types.proofs.Options.{match_none, match_some}
+use Rattle.fb_names.specs.Unknown.{BlockUnknown, IsBlockNumbers}
+use Rattle.fb_names.proofs.BlockNumbers.{first_all, next_block, reached}
 use Rattle.fb_names.proofs.blocks.blocks_of.Goals as goal
-use Rattle.fb_names.proofs.blocks.blocks_of.Goals.{in-Basic+in_ok-push-in-Basic, in-Composite+in_ok-numbers-in-Composite+in-Some+in_ok-push-in-Some}
 
-pub network_numbers-requires-clause-scope : goal.network_numbers-requires-clause-scope
-network_numbers-requires-clause-scope c =
-    record {
-      boundary = λ y e.
-          subst (λ (y : Bor CompositeType × Bor (BTreeMap (Bor Name) ℕ)). ArePlacesOf y.0.now.ports y.1.now) (same_Some _ y e)
-          (composite_ports _ _ _ _ _ _ c.index-places.result.now c.requires.has c.as_slice-blocks.ensures c.loop-place-test.true c.index-blocks-place.is c.in-Composite.is c.index-places.ensures);
-      instances =
-          composite_instances _ _ _ _ _ _ c.index-places.result.now c.requires.has c.as_slice-blocks.ensures c.loop-place-test.true c.index-blocks-place.is c.in-Composite.is c.index-places.ensures;
-    }
+pub block_numbers-requires-clause-place : goal.block_numbers-requires-clause-place
+block_numbers-requires-clause-place c =
+    reached c.args.types.now.library.now _ _ c.index-blocks-place.result c.as_slice-blocks.ensures c.loop-place-test.true c.index-blocks-place.is
 
 pub returns-in-None : goal.returns-in-None
 returns-in-None c =
-    composite_unknown _ _ _ _ _ c.in_ok-numbers-in-Composite.field-0 c.as_slice-blocks.ensures c.loop-place-test.true c.index-blocks-place.is c.in-Composite.is
-    c.in_ok-numbers-in-Composite.ensures c.in-None.is
+    let lib = c.args.types.now.library.now in
+    match_none c.in_ok-numbers.field-0 (BlockUnknown lib) (IsBlockNumbers lib c.index-blocks-place.result) c.in_ok-numbers.ensures c.in-None.is
 
 pub loop-place-preserved : goal.loop-place-preserved
 loop-place-preserved c =
-    elim c.match-block.branch [
-      | in-Basic+in_ok-push-in-Basic w ↦
-          next_basic _ _ _ _ _ _ _ c.as_slice-blocks.ensures c.loop-place-test.true c.index-blocks-place.is w.in-Basic.is c.loop-place.invariant
-          (w.all-is ∙ w.in_ok-push-in-Basic.ensures.ok)
-      | in-Composite+in_ok-numbers-in-Composite+in-Some+in_ok-push-in-Some w ↦
-          next_composite _ _ _ _ _ w.in_ok-numbers-in-Composite.field-0 _ _ _ c.as_slice-blocks.ensures c.loop-place-test.true c.index-blocks-place.is w.in-Composite.is
-          w.in_ok-numbers-in-Composite.ensures w.in-Some.is c.loop-place.invariant (w.all-is ∙ w.in_ok-push-in-Some.ensures.ok)
-    ]
+    let lib = c.args.types.now.library.now in
+    let b = c.index-blocks-place.result in
+    next_block lib _ _ b c.in-Some.numbers _ _ c.as_slice-blocks.ensures c.loop-place-test.true c.index-blocks-place.is
+    (match_some c.in_ok-numbers.field-0 (BlockUnknown lib) (IsBlockNumbers lib b) c.in-Some.numbers c.in_ok-numbers.ensures c.in-Some.is)
+    c.loop-place.invariant c.in_ok-push-in-Some.ensures.ok
 
 pub returns : goal.returns
 returns c =

@@ -1,7 +1,7 @@
 use Rattle.std.proofs.Common.{◌≤◌, length, take}
 use Rattle.fb_system.specs.Rows.{AreRowsUpTo}
 use Rattle.fb_check.proofs.Refused.{HasRefused}
-use Rattle.fb_check.proofs.stimuli.rows_of.Given as goal
+use Rattle.fb_check.proofs.stimuli.rows_by.Given as goal
 
 abbrev pub invariant-loop-stimulus : goal.invariant-loop-stimulus
 invariant-loop-stimulus l = record {

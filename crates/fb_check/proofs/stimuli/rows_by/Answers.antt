@@ -4,7 +4,7 @@ use Rattle.fb_check.specs.Directory.{CanTake, IsTaken}
 use Rattle.fb_check.proofs.Good.{bad_at, none_bad}
 use Rattle.fb_check.proofs.Refused.{refused_none, refused_more, refused_all}
 use Rattle.fb_check.proofs.Rows.{rows_none, rows_more, rows_all}
-use Rattle.fb_check.proofs.stimuli.rows_of.Goals as goal
+use Rattle.fb_check.proofs.stimuli.rows_by.Goals as goal
 
 pub loop-stimulus-init : goal.loop-stimulus-init
 loop-stimulus-init c = record { within = omega arith; none = refused_none c.args.library.now; rows = rows_none c.args.library.now c.args.stimuli.now _ c.new-rows.ensures }
@@ -12,9 +12,9 @@ loop-stimulus-init c = record { within = omega arith; none = refused_none c.args
 pub returns-in-None : goal.returns-in-None
 returns-in-None c =
     let lib = c.args.library.now in
-    let plan = c.requires.0 in
+    let plan = c.requires.names.0 in
     let s = c.stimulus-item.result in
-    bad_at lib plan c.args.stimuli.now _ s c.requires.1.once c.requires.2 c.loop-stimulus-test.true c.stimulus-item.is
+    bad_at lib plan c.args.stimuli.now _ s c.requires.names.1.once c.requires.names.2 c.loop-stimulus-test.true c.stimulus-item.is
     (MatchOption-at_none (¬ (CanTake lib s)) (IsTaken lib s) c.in-None.is c.in_ok-row.ensures)
 
 pub loop-stimulus-preserved : goal.loop-stimulus-preserved
@@ -34,6 +34,6 @@ returns c =
     let lib = c.args.library.now in
     let ss = c.args.stimuli.now in
     record {
-      good = none_bad lib c.requires.0 ss c.requires.1.once c.requires.2 (refused_all lib ss _ c.loop-stimulus-test.false c.loop-stimulus.invariant.none);
+      good = none_bad lib c.requires.names.0 ss c.requires.names.1.once c.requires.names.2 (refused_all lib ss _ c.loop-stimulus-test.false c.loop-stimulus.invariant.none);
       rows = rows_all lib ss _ _ c.loop-stimulus.invariant.within c.loop-stimulus-test.false c.loop-stimulus.invariant.rows;
     }
