@@ -60,7 +60,7 @@ pub fn name(alloc: Global, text: &[u8]) -> Result<Option<Name>, AllocError>
     if is_keyword(upper.as_slice()) {
         return Ok(None);
     }
-    Ok(Some(Name::new(upper)))
+    Ok(Some(Name::from_slice(alloc, upper.as_slice())?))
 }
 
 /// What stands before the first place of a mark, and what stands behind it.

@@ -3,6 +3,7 @@ pub mod Latencies
 pub mod Limits
 pub mod Names
 pub mod Words
+pub mod Spelt
 pub mod Syntax
 pub mod Values
 pub mod Held

@@ -37,9 +37,16 @@ pub struct Plan {
 
 /// A plan within the limits: 1 to 256 resources, one where it holds all, and at most 1,024 links.
 /// Contracts see the plan.
-#[derive(Drop)]
 pub struct Deploy {
     plan: Plan,
+}
+
+// Written out, and not derived: so it is proved here alone what is let go with a deployment, and not in each crate that
+// lets one go.
+impl Drop for Deploy {
+    fn drop(self) {
+        let Deploy { plan: _ } = self;
+    }
 }
 
 impl Model for Deploy {

@@ -6,7 +6,7 @@
 //!
 //! To be read in this order: `library`, `text`, `value`, `sort`, `function` and `name`, what is read; `deploy` and
 //! `latency`; `event_kind` and `event_ports`, the event blocks; `key` and `run`, what a simulation gives; `items`, `few`,
-//! `boxed` and `reference`; `laws`. The definitions stand in `specs/`.
+//! `short`, `boxed` and `reference`; `laws`. The definitions stand in `specs/`.
 #![tactic(auto)]
 
 pub mod boxed;
@@ -23,6 +23,7 @@ pub mod library;
 pub mod name;
 pub mod reference;
 pub mod run;
+mod short;
 pub mod sort;
 pub mod text;
 pub mod value;

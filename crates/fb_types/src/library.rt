@@ -181,10 +181,20 @@ pub struct Application {
 }
 
 /// What a declaration text declares.
-#[derive(Drop)]
 pub struct Library {
     pub blocks: Items<BlockType>,
     pub application: Application,
+}
+
+// Written out, and not derived: so it is proved here alone what is let go with a library, and not in each crate that
+// lets one go.
+impl Drop for Library {
+    fn drop(self) {
+        let Library {
+            blocks: _,
+            application: _,
+        } = self;
+    }
 }
 
 /// The block type that has the name.

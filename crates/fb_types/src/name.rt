@@ -2,55 +2,80 @@
 
 ghost use Rattle.std.specs.Prelude.{◌≡◌, ◌≤◌, IfOk, List, ℕ, length};
 ghost use Rattle.fb_types.specs.Names.{same_name};
+ghost use Rattle.fb_types.specs.Spelt.{spelt};
 ghost use Rattle.fb_types.specs.Words.{digit, packed as number_of, word_of as number_for, most};
 
+use crate::boxed::Boxed;
 use crate::items::Items;
+use crate::short::{ROOM, Short};
 use std::alloc::{AllocError, Global};
 use std::marker::Model;
 
-/// A name of the declaration or the deployment: its letters, digits and underscores, in upper case.
-/// Contracts see its bytes.
+/// Where the bytes of a name stand.
 #[derive(Drop)]
+enum Spelling {
+    /// In place.
+    Short(Short),
+    /// On the heap.
+    Long(Boxed<Items<u8>>),
+}
+
+/// A name of the declaration or the deployment: its letters, digits and underscores, in upper case. One of 14 bytes at most
+/// takes no memory of its own, and is copied in a few instructions. Contracts see its bytes.
 pub struct Name {
-    bytes: Items<u8>,
-    /// The bytes as one number, so that most names are compared in a few instructions and without a look at the
-    /// heap. 0 where it is longer than a number has room for, or has a byte that is no upper-case letter, figure or
+    spelling: Spelling,
+    /// The bytes as one number, so that most names are compared in a few instructions and without a look at
+    /// them. 0 where it is longer than a number has room for, or has a byte that is no upper-case letter, figure or
     /// underscore: such names are compared letter by letter.
     word: u64,
 }
 
 impl Model for Name {
     ghost use Rattle.std.specs.Prelude.{◌≡◌, List, ℕ};
+    ghost use Rattle.fb_types.specs.Spelt.{spelt};
     ghost use Rattle.fb_types.specs.Words.{word_of};
 
     ghost Value = { List ℕ };
 
-    ghost view = { λ n. n.bytes };
+    ghost view = { λ n. spelt n.spelling };
 
-    ghost invariant = { λ n. n.word ≡ word_of n.bytes };
+    ghost invariant = { λ n. n.word ≡ word_of (spelt n.spelling) };
+}
+
+impl Drop for Name {
+    /// Written out, so that a crate above lets a name go by one call, and proves nothing of its parts.
+    fn drop(self) {
+        let Name {
+            spelling: _,
+            word: _,
+        } = self;
+    }
 }
 
 impl Name {
     /// The name with these bytes. Who reads a text gives them in upper case.
-    pub fn new(bytes: Items<u8>) -> Name
-        ensures { result ≡ bytes }
+    pub fn from_slice(alloc: Global, bytes: &[u8]) -> Result<Name, AllocError>
+        ensures { IfOk result (λ n. n ≡ bytes.now) }
     {
-        let word = word_of(bytes.as_slice());
-        Name { bytes, word }
+        let spelling = spelling_of(alloc, bytes)?;
+        let word = word_of(bytes);
+        Ok(Name { spelling, word })
     }
 
     /// A copy of a name that is given as text.
     pub fn from_text(alloc: Global, text: &str) -> Result<Name, AllocError>
         ensures { IfOk result (λ n. n ≡ text.now) }
     {
-        let bytes = Items::from_slice(alloc, text.as_bytes())?;
-        Ok(Name::new(bytes))
+        Name::from_slice(alloc, text.as_bytes())
     }
 
     pub fn as_bytes(&self) -> &[u8]
         ensures { result.now ≡ self.now }
     {
-        self.bytes.as_slice()
+        match &self.spelling {
+            Spelling::Short(bytes) => bytes.as_slice(),
+            Spelling::Long(bytes) => bytes.get().as_slice(),
+        }
     }
 
     /// The number that stands for the name, or 0 where none does.
@@ -80,15 +105,47 @@ impl Name {
         self.as_bytes() == other.as_bytes()
     }
 
+    #[inline(always)]
     pub fn try_clone(&self, alloc: Global) -> Result<Name, AllocError>
         ensures { IfOk result (λ n. n ≡ self.now) }
     {
-        let bytes = Items::from_slice(alloc, self.as_bytes())?;
+        let spelling = copy_of(alloc, &self.spelling)?;
         Ok(Name {
-            bytes,
+            spelling,
             word: self.word,
         })
     }
+}
+
+/// A copy of bytes, in place if there is room.
+fn spelling_of(alloc: Global, bytes: &[u8]) -> Result<Spelling, AllocError>
+    ensures { IfOk result (λ s. spelt s ≡ bytes.now) }
+{
+    if bytes.len() <= ROOM {
+        Ok(Spelling::Short(Short::from_slice(bytes)))
+    } else {
+        on_heap(alloc, bytes)
+    }
+}
+
+/// A copy, which is made without a call where the bytes stand in place.
+#[inline(always)]
+fn copy_of(alloc: Global, spelling: &Spelling) -> Result<Spelling, AllocError>
+    ensures { IfOk result (λ s. spelt s ≡ spelt spelling.now) }
+{
+    match spelling {
+        Spelling::Short(bytes) => Ok(Spelling::Short(bytes.copy())),
+        Spelling::Long(bytes) => on_heap(alloc, bytes.get().as_slice()),
+    }
+}
+
+/// A copy of bytes on the heap.
+#[inline(never)]
+fn on_heap(alloc: Global, bytes: &[u8]) -> Result<Spelling, AllocError>
+    ensures { IfOk result (λ s. spelt s ≡ bytes.now) }
+{
+    let copy = Items::from_slice(alloc, bytes)?;
+    Ok(Spelling::Long(Boxed::new(alloc, copy)?))
 }
 
 /// The number that stands for a name.

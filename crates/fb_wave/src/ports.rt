@@ -8,7 +8,6 @@ ghost use Rattle.fb_wave.specs.Ports as spec;
 ghost use Rattle.fb_wave.specs.Ports.{IsPortOf};
 
 use fb_system::system::System;
-use fb_types::items::Items;
 use fb_types::library::EventPort;
 use fb_types::name::Name;
 use std::alloc::{AllocError, Global};
@@ -118,5 +117,5 @@ pub(crate) fn port_text(alloc: Global, system: &System, port: Port) -> Result<Na
     text.extend_from_slice(system.path(port.instance))?;
     text.extend_from_slice(b".")?;
     text.extend_from_slice(event_name(system, port))?;
-    Ok(Name::new(Items::from_vec(text)))
+    Name::from_slice(alloc, text.as_slice())
 }
