@@ -1,32 +1,27 @@
 -- Rows with the heads of lines: what is read of them, and what they are made of.
-use Rattle.std.proofs.Common.{◌≡◌, ℕ, Bool, true, false, ◌&&◌, ◌<◌, List, [], ◌∷◌, ◌++◌, length, map, get_or, Option, Some, None, Bor, refl, sym, ◌∙◌, ap, subst, append-nil, append_assoc}
+use Rattle.std.proofs.Common.{◌≡◌, ℕ, Bool, true, false, ◌&&◌, ◌<◌, List, [], ◌∷◌, ◌++◌, length, get_or, Option, Some, None, Bor, refl, sym, ◌∙◌, ap, subst, append-nil, append_assoc}
 use Rattle.std.specs.Prelude.{codes, slice_get, IfNone, IfSome}
 use lib.Dec.{eqb}
 use mathlib.Core.Bool.{beq}
 use Rattle.std.proofs.lemmas.Bool.{and_parts, eqb-true, true≢false}
-use Rattle.std.proofs.lemmas.List.Elements.{All-nil}
 use Rattle.std.proofs.lemmas.Option.{get_or_from_slice_get, same_Some, slice_get-get_or, slice_get-map, slice_get_within, slice_get_read}
 use Rattle.fb_types.specs.Names.{Name}
-use Rattle.fb_types.specs.Headline.{Inputs, system_of}
 use Rattle.fb_types.specs.Numbers.{event_at}
 use Rattle.fb_types.specs.Systems.{System}
 use Rattle.fb_types.specs.declared.library.EventPort.{EventPort}
 use Rattle.fb_types.specs.declared.library.Variable.{Variable}
 use Rattle.fb_system.specs.Heads.{AreHeads, IsHead, IsRowOfHead, first_text}
 use Rattle.fb_system.specs.Stands.{ArePlaces, variable_at}
-use Rattle.fb_system.specs.Systems.{HaveHeads, inputs_of, StandFor}
 use Rattle.fb_system.specs.declared.heads.Head.{Head}
 use Rattle.fb_system.specs.declared.heads.HeadOf.{HeadOf}
-use Rattle.fb_system.specs.declared.heads.Heads.{Heads}
-use Rattle.fb_system.specs.declared.whole.Whole.{Whole}
 
 -- ---- Reading
 
-taken_same : (x y : Bool) → beq x y ≡ true → x ≡ y
-taken_same true true h = refl
-taken_same true false h = absurd (true≢false (sym h))
-taken_same false true h = absurd (true≢false (sym h))
-taken_same false false h = refl
+pub same_truth : (x y : Bool) → beq x y ≡ true → x ≡ y
+same_truth true true h = refl
+same_truth true false h = absurd (true≢false (sym h))
+same_truth false true h = absurd (true≢false (sym h))
+same_truth false false h = refl
 
 -- what is compared of two heads
 pub same_heads :
@@ -38,7 +33,7 @@ same_heads x y h =
     let resource = eqb-true x.resource y.resource a.0 in
     let instance = eqb-true x.instance y.instance b.0 in
     let event = eqb-true x.event y.event c.0 in
-    let taken = taken_same x.taken y.taken c.1 in
+    let taken = same_truth x.taken y.taken c.1 in
     λ j. record { resource = resource j; instance = instance j; event = event j; taken = taken j }
 
 pub row_there :
@@ -47,32 +42,6 @@ pub row_there :
 row_there sys rows i h x all there some same =
     let row : IsRowOfHead sys h = subst (λ (r : Head). IsRowOfHead sys r) (get_or_from_slice_get rows i h h there) (all i h (slice_get_within rows i h there)) in
     subst (λ (y : HeadOf). IsHead sys y h) same (row some)
-
--- the rows of the inputs as which a system is seen
-pub heads_seen : (h k : Heads) (w : Whole) (i : Inputs) → h ≡ k → inputs_of w ≡ i → HaveHeads w k → AreHeads (system_of i) h.rows
-heads_seen h k w i e s is =
-    subst (λ (i : Inputs). AreHeads (system_of i) h.rows) s (subst (λ (h : Heads). AreHeads (system_of (inputs_of w)) h.rows) (sym e) is.heads)
-
--- ---- Making
-
--- a system without rows
-pub without_rows : (v w : Whole) (h k : Heads) → v ≡ w → h ≡ k → k.rows ≡ [] → StandFor w → HaveHeads v h
-without_rows v w h k e f none is =
-    let sys = system_of (inputs_of v) in
-    record {
-      tables = subst (λ (w : Whole). StandFor w) (sym e) is;
-      heads = subst (λ (rows : List Head). AreHeads sys rows) (sym (ap (λ (h : Heads). h.rows) f ∙ none)) (All-nil (IsRowOfHead sys));
-    }
-
--- .. and with them
-pub with_rows : (v w : Whole) (h k : Heads) (i : Inputs) → v ≡ w → h ≡ k → inputs_of w ≡ i → StandFor w → AreHeads (system_of i) k.rows → HaveHeads v h
-with_rows v w h k i e f s is all =
-    record {
-      tables = subst (λ (w : Whole). StandFor w) (sym e) is;
-      heads =
-          subst (λ (h : Heads). AreHeads (system_of (inputs_of v)) h.rows) (sym f)
-          (subst (λ (i : Inputs). AreHeads (system_of i) k.rows) (sym (ap inputs_of e ∙ s)) all);
-    }
 
 -- ---- What a head is made of
 

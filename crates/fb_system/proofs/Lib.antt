@@ -1,6 +1,5 @@
 mod Seen
 mod Holding
-mod Ranks
 mod WithPlaces
 mod Stimuli
 mod Beginning
@@ -15,3 +14,5 @@ pub mod Placing
 pub mod Naming
 pub mod Initial
 pub mod KeptHeads
+pub mod KeptEnds
+pub mod KeptRows

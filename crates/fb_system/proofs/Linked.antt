@@ -20,8 +20,7 @@ use Rattle.fb_names.specs.declared.numbers.LinkEnds.{LinkEnds}
 use Rattle.fb_names.specs.declared.numbers.Resolved.{Resolved}
 use Rattle.fb_types.proofs.Options.{and_then_parts, map_parts}
 use Rattle.fb_names.proofs.Each.{each_parts}
-use Rattle.fb_system.specs.Linking.{IsLinked, holders_of, joins, rank_among}
-use Rattle.fb_system.proofs.Ranks.{rank_of_instance}
+use Rattle.fb_system.specs.Linking.{IsLinked, holders_of, joins}
 
 -- ---- Elements of two lists, of which one was made of the other
 
@@ -102,10 +101,10 @@ resource_at plan n k h = sym (ap (λ (o : Option ℕ). unwrap_or o 0) h)
 -- ---- All numbers
 
 pub linked_from :
-    (lib : Library) (plan : Plan) (numbers : Resolved) (holders ranks : List ℕ) (ends : List LinkEnds) → IsResolved lib plan numbers → ¬ (NameTwice lib plan)
-    → holders ≡ holders_of lib plan → ((place : ℕ) → unwrap_or (slice_get ranks place) 0 ≡ rank_among holders place) → ends ≡ numbers.links
-    → IsLinked lib plan (record { holders = holders; ranks = ranks; ends = ends })
-linked_from lib plan numbers holders ranks ends resolved once held ranked same =
+    (lib : Library) (plan : Plan) (numbers : Resolved) (holders : List ℕ) (ends : List LinkEnds) → IsResolved lib plan numbers → ¬ (NameTwice lib plan)
+    → holders ≡ holders_of lib plan → ends ≡ numbers.links
+    → IsLinked lib plan (record { holders = holders; ends = ends })
+linked_from lib plan numbers holders ends resolved once held same =
     let all : each_or_none (link_ends plan) plan.links ≡ Some ends = resolved.links ∙ ap (λ (es : List LinkEnds). Some es) (sym same) in
     let differ : ¬ (Twice (resource_names_of plan)) = λ t. once (plan_twice lib plan (inl t)) in
     let of : Instance → ℕ = λ i. holder plan i.name in
@@ -113,7 +112,6 @@ linked_from lib plan numbers holders ranks ends resolved once held ranked same =
       holders = λ i n h.
           ap (λ (hs : List ℕ). unwrap_or (slice_get hs i) 0) held
           ∙ ap (λ (o : Option ℕ). unwrap_or o 0) (slice_get-map of lib.application.network.instances i ∙ ap (option_map of) h);
-      ranks = λ place. ranked place ∙ rank_of_instance lib plan holders place held;
       links = λ r s a b.
           each_position (link_ends plan) (λ l. same_name l.from (name_of_resource plan r) && same_name l.to (name_of_resource plan s)) (joins r s) plan.links ends all
           (λ l e g.

@@ -29,7 +29,7 @@ use Rattle.fb_system.specs.declared.interfaces.Interfaces.{Interfaces}
 use Rattle.fb_types.specs.EventPorts.{ArePortsOfKinds}
 use Rattle.fb_system.specs.Rows.{AreRows}
 use Rattle.fb_system.specs.declared.rows.StimulusRow.{StimulusRow}
-use Rattle.fb_system.specs.Linking.{AreHomes, IsLinked, Linked, link_at, receiver_at, rank, rank_at, sender_at}
+use Rattle.fb_system.specs.Linking.{AreHomes, IsLinked, Linked, link_at, receiver_at, sender_at}
 use Rattle.fb_system.specs.Ports.{IsPort, IsSource, IsTarget, IsVariable, variable_of}
 use Rattle.fb_system.specs.Systems.{inputs_of, StandFor}
 use Rattle.fb_system.specs.declared.whole.Whole.{Whole}
@@ -192,11 +192,6 @@ linked_seen w i is s = subst (λ (i : Inputs). IsLinked i.library i.plan w.links
 
 pub sender_seen : (v w : Whole) (i : Inputs) (l : ℕ) → StandFor w → v ≡ w → inputs_of w ≡ i → sender_at v.links l ≡ (system_of i).sender l
 sender_seen v w i l is e s = ap (λ (w : Whole). sender_at w.links l) e ∙ (linked_seen w i is s).senders l
-
-pub rank_seen :
-    (v w : Whole) (i : Inputs) (place : ℕ) → StandFor w → v ≡ w → inputs_of w ≡ i → rank_at v.links place ≡ rank i.library i.plan place
-rank_seen v w i place is e s =
-    ap (λ (x : Whole). rank_at x.links place) e ∙ is.links.ranks place ∙ ap (λ (j : Inputs). rank j.library j.plan place) s
 
 pub receiver_seen : (v w : Whole) (i : Inputs) (l : ℕ) → StandFor w → v ≡ w → inputs_of w ≡ i → receiver_at v.links l ≡ (system_of i).receiver l
 receiver_seen v w i l is e s = ap (λ (w : Whole). receiver_at w.links l) e ∙ (linked_seen w i is s).receivers l

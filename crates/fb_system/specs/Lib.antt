@@ -9,3 +9,4 @@ pub mod Tables
 pub mod Begins
 pub mod Rows
 pub mod Heads
+pub mod Ends

@@ -1,7 +1,5 @@
 -- Resources and links by their places (IEC 61499-1, 7; links are this project's profile).
-use Rattle.std.specs.Prelude.{◌≡◌, ℕ, ◌<◌, Bool, ◌&&◌, nat_eq, List, [], length, map, Option, Some, None, position, slice_get, slice_index_or, take, unwrap_or}
-use Rattle.std.specs.List.{filter}
-use Rattle.fb_types.specs.Names.{Name}
+use Rattle.std.specs.Prelude.{◌≡◌, ℕ, ◌<◌, Bool, ◌&&◌, nat_eq, List, [], length, map, Option, Some, None, position, slice_get, slice_index_or, unwrap_or}
 use Rattle.fb_types.specs.Flat.{holder, link_between, end_of, paths_of, resource_of}
 use Rattle.fb_types.specs.declared.library.Library.{Library}
 use Rattle.fb_types.specs.declared.library.Instance.{Instance}
@@ -9,41 +7,16 @@ use Rattle.fb_types.specs.declared.deploy.Plan.{Plan}
 use Rattle.fb_names.specs.declared.numbers.LinkEnds.{LinkEnds}
 use Rattle.fb_fabric.specs.Layouts.{path_of}
 
--- for each instance of the application the resource that holds it and its rank there, and the resources of each link
+-- for each instance of the application the resource that holds it, and the resources of each link
 pub record Linked : Type 0 where
   pub holders : List ℕ
-  pub ranks : List ℕ
   pub ends : List LinkEnds
 
 -- for each instance of the application, the resource that holds it
 abbrev pub holders_of : Library → Plan → List ℕ
 holders_of lib plan = map (λ i. holder plan i.name) lib.application.network.instances
 
--- ---- Ranks
-
-abbrev pub lies_with : Plan → Name → Instance → Bool
-lies_with plan n i = nat_eq (holder plan i.name) (holder plan n)
-
-abbrev pub before : Plan → List Instance → ℕ → Option Instance → ℕ
-before plan instances place None = 0
-before plan instances place (Some i) = length (filter (lies_with plan i.name) (take place instances))
-
--- how many instances of the application lie in the same resource and stand before the one at a place
-abbrev pub rank : Library → Plan → ℕ → ℕ
-rank lib plan place = let instances = lib.application.network.instances in before plan instances place (slice_get instances place)
-
-abbrev pub with_holder_before : List ℕ → ℕ → Option ℕ → ℕ
-with_holder_before holders place None = 0
-with_holder_before holders place (Some r) = length (filter (λ h. nat_eq h r) (take place holders))
-
--- .. of a list of holders, how many before the one at a place are the same
-abbrev pub rank_among : List ℕ → ℕ → ℕ
-rank_among holders place = with_holder_before holders place (slice_get holders place)
-
 -- ---- What is looked up
-
-abbrev pub rank_at : Linked → ℕ → ℕ
-rank_at x place = unwrap_or (slice_get x.ranks place) 0
 
 abbrev pub holder_at : Linked → ℕ → ℕ
 holder_at x instance = unwrap_or (slice_get x.holders instance) 0
@@ -85,7 +58,6 @@ pub record AreWays (ends : List LinkEnds) (ways : List (List (Option ℕ))) : Ty
 -- The numbers are those of the application's instances, and of the deployment's resources and links.
 pub record IsLinked (lib : Library) (plan : Plan) (x : Linked) : Type 0 where
   pub holders : (i : ℕ) (n : Instance) → slice_get lib.application.network.instances i ≡ Some n → holder_at x i ≡ holder plan n.name
-  pub ranks : (place : ℕ) → rank_at x place ≡ rank lib plan place
   pub links : (r s : ℕ) → r < length plan.resources → s < length plan.resources → link_at x r s ≡ link_between plan r s
   pub senders : (l : ℕ) → sender_at x l ≡ end_of (λ y. y.from) plan l
   pub receivers : (l : ℕ) → receiver_at x l ≡ end_of (λ y. y.to) plan l

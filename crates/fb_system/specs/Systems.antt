@@ -6,9 +6,10 @@ use Rattle.fb_names.specs.Numbers.{IsResolved}
 use Rattle.fb_system.specs.Tables.{AreInterfaces}
 use Rattle.fb_system.specs.Linking.{AreHomes, IsLinked, holders_of}
 use Rattle.fb_system.specs.Rows.{AreRows}
+use Rattle.fb_system.specs.Ends.{AreSources, AreTargets}
 use Rattle.fb_system.specs.Heads.{AreHeads}
 use Rattle.fb_system.specs.declared.given.Given.{Given}
-use Rattle.fb_system.specs.declared.heads.Heads.{Heads}
+use Rattle.fb_system.specs.declared.kept.Kept.{Kept}
 use Rattle.fb_system.specs.declared.whole.Whole.{Whole}
 
 -- what is known of inputs by number
@@ -31,7 +32,9 @@ pub record StandFor (w : Whole) : Type 0 where
   pub rows : AreRows w.fabric w.stimuli w.rows
   pub homes : AreHomes w.fabric w.deploy w.homes
 
--- .. and rows with the heads of the lines of the system
-pub record HaveHeads (w : Whole) (h : Heads) : Type 0 where
+-- .. and the rows that are kept beside them: heads of lines, and ends of connections
+pub record HaveRows (w : Whole) (k : Kept) : Type 0 where
   pub tables : StandFor w
-  pub heads : AreHeads (system_of (inputs_of w)) h.rows
+  pub heads : AreHeads (system_of (inputs_of w)) k.heads.rows
+  pub targets : AreTargets (system_of (inputs_of w)) k.ends.targets
+  pub sources : AreSources (system_of (inputs_of w)) k.ends.sources

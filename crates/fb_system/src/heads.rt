@@ -36,10 +36,10 @@ pub struct Head {
 /// Where the rows of an instance begin.
 #[derive(Clone, Copy)]
 pub(crate) struct Firsts {
-    /// The row of its first event input.
-    pub inputs: u32,
     /// The row of its first event output.
     pub outputs: u32,
+    /// The row of its first event input.
+    pub inputs: u32,
 }
 
 /// The heads of a system.

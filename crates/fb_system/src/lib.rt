@@ -5,12 +5,14 @@
 //! one.
 //!
 //! To be read in this order: `system`, what is asked; `stimulus`; `whole`, what is kept; `types`. Then the tables:
-//! `links`, resources, ranks and links; `homes`, the resources of all instances; `interfaces` with `with_places` and
-//! `event_block_with_places`, the variables WITH each event; `heads` with `heads_of`, the heads of lines;
-//! `initial_values`, what variables begin with; `rows`, the stimuli by
-//! number. The check above fills them: `given`.
+//! `links`, resources and links; `homes`, the resources of all instances; `interfaces` with `with_places` and
+//! `event_block_with_places`, the variables WITH each event; `kept`, what is found in one step: `heads` with `heads_of`,
+//! the heads of lines, and `ends` with `ends_of`, where connections lead to and come from; `initial_values`, what variables
+//! begin with; `rows`, the stimuli by number. The check above fills them: `given`.
 #![tactic(auto)]
 
+mod ends;
+mod ends_of;
 mod event_block_with_places;
 pub mod given;
 pub mod heads;
@@ -18,6 +20,7 @@ mod heads_of;
 mod homes;
 mod initial_values;
 pub mod interfaces;
+mod kept;
 pub mod links;
 pub mod rows;
 pub mod stimulus;

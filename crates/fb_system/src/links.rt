@@ -1,31 +1,28 @@
-//! Which resource holds an instance of the application, at which rank, and which link leads from one resource to another.
+//! Which resource holds an instance of the application, and which link leads from one resource to another.
 
-ghost use Rattle.std.specs.Prelude.{◌≡◌, ◌≤◌, ℕ, None, Some, cond, length, nat_eq, slice_get, unwrap_or, IfOk, OnOk};
+ghost use Rattle.std.specs.Prelude.{◌≡◌, ℕ, None, Some, cond, nat_eq, IfOk, OnOk};
 ghost use Rattle.fb_types.specs.Keys.{or_else};
 ghost use Rattle.fb_types.specs.Repeated.{NameTwice};
 ghost use Rattle.fb_types.specs.declared.deploy.Plan.{Plan};
 ghost use Rattle.fb_types.specs.declared.library.Library.{Library};
 ghost use Rattle.fb_names.specs.Numbers.{IsResolved};
-ghost use Rattle.fb_system.specs.Linking.{AreWays, IsLinked, holder_at, holders_of, joins, link_at, receiver_at, rank_among, rank_at, sender_at, way_between, way_to};
+ghost use Rattle.fb_system.specs.Linking.{AreWays, IsLinked, holder_at, holders_of, joins, link_at, receiver_at, sender_at, way_between, way_to};
 
 use fb_names::numbers::{LinkEnds, Resolved};
 use fb_types::items::Items;
 use std::alloc::{AllocError, Global};
-use std::collections::BTreeMap;
 use std::marker::Model;
 
 /// For each resource that sends, by the number of the resource that receives, the first link from the one to the other. At
 /// most 256 resources have at most 65,536 such places.
 type Ways = Vec<Items<Option<usize>>>;
 
-/// The resources of instances and of links, by number. Contracts see the resource that holds each instance, its rank
-/// there, and the resources of each link.
+/// The resources of instances and of links, by number. Contracts see the resource that holds each instance, and the
+/// resources of each link.
 #[derive(Drop)]
 pub struct Links {
     /// For each instance of the application, the resource that holds it.
     holders: Items<usize>,
-    /// For each instance of the application, how many before it lie in the same resource.
-    ranks: Items<u32>,
     /// For each link, its resources.
     ends: Items<LinkEnds>,
     ways: Ways,
@@ -36,7 +33,7 @@ impl Model for Links {
 
     ghost Value = { Linked };
 
-    ghost view = { λ l. record { holders = l.holders; ranks = l.ranks; ends = l.ends } };
+    ghost view = { λ l. record { holders = l.holders; ends = l.ends } };
 
     ghost invariant = { λ l. AreWays l.ends l.ways.items };
 }
@@ -98,33 +95,15 @@ fn ways_of(alloc: Global, links: &[LinkEnds]) -> Result<Ways, AllocError>
     Ok(ways)
 }
 
-/// For each holder, how many before it are the same. An application has at most 4,096 instances.
-fn ranks_of(alloc: Global, holders: &[usize]) -> Result<Items<u32>, AllocError>
-    requires { length holders.now ≤ 4096 }
-    ensures { IfOk result (λ ranks. (place : ℕ) → unwrap_or (slice_get ranks place) 0 ≡ rank_among holders.now place) }
-{
-    let mut counts = BTreeMap::new(alloc);
-    let mut ranks = Items::new(alloc);
-    for holder in holders {
-        let rank = counts.get(holder).copied().unwrap_or(0);
-        ranks.push(rank)?;
-        counts.insert(*holder, rank + 1)?;
-    }
-    Ok(ranks)
-}
-
 impl Links {
-    /// The resources and links of a deployment, from the holders of the application's instances, at most 4,096.
+    /// The resources and links of a deployment, from the holders of the application's instances.
     pub fn of(alloc: Global, holders: Items<usize>, numbers: &Resolved) -> Result<Links, AllocError>
-        requires { length holders ≤ 4096 }
         ensures { (library : Library) (plan : Plan) → IsResolved library plan numbers.now → ¬ (NameTwice library plan) → holders ≡ holders_of library plan → IfOk result (IsLinked library plan) }
     {
         let ends = Items::from_slice(alloc, numbers.links.as_slice())?;
         let ways = ways_of(alloc, ends.as_slice())?;
-        let ranks = ranks_of(alloc, holders.as_slice())?;
         Ok(Links {
             holders,
-            ranks,
             ends,
             ways,
         })
@@ -135,14 +114,6 @@ impl Links {
         ensures { result ≡ holder_at self.now instance }
     {
         self.holders.get(instance).copied().unwrap_or(0)
-    }
-
-    /// How many instances of the application before the one at a place lie in the same resource. A place that no instance has
-    /// gives 0.
-    pub fn rank(&self, instance: usize) -> u32
-        ensures { result ≡ rank_at self.now instance }
-    {
-        self.ranks.value(instance).unwrap_or(0)
     }
 
     /// The link that leads from one resource to another, by their places from 0, or `None` where there is none.

@@ -11,16 +11,19 @@ ghost use Rattle.fb_system.specs.Stimuli.{IsStimulusAt, initial_inputs, initial_
 ghost use Rattle.fb_types.specs.Text.{path_text};
 ghost use Rattle.fb_fabric.specs.Layouts.{AreComponents, AreNumbers, IsParent, route_to};
 ghost use Rattle.fb_names.specs.Numbers.{kind_of_number};
+ghost use Rattle.fb_system.specs.Ends.{ComesFrom, LeadsTo};
 ghost use Rattle.fb_system.specs.Heads.{IsHead};
-ghost use Rattle.fb_system.specs.Linking.{AreHomes, IsLinked, rank};
+ghost use Rattle.fb_system.specs.Linking.{AreHomes, IsLinked};
 ghost use Rattle.fb_system.specs.Ports.{IsPort, IsSource, IsTarget, IsVariable, variable_of};
 ghost use Rattle.fb_system.specs.Systems.{inputs_of, IsGiven, StandFor};
 
+use crate::ends_of::ends_of;
 use crate::given::Given;
-use crate::heads::{Head, HeadOf, Heads};
+use crate::heads::{Head, HeadOf};
 use crate::heads_of::heads_of;
 use crate::homes::homes_of;
 use crate::initial_values::{input_values, output_values};
+use crate::kept::Kept;
 use crate::links::Links;
 use crate::stimulus::StimulusAt;
 use crate::types::{ports_of_type, with_places_of_type};
@@ -43,10 +46,17 @@ use std::sync::Arc;
 
 /// An accepted system. Contracts see the inputs that it stands for, and by them the flat system of the definitions.
 /// Instances, events, variables, resources and links are numbers here, each from 0.
-#[derive(Drop)]
 pub struct System {
     whole: Arc<Whole, Global>,
-    heads: Arc<Heads, Global>,
+    kept: Arc<Kept, Global>,
+}
+
+// Written out, and not derived: so it is proved here alone what is let go with a system, and not in each crate that lets
+// one go.
+impl Drop for System {
+    fn drop(self) {
+        let System { whole: _, kept: _ } = self;
+    }
 }
 
 impl Model for System {
@@ -61,11 +71,11 @@ impl Model for System {
 
     ghost coded = { Prim.hlevel (codes, expr.the_row.coded, stmt.the_row.coded) };
 
-    ghost use Rattle.fb_system.specs.Systems.{inputs_of, HaveHeads};
+    ghost use Rattle.fb_system.specs.Systems.{inputs_of, HaveRows};
 
     ghost view = { λ s. inputs_of (arc_value s.whole) };
 
-    ghost invariant = { λ s. HaveHeads (arc_value s.whole) (arc_value s.heads) };
+    ghost invariant = { λ s. HaveRows (arc_value s.whole) (arc_value s.kept) };
 }
 
 impl System {
@@ -112,18 +122,20 @@ impl System {
     {
         tables.homes = homes_of(alloc, &tables.fabric, &tables.links)?;
         let whole = Arc::new(alloc, tables)?;
-        let heads = Arc::new(alloc, Heads::new(alloc))?;
-        let bare = System { whole, heads };
-        bare.with_heads(alloc)
+        let kept = Arc::new(alloc, Kept::new(alloc))?;
+        let bare = System { whole, kept };
+        bare.with_rows(alloc)
     }
 
-    /// The same system with the heads of its lines.
-    fn with_heads(&self, alloc: Global) -> Result<System, AllocError>
+    /// The same system with the heads of its lines and the ends of its connections.
+    fn with_rows(&self, alloc: Global) -> Result<System, AllocError>
         ensures { IfOk result (λ s. s ≡ self.now) }
     {
-        let heads = Arc::new(alloc, heads_of(alloc, self)?)?;
+        let heads = heads_of(alloc, self)?;
+        let ends = ends_of(alloc, self)?;
+        let kept = Arc::new(alloc, Kept { heads, ends })?;
         let whole = Arc::try_clone(&self.whole)?;
-        Ok(System { whole, heads })
+        Ok(System { whole, kept })
     }
 
     /// The same system. No table is copied.
@@ -131,8 +143,8 @@ impl System {
         ensures { IfOk result (λ s. s ≡ self.now) }
     {
         let whole = Arc::try_clone(&self.whole)?;
-        let heads = Arc::try_clone(&self.heads)?;
-        Ok(System { whole, heads })
+        let kept = Arc::try_clone(&self.kept)?;
+        Ok(System { whole, kept })
     }
 
     /// What was accepted, and what every system keeps.
@@ -225,21 +237,50 @@ impl System {
     /// Where the event connection leads that stands at a place among those that leave a port, in the order of the text:
     /// from an event output to what is around the instance, from an event input of a composite to what is inside. It tells
     /// too whether another one follows, so nobody has to look for one behind the last.
+    #[inline(always)]
     pub fn reached(&self, from: Target, place: usize) -> Option<Reached>
         requires { IsPort (system_of self.now) from }
         ensures leads { option_map (λ r. port_of (system_of self.now) r.target) result ≡ slice_get ((system_of self.now).targets (port_of (system_of self.now) from)) place }
         ensures within { IfSome result (λ r. IsTarget (system_of self.now) r.target) }
         ensures more { IfSome result (λ r. IsTrue r.more ↔ (place + 1 < length ((system_of self.now).targets (port_of (system_of self.now) from)))) }
     {
+        // Mostly a port has one connection, and its row is kept.
+        if place == 0 {
+            if let Some(row) = self.kept.ends.target(from) {
+                return row.first;
+            }
+        }
+        self.reached_by_tables(from, place)
+    }
+
+    /// Where a connection leads, by the network in which it stands.
+    #[inline(never)]
+    fn reached_by_tables(&self, from: Target, place: usize) -> Option<Reached>
+        requires { IsPort (system_of self.now) from }
+        ensures { LeadsTo (system_of self.now) from place result }
+    {
         self.whole.fabric.reached(from, place)
     }
 
     /// What a variable is connected to: a data input to what is around the instance, a data output of a composite to
     /// what is inside.
+    #[inline(always)]
     pub fn source(&self, to: Place) -> Option<Place>
         requires { IsVariable (system_of self.now) to }
         ensures comes { option_map (variable_of (system_of self.now)) result ≡ (system_of self.now).source (variable_of (system_of self.now) to) }
         ensures within { IfSome result (IsSource (system_of self.now)) }
+    {
+        match self.kept.ends.source(to) {
+            Some(row) => row.source,
+            None => self.source_by_tables(to),
+        }
+    }
+
+    /// What a variable is connected to, by the network in which its connection stands.
+    #[inline(never)]
+    fn source_by_tables(&self, to: Place) -> Option<Place>
+        requires { IsVariable (system_of self.now) to }
+        ensures { ComesFrom (system_of self.now) to result }
     {
         self.whole.fabric.source(to)
     }
@@ -251,13 +292,6 @@ impl System {
         ensures { result ≡ (system_of self.now).resource (path_at (system_of self.now) instance) }
     {
         self.whole.homes.as_slice()[instance as usize]
-    }
-
-    /// The rank of the instance of the application at a place of its text: how many before it lie in the same resource.
-    pub fn rank(&self, place: u32) -> u32
-        ensures { result ≡ rank self.now.library self.now.plan place }
-    {
-        self.whole.links.rank(place as usize)
     }
 
     /// How many resources there are, at most 256.
@@ -340,7 +374,7 @@ impl System {
     pub fn head(&self, of: HeadOf) -> Option<&Head>
         ensures { IfSome result (λ h. IsHead (system_of self.now) of h.now) }
     {
-        self.heads.find(of)
+        self.kept.heads.find(of)
     }
 
     /// The places of the data inputs WITH an event input of an instance, in the order in which the inputs are declared.

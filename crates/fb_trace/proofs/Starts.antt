@@ -1,5 +1,5 @@
 -- A line as its key, its tick, the row of its head, its first value and the others.
-use Rattle.std.proofs.Common.{◌≡◌, ℕ, ◌-◌, ◌≤◌, List, [], ◌∷◌, ◌++◌, length, length-drop, drop, take, map, refl, sym, ap, ◌∙◌, append_assoc, arith}
+use Rattle.std.proofs.Common.{◌≡◌, ℕ, ◌-◌, ◌≤◌, List, [], ◌∷◌, ◌++◌, length, length-drop, drop, take, map, refl, sym, ap, ◌∙◌, append_assoc, append-nil, arith}
 use Rattle.std.proofs.lemmas.List.{take_all}
 use Rattle.std.specs.Prelude.{codes, decimal, if◌then◌else◌, slice_get, unwrap_or}
 use Rattle.fb_types.specs.Names.{Name}
@@ -92,3 +92,13 @@ by_head sys l belongs =
     (ap (λ (t : List ℕ). t ++ first_value l.values ++ others) head
     ∙ sym (inward until (first_text ns) (first_value l.values) others)
     ∙ ap (λ (t : List ℕ). until ++ t) (sym (values_parts ns l.values belongs.values)))
+
+-- .. and one that has no value behind the first
+pub by_head_alone :
+    (sys : System) (l : run.Line) → BelongsTo sys l → length l.values ≤ 1
+    → decimal l.key.tick ++ codes " " ++ head_text sys (head_of_line l) ++ first_value l.values ++ 10 ∷ [] ≡ line_text One sys (line_of sys l)
+by_head_alone sys l belongs few =
+    let start = decimal l.key.tick ++ codes " " ++ head_text sys (head_of_line l) ++ first_value l.values in
+    let none : start ++ values_text (drop 1 (line_of sys l).values) ≡ start =
+    ap (λ (t : List ℕ). start ++ t) (no_others (line_variables sys l) l.values few) ∙ append-nil start in
+    ap (λ (t : List ℕ). t ++ 10 ∷ []) (sym none) ∙ by_head sys l belongs

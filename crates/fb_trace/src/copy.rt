@@ -77,3 +77,15 @@ pub(crate) fn copy_text(to: &mut [u8], from: &[u8])
         _ => to.copy_from_slice(from),
     }
 }
+
+/// Copies a row of bytes. Its length is known, so it is a move or a few, and nobody looks whether the two overlap.
+#[inline(always)]
+pub(crate) fn copy_row<const N: usize>(to: &mut [u8], from: &[u8; N])
+    requires { length to.old ≡ N }
+    ensures { to.new ≡ from.now }
+{
+    let Some(place) = to.as_mut_array::<N>() else {
+        unreachable!()
+    };
+    *place = *from;
+}

@@ -1,6 +1,6 @@
 //! The lines of a trace.
 
-ghost use Rattle.std.specs.Prelude.{◌≡◌, ◌+◌, ◌≤◌, drop, map, length, All, IfErr, IfOk, OnOk};
+ghost use Rattle.std.specs.Prelude.{◌≡◌, ◌+◌, ◌≤◌, ◌++◌, drop, false, map, length, All, IfErr, IfOk, IsTrue, OnOk};
 ghost use Rattle.std.specs.Io.KnownBytes.{Appends};
 ghost use Rattle.fb_types.specs.Headline.{system_of};
 ghost use Rattle.fb_types.specs.Numbers.{line_of, path_at, ports_at};
@@ -116,7 +116,7 @@ fn put_by_names<W: Write>(
     )?;
     put_bindings(page, out, system, ports, line)?;
     page.make_room(out, 1)?;
-    page.append(b"\n");
+    page.append_byte(b'\n');
     Ok(())
 }
 
@@ -140,11 +140,61 @@ fn put_by_head<W: Write>(
     page.make_room(out, START + 1)?;
     append_start(page, tick, head, line.values.as_slice());
     put_others(page, out, system, line)?;
-    page.append(b"\n");
+    page.append_byte(b'\n');
     Ok(())
 }
 
-/// Puts the text of a line. The tick is noted with its digits.
+/// Puts the text of a line, of whatever form and length. The tick is noted with its digits.
+#[inline(never)]
+fn put_any<W: Write>(
+    page: &mut Page,
+    out: &mut W,
+    system: &System,
+    form: Form,
+    tick: &Noted,
+    line: &Line,
+) -> Result<(), WriteFault>
+    requires belongs { BelongsTo (system_of system.now) line.now }
+    requires tick { tick.now ≡ line.now.key.tick }
+    ensures { Gathers (W.contents out.old) (W.contents out.new) page.old page.new
+        (let sys = system_of system.now in line_text form sys (line_of sys line.now)) result }
+{
+    put_key(page, out, form, &line.key)?;
+    match system.head(head_of(line)) {
+        Some(head) => put_by_head(page, out, system, tick, head, line),
+        None => put_by_names(page, out, system, tick, line),
+    }
+}
+
+/// Puts a line at once: one of form one, whose head is kept, with one value at most, where there is room on the page for any
+/// such line. Else it tells that it has put nothing.
+#[inline(always)]
+fn append_line(page: &mut Page, system: &System, form: Form, tick: &Noted, line: &Line) -> bool
+    requires belongs { BelongsTo (system_of system.now) line.now }
+    requires tick { tick.now ≡ line.now.key.tick }
+    ensures put { IsTrue result → page.new ≡ record page.old {
+      waiting = page.old.waiting ++ (let sys = system_of system.now in line_text form sys (line_of sys line.now));
+    } }
+    ensures kept { result ≡ false → page.new ≡ page.old }
+{
+    let Form::One = form else {
+        return false;
+    };
+    let values = line.values.as_slice();
+    if values.len() > 1 || !page.has_room(START + 1) {
+        return false;
+    }
+    let Some(head) = system.head(head_of(line)) else {
+        return false;
+    };
+    append_start(page, tick, head, values);
+    page.append_byte(b'\n');
+    true
+}
+
+/// Puts the text of a line. Most lines are put at once: what the others need stands in a function of its own, so that these
+/// do not pay for it.
+#[inline(always)]
 fn put_line<W: Write>(
     page: &mut Page,
     out: &mut W,
@@ -157,12 +207,11 @@ fn put_line<W: Write>(
     ensures { Gathers (W.contents out.old) (W.contents out.new) page.old page.new
         (let sys = system_of system.now in line_text form sys (line_of sys line.now)) result }
 {
-    put_key(page, out, form, &line.key)?;
     tick.note(line.key.tick);
-    match system.head(head_of(line)) {
-        Some(head) => put_by_head(page, out, system, tick, head, line),
-        None => put_by_names(page, out, system, tick, line),
+    if append_line(page, system, form, tick, line) {
+        return Ok(());
     }
+    put_any(page, out, system, form, tick, line)
 }
 
 /// Puts the text of lines.

@@ -1,10 +1,10 @@
 //! A page that gathers text, so that a long trace is not a write a line.
 
-ghost use Rattle.std.specs.Prelude.{◌≡◌, ◌+◌, ◌-◌, ◌^◌, ◌<◌, ◌≤◌, [], ◌++◌, length, min, take, decimal, IfOk, IfErr, OnOk};
+ghost use Rattle.std.specs.Prelude.{◌≡◌, ◌+◌, ◌-◌, ◌^◌, ◌<◌, ◌≤◌, ◌↔◌, [], ◌∷◌, ◌++◌, length, min, take, decimal, IfOk, IfErr, IsTrue, OnOk};
 ghost use Rattle.std.specs.Io.KnownBytes.{Appends};
 ghost use Rattle.fb_trace.specs.Progress.{Gathers, Fails, bounded};
 
-use crate::copy::copy_text;
+use crate::copy::{copy_row, copy_text};
 use crate::fault::WriteFault;
 use crate::front::write_front;
 use crate::number::{MOST_DIGITS, write_digits};
@@ -126,18 +126,39 @@ impl Page {
         self.used = end;
     }
 
+    /// Whether so many bytes fit behind those that wait.
+    #[inline(always)]
+    pub(crate) fn has_room(&self, count: usize) -> bool
+        requires { count ≤ SIZE }
+        ensures { IsTrue result ↔ (length self.now.waiting + count ≤ SIZE) }
+    {
+        count <= SIZE - self.used
+    }
+
     /// Puts the first of a row of bytes behind those that wait, where there is room for the row. As many bytes are
     /// copied for each row, which is sooner than to copy as many as are wanted.
     #[inline(always)]
-    pub(crate) fn append_front(&mut self, row: &[u8], count: usize)
-        requires count { count ≤ length row.now }
-        requires room { length self.old.waiting + length row.now ≤ SIZE }
+    pub(crate) fn append_front<const N: usize>(&mut self, row: &[u8; N], count: usize)
+        requires count { count ≤ N }
+        requires room { length self.old.waiting + N ≤ SIZE }
         ensures text { self.new ≡ record self.old { waiting = self.old.waiting ++ take count row.now } }
         ensures length { length self.new.waiting ≡ length self.old.waiting + count }
     {
         let used = self.used;
-        self.bytes[used..used + row.len()].copy_from_slice(row);
+        copy_row(&mut self.bytes[used..used + N], row);
         self.used = used + count;
+    }
+
+    /// Puts a byte behind those that wait, where there is room for it.
+    #[inline(always)]
+    pub(crate) fn append_byte(&mut self, byte: u8)
+        requires { length self.old.waiting + 1 ≤ SIZE }
+        ensures text { self.new ≡ record self.old { waiting = self.old.waiting ++ byte ∷ [] } }
+        ensures length { length self.new.waiting ≡ length self.old.waiting + 1 }
+    {
+        let used = self.used;
+        self.bytes[used] = byte;
+        self.used = used + 1;
     }
 
     /// Puts a digit behind what waits, where there is room for it.
@@ -148,7 +169,7 @@ impl Page {
         ensures text { self.new ≡ record self.old { waiting = self.old.waiting ++ decimal digit } }
         ensures length { length self.new.waiting ≡ length self.old.waiting + 1 }
     {
-        self.append(&[b'0' + digit as u8]);
+        self.append_byte(b'0' + digit as u8);
     }
 
     /// Puts the digits of a number that has two at most.

@@ -168,7 +168,7 @@ fn append_whole(page: &mut Page, number: i128)
         return page.append_four(number as u32);
     }
     if number < 0 {
-        page.append(b"-");
+        page.append_byte(b'-');
     }
     page.append_number(number.unsigned_abs());
 }
@@ -181,8 +181,8 @@ pub(crate) fn append_value(page: &mut Page, value: Value)
     ensures length { length page.new.waiting ≤ length page.old.waiting + VALUE }
 {
     match value {
-        Value::Bool(true) => page.append(b"TRUE"),
-        Value::Bool(false) => page.append(b"FALSE"),
+        Value::Bool(true) => page.append_front(b"TRUE", 4),
+        Value::Bool(false) => page.append_front(b"FALSE   ", 5),
         Value::Whole(number) => append_whole(page, number),
     }
 }

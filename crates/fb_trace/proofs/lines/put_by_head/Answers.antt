@@ -36,6 +36,6 @@ returns g c =
     record {
       whole =
           rw (← by_head sys c.args.line.now c.requires.belongs)
-          (Puts-more (Puts-more (put_start g (goal.at.returns g c).After-append_start) c.in_ok-put_others.ensures.text.whole) (Puts-appended _ c.append.ensures.text));
+          (Puts-more (Puts-more (put_start g (goal.at.returns g c).After-append_start) c.in_ok-put_others.ensures.text.whole) (Puts-appended _ c.append_byte.ensures.text));
       part = tt;
     }

@@ -50,6 +50,6 @@ returns g c =
     record {
       whole =
           Puts-more (Puts-more (put_until_event g (goal.at.returns g c).In_ok-put_head) c.in_ok-put_bindings.ensures.whole)
-          (Puts-more c.in_ok-make_room.ensures.text.whole (Puts-appended _ c.append.ensures.text));
+          (Puts-more c.in_ok-make_room.ensures.text.whole (Puts-appended _ c.append_byte.ensures.text));
       part = tt;
     }

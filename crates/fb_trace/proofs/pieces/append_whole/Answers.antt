@@ -11,6 +11,6 @@ returns-clause-text c =
     let text = rw (rw back at c.unsigned_abs.ensures.value) at c.append_number.ensures.text in
     elim c.if-number-lt0.branch [
       | then-number-lt0 w ↦
-          rw (value_text-negative z (rw back at w.if-number-lt0.true)) (appended-more c.args.page.now w.append.new.self c.append_number.new.self (codes "-") (decimal (unsigned_abs z)) w.append.ensures.text (rw w.page-is at text))
+          rw (value_text-negative z (rw back at w.if-number-lt0.true)) (appended-more c.args.page.now w.append_byte.new.self c.append_number.new.self (codes "-") (decimal (unsigned_abs z)) w.append_byte.ensures.text (rw w.page-is at text))
       | else-number-lt0 w ↦ rw (value_text-other z (rw back at w.if-number-lt0.false)) (rw w.page-is at text)
     ]

@@ -3,11 +3,7 @@ use Rattle.fb_types.specs.EventPorts.{ArePortsOfKinds}
 use Rattle.fb_types.specs.declared.library.Library.{Library}
 use Rattle.fb_system.specs.Linking.{IsLinked}
 use Rattle.fb_system.proofs.Seen.{few_of, low_of, made, ok_read, ok_seen, once_of, view_made}
-use Rattle.fb_system.proofs.Ranks.{holders_few}
 use Rattle.fb_system.proofs.system.System.of.Goals as goal
-
-pub of-links-requires : goal.of-links-requires
-of-links-requires c = holders_few c.args.library c.args.deploy _ c.requires.given.holders (few_of _ c.requires.accepted)
 
 pub of-fabric-requires-clause-resolved : goal.of-fabric-requires-clause-resolved
 of-fabric-requires-clause-resolved c = (_, once_of _ c.requires.accepted, c.requires.given.numbers)

@@ -1,14 +1,19 @@
-use Rattle.fb_system.proofs.Seen.{port_there, reached_leads, reached_more, reached_within}
+use Rattle.fb_types.specs.Headline.{system_of}
+use Rattle.fb_system.proofs.KeptEnds.{target_read}
+use Rattle.fb_system.proofs.KeptRows.{targets_seen}
 use Rattle.fb_system.proofs.system.System.reached.Goals as goal
 
-pub reached-requires : goal.reached-requires
-reached-requires c = port_there _ _ _ _ c.deref.ensures c.self.view_is c.requires
+pub returns-in-Some-clause-leads : goal.returns-in-Some-clause-leads
+returns-in-Some-clause-leads c =
+    (target_read (system_of c.args.self.now) c.args.from c.args.place _ _ c.in-Some.is
+    (c.target.ensures _ (targets_seen _ _ _ _ c.deref.ensures c.self.view_is c.self.invariant)) c.if-place-eq0.true).leads
 
-pub returns-clause-leads : goal.returns-clause-leads
-returns-clause-leads c = reached_leads _ _ _ _ _ _ c.deref.ensures c.self.view_is c.reached.ensures.leads
+pub returns-in-Some-clause-within : goal.returns-in-Some-clause-within
+returns-in-Some-clause-within c =
+    (target_read (system_of c.args.self.now) c.args.from c.args.place _ _ c.in-Some.is
+    (c.target.ensures _ (targets_seen _ _ _ _ c.deref.ensures c.self.view_is c.self.invariant)) c.if-place-eq0.true).within
 
-pub returns-clause-within : goal.returns-clause-within
-returns-clause-within c = reached_within _ _ _ _ c.deref.ensures c.self.view_is c.reached.ensures.within
-
-pub returns-clause-more : goal.returns-clause-more
-returns-clause-more c = reached_more _ _ _ _ _ _ c.deref.ensures c.self.view_is c.reached.ensures.more
+pub returns-in-Some-clause-more : goal.returns-in-Some-clause-more
+returns-in-Some-clause-more c =
+    (target_read (system_of c.args.self.now) c.args.from c.args.place _ _ c.in-Some.is
+    (c.target.ensures _ (targets_seen _ _ _ _ c.deref.ensures c.self.view_is c.self.invariant)) c.if-place-eq0.true).more

@@ -1,11 +1,12 @@
-use Rattle.fb_system.proofs.Seen.{comes_seen, variable_there, sources_seen}
+use Rattle.fb_types.specs.Headline.{system_of}
+use Rattle.fb_system.proofs.KeptEnds.{source_read}
+use Rattle.fb_system.proofs.KeptRows.{sources_seen}
 use Rattle.fb_system.proofs.system.System.source.Goals as goal
 
-pub source-requires : goal.source-requires
-source-requires c = variable_there _ _ _ _ c.deref.ensures c.self.view_is c.requires
+pub returns-in-Some-clause-comes : goal.returns-in-Some-clause-comes
+returns-in-Some-clause-comes c =
+    (source_read (system_of c.args.self.now) c.args.to _ _ c.in-Some.is (c.source.ensures _ (sources_seen _ _ _ _ c.deref.ensures c.self.view_is c.self.invariant))).comes
 
-pub returns-clause-comes : goal.returns-clause-comes
-returns-clause-comes c = comes_seen _ _ _ _ _ c.deref.ensures c.self.view_is c.source.ensures.comes
-
-pub returns-clause-within : goal.returns-clause-within
-returns-clause-within c = sources_seen _ _ _ _ c.deref.ensures c.self.view_is c.source.ensures.within
+pub returns-in-Some-clause-within : goal.returns-in-Some-clause-within
+returns-in-Some-clause-within c =
+    (source_read (system_of c.args.self.now) c.args.to _ _ c.in-Some.is (c.source.ensures _ (sources_seen _ _ _ _ c.deref.ensures c.self.view_is c.self.invariant))).within

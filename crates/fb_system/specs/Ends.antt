@@ -1,0 +1,27 @@
+-- Where connections lead to and come from, as it is kept by number (this project's profile).
+use Rattle.std.specs.Prelude.{◌≡◌, ℕ, ◌<◌, ◌+◌, ◌↔◌, List, Option, length, All, IfSome, IsTrue, option_map, slice_get}
+use Rattle.fb_types.specs.Numbers.{port_of}
+use Rattle.fb_types.specs.Systems.{System}
+use Rattle.fb_types.specs.declared.run.Place.{Place}
+use Rattle.fb_types.specs.declared.run.Target.{Target}
+use Rattle.fb_fabric.specs.declared.reached.Reached.{Reached}
+use Rattle.fb_system.specs.Ports.{IsSource, IsTarget, variable_of}
+use Rattle.fb_system.specs.declared.ends.SourceRow.{SourceRow}
+use Rattle.fb_system.specs.declared.ends.TargetRow.{TargetRow}
+
+-- Where the event connection at a place among those that leave a port leads, if there is one.
+pub record LeadsTo (sys : System) (from : Target) (place : ℕ) (o : Option Reached) : Type 0 where
+  pub leads : option_map (λ (r : Reached). port_of sys r.target) o ≡ slice_get (sys.targets (port_of sys from)) place
+  pub within : IfSome o (λ (r : Reached). IsTarget sys r.target)
+  pub more : IfSome o (λ (r : Reached). IsTrue r.more ↔ (place + 1 < length (sys.targets (port_of sys from))))
+
+-- What a variable is connected to, if it is.
+pub record ComesFrom (sys : System) (to : Place) (o : Option Place) : Type 0 where
+  pub comes : option_map (variable_of sys) o ≡ sys.source (variable_of sys to)
+  pub within : IfSome o (IsSource sys)
+
+abbrev pub AreTargets : System → List TargetRow → Type 0
+AreTargets sys rows = All (λ (r : TargetRow). LeadsTo sys r.from 0 r.first) rows
+
+abbrev pub AreSources : System → List SourceRow → Type 0
+AreSources sys rows = All (λ (r : SourceRow). ComesFrom sys r.to r.source) rows

@@ -1,0 +1,95 @@
+//! Where connections lead to and come from, as rows that are found by the places of their ports.
+
+ghost use Rattle.std.specs.Prelude.{◌≡◌, [], IfSome};
+ghost use Rattle.fb_types.specs.Systems.{System};
+ghost use Rattle.fb_system.specs.Ends.{AreSources, AreTargets, ComesFrom, LeadsTo};
+
+use fb_fabric::reached::Reached;
+use fb_types::items::Items;
+use fb_types::run::{Place, Target};
+use std::alloc::Global;
+
+/// No more rows of a sort than these are kept: they take 1 MB.
+pub(crate) const MOST_ENDS: usize = 16384;
+
+/// Where the first of the event connections leads that leave a port.
+#[derive(Clone, Copy)]
+pub(crate) struct TargetRow {
+    pub from: Target,
+    /// None where the port has no connection.
+    pub first: Option<Reached>,
+}
+
+/// What a variable is connected to.
+#[derive(Clone, Copy)]
+pub(crate) struct SourceRow {
+    pub to: Place,
+    /// None where the variable has no connection.
+    pub source: Option<Place>,
+}
+
+/// Where the rows of an instance begin.
+#[derive(Clone, Copy)]
+pub(crate) struct FirstRows {
+    /// The row of its first event input.
+    pub event_inputs: u32,
+    /// The row of its first event output.
+    pub event_outputs: u32,
+    /// The row of its first data input.
+    pub inputs: u32,
+    /// The row of its first data output.
+    pub outputs: u32,
+}
+
+/// The ends of the connections of a system.
+#[derive(Drop)]
+pub(crate) struct Ends {
+    pub targets: Items<TargetRow>,
+    pub sources: Items<SourceRow>,
+    /// For each instance, where its rows begin.
+    pub firsts: Items<FirstRows>,
+}
+
+impl Ends {
+    /// No rows.
+    pub(crate) fn new(alloc: Global) -> Ends
+        ensures targets { result.targets ≡ [] }
+        ensures sources { result.sources ≡ [] }
+    {
+        Ends {
+            targets: Items::new(alloc),
+            sources: Items::new(alloc),
+            firsts: Items::new(alloc),
+        }
+    }
+
+    /// Where the first connection from a port leads, if a row of it is kept.
+    #[inline(always)]
+    pub(crate) fn target(&self, from: Target) -> Option<&TargetRow>
+        ensures { (sys : System) → AreTargets sys self.now.targets → IfSome result (λ r. LeadsTo sys from 0 r.now.first) }
+    {
+        let firsts = self.firsts.get(from.instance as usize)?;
+        let first = if from.is_output {
+            firsts.event_outputs
+        } else {
+            firsts.event_inputs
+        };
+        let row = self.targets.get(first as usize + from.event as usize)?;
+        if row.from == from { Some(row) } else { None }
+    }
+
+    /// What a variable is connected to, if a row of it is kept.
+    #[inline(always)]
+    pub(crate) fn source(&self, to: Place) -> Option<&SourceRow>
+        ensures { (sys : System) → AreSources sys self.now.sources → IfSome result (λ r. ComesFrom sys to r.now.source) }
+    {
+        let firsts = self.firsts.get(to.instance as usize)?;
+        let first = if to.is_output {
+            firsts.outputs
+        } else {
+            firsts.inputs
+        };
+        let row = self.sources.get(first as usize + to.variable as usize)?;
+        if row.to == to { Some(row) } else { None }
+    }
+}

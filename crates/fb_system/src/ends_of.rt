@@ -1,0 +1,130 @@
+//! The ends of the connections of a system.
+
+ghost use Rattle.std.specs.Prelude.{◌≡◌, ◌<◌, length, if◌then◌else◌, IfOk, OnOk};
+ghost use Rattle.fb_types.specs.Headline.{system_of};
+ghost use Rattle.fb_system.specs.Ends.{AreSources, AreTargets};
+
+use crate::ends::{Ends, FirstRows, MOST_ENDS, SourceRow, TargetRow};
+use crate::rows::number_of;
+use crate::system::System;
+use fb_types::items::Items;
+use fb_types::library::Ports;
+use fb_types::run::{Place, Target};
+use std::alloc::{AllocError, Global};
+
+/// How many event outputs, or event inputs, a type has.
+fn count_events(ports: &Ports, are_outputs: bool) -> usize
+    ensures { result ≡ length (if are_outputs then ports.now.event_outputs else ports.now.event_inputs) }
+{
+    if are_outputs {
+        ports.event_outputs.len()
+    } else {
+        ports.event_inputs.len()
+    }
+}
+
+/// How many data outputs, or data inputs, a type has.
+fn count_variables(ports: &Ports, are_outputs: bool) -> usize
+    ensures { result ≡ length (if are_outputs then ports.now.outputs else ports.now.inputs) }
+{
+    if are_outputs {
+        ports.outputs.len()
+    } else {
+        ports.inputs.len()
+    }
+}
+
+/// Adds the rows of the event outputs, or of the event inputs, of an instance, as far as there is room for them.
+fn add_targets(
+    rows: &mut Items<TargetRow>,
+    system: &System,
+    instance: u32,
+    is_output: bool,
+) -> Result<(), AllocError>
+    requires instance { instance < length (system_of system.now).paths }
+    requires rows { AreTargets (system_of system.now) rows.old }
+    ensures { OnOk result (AreTargets (system_of system.now) rows.new) }
+{
+    for event in 0..count_events(system.ports(instance), is_output) {
+        if rows.len() >= MOST_ENDS {
+            return Ok(());
+        }
+        let from = Target {
+            instance,
+            event: number_of(event)?,
+            is_output,
+        };
+        let first = system.reached(from, 0);
+        rows.push(TargetRow { from, first })?;
+    }
+    Ok(())
+}
+
+/// Adds the rows of the data outputs, or of the data inputs, of an instance, as far as there is room for them.
+fn add_sources(
+    rows: &mut Items<SourceRow>,
+    system: &System,
+    instance: u32,
+    is_output: bool,
+) -> Result<(), AllocError>
+    requires instance { instance < length (system_of system.now).paths }
+    requires rows { AreSources (system_of system.now) rows.old }
+    ensures { OnOk result (AreSources (system_of system.now) rows.new) }
+{
+    for variable in 0..count_variables(system.ports(instance), is_output) {
+        if rows.len() >= MOST_ENDS {
+            return Ok(());
+        }
+        let to = Place {
+            instance,
+            variable: number_of(variable)?,
+            is_output,
+        };
+        let source = system.source(to);
+        rows.push(SourceRow { to, source })?;
+    }
+    Ok(())
+}
+
+/// Adds the ends of an instance. Its event inputs and its data outputs are connected to what is inside, so only those of a
+/// composite have rows.
+fn add_instance(ends: &mut Ends, system: &System, instance: u32) -> Result<(), AllocError>
+    requires instance { instance < length (system_of system.now).paths }
+    requires targets { AreTargets (system_of system.now) ends.old.targets }
+    requires sources { AreSources (system_of system.now) ends.old.sources }
+    ensures targets { OnOk result (AreTargets (system_of system.now) ends.new.targets) }
+    ensures sources { OnOk result (AreSources (system_of system.now) ends.new.sources) }
+{
+    let is_composite = !system.components(instance).is_empty();
+    let event_inputs = number_of(ends.targets.len())?;
+    if is_composite {
+        add_targets(&mut ends.targets, system, instance, false)?;
+    }
+    let event_outputs = number_of(ends.targets.len())?;
+    add_targets(&mut ends.targets, system, instance, true)?;
+    let inputs = number_of(ends.sources.len())?;
+    add_sources(&mut ends.sources, system, instance, false)?;
+    let outputs = number_of(ends.sources.len())?;
+    if is_composite {
+        add_sources(&mut ends.sources, system, instance, true)?;
+    }
+    ends.firsts.push(FirstRows {
+        event_inputs,
+        event_outputs,
+        inputs,
+        outputs,
+    })
+}
+
+/// The ends of the connections of a system, as many as there is room for.
+pub(crate) fn ends_of(alloc: Global, system: &System) -> Result<Ends, AllocError>
+    ensures targets { IfOk result (λ e. AreTargets (system_of system.now) e.targets) }
+    ensures sources { IfOk result (λ e. AreSources (system_of system.now) e.sources) }
+{
+    system.facts();
+    let mut ends = Ends::new(alloc);
+    for instance in 0..system.count() {
+        add_instance(&mut ends, system, instance as u32)?;
+    }
+    Ok(ends)
+}
