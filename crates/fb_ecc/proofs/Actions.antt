@@ -1,5 +1,5 @@
 -- Actions, put together from their parts.
-use Rattle.std.proofs.Common.{◌≡◌, ℕ, zero, suc, ◌+◌, ◌<◌, ◌≤◌, true, false, cond, List, [], ◌∷◌, ◌++◌, length, get_or, drop, map, Option, Some, None, Result, Ok, Err, OnOk, OnErr, refl, sym, ◌∙◌, ap, subst, arith, add-one}
+use Rattle.std.proofs.Common.{◌≡◌, ℕ, ℤ, zero, suc, ◌+◌, ◌<◌, ◌≤◌, true, false, cond, List, [], ◌∷◌, ◌++◌, length, get_or, drop, map, Option, Some, None, Result, Ok, Err, OnOk, OnErr, refl, sym, ◌∙◌, ap, subst, arith, add-one}
 use Rattle.std.proofs.Math.Path.{fun_ext}
 use Rattle.std.specs.Prelude.{option_map, option_and_then, slice_get, unwrap_or}
 use Rattle.std.specs.List.{All}
@@ -23,6 +23,8 @@ use Rattle.fb_types.specs.declared.run.Halt.{Halt}
 use Rattle.fb_types.specs.declared.run.Halt.TheVariants as halt
 use Rattle.fb_types.specs.declared.value.Reason.{Reason}
 use Rattle.fb_types.specs.declared.value.Ty.{Ty}
+use Rattle.fb_types.specs.declared.value.Value.{Value}
+use Rattle.fb_types.specs.declared.value.Value.TheVariants as value
 use Rattle.fb_types.specs.declared.value.Ty.TheVariants.{Bool as Boolean}
 use Rattle.fb_types.proofs.NameLaws.{same_from_same_name}
 use Rattle.fb_st.specs.Frames.{Declared, types_in, values_of}
@@ -172,6 +174,12 @@ fit_some t k name o vars old new read is grown all =
     length-map read vars ∙ ap length is ∙ ap (λ (n : Name). length (outputs_with t.ports n)) (sym o.named) in
     let P : List run.Emission → Type 0 = λ l. All (IsWellFormed t) l in
     subst P (sym grown) (All-push (IsWellFormed t) old (record { event = k; values = map vars read }) all (o.within, counted))
+
+-- what one variable alone holds
+pub shown_alone : (vars : Values) (ns : List Name) (n : Name) (z : ℤ) → length ns ≡ 1 → n ≡ get_or ns 0 n → vars n ≡ value.Whole z → map vars ns ≡ value.Whole z ∷ []
+shown_alone vars [] n z one is holds = absurd (omega arith)
+shown_alone vars (m ∷ []) n z one is holds = ap (λ (v : Value). v ∷ []) (sym (ap vars is) ∙ holds)
+shown_alone vars (m ∷ k ∷ ns) n z one is holds = absurd (omega arith)
 
 -- what the place of an algorithm says
 pub record Named (t : BasicType) (k : ℕ) (name : Option Name) : Type 0 where

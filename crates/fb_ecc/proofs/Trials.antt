@@ -1,6 +1,6 @@
 -- Transitions that are tried by their places.
 use Rattle.std.proofs.Common.{◌≡◌, ℕ, zero, suc, ◌+◌, ◌<◌, Bool, true, false, ◌&&◌, ◌||◌, List, [], ◌∷◌, length, get_or, drop, map, Option, Some, None, Result, Ok, refl, sym, ◌∙◌, ap, subst, arith, add-one}
-use Rattle.std.specs.Prelude.{nat_eq, position, option_map, unwrap_or, slice_get, if◌then◌else◌, IfSome}
+use Rattle.std.specs.Prelude.{nat_eq, position, option_map, unwrap_or, slice_get, is_some, if◌then◌else◌, IfSome}
 use Rattle.std.specs.List.{list_all}
 use Rattle.std.proofs.Math.Seq.{drop-cons}
 use Rattle.std.proofs.lemmas.Bool.Decides.{nat_tests}
@@ -11,6 +11,7 @@ use Rattle.fb_types.specs.Names.{Name, same_name}
 use Rattle.fb_types.specs.Blocks.{among}
 use Rattle.fb_types.specs.Repeated.{state_names}
 use Rattle.fb_types.specs.declared.library.State.{State}
+use Rattle.fb_types.specs.declared.text.Expr.{Expr}
 use Rattle.fb_types.specs.declared.value.Reason.TheVariants.{Steps}
 use Rattle.fb_types.proofs.Positions.{position-first}
 use Rattle.fb_st.proofs.Places.{position-later}
@@ -143,18 +144,25 @@ condition_meant t e present vars sound (x, at, is) within =
     ∙ ap (λ (o : Option ℕ). is_number_present o present) number in
     ap (λ (b : Bool). if b then guard_value (transition_at t e.transition).condition.guard vars else Ok false) same
 
--- the same, where the transition was read and its condition was evaluated
-pub condition_read :
-    (t : BasicType) (e : Exit) (present : Option ℕ) (vars : Values) (read : List Transition) (x : Transition) (r : Result Bool Reason) → IsSound t → IsExit t e
-    → IfSome present (λ m. m < length t.ports.event_inputs) → read ≡ t.transitions → e.transition < length read → x ≡ get_or read e.transition x
-    → r ≡ (if is_number_present e.event present then guard_value x.condition.guard vars else Ok false)
-    → is_true (transition_at t e.transition).condition (option_map (event_at t.ports.event_inputs) present) vars ≡ r
-condition_read t e present vars read x r sound exit within all inside is told =
+no_guard : (o : Option Expr) (vars : Values) → is_some o ≡ false → guard_value o vars ≡ Ok true
+no_guard None vars h = refl
+no_guard (Some g) vars h = absurd (true≢false h)
+
+-- a transition that has no guard
+pub unguarded :
+    (t : BasicType) (e : Exit) (vars : Values) → IsExit t e → e.is_guarded ≡ false → guard_value (transition_at t e.transition).condition.guard vars ≡ Ok true
+unguarded t e vars (x, at, is) free =
+    ap (λ (y : Transition). guard_value y.condition.guard vars) (transition_here t e.transition x at)
+    ∙ no_guard x.condition.guard vars (sym (ap (λ (f : Exit). f.is_guarded) is) ∙ free)
+
+-- the guard of a transition that was read
+pub guard_read :
+    (t : BasicType) (e : Exit) (vars : Values) (read : List Transition) (x : Transition) → read ≡ t.transitions → e.transition < length read
+    → x ≡ get_or read e.transition x → guard_value (transition_at t e.transition).condition.guard vars ≡ guard_value x.condition.guard vars
+guard_read t e vars read x all inside is =
     let at : slice_get t.transitions e.transition ≡ Some x =
     subst (λ (l : List Transition). slice_get l e.transition ≡ Some x) all (slice_get_read read (length read) e.transition x refl inside is) in
-    condition_meant t e present vars sound exit within
-    ∙ ap (λ (y : Transition). if is_number_present e.event present then guard_value y.condition.guard vars else Ok false) (transition_here t e.transition x at)
-    ∙ sym told
+    ap (λ (y : Transition). guard_value y.condition.guard vars) (transition_here t e.transition x at)
 
 -- an exit that is read
 pub exit_here : (t : BasicType) (exits : List Exit) (i : ℕ) (d : Exit) → Each (IsExit t) exits → i < length exits → IsExit t (get_or exits i d)

@@ -1,5 +1,5 @@
 -- A chart with places in place of names (IEC 61499-1, 5.2; that names stand for places is this project's profile).
-use Rattle.std.specs.Prelude.{ℕ, suc, List, [], ◌∷◌, map, length, position, option_map, unwrap_or, slice_get, Some, None, if◌then◌else◌}
+use Rattle.std.specs.Prelude.{ℕ, suc, List, [], ◌∷◌, map, length, position, option_map, unwrap_or, slice_get, is_some, Some, None, if◌then◌else◌}
 use Rattle.fb_types.specs.Names.{Name, same_name}
 use Rattle.fb_types.specs.Blocks.{variables_with}
 use Rattle.fb_types.specs.declared.library.Action.{Action}
@@ -23,6 +23,7 @@ exit_of t place x =
     record {
       transition = place;
       event = option_map (number_in (λ p. p.name) t.ports.event_inputs) x.condition.event;
+      is_guarded = is_some x.condition.guard;
       target = number_in (λ s. s.name) t.states x.to;
     }
 

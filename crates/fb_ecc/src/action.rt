@@ -1,6 +1,6 @@
 //! The actions of a state.
 
-ghost use Rattle.std.specs.Prelude.{◌≡◌, ◌≤◌, ◌++◌, ◌∷◌, [], All, IfOk, OnErr, OnOk, map, ℕ, List, Option, None};
+ghost use Rattle.std.specs.Prelude.{◌≡◌, ◌≤◌, ◌++◌, ◌∷◌, [], All, IfOk, IfSome, OnErr, OnOk, map, ℕ, List, Option, None};
 ghost use Rattle.fb_types.specs.Names.{Name};
 ghost use Rattle.fb_types.specs.Charts.{Acts, Halts, Performs, Place, emitting};
 ghost use Rattle.fb_types.specs.declared.library.Action.{Action};
@@ -18,10 +18,11 @@ use fb_types::items::Items;
 use fb_types::library::BasicType;
 use fb_types::reference::Reference;
 use fb_types::run::{Emission, Emits, Halt, Values};
-use fb_types::value::Reason;
+use fb_types::value::{Reason, Value};
 use std::alloc::{AllocError, Global};
 
 /// What the variables hold, in their order.
+#[inline(never)]
 fn shown_values(alloc: Global, variables: &[Reference], frame: &Frame) -> Result<Values, AllocError>
     ensures { IfOk result (λ values. values ≡ map (values_of frame.now) variables.now) }
 {
@@ -36,8 +37,23 @@ fn shown_values(alloc: Global, variables: &[Reference], frame: &Frame) -> Result
     Ok(values)
 }
 
+/// The number that one variable alone holds, as mostly there is one. `None` says nothing.
+#[inline(always)]
+fn number_shown(variables: &[Reference], frame: &Frame) -> Option<i64>
+    ensures { IfSome result (λ z. map (values_of frame.now) variables.now ≡ Value.Whole z ∷ []) }
+{
+    match variables {
+        [variable] => frame.small_at_once(variable),
+        _ => None,
+    }
+}
+
+/// The greatest number that an event output has.
+const MOST_OUTPUTS: usize = u32::MAX as usize;
+
 /// Emits the output event at a place with what the variables hold. A place beyond all numbers of outputs
 /// would be that of one of more outputs than memory holds, so it counts as want of memory.
+#[inline(always)]
 fn emit_with(
     event: usize,
     variables: &[Reference],
@@ -47,15 +63,20 @@ fn emit_with(
     ensures ok { OnOk result (emits.new ≡ emits.old ++ record { event = event; values = map (values_of frame.now) variables.now } ∷ []) }
     ensures err { OnErr result (emits.new ≡ emits.old) }
 {
-    let event = match u32::try_from(event) {
-        Ok(event) => event,
-        Err(_) => return Err(AllocError),
+    if MOST_OUTPUTS < event {
+        return Err(AllocError);
+    }
+    let event = event as u32;
+    let alloc = emits.allocator();
+    let values = match number_shown(variables, frame) {
+        Some(number) => Values::from_slice(alloc, &[Value::Whole(i128::from(number))])?,
+        None => shown_values(alloc, variables, frame)?,
     };
-    let values = shown_values(emits.allocator(), variables, frame)?;
     emits.push(Emission { event, values })
 }
 
 /// Emits the output event of an action, if it has one, with the values of the variables WITH it.
+#[inline(always)]
 fn emit(
     block: &BasicType,
     event: Option<usize>,
@@ -77,6 +98,7 @@ fn emit(
 }
 
 /// Runs the algorithm of an action, if it has one.
+#[inline(always)]
 fn run(
     block: &BasicType,
     algorithm: Option<usize>,
@@ -98,6 +120,7 @@ fn run(
 }
 
 /// One action: its algorithm, and then its output event.
+#[inline(always)]
 fn perform(
     block: &BasicType,
     act: Act,
@@ -123,6 +146,7 @@ fn perform(
 }
 
 /// The actions of a state, in their order. Each costs a step.
+#[inline(always)]
 pub(crate) fn perform_all(
     block: &BasicType,
     acts: &[Act],

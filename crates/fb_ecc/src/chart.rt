@@ -28,6 +28,8 @@ pub struct Exit {
     pub transition: usize,
     /// The place of its event among the event inputs.
     pub event: Option<usize>,
+    /// Set where it has a guard: else it is not looked for.
+    pub is_guarded: bool,
     /// The place of the state to which it leads.
     pub target: usize,
 }
@@ -68,6 +70,7 @@ fn numbered_transition(
     Exit {
         transition: place,
         event: optional_number(&numbers.event_inputs, events, event),
+        is_guarded: transition.condition.guard.is_some(),
         target: number(&numbers.states, block.states.len(), &transition.to),
     }
 }

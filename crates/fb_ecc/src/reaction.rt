@@ -33,6 +33,7 @@ fn sample(variables: &[Reference], values: &[Value], frame: &mut Frame)
 }
 
 /// Enters a state and performs its actions.
+#[inline(always)]
 fn enter(
     state: &mut BasicState,
     block: &BasicType,
@@ -57,6 +58,7 @@ fn enter(
 
 /// One link of the chain: the first true transition, and the actions of the state to which it leads. Says
 /// whether there was one.
+#[inline(always)]
 fn link(
     state: &mut BasicState,
     block: &BasicType,

@@ -5,16 +5,17 @@ ghost use Rattle.fb_types.specs.Charts.{guard_value, trial_of};
 ghost use Rattle.fb_types.specs.Numbers.{event_at};
 ghost use Rattle.fb_st.specs.Frames.{values_of};
 ghost use Rattle.fb_ecc.specs.Sound.{Each, IsSound};
-ghost use Rattle.fb_ecc.specs.Trials.{IsExit, transitions_at, is_number_present, trial};
+ghost use Rattle.fb_ecc.specs.Trials.{IsExit, transition_at, transitions_at, is_number_present, trial};
 
 use crate::chart::Exit;
 use fb_st::eval::holds;
 use fb_st::frame::Frame;
 use fb_st::meter::StepMeter;
-use fb_types::library::{BasicType, Condition};
+use fb_types::library::BasicType;
 use fb_types::value::Reason;
 
 /// Whether the event at this place is the one that is present. No event at all always is.
+#[inline(always)]
 fn is_present(event: Option<usize>, present: Option<usize>) -> bool
     ensures { result ≡ is_number_present event present }
 {
@@ -25,27 +26,43 @@ fn is_present(event: Option<usize>, present: Option<usize>) -> bool
     }
 }
 
-/// Whether a condition is true, where its event is at that place. A guard behind an event is evaluated only
-/// when that event is present.
-fn is_true(
-    condition: &Condition,
-    event: Option<usize>,
-    present: Option<usize>,
-    frame: &Frame,
-) -> Result<bool, Reason>
-    ensures { result ≡ (if is_number_present event present then guard_value condition.now.guard (values_of frame.now) else Ok false) }
+/// Whether the guard of a transition is true. One that has none is not looked up.
+#[inline(always)]
+fn is_guard_true(block: &BasicType, exit: &Exit, frame: &Frame) -> Result<bool, Reason>
+    requires { IsExit block.now exit.now }
+    ensures { result ≡ guard_value (transition_at block.now exit.now.transition).condition.guard (values_of frame.now) }
 {
-    if !is_present(event, present) {
-        return Ok(false);
+    if !exit.is_guarded {
+        return Ok(true);
     }
-    match &condition.guard {
+    let transition = &block.transitions.as_slice()[exit.transition];
+    match &transition.condition.guard {
         Some(guard) => holds(guard, frame),
         None => Ok(true),
     }
 }
 
+/// Whether the condition of a transition is true. A guard behind an event is evaluated only when that event is present.
+#[inline(always)]
+fn is_true(
+    block: &BasicType,
+    exit: &Exit,
+    present: Option<usize>,
+    frame: &Frame,
+) -> Result<bool, Reason>
+    requires { IsExit block.now exit.now }
+    ensures { result ≡ (if is_number_present exit.now.event present then guard_value (transition_at block.now exit.now.transition).condition.guard (values_of frame.now) else Ok false) }
+{
+    if is_present(exit.event, present) {
+        is_guard_true(block, exit, frame)
+    } else {
+        Ok(false)
+    }
+}
+
 /// The state to which the first true transition leads, in the order of the text. Each transition that is
 /// tried costs a step.
+#[inline(always)]
 pub(crate) fn cleared(
     block: &BasicType,
     exits: &[Exit],
@@ -64,8 +81,7 @@ pub(crate) fn cleared(
 {
     for exit in exits {
         meter.step()?;
-        let transition = &block.transitions.as_slice()[exit.transition];
-        if is_true(&transition.condition, exit.event, present, frame)? {
+        if is_true(block, exit, present, frame)? {
             return Ok(Some(exit.target));
         }
     }

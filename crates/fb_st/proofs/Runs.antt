@@ -4,7 +4,7 @@ use Rattle.std.specs.Prelude.{int_le}
 use Rattle.std.specs.List.{list_any}
 use Rattle.std.proofs.Math.Seq.{drop-cons}
 use Rattle.fb_types.specs.Names.{Name, with_value}
-use Rattle.fb_types.specs.Syntax.{Expr, Stmt, Assign, For, Repeat, Stmts, expr_of, stmt_of}
+use Rattle.fb_types.specs.Syntax.{Expr, Stmt, Assign, If, For, Repeat, Stmts, expr_of, stmt_of}
 use Rattle.fb_types.specs.Values.{Values, Types, truth_of, and_then, value_of, whole, fits}
 use Rattle.fb_types.specs.Bodies.{Point, End, Went, Left, Returned, Stopped, Running, After, Then, Step, TurnThen, Loop, Runs, RunsAll, RunsChoice, RunsBranch, Assigns, Advances, Counts, label_fits}
 use Rattle.fb_types.specs.declared.text.Label.{Label}
@@ -235,6 +235,9 @@ repeat_says body c = rw (← variants.rolls-Repeat body c) (rw fold-roll-Stmt re
 
 pub assign_says : (n : Name) (e : expr.Expr) → stmt_of (read.Assign n e) ≡ Assign n (expr_of e)
 assign_says n e = rw (← variants.rolls-Assign n e) (rw fold-roll-Stmt refl)
+
+pub if_says : (cs : List Choice) (others : List read.Stmt) → stmt_of (read.If cs others) ≡ If (choices_of cs) (all_of others)
+if_says cs others = rw (← variants.rolls-If cs others) (rw fold-roll-Stmt refl)
 
 -- ---- One statement alone
 

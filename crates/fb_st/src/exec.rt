@@ -19,17 +19,44 @@ use fb_types::value::{Reason, Value};
 /// A run of the statements of an algorithm. RETURN gives `Returned`, which ends the algorithm as its last
 /// statement does. EXIT outside of loops, as no accepted text has it, gives `Left`. After a reason the frame
 /// holds what the statements before it left. A caller without an accepted text asks `knows` first.
+#[inline(always)]
 pub fn exec(body: &Body, frame: &mut Frame, meter: &mut StepMeter) -> Result<Flow, Reason>
     requires known { AllKnown (declared_in frame.old) (body_of body.now) }
     ensures run { RunsAll (types_in (declared_in frame.old)) (body_of body.now) (point frame.old meter.old) (end_of result) (point frame.new meter.new) }
     ensures declared { declared_in frame.new ≡ declared_in frame.old }
     ensures fewer { meter.new.left ≤ meter.old.left }
 {
-    run_all(body.statements.as_slice(), frame, meter)
+    let statements = body.statements.as_slice();
+    // Many algorithms are one IF, which needs no loop over statements.
+    if let [statement] = statements {
+        if let Stmt::If(choices, others) = statement {
+            return choose(choices.as_slice(), others.as_slice(), frame, meter);
+        }
+    }
+    run_all(statements, frame, meter)
+}
+
+/// A run of IF.
+#[inline(always)]
+fn choose(
+    choices: &[Choice],
+    others: &[Stmt],
+    frame: &mut Frame,
+    meter: &mut StepMeter,
+) -> Result<Flow, Reason>
+    requires known { ChoicesKnown (declared_in frame.old) (choices_of choices.now) }
+    requires others_known { AllKnown (declared_in frame.old) (all_of others.now) }
+    ensures run { Runs (types_in (declared_in frame.old)) (If (choices_of choices.now) (all_of others.now)) (point frame.old meter.old) (end_of result) (point frame.new meter.new) }
+    ensures declared { declared_in frame.new ≡ declared_in frame.old }
+    ensures fewer { meter.new.left ≤ meter.old.left }
+{
+    meter.step()?;
+    run_choice(choices, others, frame, meter)
 }
 
 /// A run of one statement.
 #[cycle(exec)]
+#[inline(always)]
 fn run(statement: &Stmt, frame: &mut Frame, meter: &mut StepMeter) -> Result<Flow, Reason>
     requires known { AssignsKnown (declared_in frame.old) (stmt_of statement.now) }
     ensures run { Runs (types_in (declared_in frame.old)) (stmt_of statement.now) (point frame.old meter.old) (end_of result) (point frame.new meter.new) }
@@ -111,6 +138,7 @@ fn run_each(statements: &[Stmt], frame: &mut Frame, meter: &mut StepMeter) -> Re
 
 /// A run of the statements behind the first condition that is true, else of those of ELSE.
 #[cycle(exec)]
+#[inline(always)]
 fn run_choice(
     choices: &[Choice],
     others: &[Stmt],

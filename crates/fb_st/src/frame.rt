@@ -307,7 +307,7 @@ impl Frame {
     /// The number of 64 bits that a variable holds which stands where it is expected and has a short name: there is no
     /// call on the way. `None` says nothing of it.
     #[inline(always)]
-    pub(crate) fn small_at_once(&self, variable: &Reference) -> Option<i64>
+    pub fn small_at_once(&self, variable: &Reference) -> Option<i64>
         ensures { IfSome result (λ z. values_of self.now variable.now ≡ Value.Whole z) }
     {
         match self.slots.get(variable.place()) {
@@ -371,8 +371,24 @@ impl Frame {
         place
     }
 
-    /// Gives a variable a value without a look at its type, as where a value is sampled that the type holds.
+    /// Gives a variable a value without a look at its type, as where a value is sampled that the type holds. Mostly a
+    /// number comes after another.
+    #[inline(always)]
     pub fn put(&mut self, variable: &Reference, value: Value)
+        requires { is_declared (declared_in self.old) variable.now ≡ true }
+        ensures value { values_of self.new ≡ with_value variable.now value (values_of self.old) }
+        ensures declared { declared_in self.new ≡ declared_in self.old }
+    {
+        match small_of(value) {
+            Some(number) if self.puts(variable, number) => {}
+            _ => self.put_any(variable, value),
+        }
+    }
+
+    /// The same, whatever the value is and wherever the variable stands.
+    // Written into `put`: a call would have the value put together in memory each time.
+    #[inline(always)]
+    fn put_any(&mut self, variable: &Reference, value: Value)
         requires { is_declared (declared_in self.old) variable.now ≡ true }
         ensures value { values_of self.new ≡ with_value variable.now value (values_of self.old) }
         ensures declared { declared_in self.new ≡ declared_in self.old }
@@ -383,6 +399,34 @@ impl Frame {
         };
         let found = &mut self.slots[place];
         found.put(value);
+    }
+
+    /// Gives a variable a number where it stands as expected, has a short name and holds such a number, and says whether
+    /// it did. Else the frame stays as it is.
+    #[inline(always)]
+    fn puts(&mut self, variable: &Reference, number: i64) -> bool
+        ensures put { result ≡ true → values_of self.new ≡ with_value variable.now (Value.Whole number) (values_of self.old) }
+        ensures same { result ≡ false → self.new ≡ self.old }
+        ensures declared { declared_in self.new ≡ declared_in self.old }
+    {
+        let place = variable.place();
+        if !self.has_small(variable, place) {
+            return false;
+        }
+        let slot = &mut self.slots[place];
+        slot.put_small(number);
+        true
+    }
+
+    /// Whether a variable stands at a place, has a short name and holds a number of 64 bits.
+    #[inline(always)]
+    fn has_small(&self, variable: &Reference, place: usize) -> bool
+        ensures { result ≡ true → place_of variable.now self.now ≡ Some place }
+    {
+        match self.slots.get(place) {
+            Some(slot) => slot.small_named(variable.name()).is_some(),
+            None => false,
+        }
     }
 
     /// Gives a variable a number where it stands as expected, has a short name and a type that holds the number, and says

@@ -182,10 +182,26 @@ fn small_of_two(operator: BinaryOperator, x: i64, y: i64) -> Option<i64>
         BinaryOperator::Add => x.checked_add(y),
         BinaryOperator::Subtract => x.checked_sub(y),
         BinaryOperator::Multiply => x.checked_mul(y),
-        BinaryOperator::Divide => x.checked_div(y),
-        BinaryOperator::Modulo => x.checked_rem(y),
+        BinaryOperator::Divide => small_quotient(x, y),
+        BinaryOperator::Modulo => small_remainder(x, y),
         _ => None,
     }
+}
+
+/// The quotient of two numbers, where there is one that fits. By a number above 0, as mostly, there is.
+#[inline(always)]
+fn small_quotient(x: i64, y: i64) -> Option<i64>
+    ensures { IfSome result (λ z. binary_value BinaryOperator.Divide (Value.Whole x) (Value.Whole y) ≡ Ok (Value.Whole z)) }
+{
+    if 0 < y { Some(x / y) } else { x.checked_div(y) }
+}
+
+/// The remainder of two numbers, in the same way.
+#[inline(always)]
+fn small_remainder(x: i64, y: i64) -> Option<i64>
+    ensures { IfSome result (λ z. binary_value BinaryOperator.Modulo (Value.Whole x) (Value.Whole y) ≡ Ok (Value.Whole z)) }
+{
+    if 0 < y { Some(x % y) } else { x.checked_rem(y) }
 }
 
 /// The truth value that an operator gives at two numbers, where it compares them.

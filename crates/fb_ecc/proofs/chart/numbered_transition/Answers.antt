@@ -13,4 +13,4 @@ returns c =
     let target =
     numbered (λ (s : State). s.name) t.states c.args.numbers.now.states c.len.result c.args.transition.now.to c.number.result c.requires.states c.len.ensures
     c.number.ensures in
-    rw (event, target) refl
+    rw (event, c.is_some.ensures, target) refl

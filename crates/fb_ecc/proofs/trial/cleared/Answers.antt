@@ -8,23 +8,14 @@ use Rattle.fb_types.specs.Charts.{Clears}
 use Rattle.fb_types.specs.Values.{Values}
 use Rattle.fb_st.specs.Frames.{values_of}
 use Rattle.fb_ecc.specs.declared.chart.Exit.{Exit}
-use Rattle.fb_ecc.proofs.Trials.{tried, not_tried, condition_read, exit_here, transition_within, target_meant}
+use Rattle.fb_ecc.proofs.Trials.{tried, not_tried, condition_meant, exit_here, target_meant}
 use Rattle.fb_ecc.proofs.trial.cleared.Goals as goal
 
 abbrev unread : Exit
-unread = record { transition = 0; event = None; target = 0 }
+unread = record { transition = 0; event = None; is_guarded = false; target = 0 }
 
-pub bounds-as_slice-exit : goal.bounds-as_slice-exit
-bounds-as_slice-exit c =
-    let is = exit_here c.args.block.now c.args.exits.now c.loop-exit.exit-index unread c.requires.exits c.loop-exit-test.true in
-    transition_within c.args.block.now (get_or c.args.exits.now c.loop-exit.exit-index unread) c.as_slice.result.now is c.as_slice.ensures
-
-pub offset_bounds-as_slice-exit : goal.offset_bounds-as_slice-exit
-offset_bounds-as_slice-exit c =
-    let is = exit_here c.args.block.now c.args.exits.now c.loop-exit.exit-index unread c.requires.exits c.loop-exit-test.true in
-    let h = transition_within c.args.block.now (get_or c.args.exits.now c.loop-exit.exit-index unread) c.as_slice.result.now is c.as_slice.ensures in
-    let fits = c.as_slice.type_inv.1 in
-    omega arith
+pub is_true-requires : goal.is_true-requires
+is_true-requires c = exit_here c.args.block.now c.args.exits.now c.loop-exit.exit-index unread c.requires.exits c.loop-exit-test.true
 
 pub returns-in_err-step-clause-trial : goal.returns-in_err-step-clause-trial
 returns-in_err-step-clause-trial c =
@@ -46,9 +37,7 @@ returns-in_err-is_true-clause-trial c =
     let vars : Values = values_of c.args.frame.now in
     let at = slice_get-get_or exits i unread c.loop-exit-test.true in
     let is = exit_here c.args.block.now exits i unread c.requires.exits c.loop-exit-test.true in
-    let h = transition_within c.args.block.now f c.as_slice.result.now is c.as_slice.ensures in
-    let condition = condition_read c.args.block.now f c.args.present vars c.as_slice.result.now c.index-as_slice-exit.result c.is_true.result c.requires.sound is
-    c.requires.present c.as_slice.ensures h c.index-as_slice-exit.is c.is_true.ensures in
+    let condition = condition_meant c.args.block.now f c.args.present vars c.requires.sound is c.requires.present ∙ sym c.is_true.ensures in
     let x = err_from_is_err_and c.from_residual-in_err-is_true.result c.from_residual-in_err-is_true.ensures.1 in
     rw (x.1, x.2)
     (c.loop-exit.invariant.run
@@ -63,9 +52,7 @@ returns-then-branch-clause-trial c =
     let vars : Values = values_of c.args.frame.now in
     let at = slice_get-get_or exits i unread c.loop-exit-test.true in
     let is = exit_here c.args.block.now exits i unread c.requires.exits c.loop-exit-test.true in
-    let h = transition_within c.args.block.now f c.as_slice.result.now is c.as_slice.ensures in
-    let condition = condition_read c.args.block.now f c.args.present vars c.as_slice.result.now c.index-as_slice-exit.result c.is_true.result c.requires.sound is
-    c.requires.present c.as_slice.ensures h c.index-as_slice-exit.is c.is_true.ensures in
+    let condition = condition_meant c.args.block.now f c.args.present vars c.requires.sound is c.requires.present ∙ sym c.is_true.ensures in
     let told = c.in_ok-is_true.was ∙ ap (λ (b : Bool). Ok b) c.if-branch.true in
     c.loop-exit.invariant.run
     ∙ tried c.args.block.now event vars exits i f c.loop-exit.meter.left c.step.new.self.left (Ok true) at c.in_ok-step.ensures.ok (condition ∙ told)
@@ -87,9 +74,7 @@ loop-exit-preserved c =
     let vars : Values = values_of c.args.frame.now in
     let at = slice_get-get_or exits i unread c.loop-exit-test.true in
     let is = exit_here c.args.block.now exits i unread c.requires.exits c.loop-exit-test.true in
-    let h = transition_within c.args.block.now f c.as_slice.result.now is c.as_slice.ensures in
-    let condition = condition_read c.args.block.now f c.args.present vars c.as_slice.result.now c.index-as_slice-exit.result c.is_true.result c.requires.sound is
-    c.requires.present c.as_slice.ensures h c.index-as_slice-exit.is c.is_true.ensures in
+    let condition = condition_meant c.args.block.now f c.args.present vars c.requires.sound is c.requires.present ∙ sym c.is_true.ensures in
     let told = c.in_ok-is_true.was ∙ ap (λ (b : Bool). Ok b) c.if-branch.false in
     record {
       run = c.loop-exit.invariant.run

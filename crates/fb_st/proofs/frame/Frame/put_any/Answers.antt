@@ -4,7 +4,7 @@ use Rattle.fb_types.specs.Repeated.{Twice}
 use Rattle.fb_st.specs.declared.frame.Slot.{Slot}
 use Rattle.fb_st.specs.Frames.{values_of, place_of, declared_in}
 use Rattle.fb_st.proofs.Slots.{declared_somewhere, written, place_within, names_same, declared_same, read_at}
-use Rattle.fb_st.proofs.frame.Frame.put.Goals as goal
+use Rattle.fb_st.proofs.frame.Frame.put_any.Goals as goal
 
 pub unreachable-requires : goal.unreachable-requires
 unreachable-requires c = declared_somewhere c.args.self.now c.args.variable.now c.requires (sym c.find.ensures ∙ c.in-None.is)
