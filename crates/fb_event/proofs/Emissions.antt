@@ -1,7 +1,7 @@
 -- What emissions by number stand for.
 use Rattle.std.proofs.Common.{◌≡◌, ℕ, zero, suc, List, [], ◌∷◌, ◌++◌, All, map, length, refl, arith, sym, ap, subst, ◌∙◌}
 use Rattle.std.proofs.lemmas.List.{length-map, map-append}
-use Rattle.std.proofs.lemmas.List.Elements.{All-head, All-tail, All-push}
+use Rattle.std.proofs.lemmas.List.Elements.{All-head, All-map, All-push, All-tail, All-weaker}
 use Rattle.fb_types.specs.Names.{Name}
 use Rattle.fb_types.specs.Values.{Values}
 use Rattle.fb_types.specs.Blocks.{ports_of_event_block, variable_names, outputs_with, bound}
@@ -12,7 +12,7 @@ use Rattle.fb_types.specs.declared.run.Emission as run
 use Rattle.fb_types.specs.declared.event_kind.EventKind.{EventKind}
 use Rattle.fb_types.specs.declared.event_kind.EventKind.TheVariants.{SetReset, DataLatch, CountUp}
 use Rattle.fb_event.specs.Block.{state, state_of}
-use Rattle.fb_event.specs.Emissions.{emission_at}
+use Rattle.fb_event.specs.Emissions.{emission_at, emitted_by}
 use Rattle.fb_event.specs.Reactions.{IsEventOutput, IsWellFormed, emissions_of, meanings}
 use Rattle.fb_event.specs.State.{State}
 use Rattle.fb_event.specs.Step.{Performs}
@@ -93,3 +93,21 @@ pub silent-Performs : (s : State) (r : Reaction) (step : Step) → Performs s r 
 silent-Performs s r step h e = map-nil _ step.emits.now (h.emits ∙ e)
 
 pub ruleset step_emissions = (emissions-Performs, silent-Performs)
+
+-- event outputs with the values of all data outputs are well-formed emissions
+all-IsWellFormed : (b : KindState) (s : State) → state_of b ≡ s → (places : List ℕ) → All (IsEventOutput s.kind) places → All (IsWellFormed s.kind) (map (emission_at b) places)
+all-IsWellFormed b s e places within =
+    subst (λ (t : State). All (IsEventOutput t.kind) places → All (IsWellFormed t.kind) (map (emission_at b) places)) e
+    (λ here. All-map (IsWellFormed (state_of b).kind) (emission_at b) places
+    (All-weaker (IsEventOutput (state_of b).kind) (λ place. IsWellFormed (state_of b).kind (emission_at b place)) (emission_at-IsWellFormed b) places here)) within
+
+-- what a step emits is what its reaction emits
+pub emitted-Performs : (s : State) (r : Reaction) (step : Step) → Performs s r step → meanings s.kind (emitted_by step) ≡ emissions_of s.kind r
+emitted-Performs s r step h =
+    meanings-state step.block (state s.kind r.memory) h.block step.emits.now h.within ∙ ap (emissions (ports_of_event_block s.kind) (output_of r.memory)) h.emits
+
+-- .. in well-formed emissions
+pub well_formed-Performs : (s : State) (r : Reaction) (step : Step) → Performs s r step → All (IsWellFormed s.kind) (emitted_by step)
+well_formed-Performs s r step h = all-IsWellFormed step.block (state s.kind r.memory) h.block step.emits.now h.within
+
+pub ruleset steps = (emitted-Performs, well_formed-Performs)

@@ -6,6 +6,7 @@ use Rattle.fb_types.specs.declared.run.Emission.{Emission}
 use Rattle.fb_types.specs.declared.value.Value.{Value}
 use Rattle.fb_event.specs.Block.{state_of}
 use Rattle.fb_event.specs.declared.state.KindState.{KindState}
+use Rattle.fb_event.specs.declared.step.Step.{Step}
 
 -- the values of the data outputs
 abbrev pub values_of : KindState → List Value
@@ -14,3 +15,7 @@ values_of b = let s = state_of b in map (output_of s.memory) (variable_names (po
 -- the event output at a place, with the values of all data outputs
 abbrev pub emission_at : KindState → ℕ → Emission
 emission_at b place = record { event = place; values = values_of b }
+
+-- what a step emits, event after event
+abbrev pub emitted_by : Step → List Emission
+emitted_by step = map (emission_at step.block) step.emits.now

@@ -1,11 +1,12 @@
-//! Emissions, with the values of the data outputs.
+//! Emissions, and the values of the data outputs that go with them.
 
-ghost use Rattle.std.specs.Prelude.{◌≡◌, [], ◌∷◌, ◌++◌, All, IfOk, IsOk, OnErr, OnOk, map};
+ghost use Rattle.std.specs.Prelude.{◌≡◌, ◌↔◌, [], ◌∷◌, ◌++◌, All, IfOk, IsOk, IsTrue, OnErr, OnOk, map};
 ghost use Rattle.fb_event.specs.Block.{state_of};
 ghost use Rattle.fb_event.specs.Emissions.{values_of, emission_at};
 ghost use Rattle.fb_event.specs.Reactions.{IsEventOutput, IsWellFormed};
 
 use crate::state::KindState;
+use crate::step::Step;
 use fb_types::run::{Emission, Emits, Values};
 use fb_types::value::Value;
 use std::alloc::{AllocError, Global};
@@ -49,5 +50,26 @@ fn outputs(block: KindState, alloc: Global) -> Result<Values, AllocError>
             Values::from_slice(alloc, &[Value::Bool(reached), Value::Whole(count as i128)])
         }
         _ => Ok(Values::new(alloc)),
+    }
+}
+
+impl Step {
+    /// Whether no values go with what is emitted, since the block has no data outputs.
+    #[inline(always)]
+    pub fn is_bare(&self) -> bool
+        ensures { IsTrue result ↔ (values_of self.now.block ≡ []) }
+    {
+        match self.block {
+            KindState::SetReset(_) | KindState::DataLatch(_) | KindState::CountUp { .. } => false,
+            _ => true,
+        }
+    }
+
+    /// The values of all data outputs, which go with each event that is emitted: of the fourteen blocks, those that have
+    /// data outputs emit no event without them. The error is that memory runs out.
+    pub fn values(&self, alloc: Global) -> Result<Values, AllocError>
+        ensures { IfOk result (λ values. values ≡ values_of self.now.block) }
+    {
+        outputs(self.block, alloc)
     }
 }

@@ -3,7 +3,7 @@
 ghost use Rattle.std.specs.Prelude.{◌≡◌, ◌++◌, ◌≤◌, ◌^◌, [], All, IfErr, IsOk, OnOk, map};
 ghost use Rattle.fb_types.specs.Blocks.{ports_of_event_block};
 ghost use Rattle.fb_event.specs.Block.{state_of, IsInRange};
-ghost use Rattle.fb_event.specs.Emissions.{emission_at};
+ghost use Rattle.fb_event.specs.Emissions.{emission_at, emitted_by};
 ghost use Rattle.fb_event.specs.Reactions.{FitTheirTypes, reaction_to, expiry_of, emissions_of, first_value, meanings, IsEventOutput, IsWellFormed};
 
 use crate::emission::emit_all;
@@ -76,6 +76,40 @@ pub fn expire(
 {
     let step = expiry(state.block, tick);
     perform(&step, state, emits, ask)
+}
+
+/// The same reaction as a step, for who emits event after event: it takes no memory, and has no error. The block is what
+/// the step makes of it, and the values of what is emitted are made by the step.
+#[inline(always)]
+#[tactic(auto, using(crate::proofs::Inputs::inputs, crate::proofs::Emissions::steps))]
+pub fn step_at(state: &mut EventState, event: u32, tick: u64, inputs: &[Value]) -> Step
+    requires early { tick ≤ 10 ^ 12 }
+    requires typed { FitTheirTypes (ports_of_event_block state.old.kind).inputs inputs.now }
+    ensures memory { state.new.memory ≡ (reaction_to state.old event tick inputs.now).memory }
+    ensures timer { result.ask ≡ (reaction_to state.old event tick inputs.now).timer }
+    ensures emitted { meanings state.old.kind (emitted_by result) ≡ emissions_of state.old.kind (reaction_to state.old event tick inputs.now) }
+    ensures kind { state.new.kind ≡ state.old.kind }
+    ensures well_formed { All (IsWellFormed state.old.kind) (emitted_by result) }
+{
+    let value = first(inputs);
+    let step = reaction(state.block, event, tick, value);
+    state.block = step.block;
+    step
+}
+
+/// The reaction to the timer as a step, which takes no memory and has no error.
+#[tactic(auto, using(crate::proofs::Emissions::steps))]
+pub fn step_at_expiry(state: &mut EventState, tick: u64) -> Step
+    requires early { tick ≤ 10 ^ 12 }
+    ensures memory { state.new.memory ≡ (expiry_of state.old tick).memory }
+    ensures timer { result.ask ≡ (expiry_of state.old tick).timer }
+    ensures emitted { meanings state.old.kind (emitted_by result) ≡ emissions_of state.old.kind (expiry_of state.old tick) }
+    ensures kind { state.new.kind ≡ state.old.kind }
+    ensures well_formed { All (IsWellFormed state.old.kind) (emitted_by result) }
+{
+    let step = expiry(state.block, tick);
+    state.block = step.block;
+    step
 }
 
 /// Emits what the step emits, and then makes the block and the timer what the step says.

@@ -88,13 +88,6 @@ impl EventState {
         EventState { block }
     }
 
-    /// The same block once more, which takes no memory.
-    pub fn twin(&self) -> EventState
-        ensures { result ≡ self.now }
-    {
-        EventState { block: self.block }
-    }
-
     /// The kind of the block, which never changes.
     pub fn kind(&self) -> EventKind
         ensures { result ≡ self.now.kind }

@@ -1,4 +1,4 @@
-//! What a reaction comes to, before anything is emitted.
+//! What a reaction comes to.
 
 ghost use Rattle.std.specs.Prelude.{false, ◌≡◌, ◌≤◌, ◌<◌, ◌^◌, [], ◌∷◌, pos, if◌then◌else◌, ◌<ℤ◌};
 ghost use Rattle.fb_types.specs.Values.{truth, whole as whole_of};
@@ -26,12 +26,13 @@ const S_OF_SET_RESET: u32 = 0;
 
 const R_OF_COUNT_UP: u32 = 1;
 
-/// What an event block is after a reaction, the places of the event outputs that it emits, in order, and what
-/// it asks of its timer.
+/// What a reaction of an event block comes to: what the block is then, what it emits, and what it asks of its timer.
 #[derive(Clone, Copy)]
-pub(crate) struct Step {
-    pub block: KindState,
+pub struct Step {
+    pub(crate) block: KindState,
+    /// The places of the event outputs that are emitted, in order. The same values go with each.
     pub emits: &'static [u32],
+    /// What is asked of the timer.
     pub ask: TimerAsk,
 }
 

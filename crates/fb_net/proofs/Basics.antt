@@ -1,12 +1,12 @@
 -- How the reaction of a basic block stands among the blocks of its resource.
-use Rattle.std.proofs.Common.{rules, ◌≡◌, ℕ, ◌<◌, List, [], length, Option, Some, None, Result, Ok, Err, refl, sym, ap, subst, ◌∙◌}
+use Rattle.std.proofs.Common.{◌≡◌, ℕ, ◌<◌, List, [], length, Option, Some, None, Result, Ok, Err, refl, sym, ap, subst, ◌∙◌}
 use Rattle.std.specs.Prelude.{slice_get, slice_set}
 use Rattle.std.proofs.Math.Path.{fun_ext}
 use Rattle.fb_types.specs.Names.{Path}
 use Rattle.fb_types.specs.Values.{Values}
 use Rattle.fb_types.specs.Blocks.{Kind, Basic, inputs_with}
 use Rattle.fb_types.specs.Charts.{ChartReacts, Moving, Place}
-use Rattle.fb_types.specs.Headline.{AreAccepted, Inputs, system_of}
+use Rattle.fb_types.specs.Headline.{Inputs, system_of}
 use Rattle.fb_types.specs.Numbers.{event_at, pair_up, path_at}
 use Rattle.fb_types.specs.Reactions.{World, state_of, with_values}
 use Rattle.fb_types.specs.States as model
@@ -23,7 +23,7 @@ use Rattle.fb_ecc.specs.Places.{Ended, IsBlockOf, place, sampled}
 use Rattle.fb_ecc.specs.Sound.{IsSound}
 use Rattle.fb_ecc.specs.declared.state.BasicState.{BasicState}
 use Rattle.fb_tree.specs.Changes.{block_in, with_instance}
-use Rattle.fb_tree.specs.Worlds.{BasicStands, Found, InForest, IsForest, NodeStands, ShellStands, StandsFor, seat_in, with_seated}
+use Rattle.fb_tree.specs.Worlds.{BasicStands, InForest, IsForest, NodeStands, ShellStands, StandsFor, seat_in, with_seated}
 use Rattle.fb_tree.specs.declared.block.BasicBlock.{BasicBlock}
 use Rattle.fb_tree.specs.declared.block.Block.{Block}
 use Rattle.fb_tree.specs.declared.block.Block.TheVariants as block

@@ -1,7 +1,7 @@
 -- What the emission of output events makes of a world, of the lines and of what goes out.
-use Rattle.std.proofs.Common.{◌≡◌, ℕ, ◌<◌, false, List, [], ◌∷◌, ◌++◌, map, length, refl, sym, ap, subst, ◌∙◌, suc, append_assoc, arith}
+use Rattle.std.proofs.Common.{◌≡◌, ℕ, ◌<◌, false, List, [], ◌∷◌, ◌++◌, map, take, length, get_or, ◌+◌, refl, sym, ap, subst, ◌∙◌, suc, append_assoc, arith}
 use Rattle.std.specs.Prelude.{All}
-use Rattle.std.proofs.lemmas.List.{map-append}
+use Rattle.std.proofs.lemmas.List.{get_or-map, length-map, map-append, take_more}
 use Rattle.std.proofs.lemmas.List.Elements.{All-append, All-push}
 use Rattle.fb_system.specs.Stands.{ArePlaces, variable_at}
 use Rattle.fb_types.specs.Blocks.{Bound, Emission, outputs_with}
@@ -13,6 +13,7 @@ use Rattle.fb_types.specs.Reactions.{Outcome, World, carried_from, emitted, emit
 use Rattle.fb_types.specs.States as model
 use Rattle.fb_types.specs.Systems.{System}
 use Rattle.fb_types.specs.declared.key.Key.{Key}
+use Rattle.fb_types.specs.declared.library.Variable.{Variable}
 use Rattle.fb_types.specs.declared.run.Emission as run
 use Rattle.fb_types.specs.declared.run.Line.{Line}
 use Rattle.fb_types.specs.declared.value.Value.{Value}
@@ -77,6 +78,15 @@ one_more_emitted i key k f g h x y z es e first then =
       resource = then.resource ∙ first.resource;
     }
 
+-- the emissions of one event more
+pub one_event_more :
+    (f : ℕ → run.Emission) (events : List ℕ) (n : ℕ) → n < length events → map f (take (n + 1) events) ≡ map f (take n events) ++ f (get_or events n 0) ∷ []
+one_event_more f events n lt = ap (map f) (take_more events n 0 lt) ∙ map-append f (take n events) (get_or events n 0 ∷ [])
+
+-- what holds of the emissions of all events holds of that of one
+pub of_event : (P : run.Emission → Type 0) (f : ℕ → run.Emission) (events : List ℕ) (n : ℕ) → n < length events → All P (map f events) → P (f (get_or events n 0))
+of_event P f events n lt all = subst P (get_or-map f events n 0 (f 0) lt) (all n (f 0) (subst (λ m. n < m) (sym (length-map events f)) lt))
+
 -- ---- One emission
 
 -- the line of an emission
@@ -94,6 +104,11 @@ pub record Doing (i : Inputs) (key : Key) (k : ℕ) (f : Forest) (x : Outbox) (e
   pub belong : All (IsOut (system_of i) g.resource) y.outs.items
   pub lines : y.lines.items ≡ x.lines.items ++ line_by key k e ∷ []
   pub timer : y.timer ≡ x.timer
+
+-- where there is no variable WITH the event
+pub no_places : (vs : List Variable) (names : List Name) → 0 ≡ length names → ArePlaces vs names []
+no_places vs [] none = record { named = refl; within = λ n d lt. absurd (omega arith) }
+no_places vs (n ∷ ns) none = absurd (omega arith)
 
 -- the variables and values of an emission
 same_values :

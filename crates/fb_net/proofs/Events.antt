@@ -1,5 +1,5 @@
 -- How the reactions of an event block stand among the blocks of its resource.
-use Rattle.std.proofs.Common.{◌≡◌, ◌<◌, ◌++◌, ℕ, List, [], length, map, Option, Some, Result, Ok, refl, sym, ap, subst, ◌∙◌, arith}
+use Rattle.std.proofs.Common.{◌≡◌, ◌<◌, ℕ, List, length, map, Option, Some, refl, sym, ap, subst, ◌∙◌}
 use Rattle.std.specs.Prelude.{All, slice_get, slice_set}
 use Rattle.fb_types.specs.Names.{Name, Path}
 use Rattle.fb_types.specs.Blocks.{Kind, Event, ports_of_event_block, variable_names}
@@ -11,11 +11,12 @@ use Rattle.fb_types.specs.States as model
 use Rattle.fb_types.specs.Systems.{System}
 use Rattle.fb_types.specs.declared.event_kind.EventKind.{EventKind}
 use Rattle.fb_types.specs.declared.run.Emission as run
-use Rattle.fb_types.specs.declared.run.Halt.{Halt}
 use Rattle.fb_types.specs.declared.run.TimerAsk.{TimerAsk}
 use Rattle.fb_types.specs.declared.value.Value.{Value}
 use Rattle.fb_event.specs.Reactions.{FitTheirTypes, IsWellFormed, emissions_of, expiry_of, meanings, reaction_to}
+use Rattle.fb_event.specs.Emissions.{emitted_by}
 use Rattle.fb_event.specs.State.{State}
+use Rattle.fb_event.specs.declared.step.Step.{Step}
 use Rattle.fb_tree.specs.Changes.{Changes, block_in, remembered, with_instance}
 use Rattle.fb_tree.specs.Worlds.{EventStands, Found, InForest, IsForest, NodeStands, ShellStands, StandsFor, input_names, seat_in, with_seated}
 use Rattle.fb_tree.specs.declared.block.EventBlock.{EventBlock}
@@ -70,11 +71,11 @@ stood_there i k w found d x kind of_kind is event here =
 pub typed : (i : Inputs) (k : ℕ) (w : World) (found : Option Block) (d : Block) (x : EventBlock) (kind : EventKind) (inputs : List Value)
     → (system_of i).kind (path_at (system_of i) k) ≡ Some (Event kind) → found ≡ Some d → d ≡ block.Event x → Found i k (block_in i w k) found → HasTypedInputs i kind k w
     → inputs ≡ x.inputs → (s : State) → s ≡ x.state → FitTheirTypes (ports_of_event_block s.kind).inputs inputs
-typed i k w found d x kind inputs of_kind is event here fit same s twin =
+typed i k w found d x kind inputs of_kind is event here fit same s same_state =
     let stood = stood_there i k w found d x kind of_kind is event here in
     let b = block_in i w k in
     let hold = values_by_name (input_names (system_of i) (path_at (system_of i) k)) x.inputs b.variables stood.0.variables.each stood.0.variables.at_place ∙ sym same in
-    subst (λ (j : EventKind). FitTheirTypes (ports_of_event_block j).inputs inputs) (sym (ap (λ (z : State). z.kind) twin ∙ stood.0.is_kind))
+    subst (λ (j : EventKind). FitTheirTypes (ports_of_event_block j).inputs inputs) (sym (ap (λ (z : State). z.kind) same_state ∙ stood.0.is_kind))
     (subst (λ (vs : List Value). FitTheirTypes (ports_of_event_block kind).inputs vs) hold fit)
 
 -- where an instance is to be an event block, one stands
@@ -108,68 +109,65 @@ remembers i numbered old k number d x kind of_kind is event s kept = record {
 
 -- A block of that kind has reacted so, which is what the model's does in each world.
 pub came : (i : Inputs) (old new : Forest) (k : ℕ) (kind : EventKind) (found : Option Block) (d : Block) (x : EventBlock) (t s : State) (r : Reaction) (model_r : World → Reaction)
-    (ask : TimerAsk) (before emits : List run.Emission)
+    (ask : TimerAsk) (emits : List run.Emission)
     → (system_of i).kind (path_at (system_of i) k) ≡ Some (Event kind) → found ≡ Some d → d ≡ block.Event x → t ≡ x.state
     → ((w : World) → IsForest i old w → InForest i old k → Found i k (block_in i w k) found)
     → Changes i old k (remembered s.memory) new
     → ((w : World) → EventStands (system_of i) (path_at (system_of i) k) kind x (block_in i w k) → r ≡ model_r w)
-    → s.memory ≡ r.memory → ask ≡ r.timer → before ≡ [] → meanings t.kind emits ≡ meanings t.kind before ++ emissions_of t.kind r
+    → s.memory ≡ r.memory → ask ≡ r.timer → meanings t.kind emits ≡ emissions_of t.kind r
     → (w : World) → IsForest i old w → InForest i old k → EventCame i k kind (model_r w) new ask emits w
-came i old new k kind found d x t s r model_r ask before emits of_kind is event twin there changes agrees remembers asks fresh sent w forest lies =
+came i old new k kind found d x t s r model_r ask emits of_kind is event same_state there changes agrees remembers asks sent w forest lies =
     let stood = stood_there i k w found d x kind of_kind is event (there w forest lies) in
     let b = block_in i w k in
     let same = agrees w stood.0 in
     let kept : s.memory ≡ (model_r w).memory = remembers ∙ ap (λ (y : Reaction). y.memory) same in
-    let all : meanings t.kind emits ≡ emissions_of t.kind r = sent ∙ ap (λ (es : List run.Emission). meanings t.kind es ++ emissions_of t.kind r) fresh in
     record {
       stands = subst (λ (m : Memory). IsForest i new (with_instance i k (remembered m b) w)) kept (changes.stands w forest lies);
       timer = asks ∙ ap (λ (y : Reaction). y.timer) same;
-      emitted = subst (λ (j : EventKind). meanings j emits ≡ emissions_of j r) (ap (λ (z : State). z.kind) twin ∙ stood.0.is_kind) all ∙ ap (emissions_of kind) same;
+      emitted = subst (λ (j : EventKind). meanings j emits ≡ emissions_of j r) (ap (λ (z : State). z.kind) same_state ∙ stood.0.is_kind) sent ∙ ap (emissions_of kind) same;
     }
 
 -- Each instance has its block then.
 pub whole : (i : Inputs) (old new : Forest) (k : ℕ) (s : State) → Changes i old k (remembered s.memory) new → (w : World) → IsForest i old w → InForest i old k → (v : World) × IsForest i new v
 whole i old new k s changes w forest lies = (with_instance i k (remembered s.memory (block_in i w k)) w, changes.stands w forest lies)
 
--- ---- The timer goes off where the block stands
-
+-- what fits the interface of an event block by its kind
 all_fit : (k : EventKind) (es : List run.Emission) → All (IsWellFormed k) es → All (IsEmission (ports_of_event_block k)) es
 all_fit k es fit n d h = record { event = (fit n d h).0; values = (fit n d h).1 }
 
+pub fit : (i : Inputs) (k : ℕ) (w : World) (found : Option Block) (d : Block) (x : EventBlock) (kind : EventKind) (es : List run.Emission)
+    → (system_of i).kind (path_at (system_of i) k) ≡ Some (Event kind) → found ≡ Some d → d ≡ block.Event x → Found i k (block_in i w k) found
+    → All (IsWellFormed x.state.kind) es → All (IsEmission (ports_of_event_block kind)) es
+fit i k w found d x kind es of_kind is event here well_formed =
+    let stood = stood_there i k w found d x kind of_kind is event here in
+    subst (λ (j : EventKind). All (IsEmission (ports_of_event_block j)) es) stood.0.is_kind (all_fit x.state.kind es well_formed)
+
+-- ---- The timer goes off where the block stands
+
 module _ (i : Inputs) (numbered : AreNumbered i) (old : Forest) (k : ℕ) (number : k < length (system_of i).paths) (kind : EventKind) (of_kind : (system_of i).kind (path_at (system_of i) k) ≡ Some (Event kind))
-    (seat : ℕ) (is_seat : seat ≡ seat_in old.seats k) (tick : ℕ) (emitted emits : List run.Emission) (ask : TimerAsk) (r : Result (Unit {0}) Halt) (bs : List Block)
-    (changed : Changed (HasExpired tick emitted ask emits) old.blocks seat r bs) where
+    (seat : ℕ) (is_seat : seat ≡ seat_in old.seats k) (tick : ℕ) (step : Step) (bs : List Block) (changed : Changed (HasExpired tick) old.blocks seat step bs) where
   found : slice_get old.blocks (seat_in old.seats k) ≡ Some changed.before
   found = ap (slice_get old.blocks) (sym is_seat) ∙ changed.stood
 
-  pub expired_changes : Changes i old k (remembered changed.ends.state.memory) (record old { blocks = bs })
+  expired_changes : Changes i old k (remembered changed.ends.state.memory) (record old { blocks = bs })
   expired_changes =
       subst (λ (cs : List Block). Changes i old k (remembered changed.ends.state.memory) (record old { blocks = cs }))
       (sym (changed.stands ∙ ap (λ (s : ℕ). slice_set old.blocks s changed.after) is_seat ∙ ap (slice_set old.blocks (seat_in old.seats k)) changed.ends.is_event))
       (remembers i numbered old k number changed.before changed.ends.event kind of_kind found changed.ends.was_event changed.ends.state changed.ends.kind)
 
-  kind_is : IsOne i old k → changed.ends.event.state.kind ≡ kind
-  kind_is (w, forest, lies) =
-      (stood_there i k w (slice_get old.blocks (seat_in old.seats k)) changed.before changed.ends.event kind of_kind found changed.ends.was_event
-      (found_at i old k number (slice_get old.blocks (seat_in old.seats k)) refl w forest lies)).0.is_kind
-
-  pub expired_fit : IsOne i old k → emitted ≡ [] → All (IsEmission (ports_of_event_block kind)) emits
-  expired_fit one fresh =
-      subst (λ (j : EventKind). All (IsEmission (ports_of_event_block j)) emits) (kind_is one)
-      (all_fit changed.ends.event.state.kind emits
-      (changed.ends.well_formed (subst (λ (es : List run.Emission). All (IsWellFormed changed.ends.event.state.kind) es) (sym fresh) (λ n d h. absurd (omega (arith, h))))))
+  pub expired_fit : IsOne i old k → All (IsEmission (ports_of_event_block kind)) (emitted_by step)
+  expired_fit (w, forest, lies) =
+      fit i k w (slice_get old.blocks (seat_in old.seats k)) changed.before changed.ends.event kind (emitted_by step) of_kind found changed.ends.was_event
+      (found_at i old k number (slice_get old.blocks (seat_in old.seats k)) refl w forest lies) changed.ends.well_formed
 
   pub expired_whole : IsOne i old k → (v : World) × IsForest i (record old { blocks = bs }) v
   expired_whole (w, forest, lies) = whole i old (record old { blocks = bs }) k changed.ends.state expired_changes w forest lies
 
-pub expired_came : (i : Inputs) → AreNumbered i → (old : Forest) (k : ℕ) → k < length (system_of i).paths → (kind : EventKind) → (system_of i).kind (path_at (system_of i) k) ≡ Some (Event kind)
-    → (seat : ℕ) → seat ≡ seat_in old.seats k → (tick : ℕ) (emitted emits : List run.Emission) (ask : TimerAsk) (u : Unit {0}) (bs : List Block)
-    → Changed (HasExpired tick emitted ask emits) old.blocks seat (Ok u) bs → emitted ≡ []
-    → (w : World) → IsForest i old w → InForest i old k → EventCame i k kind (expiry_reaction i kind k tick w) (record old { blocks = bs }) ask emits w
-expired_came i numbered old k number kind of_kind seat is_seat tick emitted emits ask u bs changed fresh =
-    came i old (record old { blocks = bs }) k kind (slice_get old.blocks (seat_in old.seats k)) changed.before changed.ends.event changed.ends.event.state changed.ends.state
-    (expiry_of changed.ends.event.state tick) (expiry_reaction i kind k tick) ask emitted emits of_kind (ap (slice_get old.blocks) (sym is_seat) ∙ changed.stood) changed.ends.was_event refl
-    (λ w forest lies. found_at i old k number (slice_get old.blocks (seat_in old.seats k)) refl w forest lies)
-    (expired_changes i numbered old k number kind of_kind seat is_seat tick emitted emits ask (Ok u) bs changed)
-    (λ w stood. expired_agrees (system_of i) (path_at (system_of i) k) kind changed.ends.event (block_in i w k) tick stood)
-    changed.ends.memory changed.ends.timer fresh changed.ends.sent
+  pub expired_came : (w : World) → IsForest i old w → InForest i old k
+      → EventCame i k kind (expiry_reaction i kind k tick w) (record old { blocks = bs }) step.ask (emitted_by step) w
+  expired_came =
+      came i old (record old { blocks = bs }) k kind (slice_get old.blocks (seat_in old.seats k)) changed.before changed.ends.event changed.ends.event.state changed.ends.state
+      (expiry_of changed.ends.event.state tick) (expiry_reaction i kind k tick) step.ask (emitted_by step) of_kind found changed.ends.was_event refl
+      (λ w forest lies. found_at i old k number (slice_get old.blocks (seat_in old.seats k)) refl w forest lies) expired_changes
+      (λ w stood. expired_agrees (system_of i) (path_at (system_of i) k) kind changed.ends.event (block_in i w k) tick stood)
+      changed.ends.memory changed.ends.timer changed.ends.sent

@@ -1,5 +1,5 @@
 -- Where an event goes from a port, target after target.
-use Rattle.std.proofs.Common.{◌≡◌, ◌≢◌, ℕ, ◌+◌, ◌<◌, ◌≤◌, Bool, true, false, cond, eqb, List, [], ◌∷◌, ◌++◌, map, take, length, get_or, Option, Some, None, refl, sym, ap, subst, ◌∙◌, inl, inr, append_assoc, arith}
+use Rattle.std.proofs.Common.{◌≡◌, ◌≢◌, ℕ, suc, ◌+◌, ◌<◌, ◌≤◌, Bool, true, false, cond, eqb, List, [], ◌∷◌, ◌++◌, map, take, length, get_or, Option, Some, None, refl, sym, ap, subst, ◌∙◌, inl, inr, append_assoc, arith}
 use mathlib.Core.Bool.{false≢true, not}
 use Rattle.std.specs.Prelude.{◌↔◌, All, IsTrue, option_map, slice_get}
 use Rattle.std.proofs.lemmas.Bool.{eq-eqb, ne_eqb, cases_lt}
@@ -16,7 +16,7 @@ use Rattle.fb_types.specs.declared.run.Target.{Target}
 use Rattle.fb_fabric.specs.declared.reached.Reached.{Reached}
 use Rattle.fb_types.specs.declared.value.Value.{Value}
 use Rattle.fb_system.specs.Ports.{IsCarried, IsTarget}
-use Rattle.fb_net.specs.Emitting.{GoesTo, out_at}
+use Rattle.fb_net.specs.Emitting.{GoesTo, others, out_at}
 use Rattle.fb_net.specs.Outs.{IsOut, out_of}
 use Rattle.fb_net.specs.declared.outbox.Out.{Out}
 use Rattle.fb_net.specs.declared.outbox.Out.TheVariants.{Local, Send}
@@ -141,3 +141,37 @@ pub all_gone :
 all_gone sys r carried targets before place outs o gone leads is =
     let none : slice_get targets place ≡ None = sym leads ∙ ap (leads_to sys) is in
     last_gone sys r carried targets before place outs gone (behind targets place none)
+
+-- ---- The first target, and the others
+
+-- where nothing goes
+pub none_to_go :
+    (sys : System) (r : ℕ) (carried : List (Port × Value)) (targets : List Port) (outs : List Out) (o : Option Reached)
+    → leads_to sys o ≡ slice_get targets 0 → o ≡ None → map (out_of sys) outs ≡ map (out_of sys) outs ++ spread sys r carried targets
+none_to_go sys r carried [] outs o leads is = sym (append-nil (map (out_of sys) outs))
+none_to_go sys r carried (q ∷ qs) outs o leads is = let none : None ≡ Some q = sym (ap (leads_to sys) is) ∙ leads in absurd (cc)
+
+-- what is behind the first
+pub others-at : (targets : List Port) (place : ℕ) → slice_get targets (place + 1) ≡ slice_get (others targets) place
+others-at [] place = refl
+others-at (q ∷ qs) place = let next : place + 1 ≡ suc place = omega arith in ap (slice_get (q ∷ qs)) next
+
+pub others-short : (targets : List Port) (n : ℕ) → length targets ≤ n + 1 → length (others targets) ≤ n
+others-short [] n few = omega arith
+others-short (q ∷ qs) n few = omega arith
+
+first_and_others : (targets : List Port) → 1 ≤ length targets → take 1 targets ++ others targets ≡ targets
+first_and_others [] some = absurd (omega arith)
+first_and_others (q ∷ qs) some = refl
+
+-- The first target has it, and then the others have.
+pub others_gone :
+    (sys : System) (r : ℕ) (carried : List (Port × Value)) (targets : List Port) (before outs new : List Out)
+    → HaveGone sys r carried targets before 1 outs → map (out_of sys) new ≡ map (out_of sys) outs ++ spread sys r carried (others targets)
+    → map (out_of sys) new ≡ map (out_of sys) before ++ spread sys r carried targets
+others_gone sys r carried targets before outs new gone sent =
+    sent
+    ∙ ap (λ (os : List reactions.Out). os ++ spread sys r carried (others targets)) gone.sent
+    ∙ append_assoc (map (out_of sys) before) (spread sys r carried (take 1 targets)) (spread sys r carried (others targets))
+    ∙ ap (λ (os : List reactions.Out). map (out_of sys) before ++ os)
+    (sym (spread-append sys r carried (take 1 targets) (others targets)) ∙ ap (spread sys r carried) (first_and_others targets gone.within))

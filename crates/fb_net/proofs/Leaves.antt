@@ -1,5 +1,5 @@
 -- What stands for a leaf before and after its reaction.
-use Rattle.std.proofs.Common.{◌≡◌, ℕ, suc, List, [], ◌∷◌, length, map, Option, Some, refl, ap, ◌∙◌, rules}
+use Rattle.std.proofs.Common.{◌≡◌, ℕ, suc, List, [], ◌∷◌, length, map, Option, Some, refl, ap}
 use Rattle.std.specs.Prelude.{slice_get}
 use Rattle.fb_types.specs.Names.{Name, Path}
 use Rattle.fb_types.specs.Values.{Values}

@@ -13,6 +13,7 @@ use Rattle.fb_types.specs.Systems.{System}
 use Rattle.fb_types.specs.Values.{Values}
 use Rattle.fb_types.specs.declared.key.Key.{Key}
 use Rattle.fb_types.specs.declared.library.Ports.{Ports}
+use Rattle.fb_types.specs.declared.library.Variable.{Variable}
 use Rattle.fb_types.specs.declared.run.Line as run_line
 use Rattle.fb_types.specs.declared.run.Target.{Target}
 use Rattle.fb_types.specs.declared.value.Value.{Value}
@@ -183,3 +184,9 @@ one-sampled i f at (place ∷ []) value values stand one sampled is w h lies =
     ∙ ap (λ (v : Value). v ∷ []) (sampled w h lies)
     ∙ ap (map (sample_at (system_of i) f.resource w (path_at (system_of i) at.instance))) stand.named
 one-sampled i f at (place ∷ other ∷ places) value values stand one sampled is w h lies = absurd (omega arith)
+
+-- the place that stands alone
+pub one_place : (vs : List Variable) (names : List Name) (places : List ℕ) → length places ≡ 1 → ArePlaces vs names places → ArePlaces vs names (get_or places 0 0 ∷ [])
+one_place vs names [] one stand = absurd (omega arith)
+one_place vs names (place ∷ []) one stand = stand
+one_place vs names (place ∷ other ∷ places) one stand = absurd (omega arith)

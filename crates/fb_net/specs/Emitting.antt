@@ -32,6 +32,15 @@ pub record GoesTo (sys : System) (r : ℕ) (carried : List (Port × Value)) (q :
 abbrev pub PutsOut : System → (resource : ℕ) → List (Port × Value) → Port → (before outs : List Out) → Type 0
 PutsOut sys r carried q before outs = (out : Out) × GoesTo sys r carried q out × (outs ≡ before ++ out ∷ [])
 
+-- the targets behind the first
+abbrev pub others : List Port → List Port
+others [] = []
+others (q ∷ qs) = qs
+
+-- the emission of an event output without values
+abbrev pub bare : (event : ℕ) → run.Emission
+bare event = record { event = event; values = [] }
+
 -- values, each with the data output at its place
 abbrev pub outputs_at : System → (instance : ℕ) → (places : List ℕ) → List Value → List Bound
 outputs_at sys k places values = pair_up (map (variable_at (ports_at sys (path_at sys k)).outputs) places) values

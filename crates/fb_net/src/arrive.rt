@@ -1,6 +1,6 @@
 //! The arrival of an event at a port of an instance.
 
-ghost use Rattle.std.specs.Prelude.{◌≡◌, ◌≢◌, ◌≤◌, ◌^◌, All, false, true, length, OnOk, Some};
+ghost use Rattle.std.specs.Prelude.{◌≡◌, ◌≢◌, ◌∷◌, [], ◌≤◌, ◌^◌, All, false, true, length, OnOk, Some};
 ghost use Rattle.fb_types.specs.Blocks.{Basic, Event};
 ghost use Rattle.fb_types.specs.Numbers.{path_at};
 ghost use Rattle.fb_types.specs.declared.library.BasicType.{BasicType};
@@ -11,6 +11,7 @@ ghost use Rattle.fb_net.specs.Samples.{names_in};
 ghost use Rattle.fb_net.specs.Steps.{ArePutOut, HasArrived, HasDone, HasTold, IsKept, IsSame, MayArrive, MayBegin, ports_in, system_in};
 ghost use Rattle.fb_system.specs.Lines.{IsEmission};
 ghost use Rattle.fb_system.specs.Ports.{IsCompositeAt, IsTarget};
+ghost use Rattle.fb_system.specs.Stands.{ArePlaces};
 ghost use Rattle.fb_tree.specs.Worlds.{InForest};
 ghost use Rattle.fb_laws.specs.Typed.{IsTypedSystem};
 
@@ -24,12 +25,13 @@ use fb_names::numbers::TypeNumber;
 use fb_st::meter::StepMeter;
 use fb_types::event_kind::EventKind;
 use fb_types::library::{BasicType, BlockType};
-use fb_types::run::{Emission, Emits, Halt, Target, Values};
+use fb_types::run::{Emission, Emits, Halt, Place, Target, Values};
 use std::alloc::AllocError;
 
 impl Taking<'_> {
     /// An event block or a composite takes an event at an event input: it keeps what the variables WITH the event
     /// sample, and the line of the event tells their values.
+    #[inline(always)]
     fn take_samples(&mut self, at: Target) -> Result<(), AllocError>
         requires place { MayArrive self.old at }
         requires input { at.is_output ≡ false }
@@ -41,15 +43,61 @@ impl Taking<'_> {
         ensures kept { IsKept self.old self.new }
         ensures same { IsSame self.old self.new }
     {
-        let alloc = *self.outbox.lines.allocator();
-        let places = self.system.inputs_with(at.instance, at.event);
+        let system = self.system;
+        let places = system.inputs_with(at.instance, at.event);
         // Most event inputs of event blocks have no variables WITH them: nothing is sampled or kept.
         if places.is_empty() {
-            let values = Values::new(alloc);
-            return write_taken(self.outbox, self.system, self.key, at, values);
+            let values = Values::new(*self.outbox.lines.allocator());
+            return write_taken(self.outbox, system, self.key, at, values);
         }
+        self.take_values(at, places)
+    }
+
+    /// .. where the variables WITH the event stand at `places`.
+    fn take_values(&mut self, at: Target, places: &[u32]) -> Result<(), AllocError>
+        requires place { MayArrive self.old at }
+        requires input { at.is_output ≡ false }
+        requires no_basic { (t : BasicType) → (system_in self.old).kind (path_at (system_in self.old) at.instance) ≢ Some (Basic t) }
+        requires places { ArePlaces (ports_in self.old at.instance).inputs (names_in (system_in self.old) at) places.now }
+        ensures taken { OnOk result (HasDone (sampling self.old.system.now self.old.key.now at) self.old self.new) }
+        ensures ready { OnOk result (MayBegin self.new) }
+
+        // Also where memory runs out.
+        ensures kept { IsKept self.old self.new }
+        ensures same { IsSame self.old self.new }
+    {
+        // Mostly there is one variable, and nothing is to be walked over.
+        if let [variable] = places {
+            return self.take_value(at, *variable);
+        }
+        let alloc = *self.outbox.lines.allocator();
         let values = sampled_values(alloc, self.forest, self.system, at, places)?;
         keep_samples(self.forest, self.system, at, places, values.as_slice());
+        write_taken(self.outbox, self.system, self.key, at, values)
+    }
+
+    /// .. where one variable is WITH the event.
+    #[inline(always)]
+    fn take_value(&mut self, at: Target, variable: u32) -> Result<(), AllocError>
+        requires place { MayArrive self.old at }
+        requires input { at.is_output ≡ false }
+        requires no_basic { (t : BasicType) → (system_in self.old).kind (path_at (system_in self.old) at.instance) ≢ Some (Basic t) }
+        requires stands { ArePlaces (ports_in self.old at.instance).inputs (names_in (system_in self.old) at) (variable ∷ []) }
+        ensures taken { OnOk result (HasDone (sampling self.old.system.now self.old.key.now at) self.old self.new) }
+        ensures ready { OnOk result (MayBegin self.new) }
+
+        // Also where memory runs out.
+        ensures kept { IsKept self.old self.new }
+        ensures same { IsSame self.old self.new }
+    {
+        let input = Place {
+            instance: at.instance,
+            variable,
+            is_output: false,
+        };
+        let value = self.forest.sampled(self.system, input);
+        self.forest.set_input(self.system, input, value);
+        let values = Values::from_slice(*self.outbox.lines.allocator(), &[value])?;
         write_taken(self.outbox, self.system, self.key, at, values)
     }
 
@@ -68,16 +116,9 @@ impl Taking<'_> {
         ensures same { IsSame self.old self.new }
     {
         self.take_samples(at)?;
-        let mut emits = Emits::new(*self.outbox.lines.allocator());
-        self.outbox.timer = react_event(
-            self.forest,
-            self.system,
-            kind,
-            at,
-            self.key.tick,
-            &mut emits,
-        )?;
-        self.emit_all(at.instance, emits)
+        let step = react_event(self.forest, self.system, kind, at, self.key.tick);
+        self.outbox.timer = step.ask;
+        self.emit_step(at.instance, &step)
     }
 
     /// An event from outside arrives at an event input of a composite, and goes on inside.
@@ -116,10 +157,12 @@ impl Taking<'_> {
         ensures kept { IsKept self.old self.new }
         ensures same { IsSame self.old self.new }
     {
+        let system = self.system;
         let alloc = *self.outbox.lines.allocator();
-        let values = shown_values(alloc, self.forest, self.system, at)?;
+        let places = system.outputs_with(at.instance, at.event);
+        let values = shown_values(alloc, self.forest, system, at, places)?;
         let event = at.event;
-        self.emit_one(at.instance, Emission { event, values })
+        self.emit_at(at.instance, Emission { event, values }, places)
     }
 
     /// Tells an event that was taken at an event input of a basic block, and what its reaction emits.

@@ -1,18 +1,22 @@
 //! Emissions, and where events go.
 
-ghost use Rattle.std.specs.Prelude.{◌≡◌, ◌++◌, ◌∷◌, [], ◌<◌, length, map, All, IfOk, OnOk, true};
+ghost use Rattle.std.specs.Prelude.{◌≡◌, ◌≢◌, ◌++◌, ◌∷◌, [], ◌<◌, length, map, All, IfOk, OnOk, true};
 ghost use Rattle.fb_types.specs.Headline.{system_of};
-ghost use Rattle.fb_types.specs.Numbers.{carried_of, line_of, path_at, port_of, ports_at};
+ghost use Rattle.fb_types.specs.Blocks.{outputs_with};
+ghost use Rattle.fb_types.specs.Numbers.{carried_of, event_at, line_of, path_at, port_of, ports_at};
 ghost use Rattle.fb_types.specs.Reactions.{spread};
+ghost use Rattle.fb_event.specs.Emissions.{emission_at, emitted_by};
 ghost use Rattle.fb_system.specs.Lines.{BelongsTo, IsEmission};
 ghost use Rattle.fb_system.specs.Ports.{IsCarried, IsPort, IsTarget};
+ghost use Rattle.fb_system.specs.Stands.{ArePlaces};
 ghost use Rattle.fb_tree.specs.Changes.{Changes};
-ghost use Rattle.fb_net.specs.Emitting.{PutsOut, carried_by, outputs_at, outputs_shown};
+ghost use Rattle.fb_net.specs.Emitting.{PutsOut, bare, carried_by, others, outputs_at, outputs_shown};
 ghost use Rattle.fb_net.specs.Outs.{IsOut, out_of};
 ghost use Rattle.fb_net.specs.Steps.{ArePutOut, EmitsAll, EmitsWell, IsKept, IsSame, MayEmit, ports_in};
 
 use crate::outbox::{Out, Outbox, Sending};
 use crate::taking::Taking;
+use fb_event::step::Step;
 use fb_system::system::System;
 use fb_tree::resource::Forest;
 use fb_types::few::Held;
@@ -23,7 +27,8 @@ use fb_types::value::Value;
 use std::alloc::{AllocError, Global};
 
 /// Puts out an event that goes to a target: a local event where the target lies in the same resource, as most do, else a
-/// message with the values of data outputs of the instance, which are put together for it alone.
+/// message.
+#[inline(always)]
 fn put_out(
     outs: &mut Vec<Out>,
     resource: usize,
@@ -38,16 +43,38 @@ fn put_out(
     requires carried { All (IsCarried (system_of system.now)) (carried_by instance places.now values.now) }
     ensures { OnOk result (PutsOut (system_of system.now) resource (map (carried_of (system_of system.now)) (carried_by instance places.now values.now)) (port_of (system_of system.now) target) outs.old.items outs.new.items) }
 {
-    outs.reserve(1)?;
-    let there = system.resource(target.instance);
-    if there == resource {
-        outs.push_reserved(Out::Local(target));
-        return Ok(());
+    if system.resource(target.instance) != resource {
+        return put_message(outs, resource, system, target, instance, places, values);
     }
+    outs.reserve(1)?;
+    outs.push_reserved(Out::Local(target));
+    Ok(())
+}
+
+/// Puts out a message to a target in another resource, with the values of data outputs of the instance, which are put
+/// together for it alone.
+#[inline(never)]
+fn put_message(
+    outs: &mut Vec<Out>,
+    resource: usize,
+    system: &System,
+    target: Target,
+    instance: u32,
+    places: &[u32],
+    values: &[Value],
+) -> Result<(), AllocError>
+    requires resource { resource < length (system_of system.now).resource_names }
+    requires target { IsTarget (system_of system.now) target }
+    requires away { (system_of system.now).resource (path_at (system_of system.now) target.instance) ≢ resource }
+    requires carried { All (IsCarried (system_of system.now)) (carried_by instance places.now values.now) }
+    ensures { OnOk result (PutsOut (system_of system.now) resource (map (carried_of (system_of system.now)) (carried_by instance places.now values.now)) (port_of (system_of system.now) target) outs.old.items outs.new.items) }
+{
     // There are at most 1,024 links, so that the number of one fits.
     system.facts();
+    let there = system.resource(target.instance);
     let link = system.link(resource, there) as u32;
     let carried = carried_values(*outs.allocator(), instance, places, values)?;
+    outs.reserve(1)?;
     outs.push_reserved(Out::Send(Sending {
         link,
         target,
@@ -59,6 +86,7 @@ fn put_out(
 /// Sends an event from a port to where its connections lead, in their order, with the values of data outputs of its
 /// instance, each at its place. Each target costs one lookup, and a message memory for its values. The error is that
 /// memory runs out.
+#[inline(always)]
 pub fn send_out(
     outs: &mut Vec<Out>,
     forest: &Forest,
@@ -76,8 +104,46 @@ pub fn send_out(
     ensures outs { OnOk result (All (IsOut (system_of system.now) forest.now.resource) outs.new.items) }
 {
     let resource = forest.resource;
+    let Some(reached) = system.reached(from, 0) else {
+        return Ok(());
+    };
+    let instance = from.instance;
+    put_out(
+        outs,
+        resource,
+        system,
+        reached.target,
+        instance,
+        places,
+        values,
+    )?;
+    // Mostly a port has one connection, and no other is looked for.
+    if !reached.more {
+        return Ok(());
+    }
+    send_others(outs, resource, system, from, places, values)
+}
+
+/// .. to where its connections behind the first lead.
+#[inline(never)]
+fn send_others(
+    outs: &mut Vec<Out>,
+    resource: usize,
+    system: &System,
+    from: Target,
+    places: &[u32],
+    values: &[Value],
+) -> Result<(), AllocError>
+    requires resource { resource < length (system_of system.now).resource_names }
+    requires port { IsPort (system_of system.now) from }
+    requires carried { All (IsCarried (system_of system.now)) (carried_by from.instance places.now values.now) }
+    requires outs { All (IsOut (system_of system.now) resource) outs.old.items }
+    ensures sent { OnOk result (map (out_of (system_of system.now)) outs.new.items ≡ map (out_of (system_of system.now)) outs.old.items
+        ++ spread (system_of system.now) resource (map (carried_of (system_of system.now)) (carried_by from.instance places.now values.now)) (others ((system_of system.now).targets (port_of (system_of system.now) from)))) }
+    ensures outs { OnOk result (All (IsOut (system_of system.now) resource) outs.new.items) }
+{
     let mut place = 0;
-    while let Some(reached) = system.reached(from, place) {
+    while let Some(reached) = system.reached(from, place + 1) {
         let target = reached.target;
         put_out(
             outs,
@@ -88,7 +154,6 @@ pub fn send_out(
             places,
             values,
         )?;
-        // Mostly a port has one connection, and no other is looked for.
         if !reached.more {
             return Ok(());
         }
@@ -98,6 +163,7 @@ pub fn send_out(
 }
 
 /// Writes the line of an event that was taken at a port of an instance. The error is that memory runs out.
+#[inline(always)]
 pub fn write_taken(
     outbox: &mut Outbox,
     system: &System,
@@ -179,8 +245,29 @@ impl Taking<'_> {
         ensures kept { IsKept self.old self.new }
         ensures same { IsSame self.old self.new }
     {
+        let system = self.system;
+        let places = system.outputs_with(instance, emission.event);
+        self.emit_at(instance, emission, places)
+    }
+
+    /// Emits one output event, whose variables stand at `places`. Errors are as of `emit_one`.
+    #[inline(always)]
+    pub fn emit_at(
+        &mut self,
+        instance: u32,
+        emission: Emission,
+        places: &[u32],
+    ) -> Result<(), AllocError>
+        requires place { MayEmit self.old instance }
+        requires emission { IsEmission (ports_in self.old instance) emission }
+        requires places { let its = ports_in self.old instance in ArePlaces its.outputs (outputs_with its (event_at its.event_outputs emission.event)) places.now }
+        ensures emitted { OnOk result (EmitsWell self.old instance (emission ∷ []) self.new) }
+
+        // Also where memory runs out.
+        ensures kept { IsKept self.old self.new }
+        ensures same { IsSame self.old self.new }
+    {
         let Emission { event, values } = emission;
-        let places = self.system.outputs_with(instance, event);
         publish_all(
             self.forest,
             self.system,
@@ -209,6 +296,81 @@ impl Taking<'_> {
             event,
             values,
         });
+        Ok(())
+    }
+
+    /// Emits one output event that brings no values: it goes where its connections lead, and it has a line. The error is
+    /// that memory runs out.
+    #[inline(always)]
+    fn emit_bare(&mut self, instance: u32, event: u32) -> Result<(), AllocError>
+        requires place { MayEmit self.old instance }
+        requires emission { IsEmission (ports_in self.old instance) (bare event) }
+        ensures emitted { OnOk result (EmitsWell self.old instance (bare event ∷ []) self.new) }
+
+        // Also where memory runs out.
+        ensures kept { IsKept self.old self.new }
+        ensures same { IsSame self.old self.new }
+    {
+        let from = Target {
+            instance,
+            event,
+            is_output: true,
+        };
+        send_out(
+            &mut self.outbox.outs,
+            self.forest,
+            self.system,
+            from,
+            &[],
+            &[],
+        )?;
+        let values = Values::new(*self.outbox.lines.allocator());
+        self.outbox.lines.reserve(1)?;
+        self.outbox.lines.push_reserved(Line {
+            key: *self.key,
+            taken: false,
+            instance,
+            event,
+            values,
+        });
+        Ok(())
+    }
+
+    /// Emits one of the events of a step of an event block. The error is that memory runs out.
+    #[inline(always)]
+    fn emit_event(&mut self, instance: u32, event: u32, step: &Step) -> Result<(), AllocError>
+        requires place { MayEmit self.old instance }
+        requires emission { IsEmission (ports_in self.old instance) (emission_at step.now.block event) }
+        ensures emitted { OnOk result (EmitsWell self.old instance (emission_at step.now.block event ∷ []) self.new) }
+
+        // Also where memory runs out.
+        ensures kept { IsKept self.old self.new }
+        ensures same { IsSame self.old self.new }
+    {
+        // Most event blocks have no data outputs.
+        if step.is_bare() {
+            return self.emit_bare(instance, event);
+        }
+        let values = step.values(*self.outbox.lines.allocator())?;
+        self.emit_one(instance, Emission { event, values })
+    }
+
+    /// Emits what a step of an event block emits, in order. The error is that memory runs out; each instance has its block
+    /// then too.
+    #[inline(always)]
+    pub fn emit_step(&mut self, instance: u32, step: &Step) -> Result<(), AllocError>
+        requires place { MayEmit self.old instance }
+        requires emissions { All (IsEmission (ports_in self.old instance)) (emitted_by step.now) }
+        ensures emitted { OnOk result (EmitsAll self.old instance (emitted_by step.now) self.new) }
+        ensures outs { OnOk result (ArePutOut self.old self.new) }
+
+        // Also where memory runs out.
+        ensures kept { IsKept self.old self.new }
+        ensures same { IsSame self.old self.new }
+    {
+        for event in step.emits {
+            self.emit_event(instance, *event, step)?;
+        }
         Ok(())
     }
 

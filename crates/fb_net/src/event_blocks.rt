@@ -1,50 +1,43 @@
 //! The reactions of an event block among the blocks of its resource, to an event and to its timer.
 
-ghost use Rattle.std.specs.Prelude.{◌≡◌, ◌≤◌, ◌<◌, ◌^◌, [], length, All, IfOk, Some, false};
+ghost use Rattle.std.specs.Prelude.{◌≡◌, ◌≤◌, ◌<◌, ◌^◌, length, All, Some, false};
 ghost use Rattle.fb_types.specs.Blocks.{Event, ports_of_event_block};
 ghost use Rattle.fb_types.specs.Headline.{system_of};
 ghost use Rattle.fb_types.specs.Numbers.{path_at};
 ghost use Rattle.fb_types.specs.Reactions.{World};
+ghost use Rattle.fb_event.specs.Emissions.{emitted_by};
 ghost use Rattle.fb_system.specs.Lines.{IsEmission};
 ghost use Rattle.fb_system.specs.Ports.{IsPort};
 ghost use Rattle.fb_tree.specs.Worlds.{InForest, IsForest};
 ghost use Rattle.fb_net.specs.Leaves.{Changed, EventCame, HasExpired, HasTypedInputs, IsEventAt, IsOne, taken_reaction, expiry_reaction};
 
-use fb_event::reaction::{expire, react};
+use fb_event::reaction::{step_at, step_at_expiry};
+use fb_event::step::Step;
 use fb_system::system::System;
 use fb_tree::block::Block;
 use fb_tree::resource::Forest;
 use fb_types::event_kind::EventKind;
 use fb_types::items::Items;
-use fb_types::run::{Emits, Halt, Target, TimerAsk};
-use std::alloc::AllocError;
+use fb_types::run::Target;
 
 /// The reaction of an event block, which lies in the resource and has sampled its inputs, to one of its event inputs,
-/// in a tick that is at most 10^12. What it emits is put into `emits`, which is empty before. Gives what it asks of
-/// its timer.
-///
-/// # Errors
-/// `AllocError` where memory ran out, after which each instance has its block still, and no more is said.
+/// in a tick that is at most 10^12. The block is then what the step makes of it, and nothing is emitted yet.
 pub fn react_event(
     forest: &mut Forest,
     system: &System,
     kind: EventKind,
     at: Target,
     tick: u64,
-    emits: &mut Emits,
-) -> Result<TimerAsk, AllocError>
+) -> Step
     requires port { IsPort (system_of system.now) at }
     requires input { at.is_output ≡ false }
     requires kind { (system_of system.now).kind (path_at (system_of system.now) at.instance) ≡ Some (Event kind) }
     requires typed { (w : World) × IsForest system.now forest.old w × InForest system.now forest.old at.instance × HasTypedInputs system.now kind at.instance w }
     requires early { tick ≤ 10 ^ 12 }
-    requires fresh { emits.old ≡ [] }
-    ensures reacted { IfOk result (λ ask. (w : World) → IsForest system.now forest.old w → InForest system.now forest.old at.instance →
-        EventCame system.now at.instance kind (taken_reaction system.now kind at tick w) forest.new ask emits.new w) }
-    ensures emissions { All (IsEmission (ports_of_event_block kind)) emits.new }
+    ensures reacted { (w : World) → IsForest system.now forest.old w → InForest system.now forest.old at.instance →
+        EventCame system.now at.instance kind (taken_reaction system.now kind at tick w) forest.new result.ask (emitted_by result) w }
+    ensures emissions { All (IsEmission (ports_of_event_block kind)) (emitted_by result) }
     ensures resource { forest.new.resource ≡ forest.old.resource }
-
-    // Also where memory runs out.
     ensures whole { (w : World) × IsForest system.now forest.new w }
 {
     system.facts();
@@ -54,67 +47,46 @@ pub fn react_event(
     let Block::Event(event) = place else {
         unreachable!()
     };
-    let mut ask = TimerAsk::Keep;
     let inputs = event.inputs.as_slice();
-    match react(&mut event.state, at.event, tick, inputs, emits, &mut ask) {
-        Ok(()) => Ok(ask),
-        Err(_) => Err(AllocError),
-    }
+    step_at(&mut event.state, at.event, tick, inputs)
 }
 
-/// The reaction of an event block, which lies in the resource, to its timer, in a tick that is at most 10^12. What it
-/// emits is put into `emits`, which is empty before. Gives what it asks of its timer.
-///
-/// # Errors
-/// `AllocError` where memory ran out, after which each instance has its block still, and no more is said.
+/// The reaction of an event block, which lies in the resource, to its timer, in a tick that is at most 10^12. The block
+/// is then what the step makes of it, and nothing is emitted yet.
 pub fn expire_event(
     forest: &mut Forest,
     system: &System,
     kind: EventKind,
     instance: u32,
     tick: u64,
-    emits: &mut Emits,
-) -> Result<TimerAsk, AllocError>
+) -> Step
     requires instance { instance < length (system_of system.now).paths }
     requires kind { (system_of system.now).kind (path_at (system_of system.now) instance) ≡ Some (Event kind) }
     requires one { IsOne system.now forest.old instance }
     requires early { tick ≤ 10 ^ 12 }
-    requires fresh { emits.old ≡ [] }
-    ensures reacted { IfOk result (λ ask. (w : World) → IsForest system.now forest.old w → InForest system.now forest.old instance →
-        EventCame system.now instance kind (expiry_reaction system.now kind instance tick w) forest.new ask emits.new w) }
-    ensures emissions { All (IsEmission (ports_of_event_block kind)) emits.new }
+    ensures reacted { (w : World) → IsForest system.now forest.old w → InForest system.now forest.old instance →
+        EventCame system.now instance kind (expiry_reaction system.now kind instance tick w) forest.new result.ask (emitted_by result) w }
+    ensures emissions { All (IsEmission (ports_of_event_block kind)) (emitted_by result) }
     ensures resource { forest.new.resource ≡ forest.old.resource }
-
-    // Also where memory runs out.
     ensures whole { (w : World) × IsForest system.now forest.new w }
 {
     system.facts();
     let seat = forest.seat(instance);
     let blocks = &mut forest.blocks;
-    let mut ask = TimerAsk::Keep;
-    match expire_at(blocks, seat, tick, emits, &mut ask) {
-        Ok(()) => Ok(ask),
-        Err(_) => Err(AllocError),
-    }
+    expire_at(blocks, seat, tick)
 }
 
 /// The reaction of the event block at a seat to its timer, where it stands.
-fn expire_at(
-    blocks: &mut Items<Block>,
-    seat: usize,
-    tick: u64,
-    emits: &mut Emits,
-    ask: &mut TimerAsk,
-) -> Result<(), Halt>
+fn expire_at(blocks: &mut Items<Block>, seat: usize, tick: u64) -> Step
     requires early { tick ≤ 10 ^ 12 }
     requires event { IsEventAt blocks.old seat }
-    ensures { Changed (HasExpired tick emits.old ask.new emits.new) blocks.old seat result blocks.new }
+    ensures { Changed (HasExpired tick) blocks.old seat result blocks.new }
 {
     let Some(place) = blocks.get_mut(seat) else {
         unreachable!()
     };
     match place {
-        Block::Event(event) => expire(&mut event.state, tick, emits, ask),
+        Block::Event(event) => step_at_expiry(&mut event.state, tick),
         Block::Basic(_) | Block::Composite(_) => unreachable!(),
     }
 }

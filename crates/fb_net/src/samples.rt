@@ -50,20 +50,21 @@ pub fn sampled_values(
 }
 
 /// What a composite, which lies in the resource, shows from inside of the data outputs WITH an event output, in the
-/// order in which they are declared.
+/// order in which they are declared. They stand at `places`.
 pub fn shown_values(
     alloc: Global,
     forest: &Forest,
     system: &System,
     at: Target,
+    places: &[u32],
 ) -> Result<Values, AllocError>
     requires port { IsPort (system_of system.now) at }
     requires output { at.is_output ≡ true }
     requires composite { IsCompositeAt (system_of system.now) at.instance }
+    requires places { ArePlaces (ports_at (system_of system.now) (path_at (system_of system.now) at.instance)).outputs (names_out (system_of system.now) at) places.now }
     ensures shown { IfOk result (AreShown system.now forest.now at) }
     ensures counted { IfOk result (λ vs. length vs ≡ length (names_out (system_of system.now) at)) }
 {
-    let places = system.outputs_with(at.instance, at.event);
     if let [place] = places {
         let output = Place {
             instance: at.instance,

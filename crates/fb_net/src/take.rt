@@ -15,7 +15,7 @@ use crate::taking::Taking;
 use fb_names::numbers::TypeNumber;
 use fb_st::meter::StepMeter;
 use fb_types::event_kind::EventKind;
-use fb_types::run::{Emits, Event, Halt, Message};
+use fb_types::run::{Event, Halt, Message};
 use std::alloc::AllocError;
 
 impl Taking<'_> {
@@ -61,16 +61,9 @@ impl Taking<'_> {
         ensures kept { IsKept self.old self.new }
         ensures same { IsSame self.old self.new }
     {
-        let mut emits = Emits::new(*self.outbox.lines.allocator());
-        self.outbox.timer = expire_event(
-            self.forest,
-            self.system,
-            kind,
-            instance,
-            self.key.tick,
-            &mut emits,
-        )?;
-        self.emit_all(instance, emits)
+        let step = expire_event(self.forest, self.system, kind, instance, self.key.tick);
+        self.outbox.timer = step.ask;
+        self.emit_step(instance, &step)
     }
 
     /// Takes the timer of an instance. Nothing happens where it is no event block.

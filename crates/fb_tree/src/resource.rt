@@ -57,6 +57,7 @@ impl Forest {
     }
 
     /// The block of an instance that lies in the resource.
+    #[inline(always)]
     pub fn block(&self, system: &System, instance: u32) -> Option<&Block>
         requires { instance < length (system_of system.now).paths }
         ensures { (w : World) → IsForest system.now self.now w → InForest system.now self.now instance →
@@ -77,6 +78,7 @@ impl Forest {
     }
 
     /// What a connection or a stimulus has set at a data input of an instance that lies in the resource.
+    #[inline(always)]
     pub fn slot(&self, system: &System, input: Place) -> Value
         requires variable { IsVariable (system_of system.now) input }
         requires input { input.is_output ≡ false }
@@ -89,6 +91,7 @@ impl Forest {
     }
 
     /// What connections see at a data output of an instance that lies in the resource.
+    #[inline(always)]
     pub fn published(&self, system: &System, output: Place) -> Value
         requires variable { IsVariable (system_of system.now) output }
         requires output { output.is_output ≡ true }
@@ -101,6 +104,7 @@ impl Forest {
     }
 
     /// The copy of a data input that a composite block in the resource shows to its components.
+    #[inline(always)]
     pub fn copied(&self, system: &System, input: Place) -> Value
         requires variable { IsVariable (system_of system.now) input }
         requires input { input.is_output ≡ false }
@@ -113,6 +117,7 @@ impl Forest {
     }
 
     /// What connections see at a source that lies in the resource.
+    #[inline(always)]
     fn seen(&self, system: &System, source: Place) -> Value
         requires { IsVariable (system_of system.now) source }
         ensures { Sees system.now self.now source result }
@@ -126,6 +131,7 @@ impl Forest {
     }
 
     /// The held copy of a variable of another resource, or 0 where there is none.
+    #[inline(never)]
     fn held(&self, source: Place) -> Value
         ensures { result ≡ unwrap_or (get key_cmp self.now.held (key_of source)) zero_value }
     {
@@ -135,6 +141,7 @@ impl Forest {
 
     /// What a source shows in the resource: what connections see at it, or the held copy where it lies in another
     /// resource.
+    #[inline(always)]
     pub fn shown(&self, system: &System, source: Place) -> Value
         requires { IsVariable (system_of system.now) source }
         ensures { Shows system.now self.now source result }
@@ -148,6 +155,7 @@ impl Forest {
 
     /// What a data input of an instance that lies in the resource samples: what its source shows, or else what a
     /// stimulus has set.
+    #[inline(always)]
     pub fn sampled(&self, system: &System, input: Place) -> Value
         requires variable { IsVariable (system_of system.now) input }
         requires input { input.is_output ≡ false }
@@ -161,6 +169,7 @@ impl Forest {
 
     /// What a data output of a composite that lies in the resource shows from inside: what its inner source shows, or
     /// else what it showed before.
+    #[inline(always)]
     pub fn shown_inside(&self, system: &System, output: Place) -> Value
         requires variable { IsVariable (system_of system.now) output }
         requires output { output.is_output ≡ true }
@@ -186,6 +195,7 @@ impl Forest {
     }
 
     /// A data output of an instance that lies in the resource shows another value to connections.
+    #[inline(always)]
     pub fn publish(&mut self, system: &System, output: Place, value: Value)
         requires variable { IsVariable (system_of system.now) output }
         requires output { output.is_output ≡ true }
@@ -201,6 +211,7 @@ impl Forest {
     }
 
     /// An event block or a composite that lies in the resource samples a data input.
+    #[inline(always)]
     pub fn set_input(&mut self, system: &System, input: Place, value: Value)
         requires variable { IsVariable (system_of system.now) input }
         requires input { input.is_output ≡ false }
@@ -230,6 +241,7 @@ impl Forest {
 }
 
 /// The value at a place.
+#[inline(always)]
 fn value_of(values: &[Value], place: u32) -> Value
     ensures { result ≡ value_in values.now place }
 {

@@ -1,35 +1,54 @@
-use Rattle.std.proofs.Common.{◌+◌, length}
+use Rattle.std.proofs.Common.{length}
+use Rattle.std.proofs.lemmas.Result.{on_ok_weaker}
 use Rattle.fb_types.specs.Headline.{system_of}
 use Rattle.fb_types.specs.Numbers.{port_of}
-use Rattle.fb_net.proofs.Going.{all_gone, last_gone, none_behind, one_more_gone}
+use Rattle.fb_net.proofs.Going.{last_gone, none_behind, none_gone, none_to_go, one_more_gone, others_gone}
 use Rattle.fb_net.proofs.emit.send_out.Goals as goal
 
-pub loop-reached-preserved : goal.loop-reached-preserved
-loop-reached-preserved c =
+pub send_others-requires-clause-outs : goal.send_others-requires-clause-outs
+send_others-requires-clause-outs c =
     let put = c.in_ok-put_out.ensures in
-    rw put.2
-    (one_more_gone (system_of c.args.system.now) c.args.forest.now.resource _ _ c.args.outs.now.items c.loop-reached.place c.loop-reached.outs.items c.reached.result c.in-Some.reached put.0
-    c.loop-reached.invariant c.reached.ensures.leads c.in-Some.is put.1)
+    let sys = system_of c.args.system.now in
+    let r = c.args.forest.now.resource in
+    let outs = c.args.outs.now.items in
+    let gone = one_more_gone sys r _ (sys.targets (port_of sys c.args.from)) outs 0 outs c.reached.result c.in-Some.reached put.0
+    (none_gone sys r _ _ outs c.requires.outs) c.reached.ensures.leads c.in-Some.is put.1 in
+    rw put.2 gone.belong
 
 pub returns-clause-sent : goal.returns-clause-sent
 returns-clause-sent c =
-    all_gone (system_of c.args.system.now) c.args.forest.now.resource _ _ c.args.outs.now.items c.loop-reached.place c.loop-reached.outs.items c.reached.result
-    c.loop-reached.invariant c.reached.ensures.leads c.in_default.is
+    let put = c.in_ok-put_out.ensures in
+    let sys = system_of c.args.system.now in
+    let r = c.args.forest.now.resource in
+    let outs = c.args.outs.now.items in
+    let targets = sys.targets (port_of sys c.args.from) in
+    let gone = one_more_gone sys r _ targets outs 0 outs c.reached.result c.in-Some.reached put.0
+    (none_gone sys r _ _ outs c.requires.outs) c.reached.ensures.leads c.in-Some.is put.1 in
+    on_ok_weaker c.send_others.result (others_gone sys r _ targets outs c.put_out.new.outs.items c.send_others.new.outs.items (rw put.2 gone)) c.send_others.ensures.sent
 
--- .. and none is behind the last
+pub returns-in_default-clause-sent : goal.returns-in_default-clause-sent
+returns-in_default-clause-sent c =
+    let sys = system_of c.args.system.now in
+    none_to_go sys c.args.forest.now.resource _ (sys.targets (port_of sys c.args.from)) c.args.outs.now.items c.reached.result c.reached.ensures.leads c.in_default.is
+
+-- .. and none is behind the only one
 pub returns-then-not-reached-clause-sent : goal.returns-then-not-reached-clause-sent
 returns-then-not-reached-clause-sent c =
     let put = c.in_ok-put_out.ensures in
     let sys = system_of c.args.system.now in
-    let gone = one_more_gone sys c.args.forest.now.resource _ (sys.targets (port_of sys c.args.from)) c.args.outs.now.items c.loop-reached.place c.loop-reached.outs.items c.reached.result c.in-Some.reached put.0
-    c.loop-reached.invariant c.reached.ensures.leads c.in-Some.is put.1 in
-    let past = none_behind c.in-Some.reached.more (c.loop-reached.place + 1) (length (sys.targets (port_of sys c.args.from))) c.in-Some.ensures.more c.if-not-reached.true in
-    rw put.2 (last_gone sys c.args.forest.now.resource _ _ c.args.outs.now.items (c.loop-reached.place + 1) _ gone past)
+    let r = c.args.forest.now.resource in
+    let outs = c.args.outs.now.items in
+    let targets = sys.targets (port_of sys c.args.from) in
+    let gone = one_more_gone sys r _ targets outs 0 outs c.reached.result c.in-Some.reached put.0
+    (none_gone sys r _ _ outs c.requires.outs) c.reached.ensures.leads c.in-Some.is put.1 in
+    rw put.2 (last_gone sys r _ _ outs 1 _ gone (none_behind c.in-Some.reached.more 1 (length targets) c.in-Some.ensures.more c.if-not-reached.true))
 
 pub returns-then-not-reached-clause-outs : goal.returns-then-not-reached-clause-outs
 returns-then-not-reached-clause-outs c =
     let put = c.in_ok-put_out.ensures in
     let sys = system_of c.args.system.now in
-    let gone = one_more_gone sys c.args.forest.now.resource _ (sys.targets (port_of sys c.args.from)) c.args.outs.now.items c.loop-reached.place c.loop-reached.outs.items c.reached.result c.in-Some.reached put.0
-    c.loop-reached.invariant c.reached.ensures.leads c.in-Some.is put.1 in
+    let r = c.args.forest.now.resource in
+    let outs = c.args.outs.now.items in
+    let gone = one_more_gone sys r _ (sys.targets (port_of sys c.args.from)) outs 0 outs c.reached.result c.in-Some.reached put.0
+    (none_gone sys r _ _ outs c.requires.outs) c.reached.ensures.leads c.in-Some.is put.1 in
     rw put.2 gone.belong

@@ -5,15 +5,15 @@ use Rattle.fb_net.proofs.event_blocks.expire_at.Goals as goal
 
 pub returns : goal.returns
 returns c =
-    changed_here _ c.args.blocks.now c.args.seat c.in-Some.place.now (sym c.in-Some.ensures.value) _ c.expire.result
+    changed_here _ c.args.blocks.now c.args.seat c.in-Some.place.now (sym c.in-Some.ensures.value) _ c.step_at_expiry.result
     (record {
       event = _;
-      state = c.expire.new.state;
+      state = c.step_at_expiry.new.state;
       was_event = c.in-Event.is ∙ ap block.Event (sym c.in-Event.event-is);
       is_event = search rules;
-      memory = c.expire.ensures.memory;
-      timer = c.expire.ensures.timer;
-      sent = c.expire.ensures.emitted;
-      kind = c.expire.ensures.kind;
-      well_formed = c.expire.ensures.well_formed;
+      memory = c.step_at_expiry.ensures.memory;
+      timer = c.step_at_expiry.ensures.timer;
+      sent = c.step_at_expiry.ensures.emitted;
+      kind = c.step_at_expiry.ensures.kind;
+      well_formed = c.step_at_expiry.ensures.well_formed;
     })

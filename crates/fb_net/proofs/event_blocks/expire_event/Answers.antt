@@ -9,27 +9,17 @@ expire_at-requires-clause-event c =
     let there = event_there c.args.system.now c.args.forest.now c.args.instance c.args.kind one.0 c.requires.kind c.requires.instance one.1 one.2 in
     (there.0, ap (slice_get c.args.forest.now.blocks) c.seat-seat.ensures ∙ there.1)
 
-pub returns-in-Ok-clause-reacted : goal.returns-in-Ok-clause-reacted
-returns-in-Ok-clause-reacted c =
+pub returns-clause-reacted : goal.returns-clause-reacted
+returns-clause-reacted c =
     expired_came c.args.system.now c.facts.ensures.numbered c.args.forest.now c.args.instance c.requires.instance c.args.kind c.requires.kind c.seat-seat.result c.seat-seat.ensures
-    c.args.tick c.args.emits.now c.expire_at.new.emits c.expire_at.new.ask _ c.expire_at.new.blocks c.in-Ok.ensures c.requires.fresh
+    c.args.tick c.expire_at.result c.expire_at.new.blocks c.expire_at.ensures
 
-pub returns-in-Ok-clause-emissions : goal.returns-in-Ok-clause-emissions
-returns-in-Ok-clause-emissions c =
+pub returns-clause-emissions : goal.returns-clause-emissions
+returns-clause-emissions c =
     expired_fit c.args.system.now c.facts.ensures.numbered c.args.forest.now c.args.instance c.requires.instance c.args.kind c.requires.kind c.seat-seat.result c.seat-seat.ensures
-    c.args.tick c.args.emits.now c.expire_at.new.emits c.expire_at.new.ask _ c.expire_at.new.blocks c.expire_at.ensures c.requires.one c.requires.fresh
+    c.args.tick c.expire_at.result c.expire_at.new.blocks c.expire_at.ensures c.requires.one
 
-pub returns-in-Ok-clause-whole : goal.returns-in-Ok-clause-whole
-returns-in-Ok-clause-whole c =
+pub returns-clause-whole : goal.returns-clause-whole
+returns-clause-whole c =
     expired_whole c.args.system.now c.facts.ensures.numbered c.args.forest.now c.args.instance c.requires.instance c.args.kind c.requires.kind c.seat-seat.result c.seat-seat.ensures
-    c.args.tick c.args.emits.now c.expire_at.new.emits c.expire_at.new.ask _ c.expire_at.new.blocks c.expire_at.ensures c.requires.one
-
-pub returns-in-Err-clause-emissions : goal.returns-in-Err-clause-emissions
-returns-in-Err-clause-emissions c =
-    expired_fit c.args.system.now c.facts.ensures.numbered c.args.forest.now c.args.instance c.requires.instance c.args.kind c.requires.kind c.seat-seat.result c.seat-seat.ensures
-    c.args.tick c.args.emits.now c.expire_at.new.emits c.expire_at.new.ask _ c.expire_at.new.blocks c.expire_at.ensures c.requires.one c.requires.fresh
-
-pub returns-in-Err-clause-whole : goal.returns-in-Err-clause-whole
-returns-in-Err-clause-whole c =
-    expired_whole c.args.system.now c.facts.ensures.numbered c.args.forest.now c.args.instance c.requires.instance c.args.kind c.requires.kind c.seat-seat.result c.seat-seat.ensures
-    c.args.tick c.args.emits.now c.expire_at.new.emits c.expire_at.new.ask _ c.expire_at.new.blocks c.expire_at.ensures c.requires.one
+    c.args.tick c.expire_at.result c.expire_at.new.blocks c.expire_at.ensures c.requires.one

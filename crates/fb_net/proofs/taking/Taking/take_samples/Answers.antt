@@ -1,32 +1,12 @@
-use Rattle.std.proofs.Common.{List, length, sym, ap, subst, ◌∙◌}
+use Rattle.std.proofs.Common.{length, sym, ap, ◌∙◌}
 use Rattle.std.proofs.lemmas.Bool.{eqb-true}
 use Rattle.std.proofs.lemmas.Result.{on_ok_weaker}
 use Rattle.fb_types.specs.Headline.{system_of}
-use Rattle.fb_types.specs.declared.value.Value.{Value}
-use Rattle.fb_net.specs.Samples.{all_sampled, names_in}
-use Rattle.fb_tree.specs.Changes.{Changes}
+use Rattle.fb_net.specs.Samples.{names_in}
 use Rattle.fb_net.proofs.Changing.{samples_none}
 use Rattle.fb_net.proofs.Sampling.{none-sampled, sampling-stands}
-use Rattle.fb_net.proofs.Wholes.{kept-changed, kept-same}
+use Rattle.fb_net.proofs.Wholes.{kept-same}
 use Rattle.fb_net.proofs.taking.Taking.take_samples.Goals as goal
-
-pub returns-clause-taken : goal.returns-clause-taken
-returns-clause-taken c =
-    let i = c.args.self.now.system.now in
-    let at = c.args.at in
-    let kept = subst (λ (vs : List Value). Changes i c.args.self.now.forest.now at.instance (all_sampled (names_in (system_of i) at) vs) c.keep_samples.new.forest) c.as_slice.ensures c.keep_samples.ensures in
-    on_ok_weaker c.write_taken-2.result
-    (λ written. sampling-stands i c.args.self.now.key.now at c.args.self.now.forest.now c.keep_samples.new.forest c.args.self.now.outbox.now c.write_taken-2.new.outbox c.in_ok-values.values
-    c.requires.place.ready c.requires.input c.requires.place.here c.in_ok-values.ensures.sampled kept written c.write_taken-2.ensures.outs c.write_taken-2.ensures.timer)
-    c.write_taken-2.ensures.written
-
-pub returns-in_err-values-clause-kept : goal.returns-in_err-values-clause-kept
-returns-in_err-values-clause-kept c =
-    kept-same c.args.self.now.system.now c.args.self.now.forest.now
-
-pub returns-clause-kept : goal.returns-clause-kept
-returns-clause-kept c =
-    kept-changed c.args.self.now.system.now c.args.self.now.forest.now c.keep_samples.new.forest c.args.at.instance _ c.keep_samples.ensures c.requires.place.here
 
 pub returns-then-is_empty-clause-taken : goal.returns-then-is_empty-clause-taken
 returns-then-is_empty-clause-taken c =

@@ -10,11 +10,11 @@ use Rattle.fb_net.specs.Outs.{out_of}
 use Rattle.fb_net.specs.declared.outbox.Outbox.{Outbox}
 use Rattle.fb_net.proofs.Emitting.{Doing, are_carried, has_emitted, line_by}
 use Rattle.fb_net.proofs.Wholes.{kept-changed}
-use Rattle.fb_net.proofs.taking.Taking.emit_one.Goals as goal
+use Rattle.fb_net.proofs.taking.Taking.emit_at.Goals as goal
 
 pub send_out-requires-clause-carried : goal.send_out-requires-clause-carried
 send_out-requires-clause-carried c =
-    are_carried (system_of c.args.self.now.system.now) c.args.instance c.outputs_with-places.result.now c.as_slice-2.result.now c.requires.place.number c.outputs_with-places.ensures.within
+    are_carried (system_of c.args.self.now.system.now) c.args.instance c.args.places.now c.as_slice-2.result.now c.requires.place.number c.requires.places.within
 
 pub returns-clause-emitted : goal.returns-clause-emitted
 returns-clause-emitted c =
@@ -22,14 +22,14 @@ returns-clause-emitted c =
     let sys = system_of i in
     let k = c.args.instance in
     let e = c.args.emission in
-    let places = c.outputs_with-places.result.now in
+    let places = c.args.places.now in
     let f = c.args.self.now.forest.now in
     let g = c.publish_all.new.forest in
     let x = c.args.self.now.outbox.now in
     let y : Outbox = record { lines = c.push_reserved.new.self; outs = c.send_out.new.outs; timer = x.timer } in
     let done : Doing i c.args.self.now.key.now k f x e g y = record {
       places = places;
-      stand = c.outputs_with-places.ensures;
+      stand = c.requires.places;
       published = subst (λ (vs : List Value). Changes i f k (outputs_shown (outputs_at sys k places vs)) g) c.as_slice.ensures c.publish_all.ensures;
       sent =
           c.in_ok-send_out.ensures.sent

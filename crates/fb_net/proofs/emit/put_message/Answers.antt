@@ -2,7 +2,7 @@ use Rattle.std.proofs.Common.{◌<◌, length, sym, subst}
 use Rattle.fb_types.specs.Headline.{system_of}
 use Rattle.fb_types.specs.Numbers.{path_at}
 use Rattle.fb_net.proofs.Bounds.{resource_named}
-use Rattle.fb_net.proofs.emit.put_out.Goals as goal
+use Rattle.fb_net.proofs.emit.put_message.Goals as goal
 
 pub link-link-requires-clause-to : goal.link-link-requires-clause-to
 link-link-requires-clause-to c =
