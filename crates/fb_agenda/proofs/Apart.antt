@@ -18,6 +18,13 @@ use Rattle.fb_types.specs.declared.run.Event.{Event}
 use Rattle.fb_agenda.proofs.Orders.{less_from, not_none, absent, all_later, found_after, rise_after, precedes, without_first}
 use Rattle.fb_types.proofs.Lookups.{or_else_none, or_else_nones}
 
+-- nothing waits
+pub apart_none : (local later : List (Key × Event)) (due : List ℕ) → local ≡ [] → later ≡ [] → AreApart (record { local = local; later = later; due = due })
+unfolding IsStrictlySortedBy
+apart_none local later due none nil =
+    subst (λ l. AreApart (record { local = l; later = later; due = due })) (sym none)
+    (subst (λ l. AreApart (record { local = []; later = l; due = due })) (sym nil) (record { rising = tt; local = λ j other. refl; later = λ j here. refl }))
+
 module _ (c : Contents) (apart : AreApart c) (k : Key) (w : Option Event) where
   -- ---- Changes of the local events
 
@@ -249,6 +256,12 @@ module _ (c : Contents) (apart : AreApart c) where
       → AreApart (record { local = c.local; later = new; due = c.due })
   popped_apart new None sets kept = subst (λ l. AreApart (record { local = c.local; later = l; due = c.due })) (sym kept) apart
   popped_apart new (Some f) sets kept = later_apart c apart f.0 None new sets c.due (λ h. refl)
+
+-- where none is taken, nothing changes
+pub none_kept : (c mid : Contents) → mid ≡ c → (new : List (Key × Event)) (o : Option (Key × Event)) → IfNone o (new ≡ mid.later)
+    → IfNone o ((record { local = mid.local; later = new; due = mid.due }) ≡ c)
+none_kept c mid same new None kept = ap (λ l. record { local = mid.local; later = l; due = mid.due }) kept ∙ same
+none_kept c mid same new (Some f) kept = tt
 
 -- ---- Putting
 

@@ -3,4 +3,4 @@ use Rattle.fb_agenda.specs.Agendas.{Contents}
 use Rattle.fb_agenda.specs.declared.agenda.Agenda.TheInside.{Inside}
 
 abbrev pub contents_of : Inside → Contents
-contents_of a = record { local = a.local.items; later = a.later; due = a.due.items }
+contents_of a = record { local = a.local; later = a.later; due = a.due.items }

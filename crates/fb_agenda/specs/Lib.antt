@@ -2,3 +2,5 @@ pub mod Agendas
 pub mod Arrivals
 pub mod Calendars
 pub mod Inside
+pub mod Numbered
+pub mod Places

@@ -2,19 +2,22 @@
 
 ghost use Rattle.std.specs.Prelude.{◌≡◌, ◌<◌, if◌then◌else◌, length, Some, None, IfSome, IfNone, IfOk, IfErr, OnOk, OnErr, slice_set};
 ghost use Rattle.std.specs.Bool.{OnFalse, OnTrue};
-ghost use Rattle.fb_types.specs.Keys.{Precedes, changed_to, found, or_else, same_key, timer_key};
+ghost use Rattle.fb_types.specs.Keys.{Precedes, changed_to, found, local_key, or_else, same_key, timer_key};
 ghost use Rattle.fb_types.specs.Takes.{is_timer_of};
 ghost use Rattle.fb_agenda.specs.Agendas.{waiting, AreRising, IsNext, IsTimed, LiesIn, timer_set};
 ghost use Rattle.fb_agenda.specs.Arrivals.{AreNew, arrivals_at};
-ghost use Rattle.fb_agenda.specs.Calendars.{Leads};
-ghost use Rattle.fb_types.specs.declared.run.Event.TheVariants.{Timer};
+ghost use Rattle.fb_agenda.specs.Calendars.{BeginsAt, Leads, Sets};
+ghost use Rattle.fb_agenda.specs.Places.{taken};
+ghost use Rattle.std.specs.Map.{lookup};
+ghost use Rattle.fb_types.specs.declared.run.Event.TheVariants.{Local, Timer};
 
+use crate::arrivals;
 use crate::calendar::Calendar;
-use crate::{arrivals, rising};
+use crate::least::Least;
+use crate::locals::Locals;
 use fb_types::key::Key;
-use fb_types::run::{Event, Message, TimerAsk};
+use fb_types::run::{Event, Message, Target, TimerAsk};
 use std::alloc::{AllocError, Global};
-use std::collections::VecDeque;
 use std::marker::Model;
 
 /// The class of the keys of timers.
@@ -26,9 +29,8 @@ const LOCAL: u8 = 3;
 /// The events that wait, one at most under each key, and when the timers of the instances go off.
 #[derive(Drop)]
 pub struct Agenda {
-    /// The local events, in the order of their keys, in which they also come: so one is put, and the next
-    /// one found, in constant time.
-    local: VecDeque<(Key, Event)>,
+    /// The local events. They come in the order of their keys: so one is put, and the next one found, in constant time.
+    local: Locals,
     /// All other events.
     later: Calendar,
     /// For each instance the tick at which its timer goes off, or went off last.
@@ -62,23 +64,49 @@ fn key_of_timer(tick: u64, resource: u32, instance: u32) -> Key
 
 /// Whether a local event waits, and no other before it.
 #[inline(always)]
-fn is_local_first(local: &VecDeque<(Key, Event)>, later: &mut Calendar) -> bool
-    requires { AreRising local.now.items }
-    ensures local { OnTrue result (Leads local.now.items later.old) }
-    ensures later { OnFalse result (Leads later.old local.now.items) }
+fn is_local_first(local: &Locals, later: &mut Calendar) -> bool
+    requires { AreRising local.now }
+    ensures local { OnTrue result (Leads local.now later.old) }
+    ensures later { OnFalse result (Leads later.old local.now) }
     ensures kept { later.new ≡ later.old }
 {
-    let Some(first) = rising::first(local) else {
+    let Some(tick) = local.first_tick() else {
         return false;
     };
     // Mostly no other event waits at the tick of the local ones.
-    if later.is_past(first.tick) {
+    if later.is_past(tick) {
         return true;
     }
+    is_local_less(local, later)
+}
+
+/// The same, by the first keys of both.
+#[inline(never)]
+fn is_local_less(local: &Locals, later: &Calendar) -> bool
+    requires { AreRising local.now }
+    ensures local { OnTrue result (Leads local.now later.now) }
+    ensures later { OnFalse result (Leads later.now local.now) }
+{
+    let Some(first) = local.first() else {
+        return false;
+    };
     let Some(other) = later.first() else {
         return true;
     };
-    *first < *other
+    first < *other
+}
+
+/// Puts the first of these events into its place, if its tick is below the horizon, and tells whether it is. It leaves.
+#[inline(never)]
+fn pop_later(later: &mut Calendar, horizon: u64, place: &mut Least) -> bool
+    ensures value { IfSome (taken result place.new) (λ r. lookup (same_key r.0) later.old ≡ Some r.1) }
+    ensures none_before { IfSome (taken result place.new) (λ r. (j : Key) → Precedes j r.0 → lookup (same_key j) later.old ≡ None) }
+    ensures left { IfSome (taken result place.new) (λ r. Sets r.0 None later.old later.new) }
+    ensures below { IfSome (taken result place.new) (λ r. r.0.tick < horizon) }
+    ensures none { IfNone (taken result place.new) (BeginsAt horizon later.old) }
+    ensures kept { IfNone (taken result place.new) (later.new ≡ later.old) }
+{
+    place.hold(later.pop_below(horizon))
 }
 
 impl Agenda {
@@ -93,7 +121,7 @@ impl Agenda {
     {
         let due = vec![in alloc; 0u64; instances]?;
         Ok(Agenda {
-            local: VecDeque::new(alloc),
+            local: Locals::new(alloc),
             later: Calendar::new(alloc),
             due,
         })
@@ -111,10 +139,31 @@ impl Agenda {
         ensures err { OnErr result (self.new ≡ self.old) }
     {
         if key.class == LOCAL {
-            rising::insert(&mut self.local, key, event)
+            self.local.insert(key, event)
         } else {
             self.later.insert(key, event)
         }
+    }
+
+    /// Puts a local event under the key of its number, in the place of one that waits there. It is `put` for an event that
+    /// follows those of its tick and resource, in fewer steps.
+    ///
+    /// # Errors
+    ///
+    /// When memory runs out. The agenda is then as it was.
+    #[inline(always)]
+    pub fn put_local(
+        &mut self,
+        tick: u64,
+        resource: u32,
+        number: u128,
+        target: Target,
+    ) -> Result<(), AllocError>
+        ensures put { OnOk result ((j : Key) → waiting self.new j ≡ (if same_key (local_key tick resource number) j then Some (Local target) else waiting self.old j)) }
+        ensures due { self.new.due ≡ self.old.due }
+        ensures err { OnErr result (self.new ≡ self.old) }
+    {
+        self.local.put(tick, resource, number, target)
     }
 
     /// Puts messages for a resource under their keys, or none of them.
@@ -152,10 +201,30 @@ impl Agenda {
         ensures none { IfNone result ((j : Key) → j.tick < horizon → waiting self.old j ≡ None) }
         ensures kept { IfNone result (self.new ≡ self.old) }
     {
+        let mut least = Least::new();
+        if !self.take_least_into(horizon, &mut least) {
+            return None;
+        }
+        let Least { key, event } = least;
+        Some((key, event))
+    }
+
+    /// Puts the event under the least key into its place, if its tick is below the horizon, and tells whether it is. It
+    /// leaves the agenda.
+    #[inline(always)]
+    pub fn take_least_into(&mut self, horizon: u64, place: &mut Least) -> bool
+        ensures found { OnTrue result (waiting self.old place.new.key ≡ Some place.new.event) }
+        ensures below { OnTrue result (place.new.key.tick < horizon) }
+        ensures least { OnTrue result ((j : Key) → Precedes j place.new.key → waiting self.old j ≡ None) }
+        ensures left { OnTrue result ((j : Key) → waiting self.new j ≡ (if same_key place.new.key j then None else waiting self.old j)) }
+        ensures due { self.new.due ≡ self.old.due }
+        ensures none { OnFalse result ((j : Key) → j.tick < horizon → waiting self.old j ≡ None) }
+        ensures kept { OnFalse result (self.new ≡ self.old) }
+    {
         if is_local_first(&self.local, &mut self.later) {
-            rising::pop_below(&mut self.local, horizon)
+            self.local.pop_into(horizon, place)
         } else {
-            self.later.pop_below(horizon)
+            pop_later(&mut self.later, horizon, place)
         }
     }
 
@@ -165,7 +234,7 @@ impl Agenda {
         ensures none { IfNone result ((j : Key) → waiting self.now j ≡ None) }
     {
         // The least key has the lesser of the two ticks, so no keys are compared.
-        let Some(local) = rising::first_tick(&self.local) else {
+        let Some(local) = self.local.first_tick() else {
             return self.later.first_tick();
         };
         let Some(later) = self.later.first_tick() else {

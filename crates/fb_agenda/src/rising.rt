@@ -40,16 +40,16 @@ pub(crate) fn insert(
     }
 }
 
-/// Makes room for one event more, where there is none.
+/// Makes room for one more, where there is none.
 #[inline(always)]
-fn make_room(events: &mut VecDeque<(Key, Event)>) -> Result<(), AllocError>
-    ensures items { events.new.items ≡ events.old.items }
-    ensures room { OnOk result (deque_len events.new < deque_capacity events.new) }
+pub(crate) fn make_room<T>(row: &mut VecDeque<T>) -> Result<(), AllocError>
+    ensures items { row.new.items ≡ row.old.items }
+    ensures room { OnOk result (deque_len row.new < deque_capacity row.new) }
 {
-    if events.len() < events.capacity() {
+    if row.len() < row.capacity() {
         return Ok(());
     }
-    events.reserve(1)
+    row.reserve(1)
 }
 
 /// The first key.

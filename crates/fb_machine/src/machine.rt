@@ -15,6 +15,7 @@ ghost use Rattle.fb_machine.specs.Runs.{IsSpent};
 
 use crate::deliver::deliver;
 use crate::pause::Pause;
+use fb_agenda::least::Least;
 use fb_net::tree::Tree;
 use fb_system::system::System;
 use fb_take::meter::Meter;
@@ -26,11 +27,22 @@ use fb_types::value::Reason;
 use std::alloc::AllocError;
 
 /// The one agenda of all resources, with what takings give, and the blocks and the counts of each.
-#[derive(Drop)]
 pub struct Machine {
     pub(crate) queues: Queues,
     pub(crate) trees: Vec<Tree>,
     pub(crate) meters: Vec<Meter>,
+}
+
+// Written out, and not derived: so it is proved here alone what is let go with a machine, and not in each crate that lets
+// one go.
+impl Drop for Machine {
+    fn drop(self) {
+        let Machine {
+            queues: _,
+            trees: _,
+            meters: _,
+        } = self;
+    }
 }
 
 impl Machine {
@@ -89,11 +101,12 @@ impl Machine {
         ensures ready { OnOk result ((tick : ℕ) × IsReady system.now limit tick self.new) }
         ensures sooner { IfOk result (IsSooner horizon limit self.old self.new) }
     {
-        while let Some((key, event)) = self.queues.agenda.take_least(horizon) {
-            if let Some(reason) = self.take(system, limit, &key, &event)? {
+        let mut least = Least::new();
+        while self.queues.agenda.take_least_into(horizon, &mut least) {
+            if let Some(reason) = self.take(system, limit, &least.key, &least.event)? {
                 return Ok(Pause::Stop(StopMark {
-                    tick: key.tick,
-                    resource: key.resource,
+                    tick: least.key.tick,
+                    resource: least.key.resource,
                     reason,
                 }));
             }

@@ -9,7 +9,7 @@ use Rattle.fb_types.specs.Simulation.{opening, opening_agenda, opening_state}
 use Rattle.fb_types.specs.Takes.{world_of}
 use Rattle.fb_types.specs.declared.key.Key.{Key}
 use Rattle.fb_types.proofs.Lookups.{or_else_none}
-use Rattle.fb_agenda.specs.Agendas.{waiting}
+use Rattle.fb_agenda.specs.Agendas.{Contents, waiting}
 use Rattle.fb_types.specs.declared.run.Event.{Event}
 use Rattle.fb_net.specs.Events.{event_of}
 use Rattle.fb_take.specs.Openings.{IsOpened}
@@ -98,3 +98,9 @@ all_opened i limit xs counted each = record {
   clock = λ r x is. (each limit r x is).clock;
   state = λ r x is. (each limit r x is).state;
 }
+
+-- ---- The place of one that is handed on
+
+pub at_middle : (ys : List Contents) (a : Contents) (zs : List Contents) → slice_get (ys ++ a ∷ zs) (length ys) ≡ Some a
+at_middle [] a zs = refl
+at_middle (y ∷ ys) a zs = at_middle ys a zs

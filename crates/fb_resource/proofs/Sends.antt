@@ -23,7 +23,7 @@ use Rattle.fb_types.proofs.text.UnaryOperator.TheSendSync as unary
 use Rattle.fb_types.proofs.text.BinaryOperator.TheSendSync as binary
 use Rattle.fb_types.proofs.text.Label.TheSendSync as label
 use Rattle.fb_fabric.proofs.wiring.Wiring.TheSendSync as wiring
-use Rattle.fb_system.proofs.heads.Heads.TheSendSync as heads
+use Rattle.fb_system.proofs.kept.Kept.TheSendSync as kept
 use Rattle.fb_system.proofs.links.Links.TheSendSync as links
 use Rattle.fb_system.proofs.interfaces.Interfaces.TheSendSync as interfaces
 use Rattle.fb_system.proofs.rows.StimulusRow.TheSendSync as row
@@ -43,7 +43,7 @@ use Rattle.fb_types.specs.contracts.library.BlockType as BlockType
 use Rattle.fb_types.specs.contracts.library.Library as Library
 use Rattle.fb_fabric.specs.contracts.tables.Tables as Tables
 use Rattle.fb_fabric.specs.contracts.fabric.Fabric as Fabric
-use Rattle.fb_system.specs.contracts.heads.Heads as Heads
+use Rattle.fb_system.specs.contracts.kept.Kept as Kept
 use Rattle.fb_system.specs.contracts.whole.Whole as Whole
 use Rattle.fb_system.specs.contracts.system.System as System
 use Rattle.fb_system.specs.contracts.system.System.TheInside as I
@@ -133,10 +133,10 @@ pub system_send : IsSend System.the_row
 system_send =
     let whole = recorded_send (Whole.the_field).row _ _ (Whole.the_type).to_one whole_send in
     let whole_seen = recorded_sync (Whole.the_field).row _ _ (Whole.the_type).to_one whole_sync in
-    let rows = recorded_send (Heads.the_field).row _ _ (Heads.the_type).to_one heads.the_field_send in
-    let rows_seen = recorded_sync (Heads.the_field).row _ _ (Heads.the_type).to_one heads.the_field_sync in
+    let rows = recorded_send (Kept.the_field).row _ _ (Kept.the_type).to_one kept.the_field_send in
+    let rows_seen = recorded_sync (Kept.the_field).row _ _ (Kept.the_type).to_one kept.the_field_sync in
     view_send I.the_row _ _ _ _
-    (recorded_send (I.the_field).row _ _ (I.the_type).to_one (struct_send (shape I.the_type) (Arc-send Whole.the_row whole whole_seen, (Arc-send Heads.the_row rows rows_seen, tt))))
+    (recorded_send (I.the_field).row _ _ (I.the_type).to_one (struct_send (shape I.the_type) (Arc-send Whole.the_row whole whole_seen, (Arc-send Kept.the_row rows rows_seen, tt))))
 
 pub block_send : IsSend (Block.the_field).row
 block_send = search (sendable, crosses, basic.the_field_send, event.the_field_send, composite.the_field_send) depth 40

@@ -32,9 +32,16 @@ pub struct Inner {
 }
 
 /// One resource by itself, which crosses threads as one pointer. Contracts see what it holds.
-#[derive(Drop)]
 pub struct Resource {
     pub(crate) inner: Box<Inner>,
+}
+
+// Written out, and not derived: so it is proved here alone what is let go with a resource, and not in each crate that
+// lets one go.
+impl Drop for Resource {
+    fn drop(self) {
+        let Resource { inner: _ } = self;
+    }
 }
 
 impl Model for Resource {

@@ -6,6 +6,7 @@ ghost use Rattle.fb_resource.specs.Runs.{HasTakenAll, IsRunning};
 ghost use Rattle.fb_resource.specs.declared.resource.WindowDone.TheVariants.{Ran};
 
 use crate::resource::{Inner, Resource, WindowDone};
+use fb_agenda::least::Least;
 use fb_system::system::System;
 use fb_take::take::take;
 use fb_types::run::{Line, Message, StopMark};
@@ -35,21 +36,22 @@ impl Inner {
         ensures stop { IfOk result (λ stop. stop ≡ mark_of self.new.tree.resource self.new.clock self.new.stopped) }
     {
         system.facts();
-        while let Some((key, event)) = self.queues.agenda.take_least(to) {
-            self.clock = key.tick;
+        let mut least = Least::new();
+        while self.queues.agenda.take_least_into(to, &mut least) {
+            self.clock = least.key.tick;
             self.stopped = take(
                 &mut self.tree,
                 &mut self.meter,
                 &mut self.queues,
                 system,
                 steps,
-                &key,
-                &event,
+                &least.key,
+                &least.event,
             )?;
             if let Some(reason) = self.stopped {
                 return Ok(Some(StopMark {
-                    tick: key.tick,
-                    resource: key.resource,
+                    tick: least.key.tick,
+                    resource: least.key.resource,
                     reason,
                 }));
             }

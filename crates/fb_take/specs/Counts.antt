@@ -1,10 +1,18 @@
 -- The counts of one tick of a resource (this project's profile).
-use Rattle.std.specs.Prelude.{◌+◌, ◌-◌, ◌*◌, ◌^◌, ◌≤◌, ℕ, Some, None}
+use Rattle.std.specs.Prelude.{◌≡◌, ◌+◌, ◌-◌, ◌*◌, ◌^◌, ◌≤◌, ℕ, suc, Some, None}
 use Rattle.fb_types.specs.States.{Meter}
 use Rattle.fb_take.specs.declared.meter.Meter as counted
 
 abbrev pub meter_of : counted.Meter → Meter
 meter_of m = record { tick = m.tick; left = m.left; locals = m.locals }
+
+-- the counts before a step was used
+abbrev pub before_step : counted.Meter → counted.Meter
+before_step m = record { tick = m.tick; left = suc m.left; locals = m.locals }
+
+-- No step is left.
+abbrev pub HasNoSteps : Meter → Type 0
+HasNoSteps m = m.left ≡ 0
 
 -- In one tick there are at most so many local events for each step that was used.
 pub record IsMetered (limit : ℕ) (m : counted.Meter) : Type 0 where

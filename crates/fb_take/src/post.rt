@@ -16,11 +16,8 @@ use fb_agenda::agenda::Agenda;
 use fb_net::outbox::{Out, Sending};
 use fb_system::system::System;
 use fb_types::key::Key;
-use fb_types::run::{Event, Message, Target};
+use fb_types::run::{Message, Target};
 use std::alloc::AllocError;
-
-/// The class of the keys of local events.
-const LOCAL: u8 = 3;
 
 /// Puts a local event on the agenda, under its number within the tick.
 #[inline(always)]
@@ -35,14 +32,7 @@ fn post_local(
     ensures due { agenda.new.due ≡ agenda.old.due }
     ensures counted { OnOk result (locals.new ≡ locals.old + 1) }
 {
-    let local = Key {
-        tick: key.tick,
-        resource: key.resource,
-        class: LOCAL,
-        a: *locals,
-        b: 0,
-    };
-    agenda.put(local, Event::Local(target))?;
+    agenda.put_local(key.tick, key.resource, *locals, target)?;
     *locals += 1;
     Ok(())
 }

@@ -186,15 +186,12 @@ pub fn take(
     ensures spent { IfOk result (λ stop. stop ≡ None → (meter.new.tick ≡ Some key.now.tick) × (suc meter.new.left ≤ (begun limit key.now.tick (meter_of meter.old)).left)) }
     ensures tree { tree.new.resource ≡ tree.old.resource }
 {
-    let mut begun = *meter;
-    begun.begin(limit, key.tick);
-    if begun.left == 0 {
+    if !meter.step(limit, key.tick) {
         return Ok(Some(Reason::Steps));
     }
-    begun.left -= 1;
     let stop = take_in(
         tree,
-        &mut begun.left,
+        &mut meter.left,
         &mut queues.outbox,
         system,
         key,
@@ -202,7 +199,6 @@ pub fn take(
     )?;
     system.facts();
     // A reaction that stops posts what it had put out before.
-    settle(queues, &mut begun.locals, system, key, event)?;
-    *meter = begun;
+    settle(queues, &mut meter.locals, system, key, event)?;
     Ok(stop)
 }

@@ -1,24 +1,20 @@
-use Rattle.std.proofs.Common.{sym, subst, ◌∙◌}
-use Rattle.fb_agenda.specs.Agendas.{IsFirst}
-use Rattle.fb_agenda.proofs.Calendars.{leads_less, leads_not_less, leads_past, when_false, when_true}
-use Rattle.fb_agenda.proofs.Orders.{less_is}
+use Rattle.std.proofs.Common.{◌≡◌, ◌≤◌, None, sym, subst}
+use Rattle.std.specs.Bool.{OnFalse, OnTrue}
+use Rattle.std.specs.Map.{lookup}
+use Rattle.fb_types.specs.Keys.{same_key}
+use Rattle.fb_types.specs.declared.key.Key.{Key}
+use Rattle.fb_agenda.specs.Calendars.{Leads}
+use Rattle.fb_agenda.proofs.Calendars.{leads_past}
 use Rattle.fb_agenda.proofs.agenda.is_local_first.Goals as goal
 
 pub returns-then-is_past-clause-local : goal.returns-then-is_past-clause-local
-returns-then-is_past-clause-local c = leads_past c.args.local.now.items c.args.later.now c.in-Some.first.now c.in-Some.ensures.some c.if-is_past.ensures.past
+returns-then-is_past-clause-local c =
+    let first = c.in-Some.ensures.some in
+    leads_past c.args.local.now c.args.later.now first.0 first.2
+    (subst (λ t. (j : Key) → j.tick ≤ t → lookup (same_key j) c.args.later.now ≡ None) (sym first.1) c.if-is_past.ensures.past)
 
 pub returns-clause-local : goal.returns-clause-local
-returns-clause-local c =
-    let first = c.in-Some.first.now in
-    let other = c.in-Some-first.other.now in
-    let is_first : IsFirst c.args.later.now other = subst (λ es. IsFirst es other) c.is_past.ensures.kept c.in-Some-first.ensures.some in
-    when_true c.lt.result
-    (λ less. leads_less c.args.local.now.items c.args.later.now first other c.in-Some.ensures.some is_first (sym (c.lt.ensures ∙ less_is first other) ∙ less))
+returns-clause-local c = subst (λ es. OnTrue c.is_local_less.result (Leads c.args.local.now es)) c.is_past.ensures.kept c.is_local_less.ensures.local
 
 pub returns-clause-later : goal.returns-clause-later
-returns-clause-later c =
-    let first = c.in-Some.first.now in
-    let other = c.in-Some-first.other.now in
-    let is_first : IsFirst c.args.later.now other = subst (λ es. IsFirst es other) c.is_past.ensures.kept c.in-Some-first.ensures.some in
-    when_false c.lt.result
-    (λ less. leads_not_less c.args.local.now.items c.args.later.now first other c.in-Some.ensures.some is_first (sym (c.lt.ensures ∙ less_is first other) ∙ less))
+returns-clause-later c = subst (λ es. OnFalse c.is_local_less.result (Leads es c.args.local.now)) c.is_past.ensures.kept c.is_local_less.ensures.later

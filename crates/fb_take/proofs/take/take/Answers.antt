@@ -1,20 +1,25 @@
-use Rattle.std.proofs.Common.{All, refl, sym, ap, subst, ◌∙◌, arith}
+use Rattle.std.proofs.Common.{Some, All, refl, sym, ap, subst, ◌∙◌, arith}
 use Rattle.fb_types.specs.Headline.{system_of}
 use Rattle.fb_types.specs.Takes.{begun, world_of}
 use Rattle.fb_net.specs.Outs.{IsOut}
 use Rattle.fb_net.specs.Events.{IsEventIn, event_of}
 use Rattle.fb_laws.proofs.Accepted.{accepted_typed}
-use Rattle.fb_take.specs.Counts.{meter_of}
+use Rattle.fb_types.specs.declared.value.Reason.TheVariants.{Steps}
+use Rattle.fb_take.specs.Counts.{before_step, meter_of}
+use Rattle.fb_take.specs.Takings.{IsTakenHere}
+use Rattle.fb_take.specs.declared.meter.Meter.{Meter}
 use Rattle.fb_take.proofs.ReadyIs.{came_good, metered_after}
 use Rattle.fb_take.proofs.TakenIs.{taken_none, taken_one}
 use Rattle.fb_take.proofs.take.take.Goals as goal
 
-pub returns-then-begun-eq0-clause-taken : goal.returns-then-begun-eq0-clause-taken
-returns-then-begun-eq0-clause-taken c s here counts =
+pub returns-then-not-step-clause-taken : goal.returns-then-not-step-clause-taken
+returns-then-not-step-clause-taken c s here counts =
     let i = c.args.system.now in
     let k = c.args.key.now in
-    taken_none i c.args.limit s k (event_of i c.args.event.now) (meter_of c.begin.new.self) c.args.tree.now c.args.meter.now c.args.queues.now
-    (ap (begun c.args.limit k.tick) here.meter ∙ sym c.begin.ensures.begun) (omega (arith, c.if-begun-eq0.true)) here counts
+    let e = event_of i c.args.event.now in
+    let none = taken_none i c.args.limit s k e (begun c.args.limit k.tick (meter_of c.args.meter.now)) c.args.tree.now c.args.meter.now c.args.queues.now
+    (ap (begun c.args.limit k.tick) here.meter) c.if-not-step.ensures.none here counts in
+    subst (λ (m : Meter). IsTakenHere i c.args.limit s k e (Some Steps) c.args.tree.now m c.args.queues.now c.args.queues.now) (sym c.if-not-step.ensures.kept) none
 
 pub take_in-requires-clause-event : goal.take_in-requires-clause-event
 take_in-requires-clause-event c = subst (λ n. IsEventIn c.args.system.now n c.args.event.now) (sym c.requires.tree) c.requires.event
@@ -48,17 +53,17 @@ pub returns-clause-taken : goal.returns-clause-taken
 returns-clause-taken c s here counts =
     let i = c.args.system.now in
     let k = c.args.key.now in
-    taken_one i c.args.limit s k c.args.event.now c.begin.new.self _ _ _ c.args.queues.now _ _ c.args.tree.now c.args.meter.now c.take_in.new.tree c.take_in.new.outbox
+    taken_one i c.args.limit s k c.args.event.now (before_step c.step.new.self) _ _ _ c.args.queues.now _ _ c.args.tree.now c.args.meter.now c.take_in.new.tree c.take_in.new.outbox
     (accepted_typed i c.facts.ensures.accepted).system c.requires.typed
-    here counts (ap (begun c.args.limit k.tick) here.meter ∙ sym c.begin.ensures.begun) (omega (arith, c.if-begun-eq0.false))
-    (c.in_ok-stop.ensures.came (world_of s k.resource) here.blocks) refl c.in_ok-settle.ensures.settled c.begin.ensures.tick c.in_ok-settle.ensures.lines
+    here counts (ap (begun c.args.limit k.tick) here.meter ∙ sym c.if-not-step.ensures.used) refl
+    (c.in_ok-stop.ensures.came (world_of s k.resource) here.blocks) refl c.in_ok-settle.ensures.settled c.if-not-step.ensures.tick c.in_ok-settle.ensures.lines
 
 pub returns-clause-meter : goal.returns-clause-meter
 returns-clause-meter c =
-    metered_after c.args.limit c.begin.new.self _ _ c.begin.ensures.metered (omega (arith, c.if-begun-eq0.false)) c.in_ok-stop.ensures.fewer c.in_ok-settle.ensures.few
+    metered_after c.args.limit (before_step c.step.new.self) _ _ c.if-not-step.ensures.metered refl c.in_ok-stop.ensures.fewer c.in_ok-settle.ensures.few
 
 pub returns-clause-spent : goal.returns-clause-spent
 returns-clause-spent c going =
-    let left = ap (λ m. m.left) c.begin.ensures.begun in
+    let left = ap (λ m. m.left) c.if-not-step.ensures.used in
     let fewer = c.in_ok-stop.ensures.fewer in
-    (c.begin.ensures.tick, omega (arith, left, fewer, c.if-begun-eq0.false))
+    (c.if-not-step.ensures.tick, omega (arith, left, fewer))

@@ -5,7 +5,7 @@ use Rattle.fb_agenda.proofs.agenda.Agenda.put.Goals as goal
 pub invariant_of-self : goal.invariant_of-self
 invariant_of-self c =
     let v = contents_of c.self.inside in
-    put_local_apart v c.self.invariant c.args.key c.args.event c.if-key-eq-LOCAL.true c.insert.result c.insert.new.events.items c.insert.ensures.ok c.insert.ensures.err
+    put_local_apart v c.self.invariant c.args.key c.args.event c.if-key-eq-LOCAL.true c.insert.result c.insert.new.self c.insert.ensures.ok c.insert.ensures.err
 
 pub invariant_of-self-else-key-eq-LOCAL : goal.invariant_of-self-else-key-eq-LOCAL
 invariant_of-self-else-key-eq-LOCAL c =
@@ -17,7 +17,7 @@ pub returns-then-key-eq-LOCAL-clause-put : goal.returns-then-key-eq-LOCAL-clause
 returns-then-key-eq-LOCAL-clause-put c =
     let v = contents_of c.self.inside in
     rw (← c.self.view_is)
-    (put_local_waits v c.self.invariant c.args.key c.args.event c.if-key-eq-LOCAL.true c.insert.result c.insert.new.events.items c.insert.ensures.ok)
+    (put_local_waits v c.self.invariant c.args.key c.args.event c.if-key-eq-LOCAL.true c.insert.result c.insert.new.self c.insert.ensures.ok)
 
 pub returns-else-key-eq-LOCAL-clause-put : goal.returns-else-key-eq-LOCAL-clause-put
 returns-else-key-eq-LOCAL-clause-put c =

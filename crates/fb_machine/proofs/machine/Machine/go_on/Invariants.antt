@@ -6,13 +6,13 @@ use Rattle.fb_machine.specs.Pauses.{Pauses}
 use Rattle.fb_machine.specs.declared.pause.Pause.TheVariants.{Lines}
 use Rattle.fb_machine.proofs.machine.Machine.go_on.Given as goal
 
-abbrev pub invariant-loop-key : goal.invariant-loop-key
-invariant-loop-key l = record {
+abbrev pub invariant-loop-self : goal.invariant-loop-self
+invariant-loop-self l = record {
   ready : (tick : ℕ) × IsReady l.system l.limit tick l.self;
   stands : (c : Config) × IsAt l.system c.state c.agenda l.self;
   comes : (c : Config) → IsAt l.system c.state c.agenda l.initial.self → Pauses l.system l.horizon l.limit c l.initial.self l.self Lines;
   left : fuel_of_all l.horizon l.limit l.self.meters.items ≤ fuel_of_all l.horizon l.limit l.initial.self.meters.items;
 }
 
-abbrev pub decreases-loop-key : goal.decreases-loop-key
-decreases-loop-key l = fuel_of_all l.horizon l.limit l.self.meters.items
+abbrev pub decreases-loop-self : goal.decreases-loop-self
+decreases-loop-self l = fuel_of_all l.horizon l.limit l.self.meters.items

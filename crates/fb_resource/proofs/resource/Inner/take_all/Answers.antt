@@ -9,8 +9,8 @@ use Rattle.fb_resource.proofs.Running.{comes_first, comes_more, ran_rest, ran_st
 use Rattle.fb_resource.proofs.Standing.{HasLeft}
 use Rattle.fb_resource.proofs.resource.Inner.take_all.Goals as goal
 
-pub loop-key-init : goal.loop-key-init
-loop-key-init c =
+pub loop-self-init : goal.loop-self-init
+loop-self-init c =
     let i = c.args.system.now in
     let x = c.args.self.now in
     let of = c.requires.of in
@@ -23,42 +23,42 @@ loop-key-init c =
     }
 
 pub take-requires-clause-tree : goal.take-requires-clause-tree
-take-requires-clause-tree c = sym (c.loop-key.invariant.running.home c.in-Some.key c.in-Some.event c.in-Some.ensures.found)
+take-requires-clause-tree c = sym (c.loop-self.invariant.running.home c.take_least_into.new.place.key c.take_least_into.new.place.event c.loop-self-test.ensures.found)
 
 pub take-requires-clause-queues : goal.take-requires-clause-queues
 take-requires-clause-queues c =
-    let x = c.loop-key.self in
-    let found = c.in-Some.ensures in
-    ready_left c.args.system.now x.clock c.in-Some.key x.queues _ c.loop-key.invariant.running.ready found.left found.least found.due
+    let x = c.loop-self.self in
+    let found = c.loop-self-test.ensures in
+    ready_left c.args.system.now x.clock c.take_least_into.new.place.key x.queues _ c.loop-self.invariant.running.ready found.left found.least found.due
 
 pub take-requires-clause-stands : goal.take-requires-clause-stands
 take-requires-clause-stands c =
-    let x = c.loop-key.self in
-    let inv = c.loop-key.invariant in
+    let x = c.loop-self.self in
+    let inv = c.loop-self.invariant in
     let stands = (inv.comes c.requires.of.stands.0 c.requires.of.stands.1).stands in
-    let mine = inv.running.home c.in-Some.key c.in-Some.event c.in-Some.ensures.found in
+    let mine = inv.running.home c.take_least_into.new.place.key c.take_least_into.new.place.event c.loop-self-test.ensures.found in
     (stands.state, subst (λ r. IsHere c.args.system.now stands.state r x.tree x.meter) (sym mine) stands.here)
 
 pub take-requires-clause-event : goal.take-requires-clause-event
-take-requires-clause-event c = (c.loop-key.invariant.running.ready.order.waits c.in-Some.key c.in-Some.event c.in-Some.ensures.found).event
+take-requires-clause-event c = (c.loop-self.invariant.running.ready.order.waits c.take_least_into.new.place.key c.take_least_into.new.place.event c.loop-self-test.ensures.found).event
 
 pub take-requires-clause-typed : goal.take-requires-clause-typed
-take-requires-clause-typed c = (c.loop-key.invariant.running.ready.order.waits c.in-Some.key c.in-Some.event c.in-Some.ensures.found).typed
+take-requires-clause-typed c = (c.loop-self.invariant.running.ready.order.waits c.take_least_into.new.place.key c.take_least_into.new.place.event c.loop-self-test.ensures.found).typed
 
 pub take-requires-clause-named : goal.take-requires-clause-named
-take-requires-clause-named c = (c.loop-key.invariant.running.ready.order.waits c.in-Some.key c.in-Some.event c.in-Some.ensures.found).resource
+take-requires-clause-named c = (c.loop-self.invariant.running.ready.order.waits c.take_least_into.new.place.key c.take_least_into.new.place.event c.loop-self-test.ensures.found).resource
 
 -- ---- An event was taken
 
-pub returns-in-Some-stopped-clause-running : goal.returns-in-Some-stopped-clause-running
-returns-in-Some-stopped-clause-running c =
+pub returns-in-Some-clause-running : goal.returns-in-Some-clause-running
+returns-in-Some-clause-running c =
     let i = c.args.system.now in
-    let k = c.in-Some.key in
-    let e = c.in-Some.event in
-    let found = c.in-Some.ensures in
-    let inv = c.loop-key.invariant in
-    let old = c.loop-key.self in
-    let a = c.take_least.new.self in
+    let k = c.take_least_into.new.place.key in
+    let e = c.take_least_into.new.place.event in
+    let found = c.loop-self-test.ensures in
+    let inv = c.loop-self.invariant in
+    let old = c.loop-self.self in
+    let a = c.take_least_into.new.self in
     let gave = c.in_ok-self.ensures in
     let may = inv.running.ready.order.waits k e found.found in
     let mine = inv.running.home k e found.found in
@@ -73,15 +73,15 @@ returns-in-Some-stopped-clause-running c =
     let within : unwrap_or c.take.new.meter.tick 0 ≤ k.tick = omega (arith, tick, past, later) in
     running_more i c.args.steps old new k e a sound gave.tree mine inv.live may.event.here gone inv.running s.state t refl gave.meter within gave.queues
 
-pub returns-in-Some-stopped-clause-taken : goal.returns-in-Some-stopped-clause-taken
-returns-in-Some-stopped-clause-taken c l stands =
+pub returns-in-Some-clause-taken : goal.returns-in-Some-clause-taken
+returns-in-Some-clause-taken c l stands =
     let i = c.args.system.now in
-    let k = c.in-Some.key in
-    let e = c.in-Some.event in
-    let found = c.in-Some.ensures in
-    let inv = c.loop-key.invariant in
-    let old = c.loop-key.self in
-    let a = c.take_least.new.self in
+    let k = c.take_least_into.new.place.key in
+    let e = c.take_least_into.new.place.event in
+    let found = c.loop-self-test.ensures in
+    let inv = c.loop-self.invariant in
+    let old = c.loop-self.self in
+    let a = c.take_least_into.new.self in
     let gave = c.in_ok-self.ensures in
     let may = inv.running.ready.order.waits k e found.found in
     let mine = inv.running.home k e found.found in
@@ -91,37 +91,27 @@ returns-in-Some-stopped-clause-taken c l stands =
     let comes = inv.comes l stands in
     let m = comes.stands in
     let t = gave.taken m.state (subst (λ r. IsHere i m.state r old.tree old.meter) (sym mine) m.here) m.counts in
-    ran_stop i c.args.steps old new k e a sound gave.tree mine inv.live may.event.here gone c.args.self.now.tree.resource c.args.to l comes inv.tree found.below t c.in-Some-stopped.reason c.in-Some-stopped.is refl
+    ran_stop i c.args.steps old new k e a sound gave.tree mine inv.live may.event.here gone c.args.self.now.tree.resource c.args.to l comes inv.tree found.below t c.in-Some.reason c.in-Some.is refl
 
-pub loop-key-smaller-in_default-stopped : goal.loop-key-smaller-in_default-stopped
-loop-key-smaller-in_default-stopped c =
-    let k = c.in-Some.key in
-    let found = c.in-Some.ensures in
-    let running = c.loop-key.invariant.running in
-    let spent = c.in_ok-self.ensures.spent c.in_default-stopped.is in
+pub loop-self-smaller : goal.loop-self-smaller
+loop-self-smaller c =
+    let k = c.take_least_into.new.place.key in
+    let found = c.loop-self-test.ensures in
+    let running = c.loop-self.invariant.running in
+    let spent = c.in_ok-self.ensures.spent c.in_default.is in
     let past = running.past in
-    let later = (running.ready.order.waits k c.in-Some.event found.found).later in
-    fuel_falls c.args.to c.args.steps k.tick c.loop-key.self.meter c.take.new.meter spent.0 spent.1 (omega (arith, past, later)) found.below
+    let later = (running.ready.order.waits k c.take_least_into.new.place.event found.found).later in
+    fuel_falls c.args.to c.args.steps k.tick c.loop-self.self.meter c.take.new.meter spent.0 spent.1 (omega (arith, past, later)) found.below
 
-pub loop-key-smaller : goal.loop-key-smaller
-loop-key-smaller c =
-    let k = c.in-Some.key in
-    let found = c.in-Some.ensures in
-    let running = c.loop-key.invariant.running in
-    let spent = c.in_ok-self.ensures.spent c.in_default-stopped.is in
-    let past = running.past in
-    let later = (running.ready.order.waits k c.in-Some.event found.found).later in
-    fuel_falls c.args.to c.args.steps k.tick c.loop-key.self.meter c.take.new.meter spent.0 spent.1 (omega (arith, past, later)) found.below
-
-pub loop-key-preserved-in_default-stopped : goal.loop-key-preserved-in_default-stopped
-loop-key-preserved-in_default-stopped c =
+pub loop-self-preserved : goal.loop-self-preserved
+loop-self-preserved c =
     let i = c.args.system.now in
-    let k = c.in-Some.key in
-    let e = c.in-Some.event in
-    let found = c.in-Some.ensures in
-    let inv = c.loop-key.invariant in
-    let old = c.loop-key.self in
-    let a = c.take_least.new.self in
+    let k = c.take_least_into.new.place.key in
+    let e = c.take_least_into.new.place.event in
+    let found = c.loop-self-test.ensures in
+    let inv = c.loop-self.invariant in
+    let old = c.loop-self.self in
+    let a = c.take_least_into.new.self in
     let gave = c.in_ok-self.ensures in
     let may = inv.running.ready.order.waits k e found.found in
     let mine = inv.running.home k e found.found in
@@ -136,43 +126,7 @@ loop-key-preserved-in_default-stopped c =
     let within : unwrap_or c.take.new.meter.tick 0 ≤ k.tick = omega (arith, tick, past, later) in
     let below : k.tick < c.args.to = found.below in
     let ahead : k.tick ≤ c.args.to = omega (arith, below) in
-    let going = c.in_default-stopped.is in
-    record {
-      running = running_more i c.args.steps old new k e a sound gave.tree mine inv.live may.event.here gone inv.running s.state t refl gave.meter within gave.queues;
-      ahead = ahead;
-      live = going;
-      tree = gave.tree ∙ inv.tree;
-      comes = λ l stands.
-          let comes = inv.comes l stands in
-          let m = comes.stands in
-          let its = gave.taken m.state (subst (λ r. IsHere i m.state r old.tree old.meter) (sym mine) m.here) m.counts in
-          comes_more i c.args.steps old new k e a sound gave.tree mine inv.live may.event.here gone c.args.self.now.tree.resource c.args.to l comes inv.tree found.below its going;
-    }
-
-pub loop-key-preserved : goal.loop-key-preserved
-loop-key-preserved c =
-    let i = c.args.system.now in
-    let k = c.in-Some.key in
-    let e = c.in-Some.event in
-    let found = c.in-Some.ensures in
-    let inv = c.loop-key.invariant in
-    let old = c.loop-key.self in
-    let a = c.take_least.new.self in
-    let gave = c.in_ok-self.ensures in
-    let may = inv.running.ready.order.waits k e found.found in
-    let mine = inv.running.home k e found.found in
-    let sound = sound_of i (record { accepted = c.facts.ensures.accepted; limits = c.facts.ensures.limits }) in
-    let gone : HasLeft k e old.queues.agenda a = record { found = found.found; least = found.least; left = found.left } in
-    let new : Inner = record { number = old.number; tree = c.take.new.tree; clock = k.tick; meter = c.take.new.meter; queues = c.take.new.queues; stopped = c.in_ok-self.field-0 } in
-    let s = (inv.comes c.requires.of.stands.0 c.requires.of.stands.1).stands in
-    let t = gave.taken s.state (subst (λ r. IsHere i s.state r old.tree old.meter) (sym mine) s.here) s.counts in
-    let tick = gave.tick in
-    let past = inv.running.past in
-    let later = may.later in
-    let within : unwrap_or c.take.new.meter.tick 0 ≤ k.tick = omega (arith, tick, past, later) in
-    let below : k.tick < c.args.to = found.below in
-    let ahead : k.tick ≤ c.args.to = omega (arith, below) in
-    let going = c.in_default-stopped.is in
+    let going = c.in_default.is in
     record {
       running = running_more i c.args.steps old new k e a sound gave.tree mine inv.live may.event.here gone inv.running s.state t refl gave.meter within gave.queues;
       ahead = ahead;
@@ -189,12 +143,12 @@ loop-key-preserved c =
 
 pub returns-clause-running : goal.returns-clause-running
 returns-clause-running c =
-    let inv = c.loop-key.invariant in
-    let rest = c.in_default.ensures in
-    running_rest c.args.system.now c.args.steps c.loop-key.self c.take_least.new.self c.args.to rest.kept rest.none inv.running inv.ahead
+    let inv = c.loop-self.invariant in
+    let rest = c.loop-self-test.ensures in
+    running_rest c.args.system.now c.args.steps c.loop-self.self c.take_least_into.new.self c.args.to rest.kept rest.none inv.running inv.ahead
 
 pub returns-clause-taken : goal.returns-clause-taken
 returns-clause-taken c l stands =
-    let inv = c.loop-key.invariant in
-    let rest = c.in_default.ensures in
-    ran_rest c.args.system.now c.args.steps c.loop-key.self c.take_least.new.self c.args.to rest.kept rest.none c.args.self.now.tree.resource l (inv.comes l stands) inv.tree
+    let inv = c.loop-self.invariant in
+    let rest = c.loop-self-test.ensures in
+    ran_rest c.args.system.now c.args.steps c.loop-self.self c.take_least_into.new.self c.args.to rest.kept rest.none c.args.self.now.tree.resource l (inv.comes l stands) inv.tree

@@ -7,8 +7,8 @@ use Rattle.fb_resource.specs.Resources.{StandsFor}
 use Rattle.fb_resource.specs.Runs.{ComesTo, IsRunning}
 use Rattle.fb_resource.proofs.resource.Inner.take_all.Given as goal
 
-abbrev pub invariant-loop-key : goal.invariant-loop-key
-invariant-loop-key l = record {
+abbrev pub invariant-loop-self : goal.invariant-loop-self
+invariant-loop-self l = record {
   running : IsRunning l.system l.steps l.self;
   ahead : l.self.clock ≤ l.to;
   live : l.self.stopped ≡ None;
@@ -17,5 +17,5 @@ invariant-loop-key l = record {
       → ComesTo l.system l.steps l.initial.self.tree.resource l.to m l.self;
 }
 
-abbrev pub decreases-loop-key : goal.decreases-loop-key
-decreases-loop-key l = fuel l.to l.steps l.self.meter
+abbrev pub decreases-loop-self : goal.decreases-loop-self
+decreases-loop-self l = fuel l.to l.steps l.self.meter

@@ -1,10 +1,20 @@
-use Rattle.std.proofs.Common.{◌≡◌, ◌++◌, ◌∷◌, [], length, ap, subst, sym, ◌∙◌, append_assoc, append-nil, arith}
+use Rattle.std.specs.Prelude.{slice_get}
+use Rattle.std.proofs.Common.{◌≡◌, Some, ◌++◌, ◌∷◌, [], length, ap, subst, sym, ◌∙◌, append_assoc, append-nil, arith}
 use Rattle.std.specs.Vec.Iter.{into_iter_items}
 use Rattle.std.proofs.lemmas.List.{length_push, nil_from_length}
-use Rattle.fb_take.specs.Openings.{AreOpenedApart}
+use Rattle.fb_take.specs.Openings.{AreOpenedApart, IsOpened}
 use Rattle.fb_resource.specs.Resources.{IsFresh}
-use Rattle.fb_resource.proofs.Fresh.{AreFresh, all_opened, fresh_more}
+use Rattle.fb_resource.proofs.Fresh.{AreFresh, all_opened, at_middle, fresh_more}
 use Rattle.fb_resource.proofs.resource.Resource.open_all.Goals as goal
+
+pub of_agenda-requires-clause-agenda : goal.of_agenda-requires-clause-agenda
+of_agenda-requires-clause-agenda c =
+    let inv = c.loop-agenda.invariant in
+    let ys = c.loop-agenda.yielded in
+    let a = c.in-Some.agenda in
+    let there : slice_get (ys ++ into_iter_items c.loop-agenda.agenda-iterator) (length ys) ≡ Some a =
+    ap (λ z. slice_get (ys ++ z) (length ys)) c.in-Some.ensures.steps.0 ∙ at_middle ys a (into_iter_items c.next.new.self) in
+    subst (λ n. IsOpened c.args.system.now (Some n) a) (sym inv.number) (inv.opened.each (length ys) a there)
 
 pub loop-agenda-preserved : goal.loop-agenda-preserved
 loop-agenda-preserved c =

@@ -1,0 +1,18 @@
+use Rattle.std.proofs.Common.{sym, ◌∙◌}
+use Rattle.fb_agenda.proofs.Calendars.{leads_less, leads_not_less, when_false, when_true}
+use Rattle.fb_agenda.proofs.Orders.{less_is}
+use Rattle.fb_agenda.proofs.agenda.is_local_less.Goals as goal
+
+pub returns-clause-local : goal.returns-clause-local
+returns-clause-local c =
+    let first = c.in-Some.first in
+    let other = c.in-Some-first.other.now in
+    when_true c.lt.result
+    (λ less. leads_less c.args.local.now c.args.later.now first other c.in-Some.ensures.some c.in-Some-first.ensures.some (sym (c.lt.ensures ∙ less_is first other) ∙ less))
+
+pub returns-clause-later : goal.returns-clause-later
+returns-clause-later c =
+    let first = c.in-Some.first in
+    let other = c.in-Some-first.other.now in
+    when_false c.lt.result
+    (λ less. leads_not_less c.args.local.now c.args.later.now first other c.in-Some.ensures.some c.in-Some-first.ensures.some (sym (c.lt.ensures ∙ less_is first other) ∙ less))

@@ -1,0 +1,46 @@
+//! The place of the event that is taken.
+
+ghost use Rattle.std.specs.Prelude.{◌≡◌};
+ghost use Rattle.fb_agenda.specs.Places.{taken};
+
+use fb_types::key::Key;
+use fb_types::run::Event;
+
+/// An event that was taken from an agenda, with its key.
+///
+/// An event is large, and moved whole from function to function. So who takes one after another has one place for it,
+/// into which each is put.
+#[derive(Drop)]
+pub struct Least {
+    pub key: Key,
+    pub event: Event,
+}
+
+impl Least {
+    /// A place into which nothing was put yet.
+    pub fn new() -> Least {
+        Least {
+            key: Key {
+                tick: 0,
+                resource: 0,
+                class: 0,
+                a: 0,
+                b: 0,
+            },
+            event: Event::Stimulus(0),
+        }
+    }
+
+    /// Puts here what was found, and tells whether anything was.
+    #[inline(always)]
+    pub(crate) fn hold(&mut self, found: Option<(Key, Event)>) -> bool
+        ensures { taken result self.new ≡ found }
+    {
+        let Some((key, event)) = found else {
+            return false;
+        };
+        self.key = key;
+        self.event = event;
+        true
+    }
+}
