@@ -1,5 +1,5 @@
 -- Calls whose number of arguments no function has.
-use Rattle.std.proofs.Common.{◌≡◌, ℕ, List, [], ◌∷◌, ◌≤◌, length, Option, Some, None, refl, arith}
+use Rattle.std.proofs.Common.{◌≡◌, List, [], ◌∷◌, ◌≤◌, length, Option, Some, None, refl, arith}
 use Rattle.std.specs.Prelude.{option_map, option_and_then}
 use Rattle.fb_types.specs.Syntax.{expr_of}
 use Rattle.fb_types.specs.Values.{Types}

@@ -1,29 +1,27 @@
 -- What the tests of each block type say of the whole declaration.
-use Rattle.std.proofs.Common.{◌≡◌, ◌⊎◌, ◌||◌, ◌&&◌, ℕ, Bool, true, false, cond, not, List, [], ◌∷◌, ◌++◌, map, Some, None, Option, refl, sym, ◌∙◌, ap, subst, inl, inr}
+use Rattle.std.proofs.Common.{◌≡◌, ◌⊎◌, ◌&&◌, Bool, true, false, not, List, [], ◌∷◌, map, Some, None, refl, sym, ◌∙◌, ap, inl, inr}
 use Rattle.std.specs.Prelude.{flat_map, ◌↔◌, IsTrue}
-use Rattle.std.specs.List.{list_all, list_any}
-use Rattle.std.proofs.lemmas.Bool.{true≢false, false_from_ne_true}
+use Rattle.std.specs.List.{list_all}
+use Rattle.std.proofs.lemmas.Bool.{true≢false}
 use Rattle.std.proofs.lemmas.List.Folds.{list_all-append, list_all-map}
 use Rattle.fb_types.specs.Names.{Name}
 use Rattle.fb_types.specs.Syntax.{Expr, Stmts, expr_of, body_of}
-use Rattle.fb_types.specs.Blocks.{among, event_names, variable_names, ports_of}
+use Rattle.fb_types.specs.Blocks.{among, variable_names, ports_of}
 use Rattle.fb_types.specs.Flat.{kind_of, variables_in}
-use Rattle.fb_types.specs.Repeated.{algorithm_names, basics, basics_in, interfaces}
-use Rattle.fb_types.specs.Unknown.{Wanted, all_of, withs_wanted, transition_wanted, actions_wanted, chart_wanted, Mention, mentions, mentions_body, mentioned, is_known, guards_of}
+use Rattle.fb_types.specs.Repeated.{basics, basics_in, interfaces}
+use Rattle.fb_types.specs.Unknown.{all_of, withs_wanted, transition_wanted, actions_wanted, chart_wanted, Mention, mentions, mentions_body, mentioned, is_known, guards_of}
 use Rattle.fb_types.specs.Kinds.{place_in, is_condition, body_right, declared_right, ChartWrong}
 use Rattle.fb_types.specs.declared.library.Library.{Library}
 use Rattle.fb_types.specs.declared.library.BlockType.{BlockType}
 use Rattle.fb_types.specs.declared.library.BlockType.TheVariants as block
 use Rattle.fb_types.specs.declared.library.BasicType.{BasicType}
-use Rattle.fb_types.specs.declared.library.Algorithm.{Algorithm}
 use Rattle.fb_types.specs.declared.library.EventPort.{EventPort}
 use Rattle.fb_types.specs.declared.library.Ports.{Ports}
 use Rattle.fb_types.specs.declared.library.Transition.{Transition}
-use Rattle.fb_types.specs.declared.library.Variable as declared
 use Rattle.fb_names.specs.Parts.{parts_wanted, ArePartsKnown, PartWrong}
 use Rattle.fb_types.proofs.NameLaws.{contains_from_any, any_from_contains}
 use Rattle.fb_types.proofs.ListTests.{list_all-flat_map, list_all-agree, fails_at, passes_at, passes_from}
-use Rattle.fb_kinds.specs.Checks.{is_met, all_met, with_inputs, with_outputs, transition_met, actions_met, body_known, guard_known, algorithm_right, action_wanted, all_known, guard_mentions, is_known_chart, is_known_block, is_guard_right, chart_right, is_right_chart, is_right_block}
+use Rattle.fb_kinds.specs.Checks.{is_met, all_met, with_inputs, with_outputs, transition_met, actions_met, body_known, guard_known, algorithm_right, action_wanted, all_known, guard_mentions, is_known_block, is_guard_right, chart_right, is_right_block}
 
 -- ---- Truth values
 

@@ -1,3 +1,8 @@
 pub mod Arguments
 pub mod Checks
 pub mod Roles
+mod Says
+mod Sorted
+mod Tested
+mod Known
+mod Right

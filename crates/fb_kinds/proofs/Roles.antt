@@ -1,7 +1,6 @@
 -- What a name of an interface stands for: each name is in one of its lists.
 use Rattle.std.proofs.Common.{◌≡◌, ℕ, zero, suc, ◌≤◌, ◌-◌, length, Bool, true, false, cond, ◌||◌, List, [], ◌∷◌, ◌++◌, append_assoc, map, Option, Some, None, refl, sym, ◌∙◌, ap, subst, arith}
 use Rattle.std.specs.Prelude.{position, slice_get, option_map, option_and_then, is_some}
-use Rattle.std.specs.List.{list_any}
 use Rattle.std.proofs.lemmas.Bool.{true≢false, false_from_ne_true}
 use Rattle.std.proofs.lemmas.Option.{slice_get-map}
 use Rattle.std.proofs.lemmas.List.{map-append}
@@ -12,7 +11,6 @@ use Rattle.fb_types.specs.Repeated.{Twice}
 use Rattle.fb_types.specs.declared.library.EventPort.{EventPort}
 use Rattle.fb_types.specs.declared.library.Variable.{Variable}
 use Rattle.fb_types.specs.declared.value.Ty.{Ty}
-use Rattle.fb_names.specs.Places.{IsIndex, place_in}
 use Rattle.fb_types.proofs.Positions.{named-position}
 use Rattle.fb_types.proofs.NameLaws.{contains_from_any, same_name-flip}
 use Rattle.fb_kinds.specs.declared.interface.Role.{Role}

@@ -1,5 +1,5 @@
 -- What is tested of each block type, apart from networks (IEC 61499-1, 5.2; IEC 61131-3, 7.3).
-use Rattle.std.specs.Prelude.{◌≡◌, ℕ, length, slice_get, List, [], ◌∷◌, ◌++◌, map, Bool, true, ◌&&◌, Option, Some, None}
+use Rattle.std.specs.Prelude.{◌≡◌, ℕ, length, slice_get, List, [], ◌++◌, map, Bool, true, ◌&&◌, Some, None}
 use Rattle.std.specs.List.{list_all}
 use Rattle.fb_types.specs.Syntax.{body_of, expr_of}
 use Rattle.fb_types.specs.Blocks.{among, event_names, variable_names, ports_of}

@@ -2,43 +2,59 @@
 
 ghost use Rattle.std.specs.Prelude.{◌≡◌};
 ghost use Rattle.std.specs.List.{list_all};
+ghost use Rattle.fb_types.specs.Blocks.{among, variable_names};
 ghost use Rattle.fb_types.specs.Unknown.{chart_wanted, withs_wanted};
 ghost use Rattle.fb_kinds.specs.Checks.{action_met, actions_met, all_met, transition_met, with_inputs, with_outputs};
 
 use crate::interface::Interface;
 use crate::scope::Scope;
 use fb_types::library::{Action, EventPort, State, Transition};
+use fb_types::name::Name;
 
-fn has_inputs(event: &EventPort, interface: &Interface) -> bool
-    ensures { result ≡ with_inputs interface.now.ports event.now }
+/// Whether each name is that of a data input.
+fn are_inputs(names: &[Name], interface: &Interface) -> bool
+    ensures { result ≡ list_all (among (variable_names interface.now.ports.inputs)) names.now }
 {
-    event
-        .with
-        .as_slice()
-        .iter()
-        .all(|name| interface.is_input(name))
+    for name in names {
+        if !interface.is_input(name) {
+            return false;
+        }
+    }
+    true
 }
 
 fn have_inputs(events: &[EventPort], interface: &Interface) -> bool
     ensures { result ≡ list_all (with_inputs interface.now.ports) events.now }
 {
-    events.iter().all(|event| has_inputs(event, interface))
+    for event in events {
+        if !are_inputs(event.with.as_slice(), interface) {
+            return false;
+        }
+    }
+    true
 }
 
-fn has_outputs(event: &EventPort, interface: &Interface) -> bool
-    ensures { result ≡ with_outputs interface.now.ports event.now }
+/// Whether each name is that of a data output.
+fn are_outputs(names: &[Name], interface: &Interface) -> bool
+    ensures { result ≡ list_all (among (variable_names interface.now.ports.outputs)) names.now }
 {
-    event
-        .with
-        .as_slice()
-        .iter()
-        .all(|name| interface.is_output(name))
+    for name in names {
+        if !interface.is_output(name) {
+            return false;
+        }
+    }
+    true
 }
 
 fn have_outputs(events: &[EventPort], interface: &Interface) -> bool
     ensures { result ≡ list_all (with_outputs interface.now.ports) events.now }
 {
-    events.iter().all(|event| has_outputs(event, interface))
+    for event in events {
+        if !are_outputs(event.with.as_slice(), interface) {
+            return false;
+        }
+    }
+    true
 }
 
 /// Whether inputs stand WITH event inputs and outputs WITH event outputs.
@@ -74,28 +90,37 @@ fn is_action_known(action: &Action, scope: &Scope) -> bool
     is_algorithm_known && is_output_known
 }
 
-fn are_actions_known(state: &State, scope: &Scope) -> bool
-    ensures { result ≡ actions_met scope.now state.now }
+fn are_actions_known(actions: &[Action], scope: &Scope) -> bool
+    ensures { result ≡ list_all (action_met scope.now) actions.now }
 {
-    state
-        .actions
-        .as_slice()
-        .iter()
-        .all(|action| is_action_known(action, scope))
+    for action in actions {
+        if !is_action_known(action, scope) {
+            return false;
+        }
+    }
+    true
 }
 
 fn are_transitions_known(transitions: &[Transition], scope: &Scope) -> bool
     ensures { result ≡ list_all (transition_met scope.now) transitions.now }
 {
-    transitions
-        .iter()
-        .all(|transition| is_transition_known(transition, scope))
+    for transition in transitions {
+        if !is_transition_known(transition, scope) {
+            return false;
+        }
+    }
+    true
 }
 
 fn are_states_known(states: &[State], scope: &Scope) -> bool
     ensures { result ≡ list_all (actions_met scope.now) states.now }
 {
-    states.iter().all(|state| are_actions_known(state, scope))
+    for state in states {
+        if !are_actions_known(state.actions.as_slice(), scope) {
+            return false;
+        }
+    }
+    true
 }
 
 /// Whether each state, event and algorithm that a chart names is one.

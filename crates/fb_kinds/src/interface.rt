@@ -13,7 +13,7 @@ use fb_types::value::Ty;
 use std::marker::Model;
 
 /// What a name stands for. A variable has its type.
-#[derive(Clone, Copy, Debug, PartialEq, Eq)]
+#[derive(Clone, Copy)]
 pub enum Role {
     EventInput,
     EventOutput,

@@ -80,9 +80,12 @@ fn is_block_known(block: &BlockType, places: &BlockPlaces) -> bool
 fn are_bodies_known(algorithms: &[Algorithm], scope: &Scope) -> bool
     ensures { result ≡ list_all (body_known scope.now) algorithms.now }
 {
-    algorithms
-        .iter()
-        .all(|algorithm| is_body_known(&algorithm.body, scope))
+    for algorithm in algorithms {
+        if !is_body_known(&algorithm.body, scope) {
+            return false;
+        }
+    }
+    true
 }
 
 fn is_guard_known(transition: &Transition, scope: &Scope) -> bool
@@ -97,9 +100,12 @@ fn is_guard_known(transition: &Transition, scope: &Scope) -> bool
 fn are_guards_known(transitions: &[Transition], scope: &Scope) -> bool
     ensures { result ≡ list_all (guard_known scope.now) transitions.now }
 {
-    transitions
-        .iter()
-        .all(|transition| is_guard_known(transition, scope))
+    for transition in transitions {
+        if !is_guard_known(transition, scope) {
+            return false;
+        }
+    }
+    true
 }
 
 /// Whether each variable of the bodies and the guards is one of the type, and each function is known.
@@ -146,17 +152,23 @@ fn is_guard_right(transition: &Transition, scope: &Scope) -> bool
 fn are_guards_right(transitions: &[Transition], scope: &Scope) -> bool
     ensures { result ≡ list_all (is_guard_right scope.now) transitions.now }
 {
-    transitions
-        .iter()
-        .all(|transition| is_guard_right(transition, scope))
+    for transition in transitions {
+        if !is_guard_right(transition, scope) {
+            return false;
+        }
+    }
+    true
 }
 
 fn are_bodies_right(algorithms: &[Algorithm], scope: &Scope) -> bool
     ensures { result ≡ list_all (algorithm_right scope.now) algorithms.now }
 {
-    algorithms
-        .iter()
-        .all(|algorithm| is_body_right(&algorithm.body, scope))
+    for algorithm in algorithms {
+        if !is_body_right(&algorithm.body, scope) {
+            return false;
+        }
+    }
+    true
 }
 
 /// Whether the guards are truth values, and the bodies right.

@@ -10,7 +10,10 @@ use fb_types::library::Variable;
 pub fn are_declared_right(variables: &[Variable]) -> bool
     ensures { result ≡ list_all declared_right variables.now }
 {
-    variables
-        .iter()
-        .all(|variable| variable.is_declared_right())
+    for variable in variables {
+        if !variable.is_declared_right() {
+            return false;
+        }
+    }
+    true
 }

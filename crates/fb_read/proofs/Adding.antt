@@ -1,9 +1,9 @@
 -- What was read behind what was found.
-use Rattle.std.proofs.Common.{◌≡◌, [], ◌∷◌, ◌++◌, List, Result, Ok, Err, subst}
+use Rattle.std.proofs.Common.{◌≡◌, [], ◌∷◌, ◌++◌, List, Result, Ok, Err, refl, subst}
 use Rattle.fb_read.specs.declared.fault.ParseFault.{ParseFault}
 use Rattle.fb_read.specs.declared.fault.ParseFault.TheVariants as fault
 use Rattle.fb_read.specs.Tokens.{Tokens}
-use Rattle.fb_read.specs.Parser.{Outcome, Reads}
+use Rattle.fb_read.specs.Parser.{Parser, Outcome, Reads, and_then}
 use Rattle.fb_read.specs.Added.{Adds}
 
 -- the item that was added is the one that was read
@@ -18,3 +18,9 @@ pub fault_of : {A : Type 0} (outcome : Outcome A) (read : Result A ParseFault) (
 fault_of outcome read new found fault.Memory r told = tt
 fault_of outcome read new found fault.Syntax r told = subst (λ q. Reads outcome q new) told r
 fault_of outcome read new found fault.Nesting r told = subst (λ q. Reads outcome q new) told r
+
+-- the parser goes on with what was found and the item that was read
+pub added_on : {A B : Type 0} (outcome : Outcome A) (read : Result A ParseFault) (new : Tokens) (found all : List A) (go : List A → Parser B)
+    → Reads outcome read new → Adds found read (Ok all) → and_then outcome (λ x. go (found ++ x ∷ [])) ≡ go all new
+added_on outcome (Ok item) new found all go r more = rw (r, more) refl
+added_on outcome (Err e) new found all go r more = absurd more

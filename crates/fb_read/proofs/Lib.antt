@@ -6,6 +6,7 @@ pub mod TokenLaws
 pub mod Turns
 pub mod Joins
 pub mod Adding
+pub mod Turning
 pub mod Steps
 pub mod Chained
 pub mod Lists

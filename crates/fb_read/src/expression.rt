@@ -47,6 +47,8 @@ fn around(below: u32, depth: u32, expr: Expr, cursor: &Cursor<'_>) -> Result<Nes
             nesting: depth + 1,
         })
     } else {
+        // One call, where the exit would drop each kind of expression by itself.
+        drop(expr);
         Err(ParseFault::Nesting)
     }
 }
@@ -78,7 +80,7 @@ fn binary_of(alloc: Global, operator: BinaryOperator, x: Expr, y: Expr) -> Resul
 }
 
 /// The rules that hold expressions take the reader of those as a parameter, so that each is proved by itself.
-#[derive(Clone, Copy)]
+#[derive(Drop)]
 struct ExpressionRules<F> {
     alloc: Global,
     /// How deep the parts may nest.
@@ -218,6 +220,7 @@ impl<F: Fn(Global, &mut Cursor<'_>, u32, u8) -> Result<Nested, ParseFault>> Expr
     {
         // The operator is one too many, whatever follows it.
         if left.nesting > self.below {
+            drop(left);
             return Err(ParseFault::Nesting);
         }
         cursor.take();

@@ -103,7 +103,7 @@ fn word(alloc: Global, z: &[u8]) -> Result<(Token, usize), LexFault>
     }
     match keyword(text.as_slice()) {
         Some(mark) => Ok((Token::Mark(mark), end)),
-        None => Ok((Token::Name(Name::new(text)), end)),
+        None => Ok((Token::Name(Name::from_slice(alloc, text.as_slice())?), end)),
     }
 }
 

@@ -5,7 +5,7 @@ ghost use Rattle.fb_read.specs.Words as spec;
 
 use crate::token::Mark;
 
-const KEYWORDS: [(&[u8], Mark); 60] = [
+static KEYWORDS: [(&[u8], Mark); 60] = [
     (b"FUNCTION_BLOCK", Mark::FunctionBlock),
     (b"END_FUNCTION_BLOCK", Mark::EndFunctionBlock),
     (b"APPLICATION", Mark::Application),

@@ -55,6 +55,7 @@ fn parse(alloc: Global, text: &[u8], tokens: &[Placed]) -> Result<Library, ReadE
             if cursor.left() == 0 {
                 Ok(library)
             } else {
+                drop(library);
                 Err(syntax_fault(text, &cursor))
             }
         }

@@ -98,7 +98,7 @@ fn simple(alloc: Global, cursor: &mut Cursor<'_>) -> Result<Stmt, ParseFault>
 }
 
 /// The rules that hold statements take the reader of those as a parameter, so that each is proved by itself.
-#[derive(Clone, Copy)]
+#[derive(Drop)]
 pub struct StatementRules<F> {
     alloc: Global,
     /// How deep the statements inside may nest.

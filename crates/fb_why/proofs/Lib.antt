@@ -5,9 +5,11 @@ mod Tables
 mod Listed
 mod Once
 mod Parted
+mod ConnectionKeys
 mod Linked
 mod Carried
 mod Served
 mod Marks
 mod Circles
+mod Firsts
 mod Applying

@@ -1,7 +1,9 @@
 -- Names that are listed, and instances that are not.
-use Rattle.std.proofs.Common.{◌≡◌, ◌||◌, ℕ, true, false, List, [], ◌∷◌, Option, Some, None, Bor, Result, Ok, Err, refl, sym, ◌∙◌, ap, subst, inl, inr}
-use Rattle.std.specs.Prelude.{IfOk, MatchOption, slice_get}
+use Rattle.std.proofs.Common.{◌≡◌, ◌||◌, ℕ, ◌+◌, ◌<◌, true, false, List, [], ◌∷◌, ◌++◌, get_or, length, take, Option, Some, None, Bor, Result, Ok, Err, refl, sym, ◌∙◌, ap, subst, inl, inr}
+use Rattle.std.specs.Prelude.{IfOk, MatchOption, flat_map, slice_get}
 use Rattle.std.specs.List.{list_any, list_all}
+use Rattle.std.proofs.lemmas.List.{append-nil, take_more}
+use Rattle.std.proofs.lemmas.List.Concat.{flat_map-append}
 use Rattle.std.proofs.lemmas.Bool.{true≢false}
 use Rattle.std.proofs.lemmas.List.Elements.{All-contains}
 use Rattle.std.proofs.lemmas.List.Sums.{AllPass-from_list_all}
@@ -53,3 +55,12 @@ unmapped_answer (Ok None) lib plan ns is names instances h =
 unmapped_answer (Ok (Some u)) lib plan ns is names instances h =
     let named : IsUnmappedAmong (mapped lib plan) is u = subst (λ (ns : List Name). IsUnmappedAmong ns is u) names h in
     subst (λ (is : List Instance). IsUnmappedAmong (mapped lib plan) is u) instances named
+
+-- the lists of the elements so far, with that of one more
+pub flat_more :
+    {A B : Type 0} (f : A → List B) (xs : List A) (i : ℕ) (x : A) → i < length xs → x ≡ get_or xs i x
+    → flat_map f (take (i + 1) xs) ≡ flat_map f (take i xs) ++ f x
+flat_more {A} {B} f xs i x within is =
+    let so_far = flat_map f (take i xs) in
+    ap (flat_map f) (take_more xs i x within) ∙ flat_map-append f (take i xs) (get_or xs i x ∷ []) ∙ ap (λ (y : A). so_far ++ (f y ++ [])) (sym is)
+    ∙ ap (λ (ys : List B). so_far ++ ys) (append-nil (f x))

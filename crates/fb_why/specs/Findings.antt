@@ -1,5 +1,5 @@
 -- Where a refusal applies, of the bytes that were given (this project's own).
-use Rattle.std.specs.Prelude.{◌≡◌, ◌⊎◌, ℕ, List, Option, Some, None, Ok, Err, [], IfSome}
+use Rattle.std.specs.Prelude.{◌≡◌, ◌⊎◌, ℕ, List, Option, Some, None, Ok, Err, [], IfSome, MatchOption}
 use Rattle.fb_inputs.specs.Deployments.{deploy_of}
 use Rattle.fb_inputs.specs.Stimuli as inputs
 use Rattle.fb_read.specs.Whole.{IsLibraryText}
@@ -27,6 +27,7 @@ use Rattle.fb_why.specs.declared.cause.Excess.{Excess}
 use Rattle.fb_why.specs.declared.cause.Flaw.TheVariants as flaw
 use Rattle.fb_why.specs.declared.cause.Flaw.{Flaw}
 use Rattle.fb_why.specs.declared.spot.Spot.TheVariants as spot
+use Rattle.fb_why.specs.declared.spot.Finding.{Finding}
 use Rattle.fb_why.specs.declared.spot.Spot.{Spot}
 use Rattle.fb_why.specs.Heights.{IsTooHighAt}
 use Rattle.fb_why.specs.Sources.{IsJoinedAt}
@@ -42,6 +43,12 @@ use Rattle.fb_why.specs.Stimuli.{IsBadAt, IsOver}
 use Rattle.fb_why_bytes.specs.Faults.{TellsFault}
 use Rattle.fb_why_kinds.specs.Misfits.{IsMisfitAt}
 use Rattle.fb_why_kinds.specs.Misjoins.{IsMisjoinedAt}
+
+-- ---- What is found
+
+-- it is found at this place
+abbrev pub IsFoundAt : Spot → Option Finding → Type 0
+IsFoundAt place o = MatchOption o ⊥ (λ f. f.place ≡ place)
 
 -- ---- What is read
 

@@ -8,7 +8,7 @@ ghost use Rattle.fb_why.specs.declared.cause.Flaw.TheVariants as flaw;
 use crate::cause::Flaw;
 use crate::heights::too_high_place;
 use crate::sources::joined_place;
-use crate::spot::{Finding, Spot};
+use crate::spot::{Finding, Spot, found};
 use crate::tell_heights::tell_too_high;
 use crate::tell_joined::tell_joined;
 use crate::tell_twice::tell_twice;
@@ -36,12 +36,10 @@ fn twice_finding(
 ) -> Result<Option<Finding>, AllocError>
     ensures { IfOk result (λ o. MatchOption o (AppliesNowhere flaw.Twice library.now plan.now) (λ r. AppliesAt flaw.Twice library.now plan.now r.place)) }
 {
-    let Some(place) = twice_place(alloc, library, plan)? else {
-        return Ok(None);
-    };
-    let text = tell_twice(alloc, library, plan, place)?;
-    let place = Spot::Twice(place);
-    Ok(Some(Finding { place, text }))
+    match twice_place(alloc, library, plan)? {
+        Some(place) => found(Spot::Twice(place), tell_twice(alloc, library, plan, place)),
+        None => Ok(None),
+    }
 }
 
 /// Where a name stands for nothing.
@@ -52,60 +50,53 @@ fn unknown_finding(
 ) -> Result<Option<Finding>, AllocError>
     ensures { IfOk result (λ o. MatchOption o (AppliesNowhere flaw.Unknown library.now plan.now) (λ r. AppliesAt flaw.Unknown library.now plan.now r.place)) }
 {
-    let Some(place) = unknown_place(alloc, library, plan)? else {
-        return Ok(None);
-    };
-    let text = tell_unknown(alloc, library, plan, place)?;
-    let place = Spot::Unknown(place);
-    Ok(Some(Finding { place, text }))
+    match unknown_place(alloc, library, plan)? {
+        Some(place) => found(
+            Spot::Unknown(place),
+            tell_unknown(alloc, library, plan, place),
+        ),
+        None => Ok(None),
+    }
 }
 
 /// Where an expression, a statement or a value is of a wrong kind.
 fn misfit_finding(alloc: Global, library: &Library) -> Result<Option<Finding>, AllocError>
     ensures { (plan : Plan) → IfOk result (λ o. MatchOption o (AppliesNowhere flaw.Misfit library.now plan) (λ r. AppliesAt flaw.Misfit library.now plan r.place)) }
 {
-    let Some(place) = misfit_place(alloc, library)? else {
-        return Ok(None);
-    };
-    let text = tell_misfit(alloc, library, place)?;
-    let place = Spot::Misfit(place);
-    Ok(Some(Finding { place, text }))
+    match misfit_place(alloc, library)? {
+        Some(place) => found(Spot::Misfit(place), tell_misfit(alloc, library, place)),
+        None => Ok(None),
+    }
 }
 
 /// Where a data connection leads to a type that does not hold all values.
 fn misjoin_finding(alloc: Global, library: &Library) -> Result<Option<Finding>, AllocError>
     ensures { (plan : Plan) → IfOk result (λ o. MatchOption o (AppliesNowhere flaw.Misjoin library.now plan) (λ r. AppliesAt flaw.Misjoin library.now plan r.place)) }
 {
-    let Some(place) = misjoin_place(library) else {
-        return Ok(None);
-    };
-    let text = tell_misjoin(alloc, library, place)?;
-    let place = Spot::Misjoin(place);
-    Ok(Some(Finding { place, text }))
+    match misjoin_place(library) {
+        Some(place) => found(Spot::Misjoin(place), tell_misjoin(alloc, library, place)),
+        None => Ok(None),
+    }
 }
 
 /// Where two data connections lead to one port.
 fn joined_finding(alloc: Global, library: &Library) -> Result<Option<Finding>, AllocError>
     ensures { (plan : Plan) → IfOk result (λ o. MatchOption o (AppliesNowhere flaw.Joined library.now plan) (λ r. AppliesAt flaw.Joined library.now plan r.place)) }
 {
-    let Some(place) = joined_place(alloc, library)? else {
-        return Ok(None);
-    };
-    let text = tell_joined(alloc, library, place)?;
-    let place = Spot::Joined(place);
-    Ok(Some(Finding { place, text }))
+    match joined_place(alloc, library)? {
+        Some(place) => found(Spot::Joined(place), tell_joined(alloc, library, place)),
+        None => Ok(None),
+    }
 }
 
 /// Where composite types lie too deep in one another, or in a ring.
 fn too_high_finding(alloc: Global, library: &Library) -> Result<Option<Finding>, AllocError>
     ensures { (plan : Plan) → IfOk result (λ o. MatchOption o (AppliesNowhere flaw.TooHigh library.now plan) (λ r. AppliesAt flaw.TooHigh library.now plan r.place)) }
 {
-    let Some(place) = too_high_place(alloc, library)? else {
-        return Ok(None);
-    };
-    let text = tell_too_high(alloc, library, place)?;
-    let place = Spot::TooHigh(place);
-    Ok(Some(Finding { place, text }))
+    match too_high_place(alloc, library)? {
+        Some(place) => found(Spot::TooHigh(place), tell_too_high(alloc, library, place)),
+        None => Ok(None),
+    }
 }
 
 /// Where an instance is not mapped to one resource.
@@ -116,12 +107,13 @@ fn unmapped_finding(
 ) -> Result<Option<Finding>, AllocError>
     ensures { IfOk result (λ o. MatchOption o (AppliesNowhere flaw.Unmapped library.now plan.now) (λ r. AppliesAt flaw.Unmapped library.now plan.now r.place)) }
 {
-    let Some(place) = unmapped_place(alloc, library, plan)? else {
-        return Ok(None);
-    };
-    let text = tell_unmapped(alloc, library, plan, place)?;
-    let place = Spot::Unmapped(place);
-    Ok(Some(Finding { place, text }))
+    match unmapped_place(alloc, library, plan)? {
+        Some(place) => found(
+            Spot::Unmapped(place),
+            tell_unmapped(alloc, library, plan, place),
+        ),
+        None => Ok(None),
+    }
 }
 
 /// Where a connection between two resources has no link.
@@ -132,12 +124,13 @@ fn unlinked_finding(
 ) -> Result<Option<Finding>, AllocError>
     ensures { IfOk result (λ o. MatchOption o (AppliesNowhere flaw.Unlinked library.now plan.now) (λ r. AppliesAt flaw.Unlinked library.now plan.now r.place)) }
 {
-    let Some(place) = unlinked_place(library, plan) else {
-        return Ok(None);
-    };
-    let text = tell_unlinked(alloc, library, plan, place)?;
-    let place = Spot::Unlinked(place);
-    Ok(Some(Finding { place, text }))
+    match unlinked_place(library, plan) {
+        Some(place) => found(
+            Spot::Unlinked(place),
+            tell_unlinked(alloc, library, plan, place),
+        ),
+        None => Ok(None),
+    }
 }
 
 /// Where a data connection between two resources goes with no event.
@@ -148,12 +141,13 @@ fn unserved_finding(
 ) -> Result<Option<Finding>, AllocError>
     ensures { IfOk result (λ o. MatchOption o (AppliesNowhere flaw.Unserved library.now plan.now) (λ r. AppliesAt flaw.Unserved library.now plan.now r.place)) }
 {
-    let Some(place) = unserved_place(library, plan) else {
-        return Ok(None);
-    };
-    let text = tell_unserved(alloc, library, plan, place)?;
-    let place = Spot::Unserved(place);
-    Ok(Some(Finding { place, text }))
+    match unserved_place(library, plan) {
+        Some(place) => found(
+            Spot::Unserved(place),
+            tell_unserved(alloc, library, plan, place),
+        ),
+        None => Ok(None),
+    }
 }
 
 /// Where the refusal applies to a declaration and a deployment.

@@ -6,7 +6,7 @@ ghost use Rattle.fb_why.specs.declared.cause.Excess.TheVariants as excess;
 
 use crate::cause::Excess;
 use crate::limit::limit_place;
-use crate::spot::{Finding, Spot};
+use crate::spot::{Finding, Spot, found};
 use crate::stimulus::stimulus_place;
 use crate::tell::{tell_limit, tell_stimulus};
 use fb_types::deploy::{Plan, Stimulus};
@@ -22,12 +22,13 @@ fn stimulus_finding(
 ) -> Result<Option<Finding>, AllocError>
     ensures { IfOk result (λ o. MatchOption o (ExceedsNowhere excess.Stimulus library.now plan.now stimuli.now) (λ r. ExceedsAt excess.Stimulus library.now stimuli.now r.place)) }
 {
-    let Some(place) = stimulus_place(alloc, library, plan, stimuli)? else {
-        return Ok(None);
-    };
-    let text = tell_stimulus(alloc, library, stimuli, place)?;
-    let place = Spot::Stimulus(place);
-    Ok(Some(Finding { place, text }))
+    match stimulus_place(alloc, library, plan, stimuli)? {
+        Some(place) => found(
+            Spot::Stimulus(place),
+            tell_stimulus(alloc, library, stimuli, place),
+        ),
+        None => Ok(None),
+    }
 }
 
 /// Which limit is passed.
@@ -39,12 +40,10 @@ fn limit_finding(
 ) -> Result<Option<Finding>, AllocError>
     ensures { IfOk result (λ o. MatchOption o (ExceedsNowhere excess.Limit library.now plan.now stimuli.now) (λ r. ExceedsAt excess.Limit library.now stimuli.now r.place)) }
 {
-    let Some(limit) = limit_place(alloc, library, plan, stimuli)? else {
-        return Ok(None);
-    };
-    let text = tell_limit(alloc, limit)?;
-    let place = Spot::Limit(limit);
-    Ok(Some(Finding { place, text }))
+    match limit_place(alloc, library, plan, stimuli)? {
+        Some(limit) => found(Spot::Limit(limit), tell_limit(alloc, limit)),
+        None => Ok(None),
+    }
 }
 
 /// Where the refusal applies to inputs.

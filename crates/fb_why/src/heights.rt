@@ -30,7 +30,12 @@ pub enum Descent {
 fn place_among(blocks: &[BlockType], name: &Name) -> Option<usize>
     ensures { result ≡ position (λ t. same_name (type_name t) name.now) blocks.now }
 {
-    blocks.iter().position(|block| block.name().is(name))
+    for (place, block) in blocks.iter().enumerate() {
+        if block.name().is(name) {
+            return Some(place);
+        }
+    }
+    None
 }
 
 /// The place of the block type for which a name stands.
@@ -55,9 +60,12 @@ fn is_marked(library: &Library, marks: &[bool], instance: &Instance) -> bool
 fn marked_among(library: &Library, marks: &[bool], instances: &[Instance]) -> Option<usize>
     ensures { result ≡ position (spec.is_marked library.now marks.now) instances.now }
 {
-    instances
-        .iter()
-        .position(|instance| is_marked(library, marks, instance))
+    for (place, instance) in instances.iter().enumerate() {
+        if is_marked(library, marks, instance) {
+            return Some(place);
+        }
+    }
+    None
 }
 
 /// The first instance inside that is of a marked type.
@@ -96,12 +104,12 @@ fn mark_all(alloc: Global, blocks: &[BlockType]) -> Result<Vec<bool>, AllocError
 fn mark_again(alloc: Global, library: &Library, marks: &[bool]) -> Result<Vec<bool>, AllocError>
     ensures { IfOk result (λ v. v.items ≡ map (spec.holds_marked library.now marks.now) library.now.blocks) }
 {
-    library
-        .blocks
-        .as_slice()
-        .iter()
-        .map(|block| marked_in(library, marks, block).is_some())
-        .collect(alloc)
+    let blocks = library.blocks.as_slice();
+    let mut again = Vec::new(alloc);
+    for block in blocks {
+        again.push(marked_in(library, marks, block).is_some())?;
+    }
+    Ok(again)
 }
 
 /// The marks after so many rounds. At first each composite type is marked, and so after a number of rounds each from

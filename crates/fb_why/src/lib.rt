@@ -13,13 +13,14 @@
 //! connection between two resources that no event serves (E28); each gives none exactly where there is no such place.
 //!
 //! To be read in this order: `explain` and `table`; `cause` and `spot`, what is refused by which number, and where. Then names,
-//! connections and the mapping: `pair`, what stands twice in a list; `twice`, `sources`, `heights`, `unmapped`, `unlinked` and
-//! `unserved`; `laws`; the modules `tell_..`, a place as a text. Then stimuli and limits: `place`, where stimuli don't fit an
-//! application, and limits; `verdict`, the least fault; `trial`, by which the check itself judges a part of a stimulus; `stimulus`,
-//! `limit` and `tell`. Then `refused`, `declared` and `fed`, places of bytes, of what they declare and of stimuli; `finding`, which
-//! reads the bytes once more, behind a refusal alone.
+//! connections and the mapping: `among`, whether a name stands in a list, and `pair`, what stands twice in one; `twice`,
+//! `sources`, `heights`, `unmapped`, `unlinked` and `unserved`; `laws`; the modules `tell_..`, a place as a text. Then stimuli
+//! and limits: `place`, where stimuli don't fit an application, and limits; `verdict`, the least fault; `trial`, by which the
+//! check itself judges a part of a stimulus; `stimulus`, `limit` and `tell`. Then `refused`, `declared` and `fed`, places of
+//! bytes, of what they declare and of stimuli; `finding`, which reads the bytes once more, behind a refusal alone.
 #![tactic(auto)]
 
+mod among;
 pub mod cause;
 mod declared;
 pub mod explain;

@@ -74,8 +74,11 @@ pub(crate) fn listed_pair(alloc: Global, names: &[Name]) -> Result<Option<Repeat
     called_pair(alloc, names)
 }
 
+/// The names at both ends of a connection: where it begins the component, if there is one, and the port, and so where it leads.
+type ConnectionNames<'a> = (Option<&'a [u8]>, &'a [u8], Option<&'a [u8]>, &'a [u8]);
+
 /// Connections with the places where they stand.
-type Connections<'a> = BTreeMap<(EndNames<'a>, EndNames<'a>), usize, Global>;
+type Connections<'a> = BTreeMap<ConnectionNames<'a>, usize, Global>;
 
 /// Notes connections in a table, up to one that is noted there.
 fn note_connections<'a>(
@@ -86,8 +89,9 @@ fn note_connections<'a>(
     ensures { IfOk result (Paired (pairs_in [] connections.now)) }
 {
     for (second, connection) in connections.iter().enumerate() {
-        let ends = (end_names(&connection.from), end_names(&connection.to));
-        if let Some(first) = seen.insert(ends, second)? {
+        let from = end_names(&connection.from);
+        let to = end_names(&connection.to);
+        if let Some(first) = seen.insert((from.0, from.1, to.0, to.1), second)? {
             return Ok(Some((first, second)));
         }
     }

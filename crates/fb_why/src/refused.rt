@@ -5,7 +5,7 @@ ghost use Rattle.fb_why_bytes.specs.Rows.{AreTaken};
 ghost use Rattle.fb_why_bytes.specs.Tables.{IsShaped};
 ghost use Rattle.fb_why.specs.Findings.{AreTakenBoth, IsDeploymentSpot, IsStimuliSpot, TellsBytes, TellsDeployment, TellsStimuli, TellsText};
 
-use crate::spot::{Finding, Spot};
+use crate::spot::{Finding, Spot, found};
 use fb_read::read::read_library;
 use fb_why_bytes::deployment::deployment_place;
 use fb_why_bytes::discard::discard;
@@ -27,36 +27,36 @@ pub fn text_finding(alloc: Global, declaration: &[u8]) -> Result<Option<Finding>
         }
         Err(fault) => fault,
     };
-    let Some(place) = text_place(alloc, declaration, &fault)? else {
-        return Ok(None);
-    };
-    let text = tell_text(alloc, declaration, &fault, place)?;
-    let place = Spot::Text(place);
-    Ok(Some(Finding { place, text }))
+    match text_place(alloc, declaration, &fault)? {
+        Some(place) => found(
+            Spot::Text(place),
+            tell_text(alloc, declaration, &fault, place),
+        ),
+        None => Ok(None),
+    }
 }
 
 /// Where the bytes of a deployment are refused.
 fn deployment_finding(alloc: Global, bytes: &[u8]) -> Result<Option<Finding>, AllocError>
     ensures { IfOk result (λ o. MatchOption o (IsShaped bytes.now) (λ r. IsDeploymentSpot bytes.now r.place)) }
 {
-    let Some(place) = deployment_place(alloc, bytes)? else {
-        return Ok(None);
-    };
-    let text = tell_deployment(alloc, bytes, place)?;
-    let place = Spot::Deployment(place);
-    Ok(Some(Finding { place, text }))
+    match deployment_place(alloc, bytes)? {
+        Some(place) => found(
+            Spot::Deployment(place),
+            tell_deployment(alloc, bytes, place),
+        ),
+        None => Ok(None),
+    }
 }
 
 /// Where the bytes of stimuli are refused.
 fn stimuli_finding(alloc: Global, bytes: &[u8]) -> Result<Option<Finding>, AllocError>
     ensures { IfOk result (λ o. MatchOption o (AreTaken bytes.now) (λ r. IsStimuliSpot bytes.now r.place)) }
 {
-    let Some(place) = stimuli_place(alloc, bytes)? else {
-        return Ok(None);
-    };
-    let text = tell_stimuli(alloc, bytes, place)?;
-    let place = Spot::Stimuli(place);
-    Ok(Some(Finding { place, text }))
+    match stimuli_place(alloc, bytes)? {
+        Some(place) => found(Spot::Stimuli(place), tell_stimuli(alloc, bytes, place)),
+        None => Ok(None),
+    }
 }
 
 /// Where the bytes of a deployment that may be given are refused.

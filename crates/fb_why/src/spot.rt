@@ -1,5 +1,8 @@
 //! Where a refusal applies, of any number.
 
+ghost use Rattle.std.specs.Prelude.{IfOk};
+ghost use Rattle.fb_why.specs.Findings.{IsFoundAt};
+
 use crate::heights::Descent;
 use crate::place::{Limit, StimulusPlace};
 use crate::sources::Joined;
@@ -9,6 +12,7 @@ use crate::unmapped::Unmapped;
 use fb_why_bytes::place::{DeployPlace, StimuliPlace};
 use fb_why_bytes::text_place::TextPlace;
 use fb_why_kinds::place::{Misfit, Misjoin, UnknownName};
+use std::alloc::AllocError;
 
 /// A place at which a refusal applies.
 #[derive(Clone, Copy)]
@@ -49,4 +53,17 @@ pub struct Finding {
     pub place: Spot,
     /// The place, and what was wanted there, in words.
     pub text: String,
+}
+
+/// What is found at a place, where there was memory for its text.
+pub(crate) fn found(
+    place: Spot,
+    text: Result<String, AllocError>,
+) -> Result<Option<Finding>, AllocError>
+    ensures { IfOk result (IsFoundAt place) }
+{
+    match text {
+        Ok(text) => Ok(Some(Finding { place, text })),
+        Err(error) => Err(error),
+    }
 }

@@ -10,6 +10,7 @@ ghost use Rattle.fb_types.specs.Mapped.{NoLink};
 ghost use Rattle.fb_types.specs.declared.library.Connection.{Connection};
 ghost use Rattle.fb_why.specs.Unlinked.{IsUnlinkedAt, is_joining, is_linked};
 
+use crate::among::is_among;
 use fb_types::deploy::{Link, Plan, ResourceEntry};
 use fb_types::library::{Connection, Library, PortName};
 use fb_types::name::Name;
@@ -21,20 +22,15 @@ pub enum Unlinked {
     Data(usize),
 }
 
-fn lists(resource: &ResourceEntry, name: &Name) -> bool
-    ensures { result ≡ among resource.now.instances name.now }
-{
-    resource
-        .instances
-        .as_slice()
-        .iter()
-        .any(|listed| name.is(listed))
-}
-
 fn place_of_holder(resources: &[ResourceEntry], name: &Name) -> Option<usize>
     ensures { result ≡ position (λ r. among r.instances name.now) resources.now }
 {
-    resources.iter().position(|resource| lists(resource, name))
+    for (place, resource) in resources.iter().enumerate() {
+        if is_among(resource.instances.as_slice(), name) {
+            return Some(place);
+        }
+    }
+    None
 }
 
 /// The resource that holds an instance of the application, by its place from 0.
@@ -76,7 +72,12 @@ fn is_joining(link: &Link, from: &[u8], to: &[u8]) -> bool
 fn has_link(links: &[Link], from: &[u8], to: &[u8]) -> bool
     ensures { result ≡ list_any (is_joining from.now to.now) links.now }
 {
-    links.iter().any(|link| is_joining(link, from, to))
+    for link in links {
+        if is_joining(link, from, to) {
+            return true;
+        }
+    }
+    false
 }
 
 /// Whether the ends of a connection lie in one resource, or there is a link for it.

@@ -56,7 +56,12 @@ fn mapped_names<'a>(
 fn is_listed(names: &[&Name], name: &Name) -> bool
     ensures { result ≡ list_any (λ n. same_name name.now n.now) names.now }
 {
-    names.iter().any(|listed| name.is(listed))
+    for listed in names {
+        if name.is(listed) {
+            return true;
+        }
+    }
+    false
 }
 
 /// The first instance that is not among the names.

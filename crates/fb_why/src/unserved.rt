@@ -9,6 +9,7 @@ ghost use Rattle.fb_types.specs.Mapped.{NoEvent};
 ghost use Rattle.fb_types.specs.declared.library.Connection.{Connection};
 ghost use Rattle.fb_why.specs.Unserved.{IsUnservedAt, begin_together, brings, carries, is_served};
 
+use crate::among::is_among;
 use crate::unlinked::resource_of;
 use fb_types::deploy::Plan;
 use fb_types::event_kind::EventKind;
@@ -18,24 +19,16 @@ use fb_types::library::{
 };
 use fb_types::name::Name;
 
-/// Whether a variable is WITH an event.
-fn lists(event: &EventPort, variable: &Name) -> bool
-    ensures { result ≡ among event.now.with variable.now }
-{
-    event
-        .with
-        .as_slice()
-        .iter()
-        .any(|listed| variable.is(listed))
-}
-
 /// Whether an event of this name has a variable WITH it.
 fn has_event(events: &[EventPort], event: &Name, variable: &Name) -> bool
     ensures { result ≡ list_any (λ p. same_name p.name event.now && among p.with variable.now) events.now }
 {
-    events
-        .iter()
-        .any(|port| port.name.is(event) && lists(port, variable))
+    for port in events {
+        if port.name.is(event) && is_among(port.with.as_slice(), variable) {
+            return true;
+        }
+    }
+    false
 }
 
 /// Whether an output event of an interface has a variable WITH it.
@@ -122,9 +115,12 @@ fn has_bringer(
 ) -> bool
     ensures { result ≡ list_any (brings library.now plan.now connection.now) events.now }
 {
-    events
-        .iter()
-        .any(|event| brings(library, plan, connection, event))
+    for event in events {
+        if brings(library, plan, connection, event) {
+            return true;
+        }
+    }
+    false
 }
 
 /// Whether the ends of a data connection lie in one resource, or an event serves it.

@@ -6,3 +6,4 @@ mod RowReadings
 mod TableValues
 mod TableFaults
 mod Entries
+mod Searches

@@ -41,7 +41,13 @@ pub fn behind_mark(text: &[u8]) -> &[u8]
 pub(crate) fn line_feeds(text: &[u8]) -> usize
     ensures { result ≡ count_by (λ b. b == 10) text.now }
 {
-    text.iter().filter(|b| **b == b'\n').count()
+    let mut ended = 0;
+    for b in text {
+        if *b == b'\n' {
+            ended += 1;
+        }
+    }
+    ended
 }
 
 /// How many bytes stand behind the last line feed.

@@ -69,3 +69,8 @@ append_empty xs ys e = sym (ap (λ z. xs ++ z) e ∙ append-nil xs)
 pub map_push : {A B : Type 0} (f : A → B) (xs : List A) (x : A) → map f (xs ++ x ∷ []) ≡ map f xs ++ f x ∷ []
 map_push f [] x = refl
 map_push f (y ∷ ys) x = ap (λ z. f y ∷ z) (map_push f ys x)
+
+-- where none is left, what was gone over is all
+pub no_more : {A : Type 0} (done left all : List A) → done ++ left ≡ all → length left ≡ 0 → done ≡ all
+no_more done [] all e none = sym (append-nil done) ∙ e
+no_more done (x ∷ xs) all e none = absurd (omega arith)

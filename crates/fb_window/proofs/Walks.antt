@@ -307,6 +307,10 @@ pub boxes_empty : (boxes : List (Vec Message)) → ((r : ℕ) (box : Vec Message
 boxes_empty [] h = refl
 boxes_empty (b ∷ bs) h = ap (λ z. z ++ all_of bs) (h 0 b refl) ∙ boxes_empty bs (λ r x e. h (suc r) x e)
 
+-- what is said of what was made, where that was
+pub made_ok : {A E : Type 0} (P : A → Type 0) (r : Result A E) (a : A) → r ≡ Ok a → IfOk r P → P a
+made_ok P r a e h = subst (λ z. IfOk z P) e h
+
 pub if_ok : {A E : Type 0} (P Q : A → Type 0) (r : Result A E) → ((a : A) → P a → Q a) → IfOk r P → IfOk r Q
 if_ok P Q (Ok a) f h = f a h
 if_ok P Q (Err e) f h = tt

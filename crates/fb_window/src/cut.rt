@@ -1,10 +1,15 @@
 //! Lines, cut where they are final.
 
-ghost use Rattle.std.specs.Prelude.{◌≡◌, IfOk};
+ghost use Rattle.std.specs.Prelude.{◌≡◌, List, [], IfOk, OnOk};
+ghost use Rattle.std.specs.Global.{Vec};
+ghost use Rattle.std.specs.List.Sorted.{IsPermutation};
+ghost use Rattle.fb_types.specs.declared.run.Line as model;
+ghost use Rattle.fb_trace.specs.Merging.{AreMerged, AreRising, flat};
 ghost use Rattle.fb_laws.specs.Finality.{until};
 ghost use Rattle.fb_window.specs.Frontiers.{AreCut, IsSplit, edge_of};
 
 use crate::frontier::Frontier;
+use fb_trace::merge::merge;
 use fb_types::run::Line;
 use std::alloc::{AllocError, Global};
 
@@ -28,8 +33,29 @@ fn cut(
     Ok((lines, rest))
 }
 
+/// Puts what is final of each list of lines behind the fronts, and the others behind the rests. These are lent here, so
+/// that no exit of the loop lets them go.
+fn cut_each(
+    alloc: Global,
+    lists: Vec<Vec<Line>>,
+    frontier: &Frontier,
+    fronts: &mut Vec<Vec<Line>>,
+    rests: &mut Vec<Vec<Line>>,
+) -> Result<(), AllocError>
+    requires no_fronts { fronts.old.items ≡ [] }
+    requires no_rests { rests.old.items ≡ [] }
+    ensures { OnOk result (AreCut (edge_of frontier.now) lists.items fronts.new.items rests.new.items) }
+{
+    for lines in lists {
+        let (front, rest) = cut(alloc, lines, fronts.len(), frontier)?;
+        fronts.push(front)?;
+        rests.push(rest)?;
+    }
+    Ok(())
+}
+
 /// For each resource its lines that are final, and for each its others.
-pub(crate) fn cut_all(
+fn cut_all(
     alloc: Global,
     lists: Vec<Vec<Line>>,
     frontier: &Frontier,
@@ -38,10 +64,23 @@ pub(crate) fn cut_all(
 {
     let mut fronts = Vec::new(alloc);
     let mut rests = Vec::new(alloc);
-    for lines in lists {
-        let (front, rest) = cut(alloc, lines, fronts.len(), frontier)?;
-        fronts.push(front)?;
-        rests.push(rest)?;
-    }
+    cut_each(alloc, lists, frontier, &mut fronts, &mut rests)?;
     Ok((fronts, rests))
+}
+
+/// The lines that are final, merged, and for each resource its others.
+///
+/// # Errors
+/// When memory runs out.
+pub(crate) fn final_lines(
+    alloc: Global,
+    lists: Vec<Vec<Line>>,
+    frontier: &Frontier,
+) -> Result<(Vec<Line>, Vec<Vec<Line>>), AllocError>
+    ensures { IfOk result (λ p. (finals : List (Vec model.Line)) × AreCut (edge_of frontier.now) lists.items finals p.1.items
+        × (AreRising finals → AreMerged finals p.0.items) × IsPermutation (flat finals) p.0.items) }
+{
+    let (finals, rests) = cut_all(alloc, lists, frontier)?;
+    let lines = merge(alloc, finals)?;
+    Ok((lines, rests))
 }

@@ -27,14 +27,21 @@ pub(crate) struct Home {
     pub(crate) outboxes: Vec<Vec<Message>>,
 }
 
-/// Puts lines behind those that are kept.
-fn keep(mut kept: Vec<Line>, mut lines: Vec<Line>) -> Result<Vec<Line>, AllocError>
+/// Puts lines behind others.
+pub(crate) fn put_behind(kept: &mut Vec<Line>, mut lines: Vec<Line>) -> Result<(), AllocError>
+    ensures { OnOk result (kept.new.items ≡ kept.old.items ++ lines.items) }
+{
+    kept.append(&mut lines)
+}
+
+/// Puts lines behind those that are kept. Where none are, they stay where they are.
+fn keep(mut kept: Vec<Line>, lines: Vec<Line>) -> Result<Vec<Line>, AllocError>
     ensures { IfOk result (λ v. v.items ≡ kept.items ++ lines.items) }
 {
     if kept.is_empty() {
         return Ok(lines);
     }
-    kept.append(&mut lines)?;
+    put_behind(&mut kept, lines)?;
     Ok(kept)
 }
 
@@ -91,6 +98,25 @@ impl Home {
             Some(WindowDone::NoMemory) | None => Err(Failed),
         }
     }
+
+    /// Takes in all resources, each of which has rested at its place, or else comes back from the next job.
+    fn admit_all(
+        &mut self,
+        alloc: Global,
+        resting: Vec<Option<Resource>>,
+        pending: &mut IntoIter<Vec<Line>>,
+        dones: &mut IntoIter<WindowDone>,
+    ) -> Result<(), Failed>
+        ensures { OnOk result ((i : Inputs) (limit : ℕ) (bounds : List ℕ) (xs : List Inner) (lists : List (Vec Line))
+            → resting.items ≡ map resting_of xs
+            → IsHomeTo i limit bounds xs lists 0 (into_iter_items pending.old) (into_iter_items dones.old) self.old
+            → AreHome i limit bounds xs lists self.new) }
+    {
+        for rested in resting {
+            self.admit(alloc, rested, pending, dones)?;
+        }
+        Ok(())
+    }
 }
 
 /// Puts all resources in order again: those that have rested, and those that come back, in the order of their jobs.
@@ -112,10 +138,12 @@ pub(crate) fn come_home(
         pending: Vec::new(alloc),
         outboxes: Vec::new(alloc),
     };
-    let mut lists = pending.into_iter();
-    let mut ran = dones.into_iter();
-    for rested in resting {
-        home.admit(alloc, rested, &mut lists, &mut ran)?;
-    }
+    let admitted = home.admit_all(
+        alloc,
+        resting,
+        &mut pending.into_iter(),
+        &mut dones.into_iter(),
+    );
+    admitted?;
     Ok(home)
 }

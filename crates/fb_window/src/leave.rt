@@ -1,7 +1,8 @@
 //! How resources leave.
 
-ghost use Rattle.std.specs.Prelude.{◌≡◌, ◌^◌, ◌≤◌, ◌++◌, [], ◌∷◌, IfOk, None, OnOk, vec_len};
+ghost use Rattle.std.specs.Prelude.{◌≡◌, ◌^◌, ◌≤◌, ◌++◌, ℕ, [], ◌∷◌, IfOk, None, OnOk, Some, length, map, slice_get, vec_len};
 ghost use Rattle.fb_resource.specs.Resources.{IsOf};
+ghost use Rattle.fb_resource.specs.declared.resource.Inner.{Inner};
 ghost use Rattle.fb_window.specs.Jobs.{AreOf, MayLeave, job_of, jobs_of, resting_of};
 ghost use Rattle.fb_window.specs.Settling.{HasLeft};
 
@@ -38,6 +39,32 @@ fn leave(
 }
 
 impl Core {
+    /// Sends each resource out with the bound at its place, or lets it rest. What has left is lent here, so that no exit of
+    /// the loop lets it go.
+    fn leave_all(
+        jobs: &mut Vec<Job>,
+        resting: &mut Vec<Option<Resource>>,
+        system: &System,
+        steps: u64,
+        resources: Vec<Resource>,
+        bounds: &Bounds,
+    ) -> Result<(), AllocError>
+        requires of { (r : ℕ) (x : Inner) → slice_get resources.items r ≡ Some x → IsOf system.now steps x }
+        requires few { length resources.items ≤ 256 }
+        requires bounds { MayLeave bounds.now.all resources.items }
+        requires steps { (1 ≤ steps) × (steps ≤ 10 ^ 7) }
+        requires no_jobs { jobs.old.items ≡ [] }
+        requires none_resting { resting.old.items ≡ [] }
+        ensures jobs { OnOk result (jobs.new.items ≡ jobs_of system.now steps bounds.now.all 0 resources.items) }
+        ensures resting { OnOk result (resting.new.items ≡ map resting_of resources.items) }
+    {
+        for resource in resources {
+            let to = bounds.all[resting.len()];
+            leave(jobs, resting, system, steps, resource, to)?;
+        }
+        Ok(())
+    }
+
     /// Takes the core apart: one job for each resource that has not stopped, with the bound at its place, and what
     /// stays behind.
     ///
@@ -62,10 +89,14 @@ impl Core {
         system.facts();
         let mut jobs = Vec::new(alloc);
         let mut resting = Vec::new(alloc);
-        for resource in self.resources {
-            let to = bounds.all[resting.len()];
-            leave(&mut jobs, &mut resting, system, self.steps, resource, to)?;
-        }
+        Core::leave_all(
+            &mut jobs,
+            &mut resting,
+            system,
+            self.steps,
+            self.resources,
+            &bounds,
+        )?;
         let away = Away {
             system: self.system,
             steps: self.steps,

@@ -6,9 +6,10 @@
 //! law of schedules (`laws`), which knows nothing of this code.
 //!
 //! To be read in this order: `laws`; `cores` and `open`, what a core is; `bounds`; `leave` and `job`; `settle`, with
-//! `home`, `post`, `frontier`, `cut` and `ends`; `walk`, with `nexts`; `let_go`.
+//! `home`, `post`, `frontier`, `cut`, `ends` and `beside`; `walk`, with `nexts`; `let_go`.
 #![tactic(auto)]
 
+mod beside;
 pub mod bounds;
 pub mod cores;
 mod cut;

@@ -1,10 +1,13 @@
 //! How messages come from the outboxes of resources onto the agendas of others.
 
-ghost use Rattle.std.specs.Prelude.{◌≡◌, ◌<◌, ℕ, [], true, All, IfOk, Some, length, slice_get};
+ghost use Rattle.std.specs.Prelude.{◌≡◌, ◌<◌, ◌++◌, ℕ, [], ◌∷◌, true, All, IfOk, OnOk, Some, length, slice_get};
 ghost use Rattle.std.specs.Global.{Vec};
+ghost use Rattle.std.specs.Vec.Iter.{into_iter_items};
 ghost use Rattle.fb_types.specs.Headline.{system_of};
 ghost use Rattle.fb_types.specs.declared.run.Message as model;
 ghost use Rattle.fb_take.specs.Exchanges.{all_of};
+ghost use Rattle.fb_resource.specs.Resources.{HasReceived};
+ghost use Rattle.fb_resource.specs.declared.resource.Inner.{Inner};
 ghost use Rattle.fb_window.specs.Mails.{AreDelivered, ArePosted};
 
 use fb_resource::resource::Resource;
@@ -12,6 +15,44 @@ use fb_system::system::System;
 use fb_take::exchange::exchange;
 use fb_types::run::Message;
 use std::alloc::{AllocError, Global};
+use std::vec::IntoIter;
+
+/// Puts the messages in the next list on the agenda of a resource, and this behind the others.
+fn deliver_next(
+    delivered: &mut Vec<Resource>,
+    mut resource: Resource,
+    lists: &mut IntoIter<Vec<Message>>,
+) -> Result<(), AllocError>
+    ensures { OnOk result ((box : Vec model.Message) × (y : Inner) × (into_iter_items lists.old ≡ box ∷ into_iter_items lists.new)
+        × HasReceived box.items resource y × (delivered.new.items ≡ delivered.old.items ++ y ∷ [])) }
+{
+    let Some(messages) = lists.next() else {
+        return Err(AllocError);
+    };
+    match resource.receive(messages) {
+        Ok(()) => {
+            delivered.push(resource)?;
+            Ok(())
+        }
+        Err((error, _messages)) => Err(error),
+    }
+}
+
+/// Puts messages on the agendas of the resources, for each those in the next list. What is delivered is lent here, so that
+/// no exit of the loop lets it go.
+fn deliver_each(
+    delivered: &mut Vec<Resource>,
+    resources: Vec<Resource>,
+    lists: &mut IntoIter<Vec<Message>>,
+) -> Result<(), AllocError>
+    requires { delivered.old.items ≡ [] }
+    ensures { OnOk result (AreDelivered resources.items (into_iter_items lists.old) delivered.new.items) }
+{
+    for resource in resources {
+        deliver_next(delivered, resource, lists)?;
+    }
+    Ok(())
+}
 
 /// Puts messages on the agendas of the resources, for each those in the list at its place.
 fn deliver(
@@ -22,16 +63,8 @@ fn deliver(
     ensures { IfOk result (λ v. AreDelivered resources.items inboxes.items v.items) }
 {
     let mut delivered = Vec::new(alloc);
-    let mut lists = inboxes.into_iter();
-    for mut resource in resources {
-        let Some(messages) = lists.next() else {
-            return Err(AllocError);
-        };
-        match resource.receive(messages) {
-            Ok(()) => delivered.push(resource)?,
-            Err((error, _messages)) => return Err(error),
-        }
-    }
+    let received = deliver_each(&mut delivered, resources, &mut inboxes.into_iter());
+    received?;
     Ok(delivered)
 }
 

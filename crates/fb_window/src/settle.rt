@@ -13,16 +13,16 @@ ghost use Rattle.fb_window.specs.Jobs.{Does};
 ghost use Rattle.fb_window.specs.Settling.{AreLegal, HasLeft, Settles, lists_of};
 ghost use Rattle.fb_window.specs.Standing.{IsAt};
 
+use crate::beside::beside;
 use crate::bounds::least_next;
 use crate::cores::{Away, Core, Failed, Settled};
-use crate::cut::cut_all;
+use crate::cut::final_lines;
 use crate::ends::{End, end_of};
 use crate::frontier::frontier_of;
 use crate::home::come_home;
 use crate::post::post;
 use fb_resource::resource::WindowDone;
 use fb_system::system::System;
-use fb_trace::merge::merge;
 use std::alloc::Global;
 
 impl Away {
@@ -50,11 +50,12 @@ impl Away {
     {
         system.facts();
         let home = come_home(alloc, self.resting, self.pending, dones)?;
-        let resources = post(alloc, system, home.resources, home.outboxes)?;
+        let posted = post(alloc, system, home.resources, home.outboxes);
+        let (kept, resources) = beside(home.pending, posted)?;
         let least = least_next(&resources, self.horizon);
         let frontier = frontier_of(&resources, least);
-        let (finals, pending) = cut_all(alloc, home.pending, &frontier)?;
-        let lines = merge(alloc, finals)?;
+        let (resources, cut) = beside(resources, final_lines(alloc, kept, &frontier))?;
+        let (lines, pending) = cut;
         let end = end_of(&resources, self.horizon);
         let core = Core {
             system: self.system,

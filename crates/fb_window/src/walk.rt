@@ -9,6 +9,7 @@ ghost use Rattle.fb_types.specs.Parts.{count_of, machine};
 ghost use Rattle.fb_types.specs.Schedules.{IsSchedule};
 ghost use Rattle.fb_system.specs.Lines.{BelongsTo};
 ghost use Rattle.fb_laws.specs.Finality.{core_of};
+ghost use Rattle.fb_window.specs.Frontiers.{AreLive};
 ghost use Rattle.fb_window.specs.Mails.{AreGiven};
 ghost use Rattle.fb_window.specs.Noting.{AreNoted, IsHanded};
 ghost use Rattle.fb_window.specs.Standing.{IsAt};
@@ -16,6 +17,7 @@ ghost use Rattle.fb_window.specs.Walking.{HasTurned, Walks};
 
 use crate::cores::{Core, Failed};
 use crate::ends::first_stop;
+use crate::home::put_behind;
 use crate::nexts::Nexts;
 use fb_resource::resource::Resource;
 use fb_system::system::System;
@@ -121,8 +123,7 @@ impl Core {
     {
         let steps = self.steps;
         let output = self.resources[place].run_here(alloc, system, to, steps)?;
-        let mut lines = output.lines;
-        self.pending[place].append(&mut lines)?;
+        put_behind(&mut self.pending[place], output.lines)?;
         nexts.note(place, &self.resources[place]);
         give(alloc, system, &mut self.resources, nexts, output.sent)?;
         Ok(output.stop)
@@ -163,16 +164,46 @@ impl Core {
             return Ok(core);
         }
         let mut nexts = Nexts::of_all(alloc, &core.resources, horizon)?;
-        for _ in 0..most {
-            let (place, tick) = nexts.least();
-            if tick == horizon {
-                return Ok(core);
-            }
-            let stop = core.turn(alloc, system, place, tick + 1, &mut nexts)?;
-            if stop.is_some() {
-                return Ok(core);
-            }
-        }
+        take_turns(&mut core, &mut nexts, alloc, system, horizon, most)?;
         Ok(core)
     }
+}
+
+/// The turns of a walk where no resource has stopped. The core is lent here, so that no exit of the loop lets it go.
+fn take_turns(
+    core: &mut Core,
+    nexts: &mut Nexts,
+    alloc: Global,
+    system: &System,
+    horizon: u64,
+    most: u64,
+) -> Result<(), AllocError>
+    requires system { system.now ≡ core.old.system }
+    requires come { (es : List (CoreStep (machine (system_of core.old.system) core.old.steps)))
+        × IsSchedule (machine (system_of core.old.system) core.old.steps) horizon (opening_core (system_of core.old.system) (stimuli_of core.old.system) core.old.steps) es
+        × IsAt core.old.system core.old.steps (core_of core.old.system core.old.steps es) core.old.resources.items }
+    requires counted { length core.old.pending.items ≡ length core.old.resources.items }
+    requires pending { All (λ p. All (BelongsTo (system_of core.old.system)) p.items) core.old.pending.items }
+    requires live { AreLive core.old.resources.items }
+    requires same { nexts.old.horizon ≡ horizon }
+    requires noted { AreNoted nexts.old.horizon core.old.resources.items nexts.old.ticks.items }
+    requires early { horizon ≤ 10 ^ 12 }
+    requires few_steps { core.old.steps ≤ 10 ^ 7 }
+    ensures system { OnOk result (core.new.system ≡ core.old.system) }
+    ensures steps { OnOk result (core.new.steps ≡ core.old.steps) }
+    ensures pending { OnOk result (All (λ p. All (BelongsTo (system_of core.old.system)) p.items) core.new.pending.items) }
+    ensures walks { OnOk result (Walks core.old.system core.old.steps horizon most core.old core.new) }
+{
+    system.facts();
+    for _ in 0..most {
+        let (place, tick) = nexts.least();
+        if tick == horizon {
+            return Ok(());
+        }
+        let stop = core.turn(alloc, system, place, tick + 1, nexts)?;
+        if stop.is_some() {
+            return Ok(());
+        }
+    }
+    Ok(())
 }

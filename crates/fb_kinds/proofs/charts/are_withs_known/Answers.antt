@@ -1,4 +1,4 @@
-use Rattle.std.proofs.Common.{sym, ◌∙◌, ap}
+use Rattle.std.proofs.Common.{◌∙◌, ap}
 use Rattle.fb_types.specs.declared.library.Ports.{Ports}
 use Rattle.std.specs.List.{list_all}
 use Rattle.fb_kinds.specs.Checks.{with_inputs, with_outputs}

@@ -1,4 +1,4 @@
-use Rattle.std.proofs.Common.{refl, length, sym, ◌∙◌, arith}
+use Rattle.std.proofs.Common.{refl, length, arith}
 use Rattle.std.proofs.lemmas.Option.{slice_get_read}
 use Rattle.fb_kinds.proofs.parts.are_blocks_known.Goals as goal
 

@@ -1,4 +1,4 @@
-use Rattle.std.proofs.Common.{◌≡◌, List, sym, ◌∙◌, ap, subst}
+use Rattle.std.proofs.Common.{List, sym, ◌∙◌, ap, subst}
 use Rattle.std.specs.List.{list_all}
 use Rattle.fb_types.specs.declared.library.BlockType.{BlockType}
 use Rattle.fb_names.specs.declared.catalog.BlockPlaces.{BlockPlaces}

@@ -1,8 +1,9 @@
-use Rattle.std.proofs.Common.{rules, arith}
+use Rattle.std.proofs.Common.{◌≡◌, false, ◌∙◌, rules, arith}
 use Rattle.std.proofs.lemmas.Grind.{common_steps}
-use Rattle.fb_read.specs.Parser.{many_after, many_from}
+use Rattle.fb_read.specs.Parser.{sees, after, many_after, many_from}
 use Rattle.fb_read.proofs.Turns.{one_more, no_more}
-use Rattle.fb_read.proofs.Adding.{item_of, fault_of}
+use Rattle.fb_read.proofs.Adding.{fault_of}
+use Rattle.fb_read.proofs.Turning.{many_more}
 use Rattle.fb_read.proofs.rule.many_after.Goals as goal
 
 pub loop-turn-init : goal.loop-turn-init
@@ -23,16 +24,12 @@ returns-in_err-found g c =
     first_of (search rules, grind (arith, common_steps))
 
 pub loop-turn-preserved : goal.loop-turn-preserved
-unfolding many_from
 loop-turn-preserved g c =
-    let e = one_more (λ n. many_from g.T.Rule.parser c.args.end n c.loop-turn.found c.loop-turn.cursor) _ c.loop-turn._turn c.loop-turn-test.true c.loop-turn.invariant in
-    let i = item_of _ _ _ _ _ c.read.ensures c.in_ok-found.ensures in
-    let is = i.1 in
-    let more = i.2 in
-    first_of (search rules, grind (arith, common_steps))
+    let more : sees c.args.end c.loop-turn.cursor ≡ false = search rules in
+    let mid : c.eat.new.self ≡ after c.args.end c.loop-turn.cursor = search rules in
+    one_more (λ n. many_from g.T.Rule.parser c.args.end n c.loop-turn.found c.loop-turn.cursor) _ c.loop-turn._turn c.loop-turn-test.true c.loop-turn.invariant
+    ∙ many_more g.T.Rule.parser c.args.end _ c.loop-turn.found _ c.loop-turn.cursor _ _ _ more mid c.read.ensures c.in_ok-found.ensures
 
 pub returns : goal.returns
 unfolding many_from
-returns g c =
-    let e = no_more (λ n. many_from g.T.Rule.parser c.args.end n c.loop-turn.found c.loop-turn.cursor) _ c.loop-turn._turn c.loop-turn-test.false c.loop-turn.invariant in
-    first_of (search rules, grind (arith, common_steps))
+returns g c = no_more (λ n. many_from g.T.Rule.parser c.args.end n c.loop-turn.found c.loop-turn.cursor) _ c.loop-turn._turn c.loop-turn-test.false c.loop-turn.invariant

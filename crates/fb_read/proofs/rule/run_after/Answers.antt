@@ -1,8 +1,9 @@
-use Rattle.std.proofs.Common.{rules, arith}
+use Rattle.std.proofs.Common.{◌≡◌, true, ◌∙◌, rules, arith}
 use Rattle.std.proofs.lemmas.Grind.{common_steps}
-use Rattle.fb_read.specs.Parser.{run_after, run_from}
+use Rattle.fb_read.specs.Parser.{sees, run_after, run_from}
 use Rattle.fb_read.proofs.Turns.{one_more, no_more}
-use Rattle.fb_read.proofs.Adding.{item_of, fault_of}
+use Rattle.fb_read.proofs.Adding.{fault_of}
+use Rattle.fb_read.proofs.Turning.{run_more}
 use Rattle.fb_read.proofs.rule.run_after.Goals as goal
 
 pub loop-turn-init : goal.loop-turn-init
@@ -23,16 +24,11 @@ returns-in_err-found g c =
     first_of (search rules, grind (arith, common_steps))
 
 pub loop-turn-preserved : goal.loop-turn-preserved
-unfolding run_from
 loop-turn-preserved g c =
-    let e = one_more (λ n. run_from g.T.Rule.parser c.args.begin n c.loop-turn.found c.loop-turn.cursor) _ c.loop-turn._turn c.loop-turn-test.true c.loop-turn.invariant in
-    let i = item_of _ _ _ _ _ c.read.ensures c.in_ok-found.ensures in
-    let is = i.1 in
-    let more = i.2 in
-    first_of (search rules, grind (arith, common_steps))
+    let begun : sees c.args.begin c.loop-turn.cursor ≡ true = search rules in
+    one_more (λ n. run_from g.T.Rule.parser c.args.begin n c.loop-turn.found c.loop-turn.cursor) _ c.loop-turn._turn c.loop-turn-test.true c.loop-turn.invariant
+    ∙ run_more g.T.Rule.parser c.args.begin _ c.loop-turn.found _ c.loop-turn.cursor _ _ begun c.read.ensures c.in_ok-found.ensures
 
 pub returns : goal.returns
 unfolding run_from
-returns g c =
-    let e = no_more (λ n. run_from g.T.Rule.parser c.args.begin n c.loop-turn.found c.loop-turn.cursor) _ c.loop-turn._turn c.loop-turn-test.false c.loop-turn.invariant in
-    first_of (search rules, grind (arith, common_steps))
+returns g c = no_more (λ n. run_from g.T.Rule.parser c.args.begin n c.loop-turn.found c.loop-turn.cursor) _ c.loop-turn._turn c.loop-turn-test.false c.loop-turn.invariant

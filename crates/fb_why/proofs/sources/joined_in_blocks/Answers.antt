@@ -1,7 +1,8 @@
-use Rattle.std.proofs.lemmas.Option.{MatchOption-at_none}
+use Rattle.std.proofs.lemmas.Option.{MatchOption-at_none, MatchOption-at_some}
 use Rattle.fb_types.specs.declared.library.BlockType.{BlockType}
 use Rattle.fb_why.specs.Sources.{IsJoinedInside, IsParted}
 use Rattle.fb_types.proofs.LoopSteps.{all_next, all_of_taken}
+use Rattle.fb_why.proofs.Firsts.{at_hand}
 use Rattle.fb_why.proofs.sources.joined_in_blocks.Goals as goal
 
 pub loop-place-preserved : goal.loop-place-preserved
@@ -12,3 +13,11 @@ loop-place-preserved c =
 
 pub returns : goal.returns
 returns c = all_of_taken IsParted c.args.blocks.now c.loop-place.place c.loop-place-test.false c.loop-place.invariant
+
+pub returns-in-Some : goal.returns-in-Some
+returns-in-Some c =
+    let t : BlockType = c.index-blocks-place.result in (
+      t,
+      at_hand c.args.blocks.now c.loop-place.place t c.loop-place-test.true c.index-blocks-place.is,
+      MatchOption-at_some (IsParted t) (IsJoinedInside t) _ c.in-Some.is c.in_ok-pair.ensures,
+    )

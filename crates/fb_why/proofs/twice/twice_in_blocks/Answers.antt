@@ -1,8 +1,9 @@
-use Rattle.std.proofs.lemmas.Option.{MatchOption-at_none}
+use Rattle.std.proofs.lemmas.Option.{MatchOption-at_none, MatchOption-at_some}
 use Rattle.fb_types.specs.declared.library.BlockType.{BlockType}
 use Rattle.fb_names.specs.GivenTwice.{BlockTwice}
 use Rattle.fb_why.specs.Twice.{IsTwiceInBlock}
 use Rattle.fb_types.proofs.LoopSteps.{all_next, all_of_taken}
+use Rattle.fb_why.proofs.Firsts.{at_hand}
 use Rattle.fb_why.proofs.Once.{IsBlockOnce}
 use Rattle.fb_why.proofs.twice.twice_in_blocks.Goals as goal
 
@@ -14,3 +15,11 @@ loop-place-preserved c =
 
 pub returns : goal.returns
 returns c = all_of_taken IsBlockOnce c.args.blocks.now c.loop-place.place c.loop-place-test.false c.loop-place.invariant
+
+pub returns-in-Some : goal.returns-in-Some
+returns-in-Some c =
+    let t : BlockType = c.index-blocks-place.result in (
+      t,
+      at_hand c.args.blocks.now c.loop-place.place t c.loop-place-test.true c.index-blocks-place.is,
+      MatchOption-at_some (¬ (BlockTwice t)) (IsTwiceInBlock t) _ c.in-Some.is c.in_ok-found.ensures,
+    )

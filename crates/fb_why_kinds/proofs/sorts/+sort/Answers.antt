@@ -4,7 +4,7 @@ use Rattle.fb_types.specs.Kinds.{sort_of, sort_of_type}
 use Rattle.fb_types.specs.Syntax.{expr_of}
 use Rattle.fb_types.specs.declared.sort.Sort.{Sort}
 use Rattle.fb_kinds.proofs.Arguments.{no_sort}
-use Rattle.fb_why_kinds.proofs.Sorted.{binary_from, call_from, group_sort, unary_from, variable_sort}
+use Rattle.fb_why_kinds.proofs.Sorted.{binary_from, call_from, group_sort, one_from, one_is, three_are, three_from, two_are, two_from, unary_from, variable_sort}
 use Rattle.fb_why_kinds.proofs.sorts.+sort.Goals as goal
 
 pub sort_of-returns-in-Variable : goal.sort_of-returns-in-Variable
@@ -61,3 +61,51 @@ sort_of-returns-in_ok-named-in-Call t c =
 
 pub sort_of_call-returns-in_default-2 : goal.sort_of_call-returns-in_default-2
 sort_of_call-returns-in_default-2 t c = no_sort (types_of c.args.basic.now) c.args.function c.args.arguments.now c.in_default.len_at_least
+
+pub sort_of_call-returns-in_err-sort_of-in-len1 : goal.sort_of_call-returns-in_err-sort_of-in-len1
+sort_of_call-returns-in_err-sort_of-in-len1 t c =
+    one_from (types_of c.args.basic.now) c.args.function c.args.arguments.now c.one-item.result None _ (one_is c.args.arguments.now c.one-item.result c.in-len1.len_at_least c.in-len1.len_below c.one-item.is)
+    (sym c.in_err-sort_of-in-len1.was ∙ c.sort_of.ensures) c.from_residual.ensures
+
+pub sort_of_call-returns-in_ok-sort_of-in-len1 : goal.sort_of_call-returns-in_ok-sort_of-in-len1
+sort_of_call-returns-in_ok-sort_of-in-len1 t c =
+    one_from (types_of c.args.basic.now) c.args.function c.args.arguments.now c.one-item.result (Some c.in_ok-sort_of-in-len1.field-0) _ (one_is c.args.arguments.now c.one-item.result c.in-len1.len_at_least c.in-len1.len_below c.one-item.is)
+    (sym c.in_ok-sort_of-in-len1.was ∙ c.sort_of.ensures) c.sort_of_one.ensures
+
+pub sort_of_call-returns-in_err-first-in-len2 : goal.sort_of_call-returns-in_err-first-in-len2
+sort_of_call-returns-in_err-first-in-len2 t c =
+    two_from (types_of c.args.basic.now) c.args.function c.args.arguments.now c.one-item-then-arguments-lt3.result c.two-item.result None (sort_of (types_of c.args.basic.now) (expr_of c.two-item.result)) _ (two_are c.args.arguments.now c.one-item-then-arguments-lt3.result c.two-item.result c.in-len2.len_at_least c.in-len2.len_below c.one-item-then-arguments-lt3.is c.two-item.is)
+    (sym c.in_err-first-in-len2.was ∙ c.sort_of-in-len2.ensures) refl c.from_residual-in_err-first-in-len2.ensures
+
+pub sort_of_call-returns-in_err-sort_of-in-len2 : goal.sort_of_call-returns-in_err-sort_of-in-len2
+sort_of_call-returns-in_err-sort_of-in-len2 t c =
+    two_from (types_of c.args.basic.now) c.args.function c.args.arguments.now c.one-item-then-arguments-lt3.result c.two-item.result (Some c.in_ok-first-in-len2.first) None _ (two_are c.args.arguments.now c.one-item-then-arguments-lt3.result c.two-item.result c.in-len2.len_at_least c.in-len2.len_below c.one-item-then-arguments-lt3.is c.two-item.is)
+    (sym c.in_ok-first-in-len2.was ∙ c.sort_of-in-len2.ensures) (sym c.in_err-sort_of-in-len2.was ∙ c.sort_of-in-len2-2.ensures) c.from_residual-in_err-sort_of-in-len2.ensures
+
+pub sort_of_call-returns-in_ok-sort_of-in-len2 : goal.sort_of_call-returns-in_ok-sort_of-in-len2
+sort_of_call-returns-in_ok-sort_of-in-len2 t c =
+    two_from (types_of c.args.basic.now) c.args.function c.args.arguments.now c.one-item-then-arguments-lt3.result c.two-item.result (Some c.in_ok-first-in-len2.first) (Some c.in_ok-sort_of-in-len2.field-0) _ (two_are c.args.arguments.now c.one-item-then-arguments-lt3.result c.two-item.result c.in-len2.len_at_least c.in-len2.len_below c.one-item-then-arguments-lt3.is c.two-item.is)
+    (sym c.in_ok-first-in-len2.was ∙ c.sort_of-in-len2.ensures) (sym c.in_ok-sort_of-in-len2.was ∙ c.sort_of-in-len2-2.ensures) c.sort_of_two.ensures
+
+pub sort_of_call-returns-in_err-first-in-len3 : goal.sort_of_call-returns-in_err-first-in-len3
+sort_of_call-returns-in_err-first-in-len3 t c =
+    three_from (types_of c.args.basic.now) c.args.function c.args.arguments.now c.one-item-then-arguments-lt4.result c.two-item-then-arguments-lt4.result c.three-item.result None (sort_of (types_of c.args.basic.now) (expr_of c.two-item-then-arguments-lt4.result)) (sort_of (types_of c.args.basic.now) (expr_of c.three-item.result)) _ (three_are c.args.arguments.now c.one-item-then-arguments-lt4.result c.two-item-then-arguments-lt4.result c.three-item.result c.in-len3.len_at_least c.in-len3.len_below c.one-item-then-arguments-lt4.is c.two-item-then-arguments-lt4.is c.three-item.is)
+    (sym c.in_err-first-in-len3.was ∙ c.sort_of-in-len3.ensures) refl refl c.from_residual-in_err-first-in-len3.ensures
+
+pub sort_of_call-returns-in_err-second-in-len3 : goal.sort_of_call-returns-in_err-second-in-len3
+sort_of_call-returns-in_err-second-in-len3 t c =
+    three_from (types_of c.args.basic.now) c.args.function c.args.arguments.now c.one-item-then-arguments-lt4.result c.two-item-then-arguments-lt4.result c.three-item.result (Some c.in_ok-first-in-len3.first) None (sort_of (types_of c.args.basic.now) (expr_of c.three-item.result)) _ (three_are c.args.arguments.now c.one-item-then-arguments-lt4.result c.two-item-then-arguments-lt4.result c.three-item.result c.in-len3.len_at_least c.in-len3.len_below c.one-item-then-arguments-lt4.is c.two-item-then-arguments-lt4.is c.three-item.is)
+    (sym c.in_ok-first-in-len3.was ∙ c.sort_of-in-len3.ensures) (sym c.in_err-second-in-len3.was ∙ c.sort_of-in-len3-2.ensures) refl
+    c.from_residual-in_err-second-in-len3.ensures
+
+pub sort_of_call-returns-in_err-sort_of-in-len3 : goal.sort_of_call-returns-in_err-sort_of-in-len3
+sort_of_call-returns-in_err-sort_of-in-len3 t c =
+    three_from (types_of c.args.basic.now) c.args.function c.args.arguments.now c.one-item-then-arguments-lt4.result c.two-item-then-arguments-lt4.result c.three-item.result (Some c.in_ok-first-in-len3.first) (Some c.in_ok-second-in-len3.second) None _ (three_are c.args.arguments.now c.one-item-then-arguments-lt4.result c.two-item-then-arguments-lt4.result c.three-item.result c.in-len3.len_at_least c.in-len3.len_below c.one-item-then-arguments-lt4.is c.two-item-then-arguments-lt4.is c.three-item.is)
+    (sym c.in_ok-first-in-len3.was ∙ c.sort_of-in-len3.ensures) (sym c.in_ok-second-in-len3.was ∙ c.sort_of-in-len3-2.ensures)
+    (sym c.in_err-sort_of-in-len3.was ∙ c.sort_of-in-len3-3.ensures) c.from_residual-in_err-sort_of-in-len3.ensures
+
+pub sort_of_call-returns-in_ok-sort_of-in-len3 : goal.sort_of_call-returns-in_ok-sort_of-in-len3
+sort_of_call-returns-in_ok-sort_of-in-len3 t c =
+    three_from (types_of c.args.basic.now) c.args.function c.args.arguments.now c.one-item-then-arguments-lt4.result c.two-item-then-arguments-lt4.result c.three-item.result (Some c.in_ok-first-in-len3.first) (Some c.in_ok-second-in-len3.second) (Some c.in_ok-sort_of-in-len3.field-0) _ (three_are c.args.arguments.now c.one-item-then-arguments-lt4.result c.two-item-then-arguments-lt4.result c.three-item.result c.in-len3.len_at_least c.in-len3.len_below c.one-item-then-arguments-lt4.is c.two-item-then-arguments-lt4.is c.three-item.is)
+    (sym c.in_ok-first-in-len3.was ∙ c.sort_of-in-len3.ensures) (sym c.in_ok-second-in-len3.was ∙ c.sort_of-in-len3-2.ensures)
+    (sym c.in_ok-sort_of-in-len3.was ∙ c.sort_of-in-len3-3.ensures) c.sort_of_three.ensures

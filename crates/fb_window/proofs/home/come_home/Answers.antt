@@ -1,38 +1,20 @@
-use Rattle.std.proofs.Common.{◌≡◌, ◌++◌, ℕ, [], ◌∷◌, length, refl, sym, ap, ◌∙◌, subst, append_assoc, arith}
-use Rattle.std.specs.Prelude.{slice_get}
-use Rattle.std.proofs.lemmas.List.{length-map}
+use Rattle.std.proofs.Common.{List, sym, subst}
+use Rattle.std.specs.Global.{Vec}
+use Rattle.std.specs.List.{AllZip}
 use Rattle.std.specs.Vec.Iter.{into_iter_items}
+use Rattle.fb_types.specs.declared.run.Line.{Line}
+use Rattle.fb_resource.specs.declared.resource.WindowDone.{WindowDone}
 use Rattle.fb_window.specs.Homes.{IsHomeTo}
-use Rattle.fb_window.specs.Jobs.{resting_of}
-use Rattle.fb_window.proofs.HomeIs.{home_all}
-use Rattle.fb_window.proofs.Leaves.{length_join}
-use Rattle.fb_laws.proofs.Places.{map_has, middle_at, push_counted}
+use Rattle.fb_window.specs.Jobs.{Does, jobs_of}
+use Rattle.fb_window.specs.declared.home.Home.{Home}
+use Rattle.fb_window.proofs.HomeIs.{home_none}
 use Rattle.fb_window.proofs.home.come_home.Goals as goal
-
-pub loop-rested-preserved : goal.loop-rested-preserved
-loop-rested-preserved c =
-    let inv = c.loop-rested.invariant in
-    let done = c.loop-rested.yielded in
-    let n = length done in
-    let step = c.in-Some.ensures.steps in
-    let rest = ap (λ z. done ++ z) (sym step.0) ∙ inv.rest in
-    let at = middle_at done (into_iter_items c.next.new.self) c.args.resting.items c.in-Some.rested rest in
-    record {
-      home = λ i limit bounds xs same jobs.
-          let x = map_has resting_of xs n c.in-Some.rested (sym (ap (λ z. slice_get z n) same) ∙ at) in
-          subst (λ (k : ℕ). IsHomeTo i limit bounds xs c.args.pending.items k (into_iter_items c.admit.new.pending) (into_iter_items c.admit.new.dones) c.admit.new.self) (sym (push_counted done c.in-Some.rested n refl))
-          (c.in_ok-admit.ensures i limit bounds xs c.args.pending.items n x.0 x.1 x.2 (inv.home i limit bounds xs same jobs));
-      rest = append_assoc done (c.in-Some.rested ∷ []) (into_iter_items c.next.new.self) ∙ rest;
-      len = let same = ap length step.0 in omega (arith, inv.len, step.1, same);
-    }
 
 pub returns : goal.returns
 returns c = λ i limit bounds xs same jobs.
-    let inv = c.loop-rested.invariant in
-    let done = c.loop-rested.yielded in
-    let end = c.in-None.ensures.steps in
-    let whole = ap length inv.rest in
-    let joined = length_join done (into_iter_items c.loop-rested.rested-iterator) in
-    let mapped : length c.args.resting.items ≡ length xs = ap length same ∙ length-map xs resting_of in
-    home_all i limit bounds xs c.args.pending.items (length done) (into_iter_items c.loop-rested.lists) (into_iter_items c.loop-rested.ran) c.loop-rested.home (inv.home i limit bounds xs same jobs)
-    (omega (arith, inv.len, end.0, whole, joined, mapped))
+    let lists = c.args.pending.items in
+    let home : Home = record { resources = c.new.result; pending = c.new-2.result; outboxes = c.new-3.result } in
+    let done = subst (λ (ds : List WindowDone). AllZip Does (jobs_of i limit bounds 0 xs) ds) (sym c.into_iter-2.ensures.rest) jobs in
+    c.in_ok-admitted.ensures i limit bounds xs lists same
+    (subst (λ (ks : List (Vec Line)). IsHomeTo i limit bounds xs lists 0 ks (into_iter_items c.into_iter-2.result) home) (sym c.into_iter.ensures.rest)
+    (home_none i limit bounds xs lists (into_iter_items c.into_iter-2.result) home done c.new.ensures.items c.new-2.ensures.items c.new-3.ensures.items))

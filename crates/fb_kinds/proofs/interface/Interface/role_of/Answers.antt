@@ -1,4 +1,4 @@
-use Rattle.std.proofs.Common.{◌≡◌, Some, None, sym, ◌∙◌, ap}
+use Rattle.std.proofs.Common.{Some, None, sym, ◌∙◌, ap}
 use Rattle.std.specs.Prelude.{position}
 use Rattle.fb_types.specs.Names.{same_name}
 use Rattle.fb_names.specs.Places.{place_in}

@@ -1,4 +1,4 @@
-use Rattle.std.proofs.Common.{sym, ◌∙◌, ap}
+use Rattle.std.proofs.Common.{◌∙◌, ap}
 use Rattle.std.specs.Prelude.{is_some}
 use Rattle.fb_types.specs.Names.{same_name}
 use Rattle.fb_types.specs.Blocks.{among}

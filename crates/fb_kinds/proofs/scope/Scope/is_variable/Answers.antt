@@ -1,4 +1,4 @@
-use Rattle.std.proofs.Common.{sym, ◌∙◌, ap}
+use Rattle.std.proofs.Common.{◌∙◌, ap}
 use Rattle.std.specs.Prelude.{is_some}
 use Rattle.fb_kinds.specs.Roles.{variables_of, type_named}
 use Rattle.fb_kinds.proofs.Roles.{is_some-type_named}

@@ -1,8 +1,9 @@
-use Rattle.std.proofs.Common.{rules, arith}
+use Rattle.std.proofs.Common.{◌≡◌, true, false, ◌∙◌, rules, arith}
 use Rattle.std.proofs.lemmas.Grind.{common_steps}
 use Rattle.fb_read.specs.Statements.{nested_statement, block, begins_statement, several, several_from}
 use Rattle.fb_read.proofs.Turns.{one_more, no_more}
-use Rattle.fb_read.proofs.Adding.{item_of, fault_of}
+use Rattle.fb_read.proofs.Adding.{fault_of}
+use Rattle.fb_read.proofs.Turning.{several_more, several_over}
 use Rattle.fb_read.proofs.statement.StatementRules.block.Goals as goal
 
 pub loop-turn-init : goal.loop-turn-init
@@ -10,10 +11,10 @@ unfolding block several
 loop-turn-init g c = first_of (search rules, grind (arith, common_steps))
 
 pub returns-then-not-begins_statement : goal.returns-then-not-begins_statement
-unfolding several_from
 returns-then-not-begins_statement g c =
-    let e = one_more (λ n. several_from begins_statement (nested_statement c.args.self.now.below) n c.loop-turn.found c.loop-turn.cursor) _ c.loop-turn._turn c.loop-turn-test.true c.loop-turn.invariant in
-    first_of (search rules, grind (arith, common_steps))
+    let over : begins_statement c.loop-turn.cursor ≡ false = search rules in
+    one_more (λ n. several_from begins_statement (nested_statement c.args.self.now.below) n c.loop-turn.found c.loop-turn.cursor) _ c.loop-turn._turn c.loop-turn-test.true c.loop-turn.invariant
+    ∙ several_over begins_statement (nested_statement c.args.self.now.below) _ c.loop-turn.found c.loop-turn.cursor over
 
 pub returns-in_err-found : goal.returns-in_err-found
 unfolding several_from
@@ -23,16 +24,11 @@ returns-in_err-found g c =
     first_of (search rules, grind (arith, common_steps))
 
 pub loop-turn-preserved : goal.loop-turn-preserved
-unfolding several_from
 loop-turn-preserved g c =
-    let e = one_more (λ n. several_from begins_statement (nested_statement c.args.self.now.below) n c.loop-turn.found c.loop-turn.cursor) _ c.loop-turn._turn c.loop-turn-test.true c.loop-turn.invariant in
-    let i = item_of _ _ _ _ _ c.part.ensures c.in_ok-found.ensures in
-    let is = i.1 in
-    let more = i.2 in
-    first_of (search rules, grind (arith, common_steps))
+    let begun : begins_statement c.loop-turn.cursor ≡ true = search rules in
+    one_more (λ n. several_from begins_statement (nested_statement c.args.self.now.below) n c.loop-turn.found c.loop-turn.cursor) _ c.loop-turn._turn c.loop-turn-test.true c.loop-turn.invariant
+    ∙ several_more begins_statement (nested_statement c.args.self.now.below) _ c.loop-turn.found _ c.loop-turn.cursor _ _ begun c.part.ensures c.in_ok-found.ensures
 
 pub returns : goal.returns
 unfolding several_from
-returns g c =
-    let e = no_more (λ n. several_from begins_statement (nested_statement c.args.self.now.below) n c.loop-turn.found c.loop-turn.cursor) _ c.loop-turn._turn c.loop-turn-test.false c.loop-turn.invariant in
-    first_of (search rules, grind (arith, common_steps))
+returns g c = no_more (λ n. several_from begins_statement (nested_statement c.args.self.now.below) n c.loop-turn.found c.loop-turn.cursor) _ c.loop-turn._turn c.loop-turn-test.false c.loop-turn.invariant

@@ -1,10 +1,11 @@
-use Rattle.std.proofs.Common.{[], rules, arith}
+use Rattle.std.proofs.Common.{◌≡◌, true, false, [], ◌∙◌, rules, arith}
 use Rattle.std.proofs.lemmas.Grind.{common_steps}
 use Rattle.fb_read.specs.declared.token.Mark.TheVariants as mark
 use Rattle.fb_read.specs.Parser.{sees}
 use Rattle.fb_read.specs.Statements.{nested_statement, choices, elsif, several, several_from}
 use Rattle.fb_read.proofs.Turns.{one_more, no_more}
 use Rattle.fb_read.proofs.Adding.{item_of, fault_of}
+use Rattle.fb_read.proofs.Turning.{several_more, several_over}
 use Rattle.fb_read.proofs.statement.StatementRules.choices.Goals as goal
 
 pub returns-in_err-found : goal.returns-in_err-found
@@ -22,10 +23,10 @@ loop-turn-init g c =
     first_of (search rules, grind (arith, common_steps))
 
 pub returns-then-not-sees : goal.returns-then-not-sees
-unfolding several_from
 returns-then-not-sees g c =
-    let e = one_more (λ n. several_from (sees mark.Elsif) (elsif (nested_statement c.args.self.now.below)) n c.loop-turn.found c.loop-turn.cursor) _ c.loop-turn._turn c.loop-turn-test.true c.loop-turn.invariant in
-    first_of (search rules, grind (arith, common_steps))
+    let over : sees mark.Elsif c.loop-turn.cursor ≡ false = search rules in
+    one_more (λ n. several_from (sees mark.Elsif) (elsif (nested_statement c.args.self.now.below)) n c.loop-turn.found c.loop-turn.cursor) _ c.loop-turn._turn c.loop-turn-test.true c.loop-turn.invariant
+    ∙ several_over (sees mark.Elsif) (elsif (nested_statement c.args.self.now.below)) _ c.loop-turn.found c.loop-turn.cursor over
 
 pub returns-in_err-found-2 : goal.returns-in_err-found-2
 unfolding several_from
@@ -35,16 +36,11 @@ returns-in_err-found-2 g c =
     first_of (search rules, grind (arith, common_steps))
 
 pub loop-turn-preserved : goal.loop-turn-preserved
-unfolding several_from
 loop-turn-preserved g c =
-    let e = one_more (λ n. several_from (sees mark.Elsif) (elsif (nested_statement c.args.self.now.below)) n c.loop-turn.found c.loop-turn.cursor) _ c.loop-turn._turn c.loop-turn-test.true c.loop-turn.invariant in
-    let i = item_of _ _ _ _ _ c.elsif.ensures c.in_ok-found-2.ensures in
-    let is = i.1 in
-    let more = i.2 in
-    first_of (search rules, grind (arith, common_steps))
+    let begun : sees mark.Elsif c.loop-turn.cursor ≡ true = search rules in
+    one_more (λ n. several_from (sees mark.Elsif) (elsif (nested_statement c.args.self.now.below)) n c.loop-turn.found c.loop-turn.cursor) _ c.loop-turn._turn c.loop-turn-test.true c.loop-turn.invariant
+    ∙ several_more (sees mark.Elsif) (elsif (nested_statement c.args.self.now.below)) _ c.loop-turn.found _ c.loop-turn.cursor _ _ begun c.elsif.ensures c.in_ok-found-2.ensures
 
 pub returns : goal.returns
 unfolding several_from
-returns g c =
-    let e = no_more (λ n. several_from (sees mark.Elsif) (elsif (nested_statement c.args.self.now.below)) n c.loop-turn.found c.loop-turn.cursor) _ c.loop-turn._turn c.loop-turn-test.false c.loop-turn.invariant in
-    first_of (search rules, grind (arith, common_steps))
+returns g c = no_more (λ n. several_from (sees mark.Elsif) (elsif (nested_statement c.args.self.now.below)) n c.loop-turn.found c.loop-turn.cursor) _ c.loop-turn._turn c.loop-turn-test.false c.loop-turn.invariant

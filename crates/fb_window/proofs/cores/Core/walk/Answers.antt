@@ -1,32 +1,18 @@
-use Rattle.std.proofs.Common.{◌≡◌, ℕ, ◌+◌, ◌<◌, ◌≤◌, true, false, Option, Some, None, List, length, slice_get, refl, sym, ap, subst, ◌∙◌, arith}
+use Rattle.std.proofs.Common.{◌≡◌, ℕ, true, false, Option, List, length, refl, sym, subst, ◌∙◌}
 use Rattle.std.specs.Prelude.{IfNone, IfSome, is_some}
-use Rattle.fb_types.specs.Headline.{AreAccepted, Inputs, system_of}
-use Rattle.fb_types.specs.Limits.{IsWithinLimits}
-use Rattle.fb_types.specs.Parts.{count_of}
-use Rattle.fb_types.specs.declared.key.Key.{Key}
 use Rattle.fb_types.specs.declared.run.StopMark.{StopMark}
-use Rattle.fb_laws.specs.Sound.{AreGood}
-use Rattle.fb_agenda.specs.Agendas.{IsNext, waiting}
-use Rattle.fb_resource.specs.Resources.{IsOf}
 use Rattle.fb_resource.specs.declared.resource.Inner.{Inner}
 use Rattle.fb_window.specs.Frontiers.{AreLive, IsFirstStop}
 use Rattle.fb_window.specs.Noting.{AreNoted}
-use Rattle.fb_window.specs.Walking.{HasTurned}
-use Rattle.fb_window.specs.declared.cores.Core.{Core}
 use Rattle.fb_types.proofs.Options.{none_from_is_some, some_from_is_some}
-use Rattle.fb_laws.proofs.Places.{is_at, one_at}
-use Rattle.fb_window.proofs.Single.{clock_before}
-use Rattle.fb_window.proofs.Walked.{HasGone, HasStepped, all_counted, by_count, by_horizon, by_stop, each_of, gone_none, stepped}
+use Rattle.fb_window.proofs.Walked.{by_stop, gone_none}
 use Rattle.fb_window.proofs.cores.Core.walk.Goals as goal
-use Rattle.fb_window.proofs.cores.Core.walk.Goals.{After-least-place}
 
 stop_found : (xs : List Inner) (o : Option StopMark) → IfSome o (IsFirstStop xs (length xs)) → is_some o ≡ true → (m : StopMark) × IsFirstStop xs (length xs) m
 stop_found xs o h e = let s = some_from_is_some o e in (s.0, subst (λ z. IfSome z (IsFirstStop xs (length xs))) s.1 h)
 
 none_found : (xs : List Inner) (o : Option StopMark) → IfNone o (AreLive xs) → is_some o ≡ false → AreLive xs
 none_found xs o h e = subst (λ z. IfNone z (AreLive xs)) (none_from_is_some o e) h
-
--- ---- Before the loop
 
 pub returns-then-is_some-clause-walks : goal.returns-then-is_some-clause-walks
 returns-then-is_some-clause-walks c =
@@ -38,106 +24,12 @@ returns-then-is_some-clause-walks c =
     by_stop self.system self.steps c.args.horizon self c.args.most 0 f.0.resource self t.0 f.0.reason t.1 t.2
     (gone_none self.system self.steps c.args.horizon self refl refl c.requires.counted c.requires.pending)
 
-pub loop-init : goal.loop-init
-loop-init c =
-    let self = c.args.self in
-    record {
-      gone = gone_none self.system self.steps c.args.horizon self refl refl c.requires.counted c.requires.pending;
-      live = none_found self.resources.items c.first_stop.result
-          (subst (λ (ys : List Inner). IfNone c.first_stop.result (AreLive ys)) c.deref.ensures.value c.first_stop.ensures.none) (sym c.is_some.ensures ∙ c.if-is_some.false);
-      same = c.in_ok-nexts.ensures.horizon;
-      noted = subst (λ (h : ℕ). AreNoted h self.resources.items c.in_ok-nexts.nexts.ticks.items) (sym c.in_ok-nexts.ensures.horizon)
-          (subst (λ (ys : List Inner). AreNoted c.args.horizon ys c.in_ok-nexts.nexts.ticks.items) c.deref-2.ensures.value c.in_ok-nexts.ensures.noted);
-    }
+pub take_turns-requires-clause-live : goal.take_turns-requires-clause-live
+take_turns-requires-clause-live c =
+    none_found c.args.self.resources.items c.first_stop.result
+    (subst (λ (ys : List Inner). IfNone c.first_stop.result (AreLive ys)) c.deref.ensures.value c.first_stop.ensures.none) (sym c.is_some.ensures ∙ c.if-is_some.false)
 
--- ---- What is known at the first resource that has the least event
-
-low_of : (c : After-least-place) (r : ℕ) (x : Inner) (j : Key) → slice_get c.loop.core.resources.items r ≡ Some x → j.tick < c.least-place.result.1 → waiting x.queues.agenda j ≡ None
-low_of c = c.least-place.ensures.low c.loop.core.resources.items c.loop.invariant.noted
-
-early_of : (c : After-least-place) → (c.least-place.result.1 ≡ c.args.horizon → ⊥) → c.least-place.result.1 < c.args.horizon
-early_of c n = let cap = c.least-place.ensures.cap in let same = c.loop.invariant.same in omega (arith, cap, same, n)
-
-there_of : (c : After-least-place) → (c.least-place.result.1 ≡ c.args.horizon → ⊥)
-    → (x : Inner) × (slice_get c.loop.core.resources.items c.least-place.result.0 ≡ Some x) × IsNext x.queues.agenda c.least-place.result.1
-there_of c n = let early = early_of c n in let same = c.loop.invariant.same in c.least-place.ensures.there c.loop.core.resources.items c.loop.invariant.noted (omega (arith, early, same))
-
-of_at : (c : After-least-place) (r : ℕ) (x : Inner) → slice_get c.loop.core.resources.items r ≡ Some x → IsOf c.args.self.system c.args.self.steps x
-of_at c r x e = each_of c.args.self.system c.args.self.steps c.args.horizon c.args.self c.loop.counter c.loop.core c.loop.invariant.gone c.requires.come r x e
-
-step : (c : After-least-place) → (c.least-place.result.1 ≡ c.args.horizon → ⊥) → (new : Core) (stop : Option StopMark)
-    → HasTurned c.loop.core.system c.loop.core.steps c.least-place.result.0 (c.least-place.result.1 + 1) c.loop.core new stop → new.system ≡ c.loop.core.system → new.steps ≡ c.loop.core.steps
-    → HasStepped c.args.self.system c.args.self.steps c.args.horizon c.args.self c.loop.counter new stop
-step c n new stop turned system steps =
-    let good : AreGood c.args.self.system = record {
-      accepted = subst AreAccepted c.requires.system c.facts.ensures.accepted;
-      limits = subst (λ (i : Inputs). IsWithinLimits i.plan) c.requires.system c.facts.ensures.limits;
-    } in
-    let t = there_of c n in
-    stepped c.args.self.system c.args.self.steps c.args.horizon c.args.self good c.loop.counter c.loop.core c.loop.invariant.live c.loop.invariant.gone
-    c.least-place.result.1 (early_of c n) (low_of c) c.least-place.result.0 t.0 t.1 t.2 new stop turned system steps
-
--- ---- In the loop
-
-pub returns-then-tick-horizon-clause-walks : goal.returns-then-tick-horizon-clause-walks
-returns-then-tick-horizon-clause-walks c =
-    let d = (goal.at.returns-then-tick-horizon-clause-walks c).After-least-place in
-    let same : c.least-place.result.1 ≡ c.args.horizon = c.if-tick-horizon.true in
-    by_horizon c.args.self.system c.args.self.steps c.args.horizon c.args.self c.args.most c.loop.counter c.loop.core
-    (λ r x j s b. low_of d r x j s (omega (arith, same))) c.loop.invariant.gone
-
-pub turn-requires-clause-counted : goal.turn-requires-clause-counted
-turn-requires-clause-counted c =
-    let gone = c.loop.invariant.gone in
-    all_counted c.args.self.system c.args.self.steps c.args.horizon c.args.self c.loop.counter c.loop.core gone c.requires.come ∙ ap (λ (z : Inputs). count_of (system_of z)) (sym gone.system)
-
-pub turn-requires-clause-place : goal.turn-requires-clause-place
-turn-requires-clause-place c =
-    let t = there_of (goal.at.turn-requires-clause-place c).After-least-place c.if-tick-horizon.false in
-    is_at c.loop.core.resources.items c.least-place.result.0 t.0 t.1
-
-pub turn-requires-clause-of : goal.turn-requires-clause-of
-turn-requires-clause-of c = λ x e.
-    let gone = c.loop.invariant.gone in
-    subst (λ (z : Inputs). IsOf z c.loop.core.steps x) (sym gone.system)
-    (subst (λ (n : ℕ). IsOf c.args.self.system n x) (sym gone.steps) (of_at (goal.at.turn-requires-clause-of c).After-least-place c.least-place.result.0 x e))
-
-pub turn-requires-clause-ahead : goal.turn-requires-clause-ahead
-turn-requires-clause-ahead c = λ x e.
-    let d = (goal.at.turn-requires-clause-ahead c).After-least-place in
-    let m = c.least-place.result.1 in
-    let t = there_of d c.if-tick-horizon.false in
-    let next : IsNext x.queues.agenda m = subst (λ (z : Inner). IsNext z.queues.agenda m) (one_at c.loop.core.resources.items c.least-place.result.0 t.0 x t.1 e) t.2 in
-    let late : x.clock ≤ m = clock_before c.args.self.system c.args.self.steps m x (of_at d c.least-place.result.0 x e) next in
-    omega (arith, late)
-
-pub returns-then-is_some-2-clause-pending : goal.returns-then-is_some-2-clause-pending
-returns-then-is_some-2-clause-pending c =
-    let d = (goal.at.returns-then-is_some-2-clause-pending c).After-least-place in
-    let e = c.in_ok-stop.ensures in
-    (step d c.if-tick-horizon.false c.turn.new.self c.in_ok-stop.stop e.turned e.system e.steps).gone.belong
-
-pub returns-then-is_some-2-clause-walks : goal.returns-then-is_some-2-clause-walks
-returns-then-is_some-2-clause-walks c =
-    let d = (goal.at.returns-then-is_some-2-clause-walks c).After-least-place in
-    let e = c.in_ok-stop.ensures in
-    let mark = some_from_is_some c.in_ok-stop.stop (sym c.is_some-in-loop.ensures ∙ c.if-is_some-2.true) in
-    (step d c.if-tick-horizon.false c.turn.new.self c.in_ok-stop.stop e.turned e.system e.steps).ends mark.0 mark.1 c.args.most
-
-pub loop-preserved : goal.loop-preserved
-loop-preserved c =
-    let d = (goal.at.loop-preserved c).After-least-place in
-    let e = c.in_ok-stop.ensures in
-    let s = step d c.if-tick-horizon.false c.turn.new.self c.in_ok-stop.stop e.turned e.system e.steps in
-    record {
-      gone = s.gone;
-      live = s.live (none_from_is_some c.in_ok-stop.stop (sym c.is_some-in-loop.ensures ∙ c.if-is_some-2.false));
-      same = e.horizon ∙ c.loop.invariant.same;
-      noted = e.noted;
-    }
-
-pub returns-clause-walks : goal.returns-clause-walks
-returns-clause-walks c =
-    let end : c.loop.counter ≡ c.args.most = let a = c.loop-test.false in let b = c.loop.auto.counter-end in omega (arith, a, b) in
-    by_count c.args.self.system c.args.self.steps c.args.horizon c.args.self c.args.most c.loop.core
-    (subst (λ (n : ℕ). HasGone c.args.self.system c.args.self.steps c.args.horizon c.args.self c.loop.core n) end c.loop.invariant.gone)
+pub take_turns-requires-clause-noted : goal.take_turns-requires-clause-noted
+take_turns-requires-clause-noted c =
+    subst (λ (h : ℕ). AreNoted h c.args.self.resources.items c.in_ok-nexts.nexts.ticks.items) (sym c.in_ok-nexts.ensures.horizon)
+    (subst (λ (ys : List Inner). AreNoted c.args.horizon ys c.in_ok-nexts.nexts.ticks.items) c.deref-2.ensures.value c.in_ok-nexts.ensures.noted)

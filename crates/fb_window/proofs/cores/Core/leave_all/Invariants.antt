@@ -1,12 +1,12 @@
 use Rattle.std.proofs.Common.{◌≡◌, ◌++◌, length, map}
 use Rattle.std.specs.Vec.Iter.{into_iter_items, into_iter_len}
 use Rattle.fb_window.specs.Jobs.{jobs_of, resting_of}
-use Rattle.fb_window.proofs.cores.Core.jobs.Given as goal
+use Rattle.fb_window.proofs.cores.Core.leave_all.Given as goal
 
 abbrev pub invariant-loop-resource : goal.invariant-loop-resource
 invariant-loop-resource l = record {
-  jobs : l.jobs.items ≡ jobs_of l.system l.fn.self.steps l.bounds.all 0 l.yielded;
+  jobs : l.jobs.items ≡ jobs_of l.system l.steps l.bounds.all 0 l.yielded;
   resting : l.resting.items ≡ map resting_of l.yielded;
-  rest : l.yielded ++ into_iter_items l.resource-iterator ≡ l.fn.self.resources.items;
+  rest : l.yielded ++ into_iter_items l.resource-iterator ≡ l.fn.resources.items;
   len : into_iter_len l.resource-iterator ≡ length (into_iter_items l.resource-iterator);
 }

@@ -5,7 +5,7 @@ use Rattle.fb_window.specs.Frontiers.{IsSplit, edge_of}
 use Rattle.fb_window.proofs.Leaves.{length_join}
 use Rattle.fb_laws.proofs.Places.{middle_at, push_counted}
 use Rattle.fb_window.proofs.Walks.{AreCutTo, cut_every, cut_more}
-use Rattle.fb_window.proofs.cut.cut_all.Goals as goal
+use Rattle.fb_window.proofs.cut.cut_each.Goals as goal
 
 pub loop-lines-preserved : goal.loop-lines-preserved
 loop-lines-preserved c =

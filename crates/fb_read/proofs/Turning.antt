@@ -1,0 +1,33 @@
+-- One turn of a loop that reads items, where what was read is added to what was found.
+use Rattle.std.proofs.Common.{◌≡◌, ℕ, suc, Bool, true, false, List, Result, Ok, refl, subst}
+use Rattle.fb_read.specs.declared.token.Mark.{Mark}
+use Rattle.fb_read.specs.declared.fault.ParseFault.{ParseFault}
+use Rattle.fb_read.specs.Tokens.{Tokens}
+use Rattle.fb_read.specs.Parser.{Parser, Reads, sees, after, run_from, many_from}
+use Rattle.fb_read.specs.Added.{Adds}
+use Rattle.fb_read.specs.Statements.{several_from}
+use Rattle.fb_read.proofs.Adding.{added_on}
+
+pub several_more :
+    {A : Type 0} (begins : Tokens → Bool) (item : Parser A) (n : ℕ) (found all : List A) (ts new : Tokens) (read : Result A ParseFault)
+    → begins ts ≡ true → Reads (item ts) read new → Adds found read (Ok all) → several_from begins item (suc n) found ts ≡ several_from begins item n all new
+unfolding several_from
+several_more begins item n found all ts new read b r more = rw b (added_on (item ts) read new found all (λ xs. several_from begins item n xs) r more)
+
+pub several_over :
+    {A : Type 0} (begins : Tokens → Bool) (item : Parser A) (n : ℕ) (found : List A) (ts : Tokens) → begins ts ≡ false → several_from begins item (suc n) found ts ≡ Ok (found, ts)
+unfolding several_from
+several_over begins item n found ts b = rw b refl
+
+pub run_more :
+    {A : Type 0} (item : Parser A) (begin : Mark) (n : ℕ) (found all : List A) (ts new : Tokens) (read : Result A ParseFault)
+    → sees begin ts ≡ true → Reads (item ts) read new → Adds found read (Ok all) → run_from item begin (suc n) found ts ≡ run_from item begin n all new
+unfolding run_from
+run_more item begin n found all ts new read b r more = rw b (added_on (item ts) read new found all (λ xs. run_from item begin n xs) r more)
+
+pub many_more :
+    {A : Type 0} (item : Parser A) (end : Mark) (n : ℕ) (found all : List A) (ts mid new : Tokens) (read : Result A ParseFault)
+    → sees end ts ≡ false → mid ≡ after end ts → Reads (item mid) read new → Adds found read (Ok all) → many_from item end (suc n) found ts ≡ many_from item end n all new
+unfolding many_from
+many_more item end n found all ts mid new read b m r more =
+    rw b (added_on (item (after end ts)) read new found all (λ xs. many_from item end n xs) (subst (λ (t : Tokens). Reads (item t) read new) m r) more)

@@ -1,0 +1,38 @@
+use Rattle.std.proofs.Common.{◌≡◌, ◌++◌, ℕ, [], ◌∷◌, length, refl, sym, ap, ◌∙◌, subst, append_assoc, arith}
+use Rattle.std.specs.Prelude.{slice_get}
+use Rattle.std.proofs.lemmas.List.{length-map}
+use Rattle.std.specs.Vec.Iter.{into_iter_items}
+use Rattle.fb_window.specs.Homes.{IsHomeTo}
+use Rattle.fb_window.specs.Jobs.{resting_of}
+use Rattle.fb_window.proofs.HomeIs.{home_all}
+use Rattle.fb_window.proofs.Leaves.{length_join}
+use Rattle.fb_laws.proofs.Places.{map_has, middle_at, push_counted}
+use Rattle.fb_window.proofs.home.Home.admit_all.Goals as goal
+
+pub loop-rested-preserved : goal.loop-rested-preserved
+loop-rested-preserved c =
+    let inv = c.loop-rested.invariant in
+    let done = c.loop-rested.yielded in
+    let n = length done in
+    let step = c.in-Some.ensures.steps in
+    let rest = ap (λ z. done ++ z) (sym step.0) ∙ inv.rest in
+    let at = middle_at done (into_iter_items c.next.new.self) c.args.resting.items c.in-Some.rested rest in
+    record {
+      home = λ i limit bounds xs lists same first.
+          let x = map_has resting_of xs n c.in-Some.rested (sym (ap (λ z. slice_get z n) same) ∙ at) in
+          subst (λ (k : ℕ). IsHomeTo i limit bounds xs lists k (into_iter_items c.admit.new.pending) (into_iter_items c.admit.new.dones) c.admit.new.self) (sym (push_counted done c.in-Some.rested n refl))
+          (c.in_ok-admit.ensures i limit bounds xs lists n x.0 x.1 x.2 (inv.home i limit bounds xs lists same first));
+      rest = append_assoc done (c.in-Some.rested ∷ []) (into_iter_items c.next.new.self) ∙ rest;
+      len = let same = ap length step.0 in omega (arith, inv.len, step.1, same);
+    }
+
+pub returns : goal.returns
+returns c = λ i limit bounds xs lists same first.
+    let inv = c.loop-rested.invariant in
+    let done = c.loop-rested.yielded in
+    let end = c.in-None.ensures.steps in
+    let whole = ap length inv.rest in
+    let joined = length_join done (into_iter_items c.loop-rested.rested-iterator) in
+    let mapped : length c.args.resting.items ≡ length xs = ap length same ∙ length-map xs resting_of in
+    home_all i limit bounds xs lists (length done) (into_iter_items c.loop-rested.pending) (into_iter_items c.loop-rested.dones) c.loop-rested.self (inv.home i limit bounds xs lists same first)
+    (omega (arith, inv.len, end.0, whole, joined, mapped))
