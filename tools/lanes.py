@@ -2,9 +2,10 @@
 
 The kit gives a proof all processors that no other proof waits for. A check by four jobs takes up to twice the processor time of one by
 a single job, since each job loads the libraries, and the tries of wrong bodies wait meanwhile. Here each task has one job, first those
-with the longest chain of others behind them, and two things more: the proof at the head of the longest chain of all has a second job,
-since everything waits for that chain, even where one processor alone is free as it begins; and where fewer tasks are ready than
-processors are free, the proofs among them share the rest."""
+with the longest chain of others behind them, and three things more: the proof at the head of the longest chain of all has a second job,
+since everything waits for that chain, even where one processor alone is free as it begins; so has each proof that begins when fewer tasks
+are left than there are processors, since those that run beside it end soon; and where fewer tasks are ready than processors are free, the
+proofs among them share the rest. A check of few lines has one job always: most of its time is the loading of libraries, which each job does."""
 
 import os
 from concurrent.futures import FIRST_COMPLETED, ThreadPoolExecutor, wait
@@ -16,6 +17,8 @@ PROOFS = ("proof", "tests")
 # The most jobs of one check. What each job more takes of memory, as a part of what the first takes, is the kit's figure.
 MOST_JOBS = 4
 MORE_MEMORY = 0.6
+# A check of fewer lines has one job.
+FEW_LINES = 2_000
 # The part of the free memory that is used.
 MEMORY = 0.85
 
@@ -30,11 +33,11 @@ def chains(tasks):
     return behind
 
 
-def jobs_of(key, is_longest, idle, ready):
+def jobs_of(key, lines, is_urgent, idle, ready):
     """Returns how many jobs a task gets that may begin, of so many processors that are idle, while so many tasks are ready, this one among them."""
-    if key[1] not in PROOFS:
+    if key[1] not in PROOFS or lines < FEW_LINES:
         return 1
-    least = 2 if is_longest else 1
+    least = 2 if is_urgent else 1
     return min(max(least, 1 + max(idle - ready, 0)), max(least, idle), MOST_JOBS)
 
 
@@ -49,7 +52,7 @@ def in_lanes(tasks):
             longest = max((behind[it] for it in [*ready, *(it for it, _, _ in running.values())]), default=0)
             lacks = False
             for number, key in enumerate(ready):
-                _, _, needs, call = tasks[key]
+                _, lines, needs, call = tasks[key]
                 idle = lanes - sum(jobs for _, _, jobs in running.values())
                 room = memory - sum(held for _, held, _ in running.values())
                 if idle <= 0 or lacks and key[1] not in PROOFS:
@@ -58,7 +61,8 @@ def in_lanes(tasks):
                 if running and needs > room:
                     lacks = True
                     continue
-                jobs = jobs_of(key, lanes > 1 and behind[key] == longest, idle, len(ready) - number)
+                is_urgent = lanes > 1 and (behind[key] == longest or len(left) < lanes)
+                jobs = jobs_of(key, lines, is_urgent, idle, len(ready) - number)
                 jobs = max(1, min(jobs, 1 + int((room / needs - 1) / MORE_MEMORY)))
                 left.remove(key)
                 running[pool.submit(call, given, jobs)] = key, needs * (1 + MORE_MEMORY * (jobs - 1)), jobs
