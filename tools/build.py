@@ -1,8 +1,8 @@
 #!/usr/bin/env python3
 """Builds the program and what it stands on, side by side: `./simulate` calls it where the program is missing or old.
 
-A library that has not changed is not built again, so a build that was interrupted goes on where it was. Standard error
-tells how far it is. The crates of tests are left out."""
+A library that has not changed is not built again, so a build that was interrupted goes on where it was. Where the kit keeps on the
+machine what the gate proved, that is taken, in another clone too. Standard error tells how far it is. The crates of tests are left out."""
 
 import copy
 import os
@@ -13,7 +13,7 @@ import tempfile
 import threading
 import time
 
-from kit import crates_as_built, rt, rtlib
+from kit import KEEPS, crates_as_built, rt, rtlib
 from lanes import in_lanes
 
 PROGRAM = "fbsim"
@@ -25,15 +25,48 @@ class Progress:
     def __init__(self, count):
         self.count, self.done, self.start, self.lock = count, 0, time.time(), threading.Lock()
 
-    def tell(self, crate):
+    def tell(self, crate, how="built"):
         with self.lock:
             self.done += 1
             minutes = (time.time() - self.start) / 60
-            say(f"crate {self.done} of {self.count} is built, {crate.name}; {minutes:.0f} minutes so far")
+            say(f"crate {self.done} of {self.count} is {how}, {crate.name}; {minutes:.0f} minutes so far")
+
+
+class Proved:
+    """What the gate proved on this machine, for kits that keep that: by the sums of a crate's files, of the kit, and of the libraries below it."""
+
+    def __init__(self, crates, built):
+        self.kept = rt.Kept(crates) if KEEPS else None
+        for it in built:
+            self.note(it)
+
+    def note(self, crate):
+        """Notes a library that stands in the crate's out/: the sums of those above rest on it."""
+        if self.kept:
+            self.kept.is_built(crate)
+
+    def take(self, crate):
+        """Takes what the gate made of the crate, and returns whether there is such a thing."""
+        if not self.kept:
+            return False
+        if not crate.is_program:
+            # (an older library's files beside those that are given would count as damage)
+            shutil.rmtree(os.path.dirname(crate.rlib), ignore_errors=True)
+        if not self.kept.give(crate, False, self.kept.key(crate)):
+            return False
+        if not crate.is_program:
+            mark(crate, crate.stamp())
+        return True
 
 
 def say(text):
     print(f"simulate: {text}", file=sys.stderr, flush=True)
+
+
+def mark(crate, stamp):
+    """Notes beside a library what it was made of."""
+    with open(f"{os.path.dirname(crate.rlib)}/stamp", "w", encoding="utf-8") as file:
+        file.write(stamp)
 
 
 def build_library(crate, flags):
@@ -44,15 +77,18 @@ def build_library(crate, flags):
     os.makedirs(kept)
     status = crate.call(rtlib.RATTLE, "build", *crate.words(flags, keeps=False), "--statements", "-o", crate.rlib)
     if status == 0:
-        with open(f"{kept}/stamp", "w", encoding="utf-8") as file:
-            file.write(stamp)
+        mark(crate, stamp)
     return status
 
 
-def build(crate, jobs, progress):
+def build(crate, jobs, progress, proved):
     """Proves and builds a library or the program, and returns whether that went well. What the prover said is told where it did not."""
     crate = copy.copy(crate)
     os.makedirs(f"{crate.folder}/out", exist_ok=True)
+    if proved.take(crate):
+        proved.note(crate)
+        progress.tell(crate, "taken, as the gate proved it on this machine")
+        return True
     flags = ["--jobs", str(jobs)]
     with tempfile.TemporaryFile("a+", errors="replace") as crate.out:
         if crate.is_program:
@@ -66,6 +102,7 @@ def build(crate, jobs, progress):
         print(said, file=sys.stderr)
         say(f"{crate.name} could not be built: see above")
     else:
+        proved.note(crate)
         progress.tell(crate)
     return status == 0
 
@@ -86,10 +123,11 @@ def main():
     held = rtlib.lock(wanted)
     left = [it for it in wanted if it.is_program or not it.is_built()]
     progress, names = Progress(len(left)), {it.name for it in left}
+    proved = Proved(wanted, [it for it in wanted if it not in left])
     say(f"proving and building the program, {len(left)} crates; it can be interrupted, and goes on the next time")
 
     def work(crate, given, jobs):
-        return all(given[it.name, "proof"] for it in crate.below() if it.name in names) and build(crate, jobs, progress)
+        return all(given[it.name, "proof"] for it in crate.below() if it.name in names) and build(crate, jobs, progress, proved)
 
     tasks = {}
     for crate in left:

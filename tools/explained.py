@@ -1,7 +1,7 @@
 #!/usr/bin/env python3
 """tools/explained.py [--write]: says whether docs/FORMATS.md shows the explanations of the refusals that the program has.
 
-They stand in one table, crates/fb_why/src/table.rt. With --write this writes them into the page, between the two marks there.
+They stand in the tables of crates/fb_why/src/table.rt. With --write this writes them into the page, between the two marks there.
 Where the page shows others, this says so and ends with status 1. ./gate does it."""
 
 import ast
@@ -24,7 +24,7 @@ ENTRY = re.compile(
 def rows(table):
     """Returns the explanations as rows of a table for the page."""
     found = [[ast.literal_eval(text) for text in it.groups()] for it in ENTRY.finditer(table)]
-    declared = int(re.search(r"\[Explanation; (\d+)\]", table)[1])
+    declared = sum(map(int, re.findall(r"\[Explanation; (\d+)\]", table)))
     if len(found) != declared:
         sys.exit(f"{TABLE}: {declared} explanations are declared, and {len(found)} were read")
     cells = [[name, meaning, f"{first} {second}", look] for name, meaning, first, second, look in found]

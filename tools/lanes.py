@@ -2,10 +2,10 @@
 
 The kit gives a proof all processors that no other proof waits for. A check by four jobs takes up to twice the processor time of one by
 a single job, since each job loads the libraries, and the tries of wrong bodies wait meanwhile. Here each task has one job, first those
-with the longest chain of others behind them, and three things more: the proof at the head of the longest chain of all has a second job,
-since everything waits for that chain, even where one processor alone is free as it begins; so has each proof that begins when fewer tasks
-are left than there are processors, since those that run beside it end soon; and where fewer tasks are ready than processors are free, the
-proofs among them share the rest. A check of few lines has one job always: most of its time is the loading of libraries, which each job does."""
+with the longest chain of others behind them, and three things more. On three processors and more the proof at the head of the longest
+chain of all has a second job, since everything waits for that chain, even where one processor alone is free as it begins; so has each proof
+that begins when fewer tasks are left than there are processors, since those that run beside it end soon. (Two processors are busy for longer
+than any chain takes.) And where fewer tasks are ready than processors are free, the proofs among them share the rest. A check of few lines has one job always: most of its time is the loading of libraries, which each job does."""
 
 import os
 from concurrent.futures import FIRST_COMPLETED, ThreadPoolExecutor, wait
@@ -61,7 +61,7 @@ def in_lanes(tasks):
                 if running and needs > room:
                     lacks = True
                     continue
-                is_urgent = lanes > 1 and (behind[key] == longest or len(left) < lanes)
+                is_urgent = lanes > 2 and (behind[key] == longest or len(left) < lanes)
                 jobs = jobs_of(key, lines, is_urgent, idle, len(ready) - number)
                 jobs = max(1, min(jobs, 1 + int((room / needs - 1) / MORE_MEMORY)))
                 left.remove(key)
