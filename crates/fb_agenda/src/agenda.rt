@@ -27,7 +27,6 @@ const TIMER: u8 = 1;
 const LOCAL: u8 = 3;
 
 /// The events that wait, one at most under each key, and when the timers of the instances go off.
-#[derive(Drop)]
 pub struct Agenda {
     /// The local events. They come in the order of their keys: so one is put, and the next one found, in constant time.
     local: Locals,
@@ -35,6 +34,18 @@ pub struct Agenda {
     later: Calendar,
     /// For each instance the tick at which its timer goes off, or went off last.
     due: Vec<u64>,
+}
+
+// Written out, and not derived: so it is proved here alone what is let go with an agenda, and not in each crate that lets
+// one go.
+impl Drop for Agenda {
+    fn drop(self) {
+        let Agenda {
+            local: _,
+            later: _,
+            due: _,
+        } = self;
+    }
 }
 
 impl Model for Agenda {

@@ -29,25 +29,23 @@ some_is {T} {x} {y} e = ap (unwrap_or_of x) e
     unwrap_or_of d (Some z) = z
     unwrap_or_of d None = d
 
-pub no_horizon : (rows : List Row) (name : Text) → name ≡ codes "run" → ((n : ℕ) → IsNumber rows (codes "horizon") n → ⊥)
-    → (o : Order) → name ≡ command_name o → IsOrder rows o → ⊥
-no_horizon rows name is none Check named order = let bad : codes "run" ≡ codes "check" = sym is ∙ named in cc
-no_horizon rows name is none (Run horizon steps workers serial form progress) named order = none horizon order.horizon_is
+-- ---- A run
 
-pub no_steps : (rows : List Row) (name : Text) → name ≡ codes "run" → ((n : ℕ) → IsNumber rows (codes "steps") n → ⊥)
-    → (o : Order) → name ≡ command_name o → IsOrder rows o → ⊥
-no_steps rows name is none Check named order = let bad : codes "run" ≡ codes "check" = sym is ∙ named in cc
-no_steps rows name is none (Run horizon steps workers serial form progress) named order = none steps order.steps_is
+pub no_horizon : (rows : List Row) → ((n : ℕ) → IsNumber rows (codes "horizon") n → ⊥) → (o : Order) → codes "run" ≡ command_name o → IsOrder rows o → ⊥
+no_horizon rows none Check named order = cc
+no_horizon rows none (Run horizon steps workers serial form progress) named order = none horizon order.horizon_is
 
-pub no_workers : (rows : List Row) (name : Text) → name ≡ codes "run" → ((n : ℕ) → IsNumber rows (codes "workers") n → ⊥)
-    → (o : Order) → name ≡ command_name o → IsOrder rows o → ⊥
-no_workers rows name is none Check named order = let bad : codes "run" ≡ codes "check" = sym is ∙ named in cc
-no_workers rows name is none (Run horizon steps workers serial form progress) named order = none workers order.workers_is
+pub no_steps : (rows : List Row) → ((n : ℕ) → IsNumber rows (codes "steps") n → ⊥) → (o : Order) → codes "run" ≡ command_name o → IsOrder rows o → ⊥
+no_steps rows none Check named order = cc
+no_steps rows none (Run horizon steps workers serial form progress) named order = none steps order.steps_is
 
-pub no_form : (rows : List Row) (name : Text) → name ≡ codes "run" → ((f : Form) → IsForm rows f → ⊥)
-    → (o : Order) → name ≡ command_name o → IsOrder rows o → ⊥
-no_form rows name is none Check named order = let bad : codes "run" ≡ codes "check" = sym is ∙ named in cc
-no_form rows name is none (Run horizon steps workers serial form progress) named order = none form order.form_is
+pub no_workers : (rows : List Row) → ((n : ℕ) → IsNumber rows (codes "workers") n → ⊥) → (o : Order) → codes "run" ≡ command_name o → IsOrder rows o → ⊥
+no_workers rows none Check named order = cc
+no_workers rows none (Run horizon steps workers serial form progress) named order = none workers order.workers_is
+
+pub no_form : (rows : List Row) → ((f : Form) → IsForm rows f → ⊥) → (o : Order) → codes "run" ≡ command_name o → IsOrder rows o → ⊥
+no_form rows none Check named order = cc
+no_form rows none (Run horizon steps workers serial form progress) named order = none form order.form_is
 
 -- ---- The word of the form
 

@@ -61,12 +61,18 @@ file id = record (new_rule id) { long = Some id }
 abbrev pub flag : Text → Rule
 flag id = record (new_rule id) { long = Some id; action = Some SetTrue }
 
+-- a command with an argument that has to be there
+abbrev pub begun : Text → Text → App
+begun name id = with_rule (new_app name) (required id)
+
+-- a command with the names of a declaration and of its deployment
+abbrev pub deployed : Text → App
+deployed name = with_rule (begun name (codes "DECL")) (file (codes "deploy"))
+
 -- a command with the names of its files, and whether a refusal is told with its place
 abbrev pub files : Text → App
 files name =
-    with_rule (with_rule (with_rule (with_rule (new_app name)
-    (required (codes "DECL")))
-    (file (codes "deploy")))
+    with_rule (with_rule (deployed name)
     (file (codes "stim")))
     (flag (codes "why"))
 
@@ -86,15 +92,11 @@ with_run_options values a = with_rule (with_rule (with_rule (with_numbers a)
 
 -- a command with the names of a declaration, of its deployment and of its trace
 abbrev pub wave : App
-wave =
-    with_rule (with_rule (with_rule (new_app (codes "wave"))
-    (required (codes "DECL")))
-    (file (codes "deploy")))
-    (required (codes "TRACE"))
+wave = with_rule (deployed (codes "wave")) (required (codes "TRACE"))
 
 -- a command with the name of a refusal
 abbrev pub explain : App
-explain = with_rule (new_app (codes "explain")) (required (codes "NAME"))
+explain = begun (codes "explain") (codes "NAME")
 
 -- the program's command, with this parser for the form of the trace
 abbrev pub simulator_with : ValueParser → App

@@ -169,12 +169,28 @@ fn required<'a>(alloc: Global, id: &'a str, help: &'a str) -> Arg<'a>
     Arg::new(alloc, id).required(true).help(help)
 }
 
-/// An option that takes the name of a file.
-fn file<'a>(alloc: Global, id: &'a str, help: &'a str) -> Arg<'a>
+/// An option that takes a value, as the name of a file.
+fn option<'a>(alloc: Global, id: &'a str, help: &'a str) -> Arg<'a>
     ensures rule { rule_of result ≡ spec.file id.entry.now }
     ensures local { result.global ≡ false }
 {
     Arg::new(alloc, id).long(id).help(help)
+}
+
+/// An option that takes a value of this kind.
+fn limited<'a>(alloc: Global, id: &'a str, values: ValueParser<'a>, help: &'a str) -> Arg<'a>
+    ensures rule { rule_of result ≡ spec.limited id.entry.now values.entry }
+    ensures local { result.global ≡ false }
+{
+    option(alloc, id, help).value_parser(values)
+}
+
+/// An option without a value, which is there or is not.
+fn flag<'a>(alloc: Global, id: &'a str, help: &'a str) -> Arg<'a>
+    ensures rule { rule_of result ≡ spec.flag id.entry.now }
+    ensures local { result.global ≡ false }
+{
+    option(alloc, id, help).action(ArgAction::SetTrue)
 }
 
 /// The command with one more argument, where it could be made.
@@ -184,8 +200,46 @@ fn with_arg<'a>(
 ) -> Result<Command<'a>, AllocError>
     ensures { IfOk result (λ new. (old : Cmd) × (command.entry ≡ Ok old) × AddsArg old arg.entry new) }
 {
-    let (command, arg) = both(command, Ok(arg))?;
-    command.arg(arg)
+    match command {
+        Ok(command) => command.arg(arg),
+        Err(error) => {
+            // Let go by one call: at the end of its scope it is proved to be let go part by part.
+            drop(arg);
+            Err(error)
+        }
+    }
+}
+
+/// A command with an argument that has to be there, and what the help says of both.
+fn begun<'a>(
+    alloc: Global,
+    name: &'a str,
+    about: &'a str,
+    example: &'a str,
+    id: &'a str,
+    help: &'a str,
+) -> Result<Command<'a>, AllocError>
+    ensures app { IfOk result (λ c. app_of c ≡ spec.begun name.entry.now id.entry.now) }
+    ensures globals { IfOk result (λ c. (fields_of c).has_globals ≡ false) }
+{
+    Command::new(alloc, name)
+        .about(about)
+        .after_help(example)
+        .arg(required(alloc, id, help))
+}
+
+/// A command with the names of a declaration and of its deployment, and what the help says of it.
+fn deployed<'a>(
+    alloc: Global,
+    name: &'a str,
+    about: &'a str,
+    example: &'a str,
+) -> Result<Command<'a>, AllocError>
+    ensures app { IfOk result (λ c. app_of c ≡ spec.deployed name.entry.now) }
+    ensures globals { IfOk result (λ c. (fields_of c).has_globals ≡ false) }
+{
+    let command = begun(alloc, name, about, example, "DECL", DECLARATION_HELP);
+    with_arg(command, option(alloc, "deploy", DEPLOY_HELP))
 }
 
 /// A command with the names of its files, and what the help says of it.
@@ -198,32 +252,9 @@ fn files<'a>(
     ensures app { IfOk result (λ c. app_of c ≡ spec.files name.entry.now) }
     ensures globals { IfOk result (λ c. (fields_of c).has_globals ≡ false) }
 {
-    let command = Command::new(alloc, name)
-        .about(about)
-        .after_help(example)
-        .arg(required(alloc, "DECL", DECLARATION_HELP));
-    let command = with_arg(command, file(alloc, "deploy", DEPLOY_HELP));
-    let command = with_arg(command, file(alloc, "stim", STIMULI_HELP));
+    let command = deployed(alloc, name, about, example);
+    let command = with_arg(command, option(alloc, "stim", STIMULI_HELP));
     with_arg(command, flag(alloc, "why", WHY_HELP))
-}
-
-/// An option that takes a value of this kind.
-fn limited<'a>(alloc: Global, id: &'a str, values: ValueParser<'a>, help: &'a str) -> Arg<'a>
-    ensures rule { rule_of result ≡ spec.limited id.entry.now values.entry }
-    ensures local { result.global ≡ false }
-{
-    Arg::new(alloc, id).long(id).value_parser(values).help(help)
-}
-
-/// An option without a value, which is there or is not.
-fn flag<'a>(alloc: Global, id: &'a str, help: &'a str) -> Arg<'a>
-    ensures rule { rule_of result ≡ spec.flag id.entry.now }
-    ensures local { result.global ≡ false }
-{
-    Arg::new(alloc, id)
-        .long(id)
-        .action(ArgAction::SetTrue)
-        .help(help)
 }
 
 /// Whole numbers from 1 to the most.
@@ -240,31 +271,26 @@ fn forms<'a>() -> ValueParser<'a>
     ValueParser::Names(FORM_WORDS)
 }
 
-/// The command with the options that are numbers: how far a run goes, and by how many workers.
-fn with_numbers<'a>(alloc: Global, command: Command<'a>) -> Result<Command<'a>, AllocError>
-    requires { (fields_of command).has_globals ≡ false }
-    ensures app { IfOk result (λ c. app_of c ≡ spec.with_numbers (app_of command.entry)) }
+/// The command that runs, with the options that are numbers: how far a run goes, and by how many workers.
+fn run_numbers<'a>(alloc: Global) -> Result<Command<'a>, AllocError>
+    ensures app { IfOk result (λ c. app_of c ≡ spec.with_numbers (spec.files (codes "run"))) }
     ensures globals { IfOk result (λ c. (fields_of c).has_globals ≡ false) }
 {
+    let command = files(alloc, "run", RUN_ABOUT, RUN_EXAMPLE);
     let horizon = limited(alloc, "horizon", up_to(1_000_000_000_000), HORIZON_HELP).required(true);
-    let command = command.arg(horizon);
+    let command = with_arg(command, horizon);
     let steps = limited(alloc, "steps", up_to(10_000_000), STEPS_HELP).default_value("10000");
     let command = with_arg(command, steps);
     let workers = limited(alloc, "workers", up_to(64), WORKERS_HELP).default_value("1");
     with_arg(command, workers)
 }
 
-/// The command with the options that say how far a run goes, how it is made, and what its trace is like.
-fn with_run_options<'a>(
-    alloc: Global,
-    command: Command<'a>,
-    forms: ValueParser<'a>,
-) -> Result<Command<'a>, AllocError>
-    requires { (fields_of command).has_globals ≡ false }
-    ensures app { IfOk result (λ c. app_of c ≡ spec.with_run_options forms.entry (app_of command.entry)) }
+/// The command that runs, with all options: besides, how a run is made, and what its trace is like.
+fn run<'a>(alloc: Global, forms: ValueParser<'a>) -> Result<Command<'a>, AllocError>
+    ensures app { IfOk result (λ c. app_of c ≡ spec.with_run_options forms.entry (spec.files (codes "run"))) }
     ensures globals { IfOk result (λ c. (fields_of c).has_globals ≡ false) }
 {
-    let command = with_numbers(alloc, command);
+    let command = run_numbers(alloc);
     let command = with_arg(command, flag(alloc, "serial", SERIAL_HELP));
     let command = with_arg(command, flag(alloc, "progress", PROGRESS_HELP));
     let trace = limited(alloc, "trace", forms, TRACE_HELP).default_value("1");
@@ -276,11 +302,7 @@ fn wave_command<'a>(alloc: Global) -> Result<Command<'a>, AllocError>
     ensures app { IfOk result (λ c. app_of c ≡ spec.wave) }
     ensures globals { IfOk result (λ c. (fields_of c).has_globals ≡ false) }
 {
-    let command = Command::new(alloc, "wave")
-        .about(WAVE_ABOUT)
-        .after_help(WAVE_EXAMPLE)
-        .arg(required(alloc, "DECL", DECLARATION_HELP));
-    let command = with_arg(command, file(alloc, "deploy", DEPLOY_HELP));
+    let command = deployed(alloc, "wave", WAVE_ABOUT, WAVE_EXAMPLE);
     with_arg(command, required(alloc, "TRACE", TRACE_FILE_HELP))
 }
 
@@ -289,18 +311,14 @@ fn explain<'a>(alloc: Global) -> Result<Command<'a>, AllocError>
     ensures app { IfOk result (λ c. app_of c ≡ spec.explain) }
     ensures globals { IfOk result (λ c. (fields_of c).has_globals ≡ false) }
 {
-    Command::new(alloc, "explain")
-        .about(EXPLAIN_ABOUT)
-        .after_help(EXPLAIN_EXAMPLE)
-        .arg(required(alloc, "NAME", NAME_HELP))
-}
-
-/// The command that runs.
-fn run<'a>(alloc: Global, forms: ValueParser<'a>) -> Result<Command<'a>, AllocError>
-    ensures app { IfOk result (λ c. app_of c ≡ spec.with_run_options forms.entry (spec.files (codes "run"))) }
-    ensures globals { IfOk result (λ c. (fields_of c).has_globals ≡ false) }
-{
-    with_run_options(alloc, files(alloc, "run", RUN_ABOUT, RUN_EXAMPLE)?, forms)
+    begun(
+        alloc,
+        "explain",
+        EXPLAIN_ABOUT,
+        EXPLAIN_EXAMPLE,
+        "NAME",
+        NAME_HELP,
+    )
 }
 
 /// Both of two, where both could be made. It is for values of any types, since a value that is let go on the way is
@@ -368,25 +386,32 @@ fn form_of(found: &ArgMatches<'_>) -> Option<Form>
     }
 }
 
+/// A run with the options that were found.
+fn run_of(found: &ArgMatches<'_>) -> Option<Order>
+    ensures name { IfSome result (λ o. codes "run" ≡ command_name o) }
+    ensures options { IfSome result (λ o. IsOrder (rows_of (found_of found.now)) o) }
+    ensures none { IfNone result ((o : Order) → codes "run" ≡ command_name o → IsOrder (rows_of (found_of found.now)) o → ⊥) }
+{
+    Some(Order::Run {
+        horizon: number(found, "horizon")?,
+        steps: number(found, "steps")?,
+        workers: number(found, "workers")?,
+        serial: has_flag(found, "serial"),
+        form: form_of(found)?,
+        progress: has_flag(found, "progress"),
+    })
+}
+
 fn order_of(name: &str, found: &ArgMatches<'_>) -> Option<Order>
     ensures name { IfSome result (λ o. name.now ≡ command_name o) }
     ensures options { IfSome result (λ o. IsOrder (rows_of (found_of found.now)) o) }
     ensures none { IfNone result ((o : Order) → name.now ≡ command_name o → IsOrder (rows_of (found_of found.now)) o → ⊥) }
 {
-    if name == "check" {
-        return Some(Order::Check);
+    match name {
+        "check" => Some(Order::Check),
+        "run" => run_of(found),
+        _ => None,
     }
-    if name == "run" {
-        return Some(Order::Run {
-            horizon: number(found, "horizon")?,
-            steps: number(found, "steps")?,
-            workers: number(found, "workers")?,
-            serial: has_flag(found, "serial"),
-            form: form_of(found)?,
-            progress: has_flag(found, "progress"),
-        });
-    }
-    None
 }
 
 fn call_of<'a>(name: &str, found: &ArgMatches<'a>) -> Option<Call<'a>>

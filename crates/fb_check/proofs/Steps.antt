@@ -11,10 +11,13 @@ use Rattle.std.specs.BTreeSet as set
 use Rattle.std.proofs.lemmas.Bool.{true≢false}
 use Rattle.std.proofs.lemmas.List.{length-map, length-take-le, map-append, take_more}
 use Rattle.std.proofs.lemmas.List.Folds.{list_any_more}
+use Rattle.std.proofs.lemmas.Option.{slice_get-map}
 use Rattle.std.proofs.lemmas.Map.Text.{is_eq-slice_cmp}
 use Rattle.fb_types.specs.Names.{Name, same_name, same_port}
-use Rattle.fb_types.specs.Blocks.{among}
+use Rattle.fb_types.specs.Blocks.{among, ports_of_event_block}
+use Rattle.fb_types.specs.EventPorts.{ArePortsOfKinds, kind_place}
 use Rattle.fb_types.specs.Flat.{port_in}
+use Rattle.fb_types.specs.declared.event_kind.EventKind.{EventKind}
 use Rattle.fb_types.specs.declared.library.EventPort.{EventPort}
 use Rattle.fb_types.specs.declared.library.Connection.{Connection}
 use Rattle.fb_types.specs.declared.library.Ports.{Ports}
@@ -275,11 +278,10 @@ inputs_more f ts i a p xs ys x h at is so_far new grown =
     let P : List Ports → Type 0 = λ qs. AreInputs qs ys in
     more_of_part P f ts i a p h at is (subst R (sym grown) (record { each = inputs_push (map f (take i ts)) xs p x so_far.each new }))
 
-pub interfaces_more :
-    (ps : List Ports) (i : ℕ) (p : Ports) (xs ys : List TypeInputs) (x : TypeInputs) → i < length ps → p ≡ get_or ps i p
-    → AreInputs (take i ps) xs → IsInputs p x → ys ≡ xs ++ x ∷ [] → AreInputs (take (i + 1) ps) ys
-interfaces_more ps i p xs ys x h at so_far new grown =
-    let P : List Ports → Type 0 = λ qs. AreInputs qs ys in
-    let R : List TypeInputs → Type 0 = λ zs. AreInputs (take i ps ++ p ∷ []) zs in
-    subst P (sym (take_more ps i p h))
-    (subst (λ (q : Ports). AreInputs (take i ps ++ q ∷ []) ys) at (subst R (sym grown) (record { each = inputs_push (take i ps) xs p x so_far.each new })))
+-- the event blocks at the places of their interfaces
+pub event_inputs :
+    (ps : List Ports) (xs : List TypeInputs) → ArePortsOfKinds ps → AreInputs (map (λ p. p) ps) xs → (k : EventKind)
+    → IsFound (Some (ports_of_event_block k)) (slice_get xs (kind_place k))
+event_inputs ps xs known made k =
+    subst (λ (o : Option Ports). IsFound o (slice_get xs (kind_place k)))
+    (slice_get-map (λ (p : Ports). p) ps (kind_place k) ∙ ap (option_map (λ (p : Ports). p)) (known k)) (made.each (kind_place k))

@@ -8,7 +8,7 @@ ghost use Rattle.fb_types.specs.EventPorts.{ArePortsOfKinds};
 ghost use Rattle.fb_types.specs.Flat.{type_name, type_named};
 ghost use Rattle.fb_check.specs.Directory.{IsDirectory, IsFound};
 
-use crate::directory_making::{Pairs, TypeInputs, inputs_of_blocks, inputs_of_each, targets_of};
+use crate::directory_making::{Pairs, TypeInputs, inputs_of_each, targets_of};
 use fb_names::places::{Places, place_of};
 use fb_types::event_ports::kind_named;
 use fb_types::items::Items;
@@ -39,7 +39,7 @@ pub fn directory_of<'a>(
     let network = &library.application.network;
     Ok(Directory {
         event_blocks: inputs_of_each(alloc, interfaces)?,
-        declared: inputs_of_blocks(alloc, library.blocks.as_slice())?,
+        declared: inputs_of_each(alloc, library.blocks.as_slice())?,
         targets: targets_of(alloc, network.data_connections.as_slice())?,
     })
 }

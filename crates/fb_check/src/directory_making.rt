@@ -1,8 +1,6 @@
 //! What stimuli may name of a type, and to which ports data connections lead.
 
 ghost use Rattle.std.specs.Prelude.{◌≡◌, map, IfOk, OnOk};
-ghost use Rattle.fb_types.specs.Blocks.{ports_of};
-ghost use Rattle.fb_types.specs.Flat.{kind_of};
 ghost use Rattle.fb_check.specs.Directory.{AreInputs, IsInputs, IsExtended, AreEvents, AreWiths, AreVariables, AreTargets};
 
 use fb_system::rows::number_of;
@@ -12,6 +10,36 @@ use fb_types::name::Name;
 use fb_types::value::Ty;
 use std::alloc::{AllocError, Global};
 use std::collections::{BTreeMap, BTreeSet};
+
+/// What has an interface.
+pub trait Interfaced {
+    ghost use Rattle.fb_types.specs.declared.library.Ports.{Ports};
+
+    ghost ports: { Self → Ports };
+
+    /// Its interface.
+    fn interface(&self) -> &Ports
+        ensures { result.now ≡ ports self.now };
+}
+
+impl Interfaced for Ports {
+    ghost ports = { λ p. p };
+
+    fn interface(&self) -> &Ports {
+        self
+    }
+}
+
+impl Interfaced for BlockType {
+    ghost use Rattle.fb_types.specs.Blocks.{ports_of};
+    ghost use Rattle.fb_types.specs.Flat.{kind_of};
+
+    ghost ports = { λ t. ports_of (kind_of t) };
+
+    fn interface(&self) -> &Ports {
+        self.ports()
+    }
+}
 
 /// Pairs of names.
 pub type Pairs<'a> = BTreeSet<(&'a [u8], &'a [u8]), Global>;
@@ -104,32 +132,18 @@ fn inputs_of<'a>(alloc: Global, ports: &'a Ports) -> Result<TypeInputs<'a>, Allo
     })
 }
 
-/// What stimuli may name of each interface.
-pub fn inputs_of_each<'a>(
+/// What stimuli may name of each of some.
+pub fn inputs_of_each<'a, T: Interfaced>(
     alloc: Global,
-    interfaces: &'a [Ports],
+    all: &'a [T],
 ) -> Result<Items<TypeInputs<'a>>, AllocError>
-    ensures { IfOk result (AreInputs interfaces.now) }
+    ensures { IfOk result (AreInputs (map T.ports all.now)) }
 {
-    let mut all = Items::new(alloc);
-    for ports in interfaces {
-        all.push(inputs_of(alloc, ports)?)?;
+    let mut inputs = Items::new(alloc);
+    for each in all {
+        inputs.push(inputs_of(alloc, each.interface())?)?;
     }
-    Ok(all)
-}
-
-/// What stimuli may name of each block type of a declaration.
-pub fn inputs_of_blocks<'a>(
-    alloc: Global,
-    blocks: &'a [BlockType],
-) -> Result<Items<TypeInputs<'a>>, AllocError>
-    ensures { IfOk result (AreInputs (map (λ t. ports_of (kind_of t)) blocks.now)) }
-{
-    let mut all = Items::new(alloc);
-    for block in blocks {
-        all.push(inputs_of(alloc, block.ports())?)?;
-    }
-    Ok(all)
+    Ok(inputs)
 }
 
 /// The components and their ports to which connections lead.

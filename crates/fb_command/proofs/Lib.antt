@@ -1,4 +1,5 @@
 mod Explaining
+mod Fronts
 mod Showing
 mod Noting
 mod Reporting

@@ -1,5 +1,5 @@
 -- What is told of how far a run is, before what is told of how a call ends.
-use Rattle.std.proofs.Common.{◌≡◌, ◌∙◌, ◌&&◌, ◌++◌, Bool, true, false, List, [], ℕ, Option, None, option_map, refl, sym, ap, subst, string_bytes}
+use Rattle.std.proofs.Common.{◌≡◌, ◌∙◌, ◌&&◌, ◌++◌, Bool, true, false, List, [], Option, None, option_map, refl, sym, ap, subst, string_bytes}
 use Rattle.std.specs.Prelude.{IsTrue, IfErr, IfOk, OnOk, Result, Ok, Err}
 use Rattle.std.specs.Io.KnownBytes.{Appends}
 use Rattle.std.proofs.KnownBytes.{Appends-nil, Appends-trans}
@@ -11,7 +11,8 @@ use Rattle.fb_sim.specs.declared.outcome.Outcome.{Outcome}
 use Rattle.fb_sim.specs.declared.outcome.Outcome.TheVariants as sim_end
 use Rattle.fb_sim.specs.declared.outcome.RunError.{RunError}
 use Rattle.fb_sim.specs.Reports.{AreReports, Hears, is_at_end}
-use Rattle.fb_command.specs.Command.{Explains, IsDoneOf, is_ended}
+use Rattle.fb_sim.specs.Serial.{Writes, ending_of}
+use Rattle.fb_command.specs.Command.{Explains, IsDoneOf, Runs, is_ended}
 use Rattle.fb_command.specs.Failures.{WritesPart}
 use Rattle.fb_command.specs.Outcomes.{End, Held}
 use Rattle.fb_command.specs.declared.command.Answer.{Answer}
@@ -28,6 +29,13 @@ quiet err = record { all = λ t. Appends-nil err; none = λ e. refl }
 same_end : (o : Outcome) (d : Done) → IsDoneOf o d → is_at_end (Ok o) ≡ is_ended (Ok d)
 same_end (sim_end.End h) d is = ap (λ (x : Done). is_ended (Ok x)) (sym is)
 same_end (sim_end.Stop mark) d is = ap (λ (x : Done). is_ended (Ok x)) (sym is)
+
+pub ran :
+    (serial : Bool) (given : Given) (options : Options) (old new : Held) (o : Outcome) (d : Done) → IsDoneOf o d → Writes given options old new (ending_of o)
+    → Runs serial given options old new (Ok d)
+ran serial given options old new (sim_end.End h) d is writes = subst (λ (x : Done). Runs serial given options old new (Ok x)) (sym is) (h, writes)
+ran serial given options old new (sim_end.Stop mark) d is writes =
+    subst (λ (x : Done). Runs serial given options old new (Ok x)) (sym is) (mark.tick, mark.resource, mark.reason, writes)
 
 pub reported :
     (given : Given) (options : Options) (r : Result Outcome RunError) (o : Outcome) (d : Done) (heard : Bool) (old new : Held) → r ≡ Ok o → IsDoneOf o d

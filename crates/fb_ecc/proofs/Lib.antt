@@ -3,5 +3,6 @@ pub mod Actions
 pub mod Charts
 pub mod Indexing
 pub mod Links
+pub mod Names
 pub mod Soundness
 pub mod Trials

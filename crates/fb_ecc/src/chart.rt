@@ -22,7 +22,7 @@ use std::alloc::{AllocError, Global};
 use std::collections::BTreeMap;
 
 /// A transition, with the places of what it names.
-#[derive(Clone, Copy, Debug)]
+#[derive(Clone, Copy)]
 pub struct Exit {
     /// Its own place among the transitions, where its guard stands.
     pub transition: usize,
@@ -35,7 +35,7 @@ pub struct Exit {
 }
 
 /// An action, with the places of its algorithm and of its output event.
-#[derive(Clone, Copy, Debug)]
+#[derive(Clone, Copy)]
 pub struct Act {
     pub algorithm: Option<usize>,
     pub output: Option<usize>,

@@ -13,7 +13,6 @@ use fb_types::name::Name;
 use std::alloc::{AllocError, Global};
 
 /// The places of the names of a basic type, each among those of its sort.
-#[derive(Drop)]
 pub(crate) struct Numbers<'a> {
     pub states: Places<'a>,
     pub algorithms: Places<'a>,
@@ -21,6 +20,20 @@ pub(crate) struct Numbers<'a> {
     pub event_outputs: Places<'a>,
     pub inputs: Places<'a>,
     pub outputs: Places<'a>,
+}
+
+// Written out, and not derived: so they are let go by one call wherever a chart is made or given up.
+impl<'a> Drop for Numbers<'a> {
+    fn drop(self) {
+        let Numbers {
+            states: _,
+            algorithms: _,
+            event_inputs: _,
+            event_outputs: _,
+            inputs: _,
+            outputs: _,
+        } = self;
+    }
 }
 
 /// The places of names that differ.

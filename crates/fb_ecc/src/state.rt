@@ -12,13 +12,24 @@ use fb_types::library::{BasicType, Variable};
 use std::alloc::{AllocError, Global};
 
 /// A basic block: the state in which its chart is, its variables, and the chart of its type.
-#[derive(Drop)]
 pub struct BasicState {
     /// The place of the state among the states of the type.
     pub state: usize,
     /// The input, output and internal variables, in this order.
     pub frame: Frame,
     pub(crate) chart: SharedChart,
+}
+
+// Written out, and not derived: so it is proved here alone what is let go with a block, and not in each crate that lets
+// one go.
+impl Drop for BasicState {
+    fn drop(self) {
+        let BasicState {
+            state: _,
+            frame: _,
+            chart: _,
+        } = self;
+    }
 }
 
 /// Puts variables behind the others, each with its initial value.

@@ -25,9 +25,16 @@ use std::alloc::{AllocError, Global};
 use std::marker::Model;
 
 /// The instances of an accepted declaration, and what their ports are connected to. Contracts see the declaration.
-#[derive(Drop)]
 pub struct Fabric {
     tables: Tables,
+}
+
+// Written out, and not derived: so it is proved in this crate alone what is let go with a fabric, and not in each crate
+// that lets one go.
+impl Drop for Fabric {
+    fn drop(self) {
+        let Fabric { tables: _ } = self;
+    }
 }
 
 impl Model for Fabric {

@@ -41,7 +41,12 @@ fn is_narrow_block(block: &BlockType) -> bool
 fn are_narrow(blocks: &[BlockType]) -> bool
     ensures { IsTrue result ↔ AreNarrow blocks.now }
 {
-    blocks.iter().all(is_narrow_block)
+    for block in blocks {
+        if !is_narrow_block(block) {
+            return false;
+        }
+    }
+    true
 }
 
 /// The layout of a declaration, where the places of its ports are numbers of 32 bits. Else the error is that memory

@@ -3,6 +3,8 @@ pub mod Parts
 pub mod Fields
 pub mod Records
 pub mod Rows
+pub mod Turns
 pub mod Tables
+pub mod Tested
 pub mod Values
 pub mod Outcomes

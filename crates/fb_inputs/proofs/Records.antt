@@ -1,9 +1,11 @@
 -- The records that a reader has left.
 use Rattle.std.proofs.Common.{◌≡◌, ◌==◌, ℕ, zero, suc, ◌+◌, ◌<◌, ◌≤◌, Bool, true, false, cond, List, [], ◌∷◌, ◌++◌, length, Option, Some, None, Bor, refl, sym, ap, ◌∙◌, arith, inl, inr}
 use Rattle.std.specs.Option.{IfSome}
+use Rattle.std.specs.Prelude.{Result, Ok, Err, IfErr}
 use Rattle.std.proofs.lemmas.Bool.{false≢true}
 use Rattle.csv.specs.Machine.{Read, ends_at_end, next_record, step, is_end, fields_after, field_after, in_field, start_field, start_record, after_end, ends_with}
-use Rattle.csv.specs.Reading.{ExplainsRead, Reached, ReadRecord, default_config, records_from, records_next, source_of}
+use Rattle.csv.specs.Reading.{ExplainsRead, Reached, ReadRecord, RowStep, default_config, error_kind, records_from, records_next, source_of}
+use Rattle.csv.specs.declared.error.Error.{Error}
 use Rattle.csv.specs.declared.error.ErrorKind.{ErrorKind}
 use Rattle.csv.specs.declared.error.ErrorKind.TheVariants as kind
 use Rattle.csv.specs.declared.iter.ByteRecordsIntoIter.{ByteRecordsIntoIter}
@@ -14,6 +16,7 @@ use Rattle.csv.specs.declared.parser.State.TheVariants as st
 use Rattle.csv.specs.declared.parser.Terminator.TheVariants as term
 use Rattle.csv.specs.declared.reader.Reader.{Reader}
 use Rattle.csv.specs.declared.reader.Trim.TheVariants as trim
+use Rattle.csv.specs.declared.record.ByteRecord.{ByteRecord}
 use Rattle.csv.proofs.ReadFacts.{rows-end, rows-more}
 use Rattle.fb_inputs.specs.Readers.{IsAt, IsOpened, known, rows_from}
 use Rattle.fb_inputs.specs.Words.{Text}
@@ -156,3 +159,9 @@ at_start it r z same left trims heads none config source start flexible = (
   },
   ap (λ (x : Reader (Bor (List ℕ))). x.state) same ∙ start,
 )
+
+-- the error that a step gives is of reading
+pub failed_reading : (a : ByteRecordsIntoIter (Bor (List ℕ))) (z : Text) (b : Reader (Bor (List ℕ))) (left : ℕ) (r : Result ByteRecord Error)
+    → IsAt a z → RowStep known a.rdr b left (Some r) → IfErr r (λ e. IsOfReading (error_kind e))
+failed_reading a z b left (Ok row) here step = tt
+failed_reading a z b left (Err e) here step = of_reading a z b e.kind here step

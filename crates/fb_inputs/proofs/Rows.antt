@@ -11,13 +11,9 @@ use Rattle.fb_inputs.specs.declared.error.InputError.{InputError}
 use Rattle.fb_inputs.specs.Refusals.{Outcome, ◌>>=◌, number_of, bad_row}
 use Rattle.fb_inputs.specs.Rows.{Row}
 use Rattle.fb_inputs.specs.Words.{Text}
+pub use Rattle.fb_inputs.specs.Stimuli.{all_behind}
 use Rattle.fb_inputs.specs.Stimuli.{stimulus, stimuli_from, stimuli, stimuli_of, is_head, most_bytes}
 use Rattle.fb_inputs.specs.Readers.{HasOtherHead, Opens, rows_from}
-
--- what was found before, and what is still found
-abbrev pub all_behind : List Stimulus → Outcome (List Stimulus) → Outcome (List Stimulus)
-all_behind front (Ok more) = Ok (front ++ more)
-all_behind front (Err n) = Err n
 
 abbrev found_all : List Stimulus → Outcome (List Stimulus)
 found_all all = Ok all

@@ -1,16 +1,21 @@
 -- A reader of the records of a text.
-use Rattle.std.specs.Prelude.{◌≡◌, ◌<◌, ◌+◌, ℕ, true, false, List, [], ◌∷◌, length, Option, Some, None, IfSome, Result, Ok, Err}
+use Rattle.std.specs.Prelude.{◌≡◌, ◌<◌, ◌+◌, ◌++◌, ℕ, Bool, true, false, List, [], ◌∷◌, length, Option, Some, None, IfSome, Result, Ok, Err}
 use Rattle.std.specs.Borrow.{Bor}
 use Rattle.csv.specs.Machine.{ends_at_end}
+use Rattle.csv.specs.Records.{fields_of}
 use Rattle.csv.specs.Reading.{Ready, default_config, records, records_from, source_of, strip_bom}
+use Rattle.csv.specs.declared.error.Error.{Error}
 use Rattle.csv.specs.declared.iter.ByteRecordsIntoIter.{ByteRecordsIntoIter}
 use Rattle.csv.specs.declared.parser.State.{State}
 use Rattle.csv.specs.declared.parser.State.TheVariants as st
 use Rattle.csv.specs.declared.reader.Trim.TheVariants as trim
+use Rattle.csv.specs.declared.record.ByteRecord.{ByteRecord}
+use Rattle.fb_types.specs.declared.deploy.Stimulus.{Stimulus}
 use Rattle.fb_inputs.specs.declared.error.InputError.{InputError}
+use Rattle.fb_inputs.specs.declared.error.InputError.TheVariants.{Memory}
 use Rattle.fb_inputs.specs.Refusals.{bad_row, number_of}
 use Rattle.fb_inputs.specs.Rows.{Row}
-use Rattle.fb_inputs.specs.Stimuli.{is_head}
+use Rattle.fb_inputs.specs.Stimuli.{is_head, stimulus}
 use Rattle.fb_inputs.specs.Words.{Text}
 
 abbrev pub known : Bor (List ℕ) → Option (List ℕ)
@@ -54,3 +59,20 @@ abbrev pub Opens : Text → Result (Option (ByteRecordsIntoIter (Bor (List ℕ))
 Opens bytes (Ok None) = records default_config (strip_bom bytes) ≡ []
 Opens bytes (Ok (Some it)) = IsHeaded bytes it
 Opens bytes (Err e) = IfSome (number_of e) (λ n. (n ≡ bad_row) × HasOtherHead bytes)
+
+-- whether what was read is a heading: no error is met but want of memory
+abbrev pub IsTold : Result ByteRecord Error → Result Bool InputError → Type 0
+IsTold (Ok row) told = told ≡ Ok (is_head (fields_of row))
+IsTold (Err e) told = told ≡ Err Memory
+
+-- a value, where a test was passed
+abbrev pub kept_of : {A : Type 0} → A → Result Bool InputError → Result (Option A) InputError
+kept_of x (Ok true) = Ok (Some x)
+kept_of x (Ok false) = Ok None
+kept_of x (Err e) = Err e
+
+-- the stimulus of what was read stands behind the others, unless it is refused or memory is wanting
+abbrev pub IsAdded : Result ByteRecord Error → List Stimulus → List Stimulus → Result (Unit {0}) InputError → Type 0
+IsAdded (Ok row) old new (Ok u) = (s : Stimulus) × (stimulus (length old) (fields_of row) ≡ Ok s) × (new ≡ old ++ s ∷ [])
+IsAdded (Ok row) old new (Err e) = IfSome (number_of e) (λ n. stimulus (length old) (fields_of row) ≡ Err n)
+IsAdded (Err e) old new added = added ≡ Err Memory

@@ -1,5 +1,5 @@
 -- Stimuli, by the records that the CSV reader gives for their bytes (this project's profile).
-use Rattle.std.specs.Prelude.{ℕ, ◌+◌, ◌^◌, Bool, ◌&&◌, if◌then◌else◌, nat_le, nat_lt, false, List, [], ◌∷◌, length, Option, Some, None, Ok, Err, codes}
+use Rattle.std.specs.Prelude.{ℕ, ◌+◌, ◌++◌, ◌^◌, Bool, ◌&&◌, if◌then◌else◌, nat_le, nat_lt, false, List, [], ◌∷◌, length, Option, Some, None, Ok, Err, codes}
 use Rattle.std.specs.Option.{option_map_or}
 use Rattle.std.specs.Str.{bytes_eq}
 use Rattle.csv.specs.Reading.{records, default_config, strip_bom}
@@ -50,6 +50,11 @@ stimuli_from before (row ∷ rows) = do
   s ← stimulus before row
   more ← stimuli_from (before + 1) rows
   Ok (s ∷ more)
+
+-- what was found before, and what is still found
+abbrev pub all_behind : List Stimulus → Outcome (List Stimulus) → Outcome (List Stimulus)
+all_behind front (Ok more) = Ok (front ++ more)
+all_behind front (Err n) = Err n
 
 -- the record `tick,event,values`
 abbrev pub is_head : Row → Bool

@@ -1,11 +1,12 @@
 //! Stimuli.
 
-ghost use Rattle.std.specs.Prelude.{◌≡◌, [], ◌∷◌, Ok, Err, map, IfOk, IfErr, IfSome, option_map};
+ghost use Rattle.std.specs.Prelude.{◌≡◌, [], ◌∷◌, length, IfErr, option_map};
 ghost use Rattle.csv.specs.Reading.{error_kind, strip_bom};
 ghost use Rattle.csv.specs.Records.{fields_of};
-ghost use Rattle.fb_inputs.specs.Readers.{IsOpened, Opens};
+ghost use Rattle.fb_inputs.specs.Readers.{IsAdded, IsAt, IsOpened, IsTold, Opens, kept_of, rows_from};
 ghost use Rattle.fb_inputs.specs.Refusals.{Answers, number_of};
 ghost use Rattle.fb_inputs.specs.Stimuli as spec;
+ghost use Rattle.fb_inputs.specs.Words.{Text};
 
 use crate::beside::beside;
 use crate::error::InputError;
@@ -135,6 +136,39 @@ pub fn records_of(alloc: Global, bytes: &[u8]) -> ByteRecordsIntoIter<&[u8]>
     reader.into_byte_records()
 }
 
+/// Whether what was read is the heading.
+fn is_headed(read: Result<ByteRecord, Error>) -> Result<bool, InputError>
+    requires { IfErr read (λ e. spec.IsOfReading (error_kind e)) }
+    ensures { IsTold read result }
+{
+    match read {
+        Ok(row) => Ok(is_heading(row)),
+        Err(error) => Err(refusal(error)),
+    }
+}
+
+/// Reads the heading, and says whether there is any record.
+fn take_heading(rows: &mut ByteRecordsIntoIter<&[u8]>) -> Result<bool, InputError>
+    requires { (left : Text) × IsOpened rows.old left }
+    ensures { (bytes : Text) → IsOpened rows.old (strip_bom bytes) → Opens bytes (kept_of rows.new result) }
+{
+    let Some(first) = rows.next() else {
+        return Ok(false);
+    };
+    if is_headed(first)? {
+        Ok(true)
+    } else {
+        Err(InputError::Row)
+    }
+}
+
+/// A value, where a test was passed. The drop of a value of a type parameter is one call, and that of a reader is many.
+fn kept<T: Drop>(value: T, test: Result<bool, InputError>) -> Result<Option<T>, InputError>
+    ensures { result ≡ kept_of value test }
+{
+    if test? { Ok(Some(value)) } else { Ok(None) }
+}
+
 /// The reader of the records behind the first one of bytes of CSV, which is `tick,event,values`, if there is any record.
 pub fn rows_of(
     alloc: Global,
@@ -143,17 +177,41 @@ pub fn rows_of(
     ensures { Opens bytes.now result }
 {
     let mut rows = records_of(alloc, bytes);
-    let Some(first) = rows.next() else {
-        return Ok(None);
-    };
-    let head = match first {
-        Ok(head) => head,
-        Err(error) => return Err(refusal(error)),
-    };
-    if !is_heading(head) {
-        return Err(InputError::Row);
+    let has_heading = take_heading(&mut rows);
+    kept(rows, has_heading)
+}
+
+/// Puts the stimulus of what was read behind the others.
+fn add(
+    alloc: Global,
+    read: Result<ByteRecord, Error>,
+    found: &mut Items<Stimulus>,
+) -> Result<(), InputError>
+    requires { IfErr read (λ e. spec.IsOfReading (error_kind e)) }
+    ensures { IsAdded read found.old found.new result }
+{
+    match read {
+        Ok(row) => {
+            found.push(stimulus(alloc, found.len(), row)?)?;
+            Ok(())
+        }
+        Err(error) => Err(refusal(error)),
     }
-    Ok(Some(rows))
+}
+
+/// Puts the stimuli of the rows that are left behind the others.
+fn add_all(
+    alloc: Global,
+    rows: &mut ByteRecordsIntoIter<&[u8]>,
+    found: &mut Items<Stimulus>,
+) -> Result<(), InputError>
+    requires { (left : Text) × IsAt rows.old left }
+    ensures { (left : Text) → IsAt rows.old left → Answers (λ u. found.new) (spec.all_behind found.old (spec.stimuli_from (length found.old) (rows_from rows.old.rdr.state left))) result }
+{
+    for read in rows {
+        add(alloc, read, found)?;
+    }
+    Ok(())
 }
 
 /// The stimuli that bytes of CSV give: none without a record, else those of the rows behind the first record,
@@ -169,16 +227,13 @@ pub fn read_stimuli(alloc: Global, bytes: &[u8]) -> Result<Vec<Stimulus>, InputE
         return Err(InputError::Limit);
     }
     let opened = rows_of(alloc, bytes)?;
-    let Some(rows) = opened else {
+    let Some(mut rows) = opened else {
         return Ok(Vec::new(alloc));
     };
     let mut found = Items::new(alloc);
-    for next in rows {
-        let row = match next {
-            Ok(row) => row,
-            Err(error) => return Err(refusal(error)),
-        };
-        found.push(stimulus(alloc, found.len(), row)?)?;
-    }
+    let added = add_all(alloc, &mut rows, &mut found);
+    // One call, where each way out would drop each part of the reader.
+    drop(rows);
+    added?;
     Ok(found.into_vec())
 }

@@ -78,21 +78,36 @@ fn is_short(table: &[LatencyDraft]) -> bool
 pub(crate) fn all_have_latencies(links: &[LinkDraft]) -> bool
     ensures { result ≡ spec.all_tables spec.has_latencies links.now }
 {
-    links.iter().all(|l| has_latencies(l.table.as_slice()))
+    for link in links {
+        if !has_latencies(link.table.as_slice()) {
+            return false;
+        }
+    }
+    true
 }
 
 /// Whether all tables rise from tick 0.
 pub(crate) fn all_rise(links: &[LinkDraft]) -> bool
     ensures { result ≡ spec.all_tables spec.rises links.now }
 {
-    links.iter().all(|l| rises(l.table.as_slice()))
+    for link in links {
+        if !rises(link.table.as_slice()) {
+            return false;
+        }
+    }
+    true
 }
 
 /// Whether no table has too many entries.
 pub(crate) fn all_are_short(links: &[LinkDraft]) -> bool
     ensures { result ≡ spec.all_tables spec.is_short links.now }
 {
-    links.iter().all(|l| is_short(l.table.as_slice()))
+    for link in links {
+        if !is_short(link.table.as_slice()) {
+            return false;
+        }
+    }
+    true
 }
 
 fn entry_of(pair: LatencyDraft) -> Entry

@@ -24,7 +24,12 @@ fn is_word(b: u8) -> bool
 fn are_words(text: &[u8]) -> bool
     ensures { result ≡ list_all spec.is_word text.now }
 {
-    text.iter().all(|b| is_word(*b))
+    for b in text {
+        if !is_word(*b) {
+            return false;
+        }
+    }
+    true
 }
 
 fn is_identifier(text: &[u8]) -> bool

@@ -1,5 +1,5 @@
 -- E30 by numbers: what is counted after so many rounds are the paths at most as many names deep.
-use Rattle.std.proofs.Common.{◌≡◌, ℕ, zero, suc, ◌+◌, ◌<◌, Bool, List, [], ◌∷◌, ◌++◌, map, length, Option, Some, None, refl, sym, ◌∙◌, ap, subst, arith, min}
+use Rattle.std.proofs.Common.{◌≡◌, ℕ, zero, suc, ◌+◌, ◌<◌, List, [], ◌∷◌, map, length, Option, Some, None, refl, sym, ◌∙◌, ap, subst, arith, min}
 use Rattle.std.specs.Prelude.{slice_get, option_map, option_and_then, unwrap_or, flat_map, nat_lt, ◌↔◌, IsTrue}
 use Rattle.std.specs.List.{sum_by}
 use Rattle.std.proofs.lemmas.Bool.Decides.{nat_tests}
@@ -7,7 +7,6 @@ use Rattle.std.proofs.lemmas.List.{length-append}
 use Rattle.std.proofs.lemmas.List.Sums.{sum_by-cons}
 use Rattle.std.proofs.lemmas.Option.{slice_get-map}
 use Rattle.fb_types.specs.Names.{Path}
-use Rattle.fb_types.specs.Blocks.{Kind}
 use Rattle.fb_types.specs.Flat.{kind_of, network_of, inside, paths_inside, paths_of}
 use Rattle.fb_types.specs.declared.library.Library.{Library}
 use Rattle.fb_types.specs.declared.library.BlockType.{BlockType}

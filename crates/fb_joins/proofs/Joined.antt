@@ -1,8 +1,7 @@
 -- E23 by numbers: a data connection that leads from a type to one that does not hold all its values.
-use Rattle.std.proofs.Common.{◌≡◌, ◌⊎◌, ℕ, Bool, true, false, not, List, [], ◌∷◌, ◌++◌, map, Option, Some, None, Contains, refl, sym, ◌∙◌, ap, subst, cond, inl, inr}
+use Rattle.std.proofs.Common.{◌≡◌, ℕ, Bool, true, false, not, List, [], ◌∷◌, ◌++◌, Option, Some, None, Contains, refl, sym, ◌∙◌, ap, subst, cond, inl, inr}
 use Rattle.std.specs.Prelude.{slice_get, option_map, option_and_then, position, flat_map, ◌↔◌, IsTrue}
 use Rattle.std.specs.Bool.{Decides}
-use Rattle.std.specs.List.{list_any}
 use Rattle.std.proofs.lemmas.Bool.{true≢false, false_from_ne_true}
 use Rattle.fb_types.specs.Names.{Name, same_name}
 use Rattle.fb_types.specs.Blocks.{Kind, named, ports_of, variable_names}

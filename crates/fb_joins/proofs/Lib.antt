@@ -16,3 +16,4 @@ pub mod Sets
 pub mod Elements
 pub mod Mapped
 pub mod Listing
+pub mod Looking

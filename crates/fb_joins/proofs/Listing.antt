@@ -1,5 +1,5 @@
 -- The resources that list names, one name at a time.
-use Rattle.std.proofs.Common.{◌≡◌, ℕ, suc, ◌<◌, ◌≤◌, ◌+◌, Bool, true, false, cond, ◌||◌, List, [], ◌∷◌, ◌++◌, length, map, take, drop, get_or, Option, Some, None, Contains, Bor, refl, sym, ◌∙◌, ap, subst, arith, append_assoc, append-nil}
+use Rattle.std.proofs.Common.{◌≡◌, ℕ, suc, ◌<◌, ◌≤◌, ◌+◌, Bool, true, false, cond, ◌||◌, List, [], ◌∷◌, ◌++◌, length, take, drop, get_or, Option, Some, None, Contains, Bor, refl, sym, ◌∙◌, ap, subst, arith, append_assoc, append-nil}
 use Rattle.std.specs.Prelude.{position, is_some, option_map, flat_map}
 use Rattle.std.specs.List.{list_any}
 use Rattle.std.specs.Ordering.{nat_cmp, is_eq}
@@ -20,23 +20,14 @@ use Rattle.fb_types.proofs.Options.{none_from_is_some}
 use Rattle.fb_types.proofs.TwiceLaws.{Twice-push, Twice-append_left, once_push}
 use Rattle.fb_types.proofs.NameLaws.{same_name-itself, same_from_same_name, contains_from_any, any_from_contains, same_name-flip}
 use Rattle.fb_names.proofs.Seen.{name_cmp, slice_cmp-Decides}
-use Rattle.fb_joins.specs.Mapping.{IsListing}
+use Rattle.fb_joins.specs.Mapping.{AreListed, IsHeld, IsListing, at_number, names_of, number_in}
 
 -- ---- Names with the numbers of the resources that list them
-
-abbrev pub at_number : ℕ → List Name → List (Name × ℕ)
-at_number k ns = map (λ n. (n, k)) ns
 
 -- the names of the resources from the one with a number on
 abbrev pub holdings : ℕ → List ResourceEntry → List (Name × ℕ)
 holdings k [] = []
 holdings k (r ∷ rs) = at_number k r.instances ++ holdings (suc k) rs
-
-abbrev pub names_of : List (Name × ℕ) → List Name
-names_of ps = map (λ p. p.0) ps
-
-abbrev pub number_in : List (Name × ℕ) → Name → Option ℕ
-number_in ps n = option_map (λ p. p.1) (named (λ p. p.0) n ps)
 
 abbrev or_else : {A : Type 0} → Option A → Option A → Option A
 or_else None o = o
@@ -109,10 +100,6 @@ is_some-number_in (p ∷ ps) n =
 
 -- ---- The map after so many names
 
-pub record IsHeld (ps : List (Name × ℕ)) (m : tree.BTreeMap (Bor Name) ℕ) : Type 0 where
-  pub once : ¬ (Twice (names_of ps))
-  pub place : (n : Name) → place_in m n ≡ number_in ps n
-
 pub held_none : (m : tree.BTreeMap (Bor Name) ℕ) → m.entries ≡ [] → IsHeld [] m
 held_none m e = record {
   once = λ t. t;
@@ -158,82 +145,91 @@ held_push ps number m m' k held new updates =
 
 -- ---- Steps of the loops
 
--- the names so far: all of the resources before one, and some of this one's
-abbrev pub so_far : List ResourceEntry → ℕ → List Name → List (Name × ℕ)
-so_far rs number ns = holdings 0 (take number rs) ++ at_number number ns
+-- a resource before its first name
+pub held_before : (ps : List (Name × ℕ)) (m : tree.BTreeMap (Bor Name) ℕ) → IsHeld ps m → IsHeld (ps ++ []) m
+held_before ps m held = let P : List (Name × ℕ) → Type 0 = λ ps. IsHeld ps m in subst P (sym (append-nil ps)) held
 
+-- one name more
 pub held_more :
-    (rs : List ResourceEntry) (number : ℕ) (ns : List Name) (j : ℕ) (n : Name) (m m' : tree.BTreeMap (Bor Name) ℕ) (k : Bor Name) (o : Option ℕ)
-    → j < length ns → n ≡ get_or ns j n → k.now ≡ n → IsHeld (so_far rs number (take j ns)) m → o ≡ tree.get name_cmp m k → is_some o ≡ false
+    (ps : List (Name × ℕ)) (number : ℕ) (ns : List Name) (j : ℕ) (n : Name) (m m' : tree.BTreeMap (Bor Name) ℕ) (k : Bor Name) (o : Option ℕ)
+    → j < length ns → n ≡ get_or ns j n → k.now ≡ n → IsHeld (ps ++ at_number number (take j ns)) m → o ≡ tree.get name_cmp m k → is_some o ≡ false
     → ((q : Bor Name) → tree.get name_cmp m' q ≡ cond (is_eq (name_cmp k q)) (Some number) (tree.get name_cmp m q))
-    → IsHeld (so_far rs number (take (j + 1) ns)) m'
-held_more rs number ns j n m m' k o h e g held old new updates =
-    let P : List (Name × ℕ) → Type 0 = λ ps. IsHeld (holdings 0 (take number rs) ++ ps) m' in
-    let Q : List (Name × ℕ) → Type 0 = λ ps. IsHeld ps m' in
+    → IsHeld (ps ++ at_number number (take (j + 1) ns)) m'
+held_more ps number ns j n m m' k o h e g held old new updates =
+    let P : List (Name × ℕ) → Type 0 = λ qs. IsHeld (ps ++ qs) m' in
+    let Q : List (Name × ℕ) → Type 0 = λ qs. IsHeld qs m' in
     let pair : (k.now, number) ≡ (n, number) = ap (λ (n : Name). (n, number)) g in
     more_of_part P (λ (n : Name). (n, number)) ns j n (k.now, number) h e pair
-    (subst Q (append_assoc (holdings 0 (take number rs)) (at_number number (take j ns)) ((k.now, number) ∷ []))
-    (held_push (so_far rs number (take j ns)) number m m' k held (sym old ∙ none_from_is_some o new) updates))
+    (subst Q (append_assoc ps (at_number number (take j ns)) ((k.now, number) ∷ []))
+    (held_push (ps ++ at_number number (take j ns)) number m m' k held (sym old ∙ none_from_is_some o new) updates))
 
-resources_more :
-    (rs : List ResourceEntry) (number : ℕ) (r : ResourceEntry) → number < length rs → r ≡ get_or rs number r
-    → holdings 0 (take (number + 1) rs) ≡ so_far rs number r.instances
-resources_more rs number r h e =
-    let counted : 0 + length (take number rs) ≡ number = omega (arith, length-take number rs) in
-    ap (holdings 0) (take_more rs number r h ∙ ap (λ (r : ResourceEntry). take number rs ++ r ∷ []) (sym e))
-    ∙ holdings-push 0 (take number rs) r
-    ∙ ap (λ n. holdings 0 (take number rs) ++ at_number n r.instances) counted
-
--- all names of a resource
-pub held_resource :
-    (rs : List ResourceEntry) (number : ℕ) (r : ResourceEntry) (items : List Name) (j : ℕ) (m : tree.BTreeMap (Bor Name) ℕ) → number < length rs → r ≡ get_or rs number r
-    → items ≡ r.instances → length items ≤ j → IsHeld (so_far rs number (take j items)) m → IsHeld (holdings 0 (take (number + 1) rs)) m
-held_resource rs number r items j m h e same ended held =
-    let P : List (Name × ℕ) → Type 0 = λ ps. IsHeld ps m in
-    subst P (ap (so_far rs number) (take_all j items ended ∙ same) ∙ sym (resources_more rs number r h e)) held
-
--- a resource before its first name
-pub held_before : (rs : List ResourceEntry) (number : ℕ) (m : tree.BTreeMap (Bor Name) ℕ) → IsHeld (holdings 0 (take number rs)) m → IsHeld (so_far rs number []) m
-held_before rs number m held =
-    let P : List (Name × ℕ) → Type 0 = λ ps. IsHeld ps m in subst P (sym (append-nil (holdings 0 (take number rs)))) held
+-- all names
+pub held_all :
+    (ps : List (Name × ℕ)) (number : ℕ) (ns : List Name) (j : ℕ) (m : tree.BTreeMap (Bor Name) ℕ) → length ns ≤ j
+    → IsHeld (ps ++ at_number number (take j ns)) m → IsHeld (ps ++ at_number number ns) m
+held_all ps number ns j m ended held =
+    let P : List Name → Type 0 = λ ns. IsHeld (ps ++ at_number number ns) m in subst P (take_all j ns ended) held
 
 -- what stands twice up to a name stands twice in all
 pub held_twice :
-    (rs : List ResourceEntry) (number : ℕ) (r : ResourceEntry) (items : List Name) (j : ℕ) (n : Name) (m : tree.BTreeMap (Bor Name) ℕ) (k : Bor Name) (o : Option ℕ)
-    → number < length rs → r ≡ get_or rs number r → items ≡ r.instances → j < length items → n ≡ get_or items j n → k.now ≡ n
-    → IsHeld (so_far rs number (take j items)) m → o ≡ tree.get name_cmp m k → is_some o ≡ true → Twice (flat_map (λ r. r.instances) rs)
-held_twice rs number r items j n m k o hr er same h e g held old found =
-    let ps = so_far rs number (take j items) in
-    let before : List Name = flat_map (λ r. r.instances) (take number rs) in
-    let there : Contains (names_of ps) k.now =
-    contains_from_any k.now (names_of ps) (sym (is_some-number_in ps k.now) ∙ ap is_some (sym (held.place k.now) ∙ sym old) ∙ found) in
-    let named_so_far : names_of ps ≡ before ++ take j items =
-    map-append (λ (p : Name × ℕ). p.0) (holdings 0 (take number rs)) (at_number number (take j items))
-    ∙ ap (λ ns. ns ++ names_of (at_number number (take j items))) (names-holdings 0 (take number rs))
-    ∙ ap (λ ns. before ++ ns) (names-at_number number (take j items)) in
+    (ps : List (Name × ℕ)) (number : ℕ) (ns : List Name) (j : ℕ) (n : Name) (m : tree.BTreeMap (Bor Name) ℕ) (k : Bor Name) (o : Option ℕ)
+    → j < length ns → n ≡ get_or ns j n → k.now ≡ n → IsHeld (ps ++ at_number number (take j ns)) m → o ≡ tree.get name_cmp m k → is_some o ≡ true
+    → Twice (names_of ps ++ ns)
+held_twice ps number ns j n m k o h e g held old found =
+    let qs = ps ++ at_number number (take j ns) in
+    let before : List Name = names_of ps in
+    let there : Contains (names_of qs) k.now =
+    contains_from_any k.now (names_of qs) (sym (is_some-number_in qs k.now) ∙ ap is_some (sym (held.place k.now) ∙ sym old) ∙ found) in
+    let named_so_far : names_of qs ≡ before ++ take j ns =
+    map-append (λ (p : Name × ℕ). p.0) ps (at_number number (take j ns))
+    ∙ ap (λ ns. before ++ ns) (names-at_number number (take j ns)) in
     let T : List Name → Type 0 = λ ns. Twice ns in
-    let twice : Twice ((before ++ take j items) ++ n ∷ []) =
+    let twice : Twice ((before ++ take j ns) ++ n ∷ []) =
     subst T (ap (λ ns. ns ++ n ∷ []) named_so_far)
-    (subst (λ (n : Name). Twice (names_of ps ++ n ∷ [])) g (Twice-push (names_of ps) k.now there)) in
-    let of_resource : Twice ((before ++ take (j + 1) items) ++ drop (j + 1) items) =
-    Twice-append_left (before ++ take (j + 1) items) (drop (j + 1) items)
-    (subst T (append_assoc before (take j items) (n ∷ []) ∙ ap (λ ns. before ++ ns) (sym (take_more items j n h ∙ ap (λ (n : Name). take j items ++ n ∷ []) (sym e)))) twice) in
-    let whole : (before ++ take (j + 1) items) ++ drop (j + 1) items ≡ flat_map (λ r. r.instances) (take (number + 1) rs) =
-    append_assoc before (take (j + 1) items) (drop (j + 1) items)
-    ∙ ap (λ ns. before ++ ns) (take-append-drop (j + 1) items ∙ same)
-    ∙ ap (λ ns. before ++ ns) (sym (append-nil r.instances))
-    ∙ sym (ap (flat_map (λ (r : ResourceEntry). r.instances)) (take_more rs number r hr ∙ ap (λ (r : ResourceEntry). take number rs ++ r ∷ []) (sym er))
+    (subst (λ (n : Name). Twice (names_of qs ++ n ∷ [])) g (Twice-push (names_of qs) k.now there)) in
+    subst T (append_assoc before (take (j + 1) ns) (drop (j + 1) ns) ∙ ap (λ ns. before ++ ns) (take-append-drop (j + 1) ns))
+    (Twice-append_left (before ++ take (j + 1) ns) (drop (j + 1) ns)
+    (subst T (append_assoc before (take j ns) (n ∷ []) ∙ ap (λ ns. before ++ ns) (sym (take_more ns j n h ∙ ap (λ (n : Name). take j ns ++ n ∷ []) (sym e)))) twice))
+
+-- one resource more
+pub held_resource :
+    (rs : List ResourceEntry) (number : ℕ) (r : ResourceEntry) (items : List Name) (m m' : tree.BTreeMap (Bor Name) ℕ) (b : Bool) → number < length rs → r ≡ get_or rs number r
+    → items ≡ r.instances → AreListed items number m m' b → b ≡ true → IsHeld (holdings 0 (take number rs)) m → IsHeld (holdings 0 (take (number + 1) rs)) m'
+held_resource rs number r items m m' b h e same listed new held =
+    let P : List (Name × ℕ) → Type 0 = λ ps. IsHeld ps m' in
+    let counted : 0 + length (take number rs) ≡ number = omega (arith, length-take number rs) in
+    let more : holdings 0 (take (number + 1) rs) ≡ holdings 0 (take number rs) ++ at_number number r.instances =
+    ap (holdings 0) (take_more rs number r h ∙ ap (λ (r : ResourceEntry). take number rs ++ r ∷ []) (sym e))
+    ∙ holdings-push 0 (take number rs) r
+    ∙ ap (λ n. holdings 0 (take number rs) ++ at_number n r.instances) counted in
+    subst P (ap (λ ns. holdings 0 (take number rs) ++ at_number number ns) same ∙ sym more) (listed.held (holdings 0 (take number rs)) held new)
+
+-- what stands twice up to a resource stands twice in all
+pub resource_twice :
+    (rs : List ResourceEntry) (number : ℕ) (r : ResourceEntry) (items : List Name) (m m' : tree.BTreeMap (Bor Name) ℕ) (b : Bool) → number < length rs → r ≡ get_or rs number r
+    → items ≡ r.instances → AreListed items number m m' b → b ≡ false → IsHeld (holdings 0 (take number rs)) m → Twice (flat_map (λ r. r.instances) rs)
+resource_twice rs number r items m m' b h e same listed old held =
+    let T : List Name → Type 0 = λ ns. Twice ns in
+    let whole : names_of (holdings 0 (take number rs)) ++ items ≡ flat_map (λ r. r.instances) (take (number + 1) rs) =
+    ap (λ ns. ns ++ items) (names-holdings 0 (take number rs))
+    ∙ ap (λ ns. flat_map (λ (r : ResourceEntry). r.instances) (take number rs) ++ ns) (same ∙ sym (append-nil r.instances))
+    ∙ sym (ap (flat_map (λ (r : ResourceEntry). r.instances)) (take_more rs number r h ∙ ap (λ (r : ResourceEntry). take number rs ++ r ∷ []) (sym e))
     ∙ flat_map-append (λ (r : ResourceEntry). r.instances) (take number rs) (r ∷ [])) in
     subst T
     (sym (flat_map-append (λ (r : ResourceEntry). r.instances) (take (number + 1) rs) (drop (number + 1) rs)) ∙ ap (flat_map (λ (r : ResourceEntry). r.instances)) (take-append-drop (number + 1) rs))
-    (Twice-append_left (flat_map (λ r. r.instances) (take (number + 1) rs)) (flat_map (λ r. r.instances) (drop (number + 1) rs)) (subst T whole of_resource))
+    (Twice-append_left (flat_map (λ r. r.instances) (take (number + 1) rs)) (flat_map (λ r. r.instances) (drop (number + 1) rs))
+    (subst T whole (listed.twice (holdings 0 (take number rs)) held old)))
 
 option_map-zero : (o : Option ℕ) → option_map (λ i. i + 0) o ≡ o
 option_map-zero None = refl
 option_map-zero (Some i) = let e : i + 0 ≡ i = omega arith in ap (λ i. Some i) e
 
-pub listing_from_held : (rs : List ResourceEntry) (m : tree.BTreeMap (Bor Name) ℕ) → IsHeld (holdings 0 rs) m → IsListing rs m
-listing_from_held rs m held = record {
-  once = let P : List Name → Type 0 = λ ns. ¬ (Twice ns) in subst P (names-holdings 0 rs) held.once;
-  place = λ n. held.place n ∙ number_in-holdings 0 rs n ∙ option_map-zero (position (λ r. among r.instances n) rs);
-}
+pub listing_from_held :
+    (rs : List ResourceEntry) (number : ℕ) (m : tree.BTreeMap (Bor Name) ℕ) → length rs ≤ number → IsHeld (holdings 0 (take number rs)) m → IsListing rs m
+listing_from_held rs number m ended held_so_far =
+    let R : List ResourceEntry → Type 0 = λ rs. IsHeld (holdings 0 rs) m in
+    let held = subst R (take_all number rs ended) held_so_far in
+    record {
+      once = let P : List Name → Type 0 = λ ns. ¬ (Twice ns) in subst P (names-holdings 0 rs) held.once;
+      place = λ n. held.place n ∙ number_in-holdings 0 rs n ∙ option_map-zero (position (λ r. among r.instances n) rs);
+    }

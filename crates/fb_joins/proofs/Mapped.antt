@@ -1,11 +1,10 @@
 -- Instances of the application that are mapped, and names that are mapped twice.
-use Rattle.std.proofs.Common.{◌≡◌, ◌||◌, ℕ, ◌<◌, ◌+◌, Bool, true, false, cond, List, [], ◌∷◌, ◌++◌, length, map, take, get_or, Option, Some, None, Contains, Bor, refl, sym, ◌∙◌, ap, subst, inl, inr}
-use Rattle.std.specs.Prelude.{position, is_some, flat_map, unwrap_or, MatchOption}
-use Rattle.std.specs.List.{list_any}
+use Rattle.std.proofs.Common.{◌≡◌, ◌||◌, ℕ, Bool, true, false, cond, List, [], ◌∷◌, ◌++◌, map, None, Contains, Bor, refl, sym, ◌∙◌, ap, subst, inl, inr}
+use Rattle.std.specs.Prelude.{position, is_some, flat_map, unwrap_or}
+use Rattle.std.specs.List.{list_all, list_any}
 use Rattle.std.specs.BTreeMap as tree
 use Rattle.std.proofs.lemmas.Bool.{true≢false}
-use Rattle.std.proofs.lemmas.List.{take_more}
-use Rattle.std.proofs.lemmas.List.Elements.{Contains-append_left, Contains-append_right, Contains-push_cases, Contains-get_or}
+use Rattle.std.proofs.lemmas.List.Elements.{Contains-append_left, Contains-append_right}
 use Rattle.std.proofs.lemmas.List.Folds.{list_any-append}
 use Rattle.fb_types.specs.Names.{Name, same_name}
 use Rattle.fb_types.specs.Blocks.{among}
@@ -17,9 +16,10 @@ use Rattle.fb_types.specs.declared.library.Instance.{Instance}
 use Rattle.fb_types.specs.declared.deploy.Plan.{Plan}
 use Rattle.fb_types.specs.declared.deploy.ResourceEntry.{ResourceEntry}
 use Rattle.fb_names.specs.Places.{place_in}
+use Rattle.fb_types.proofs.ListTests.{fails_at, passes_at}
 use Rattle.fb_types.proofs.Positions.{is_some-position}
 use Rattle.fb_types.proofs.NameLaws.{contains_from_any, any_from_contains}
-use Rattle.fb_types.proofs.Elements.{Contains-nil, Contains-here, Contains-map}
+use Rattle.fb_types.proofs.Elements.{Contains-here, Contains-map}
 use Rattle.fb_names.proofs.Seen.{name_cmp}
 use Rattle.fb_joins.specs.Mapping.{IsListing, IsMapping}
 use Rattle.fb_joins.specs.declared.mapping.Mapping.TheVariants.{All, Listed}
@@ -70,34 +70,18 @@ found_is rs m n listing = ap is_some (listing.place n) ∙ is_some-position (λ 
 listed_all : (lib : Library) (plan : Plan) → plan.holds_all ≡ false → mapped lib plan ≡ flat_map (λ r. r.instances) plan.resources
 listed_all lib plan h = ap (λ b. cond b (instance_names lib.application.network) (flat_map (λ r. r.instances) plan.resources)) h
 
--- the map has the names of the instances
-pub record AreListed (is : List Instance) (m : tree.BTreeMap (Bor Name) ℕ) : Type 0 where
-  pub each : (i : Instance) → Contains is i → is_some (place_in m i.name) ≡ true
-
-pub listed_none : (m : tree.BTreeMap (Bor Name) ℕ) → AreListed [] m
-listed_none m = record { each = λ i c. absurd (Contains-nil i c) }
-
-pub listed_more :
-    (is : List Instance) (k : ℕ) (i : Instance) (m : tree.BTreeMap (Bor Name) ℕ) → k < length is → i ≡ get_or is k i → is_some (place_in m i.name) ≡ true
-    → AreListed (take k is) m → AreListed (take (k + 1) is) m
-listed_more is k i m h e found so_far =
-    let P : List Instance → Type 0 = λ is. AreListed is m in
-    subst P (sym (take_more is k i h ∙ ap (λ (i : Instance). take k is ++ i ∷ []) (sym e))) (record {
-      each = λ j c.
-          elim (Contains-push_cases (take k is) i j c) [
-            | inl old ↦ so_far.each j old
-            | inr same ↦ subst (λ (i : Instance). is_some (place_in m i.name) ≡ true) same found
-          ];
-    })
+-- whether the map has the name of an instance
+abbrev pub is_listed : tree.BTreeMap (Bor Name) ℕ → Instance → Bool
+is_listed m i = is_some (place_in m i.name)
 
 pub all_listed :
     (lib : Library) (plan : Plan) (m : tree.BTreeMap (Bor Name) ℕ) → plan.holds_all ≡ false → IsListing plan.resources m
-    → AreListed lib.application.network.instances m → IsMapping lib plan (Listed m)
-all_listed lib plan m h listing are = record {
+    → list_all (is_listed m) lib.application.network.instances ≡ true → IsMapping lib plan (Listed m)
+all_listed lib plan m h listing all = record {
   each = λ n.
       elim n [
         | inl i ↦ i.2 (let P : List Name → Type 0 = λ ns. Contains ns i.0.name in
-            subst P (sym (listed_all lib plan h)) (contains_from_any i.0.name (flat_map (λ r. r.instances) plan.resources) (sym (found_is plan.resources m i.0.name listing) ∙ are.each i.0 i.1)))
+            subst P (sym (listed_all lib plan h)) (contains_from_any i.0.name (flat_map (λ r. r.instances) plan.resources) (sym (found_is plan.resources m i.0.name listing) ∙ passes_at (is_listed m) lib.application.network.instances i.0 all i.1)))
         | inr t ↦ listing.once (let P : List Name → Type 0 = λ ns. Twice ns in subst P (listed_all lib plan h) t)
       ];
   holds = record {
@@ -111,34 +95,20 @@ pub twice_listed : (lib : Library) (plan : Plan) → plan.holds_all ≡ false �
 twice_listed lib plan h t = inr (let P : List Name → Type 0 = λ ns. Twice ns in subst P (sym (listed_all lib plan h)) t)
 
 pub not_listed :
-    (lib : Library) (plan : Plan) (m : tree.BTreeMap (Bor Name) ℕ) (i : Instance) → plan.holds_all ≡ false → IsListing plan.resources m
-    → Contains lib.application.network.instances i → is_some (place_in m i.name) ≡ false → NotMapped lib plan
-not_listed lib plan m i h listing c absent =
+    (lib : Library) (plan : Plan) (m : tree.BTreeMap (Bor Name) ℕ) → plan.holds_all ≡ false → IsListing plan.resources m
+    → list_all (is_listed m) lib.application.network.instances ≡ false → NotMapped lib plan
+not_listed lib plan m h listing some =
+    let lacks = fails_at (is_listed m) lib.application.network.instances some in
+    let i = lacks.0 in
     inl (
       i,
-      c,
+      lacks.1,
       λ there.
           true≢false (sym (any_from_contains i.name (flat_map (λ r. r.instances) plan.resources) (let P : List Name → Type 0 = λ ns. Contains ns i.name in subst P (listed_all lib plan h) there))
-          ∙ sym (found_is plan.resources m i.name listing) ∙ absent),
+          ∙ sym (found_is plan.resources m i.name listing) ∙ lacks.2),
     )
 
--- the same, at an element of the loop
-pub not_listed_at :
-    (lib : Library) (plan : Plan) (m : tree.BTreeMap (Bor Name) ℕ) (is : List Instance) (k : ℕ) (i : Instance) (q : Bor Name) (b : Bool) (rs : List ResourceEntry)
-    → plan.holds_all ≡ false → rs ≡ plan.resources → IsListing rs m → is ≡ lib.application.network.instances → k < length is → i ≡ get_or is k i
-    → q.now ≡ i.name → b ≡ is_some (tree.get name_cmp m q) → b ≡ false → NotMapped lib plan
-not_listed_at lib plan m is k i q b rs h all listing own kh e g found absent =
-    let there : Contains lib.application.network.instances i =
-    subst (λ (is : List Instance). Contains is i) own (subst (λ (j : Instance). Contains is j) (sym e) (Contains-get_or is k i kh)) in
-    let lacks : is_some (place_in m i.name) ≡ false = ap (λ n. is_some (place_in m n)) (sym g) ∙ sym found ∙ absent in
-    let L : List ResourceEntry → Type 0 = λ rs. IsListing rs m in
-    not_listed lib plan m i h (subst L all listing) there lacks
-
+-- what the map has of the name of an instance
 pub listed_found :
-    (m : tree.BTreeMap (Bor Name) ℕ) (n : Name) (q : Bor Name) (b : Bool) → q.now ≡ n → b ≡ is_some (tree.get name_cmp m q) → b ≡ true → is_some (place_in m n) ≡ true
-listed_found m n q b g found there = ap (λ n. is_some (place_in m n)) (sym g) ∙ sym found ∙ there
-
-pub listing_some : (rs : List ResourceEntry) (o : Option (tree.BTreeMap (Bor Name) ℕ)) (m : tree.BTreeMap (Bor Name) ℕ)
-    → MatchOption o (Twice (flat_map (λ r. r.instances) rs)) (IsListing rs) → o ≡ Some m → IsListing rs m
-listing_some rs o m h e =
-    let M : Option (tree.BTreeMap (Bor Name) ℕ) → Type 0 = λ o. MatchOption o (Twice (flat_map (λ r. r.instances) rs)) (IsListing rs) in subst M e h
+    (m : tree.BTreeMap (Bor Name) ℕ) (i : Instance) (q : Bor Name) (b c : Bool) → q.now ≡ i.name → b ≡ is_some (tree.get name_cmp m q) → b ≡ c → is_listed m i ≡ c
+listed_found m i q b c g found there = ap (λ n. is_some (place_in m n)) (sym g) ∙ sym found ∙ there

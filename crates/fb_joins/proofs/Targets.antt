@@ -1,7 +1,6 @@
 -- E24: ports to which two data connections lead.
-use Rattle.std.proofs.Common.{◌≡◌, ◌⊎◌, ℕ, ◌<◌, ◌+◌, Bool, true, false, not, cond, List, [], ◌∷◌, length, map, take, get_or, Option, Some, None, Contains, Ordering, Result, Ok, Err, refl, sym, ◌∙◌, ap, subst, inl, inr}
+use Rattle.std.proofs.Common.{◌≡◌, ℕ, ◌<◌, ◌+◌, Bool, true, false, not, cond, List, [], ◌∷◌, length, map, take, get_or, Some, None, Contains, Ordering, Result, Ok, Err, refl, sym, ◌∙◌, ap, subst, inl, inr}
 use Rattle.std.specs.Prelude.{◌↔◌, IsTrue, IfOk, slice_get, flat_map}
-use Rattle.std.specs.Bool.{Decides}
 use Rattle.std.specs.Ordering.{is_eq, ordering_then}
 use Rattle.std.specs.declared.cmp.Ordering.TheVariants as order
 use Rattle.std.specs.BTreeSet as set
@@ -9,7 +8,7 @@ use Rattle.std.proofs.lemmas.Bool.{true≢false}
 use Rattle.fb_types.specs.Names.{Port}
 use Rattle.fb_types.specs.Flat.{port_in}
 use Rattle.fb_types.specs.Joined.{TwoSources}
-use Rattle.fb_types.specs.Repeated.{Twice, Placed, networks, networks_in}
+use Rattle.fb_types.specs.Repeated.{Twice, Placed, networks_in}
 use Rattle.fb_types.specs.declared.library.Library.{Library}
 use Rattle.fb_types.specs.declared.library.BlockType.{BlockType}
 use Rattle.fb_types.specs.declared.library.BlockType.TheVariants as block

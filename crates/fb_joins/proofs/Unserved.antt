@@ -1,5 +1,5 @@
 -- Data connections that no event serves.
-use Rattle.std.proofs.Common.{◌≡◌, ◌≢◌, ℕ, Bool, true, false, not, List, [], Option, Some, None, Contains, Bor, refl, sym, ◌∙◌, ap, subst}
+use Rattle.std.proofs.Common.{◌≡◌, ◌≢◌, ℕ, Bool, not, List, [], Option, Some, None, Contains, Bor, sym, ◌∙◌, ap, subst}
 use Rattle.std.specs.Prelude.{◌↔◌, IsTrue, is_some}
 use Rattle.std.specs.BTreeSet as set
 use Rattle.std.proofs.lemmas.Bool.{true≢false, false_from_ne_true}
@@ -18,7 +18,7 @@ use Rattle.fb_names.specs.Numbers.{IsNetwork}
 use Rattle.fb_names.specs.declared.numbers.NetworkNumbers.{NetworkNumbers}
 use Rattle.fb_joins.specs.Mapping.{IsHolding, resource_in}
 use Rattle.fb_joins.specs.Links.{pair_of}
-use Rattle.fb_joins.specs.Serving.{Lead, lead_cmp, Serves, AreServed, IsUnserved, listed_with, withs_of}
+use Rattle.fb_joins.specs.Serving.{Lead, lead_cmp, Serves, AreServed, HasUnserved, IsUnserved, listed_with, withs_of}
 use Rattle.fb_types.proofs.Elements.{Contains-map, map-Contains}
 use Rattle.fb_joins.specs.declared.mapping.Mapping.{Mapping}
 use Rattle.fb_joins.proofs.Carried.{IsLead, lead-is}
@@ -26,9 +26,6 @@ use Rattle.fb_joins.proofs.Numbers.{data_known, known_port}
 use Rattle.fb_joins.proofs.Sets.{lead_view}
 use Rattle.fb_joins.proofs.Unlinked.{resource-is}
 use Rattle.fb_joins.proofs.Withs.{with_from_listed, listed_from_with, outputs_once}
-
-abbrev pub HasUnserved : Library → Plan → List Connection → Type 0
-HasUnserved lib plan cs = (c : Connection) × Contains cs c × IsUnserved lib plan c
 
 -- ---- One connection
 
@@ -142,18 +139,10 @@ no_event_to lib plan x once network n =
     let unserved = subst S (sym d.2) n.3 in
     (d.0, d.1, (subst C (sym d.2) n.2, λ serves. unserved (served_from lib plan d.0 k.0 k.1 serves)))
 
--- the answer where a data connection is not served
-pub event_lacking :
-    (lib : Library) (plan : Plan) (x : NetworkNumbers) (cs : List Connection) → ¬ (NameTwice lib plan) → IsNetwork lib (None, lib.application.network) x
-    → cs ≡ lib.application.network.data_connections → HasUnserved lib plan cs → (IsTrue true ↔ NoEvent lib plan)
-event_lacking lib plan x cs once network all un =
-    let X : List Connection → Type 0 = λ cs. HasUnserved lib plan cs in
-    (λ _. no_event_from lib plan x once network (subst X all un), λ _. refl)
-
--- the answer where each data connection is served
+-- the answer for all data connections
 pub event_answer :
-    (lib : Library) (plan : Plan) (x : NetworkNumbers) (cs : List Connection) → ¬ (NameTwice lib plan) → IsNetwork lib (None, lib.application.network) x
-    → cs ≡ lib.application.network.data_connections → ¬ (HasUnserved lib plan cs) → (IsTrue false ↔ NoEvent lib plan)
-event_answer lib plan x cs once network all none =
+    (lib : Library) (plan : Plan) (x : NetworkNumbers) (cs : List Connection) (b : Bool) → ¬ (NameTwice lib plan) → IsNetwork lib (None, lib.application.network) x
+    → cs ≡ lib.application.network.data_connections → (IsTrue b ↔ HasUnserved lib plan cs) → (IsTrue b ↔ NoEvent lib plan)
+event_answer lib plan x cs b once network all is =
     let X : List Connection → Type 0 = λ cs. HasUnserved lib plan cs in
-    (λ h. absurd (true≢false (sym h)), λ n. absurd (none (subst X (sym all) (no_event_to lib plan x once network n))))
+    (λ h. no_event_from lib plan x once network (subst X all (is.0 h)), λ n. is.1 (subst X (sym all) (no_event_to lib plan x once network n)))

@@ -1,20 +1,17 @@
 -- E22 by numbers: a parameter that is no value of its input's type.
-use Rattle.std.proofs.Common.{◌≡◌, ℕ, Bool, true, false, not, ◌||◌, ◌&&◌, List, [], ◌∷◌, map, Option, Some, None, Contains, refl, sym, ◌∙◌, ap, subst}
-use Rattle.std.specs.Prelude.{slice_get, option_map, option_and_then, position, ◌↔◌, IsTrue}
+use Rattle.std.proofs.Common.{◌≡◌, ℕ, Bool, true, false, not, ◌||◌, ◌&&◌, List, [], ◌∷◌, Option, Some, None, Contains, refl, sym, ◌∙◌, ap}
+use Rattle.std.specs.Prelude.{slice_get, option_map, option_and_then, ◌↔◌, IsTrue}
 use Rattle.std.specs.Bool.{Decides}
 use Rattle.std.specs.List.{list_any, list_all, zip}
-use Rattle.std.proofs.lemmas.Bool.{true≢false}
-use Rattle.fb_types.specs.Names.{same_name}
 use Rattle.fb_types.specs.Values.{fits}
 use Rattle.fb_types.specs.Blocks.{Kind, named, ports_of}
 use Rattle.fb_types.specs.Flat.{kind_of_instance}
 use Rattle.fb_types.specs.Kinds.{parameter_right, parameters_right}
-use Rattle.fb_types.specs.Repeated.{Placed, networks}
+use Rattle.fb_types.specs.Repeated.{Placed}
 use Rattle.fb_types.specs.Unknown.{data_ins}
 use Rattle.fb_types.specs.declared.library.Library.{Library}
 use Rattle.fb_types.specs.declared.library.Instance.{Instance}
 use Rattle.fb_types.specs.declared.library.Parameter.{Parameter}
-use Rattle.fb_types.specs.declared.library.Ports.{Ports}
 use Rattle.fb_types.specs.declared.library.Variable.{Variable}
 use Rattle.fb_types.specs.declared.deploy.Plan.{Plan}
 use Rattle.fb_types.proofs.Positions.{named-position}
@@ -22,7 +19,7 @@ use Rattle.fb_names.specs.declared.numbers.TypeNumber.{TypeNumber}
 use Rattle.fb_names.specs.declared.numbers.NetworkNumbers.{NetworkNumbers}
 use Rattle.fb_names.specs.declared.numbers.Resolved.{Resolved}
 use Rattle.fb_names.specs.Numbers.{IsNetwork, IsResolved, each_or_none, place_of, type_number, kind_of_number, parameter_numbers}
-use Rattle.fb_joins.specs.Variables.{type_at, input_type}
+use Rattle.fb_joins.specs.Variables.{type_at}
 use Rattle.fb_joins.specs.Networks.{network_passes}
 use Rattle.fb_names.proofs.Each.{each_parts}
 use Rattle.fb_types.proofs.ByPlace.{element_of_place, place_of_element}

@@ -1,5 +1,5 @@
 -- Which composite types lead so many steps down, by numbers (IEC 61499-1, 5.3; the height is this project's profile).
-use Rattle.std.specs.Prelude.{ℕ, zero, suc, List, map, Bool, true, false, Option, Some, None, slice_get, unwrap_or, is_some}
+use Rattle.std.specs.Prelude.{ℕ, zero, suc, List, map, Bool, false, Option, Some, None, slice_get, unwrap_or, is_some}
 use Rattle.std.specs.List.{list_any}
 use Rattle.fb_names.specs.declared.numbers.TypeNumber.{TypeNumber}
 use Rattle.fb_names.specs.declared.numbers.TypeNumber.TheVariants as number

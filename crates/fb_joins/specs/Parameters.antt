@@ -1,5 +1,5 @@
 -- Parameters that are no values of their inputs' types, by numbers (IEC 61499-1, 5.3; IEC 61131-3, 6.4.2).
-use Rattle.std.specs.Prelude.{◌≡◌, ℕ, List, Bool, false, not, Option, Some, None, Contains}
+use Rattle.std.specs.Prelude.{◌≡◌, ℕ, List, Bool, false, not, Some, None, Contains}
 use Rattle.std.specs.List.{list_any, zip}
 use Rattle.fb_types.specs.Values.{fits}
 use Rattle.fb_types.specs.Kinds.{parameters_right}

@@ -76,3 +76,6 @@ pub record IsExtended (component : Option (Bor Name)) (names : List Name) (resou
 -- The ends of a data connection lie in two resources, and no event serves the second.
 abbrev pub IsUnserved : Library → Plan → Connection → Type 0
 IsUnserved lib plan c = IsCut plan (pair_of c) × ¬ (Serves lib plan (pair_of c).0 (resource_of plan (pair_of c).1.at))
+
+abbrev pub HasUnserved : Library → Plan → List Connection → Type 0
+HasUnserved lib plan cs = (c : Connection) × Contains cs c × IsUnserved lib plan c

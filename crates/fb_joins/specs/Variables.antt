@@ -1,6 +1,6 @@
 -- The types of variables by the numbers of block types and the places of ports (IEC 61499-1, 5.3).
 use Rattle.std.specs.Prelude.{ℕ, List, Option, Some, None, slice_get, option_map, option_and_then}
-use Rattle.fb_types.specs.Blocks.{Kind, ports_of}
+use Rattle.fb_types.specs.Blocks.{ports_of}
 use Rattle.fb_types.specs.declared.value.Ty.{Ty}
 use Rattle.fb_types.specs.declared.library.Library.{Library}
 use Rattle.fb_types.specs.declared.library.Ports.{Ports}

@@ -55,10 +55,22 @@ fn count_again(
 ) -> Result<Vec<usize>, AllocError>
     ensures { IfOk result (λ v. v.items ≡ map (spec.count_inside counts.now) blocks.now) }
 {
-    blocks
-        .iter()
-        .map(|numbers| count_inside(counts, numbers))
-        .collect(alloc)
+    let mut again = Vec::new(alloc);
+    for numbers in blocks {
+        again.push(count_inside(counts, numbers))?;
+    }
+    Ok(again)
+}
+
+/// Counts nothing yet inside any block type.
+fn count_none(alloc: Global, blocks: &[Option<NetworkNumbers>]) -> Result<Vec<usize>, AllocError>
+    ensures { IfOk result (λ v. v.items ≡ map spec.no_count blocks.now) }
+{
+    let mut counts = Vec::new(alloc);
+    for _block in blocks {
+        counts.push(0)?;
+    }
+    Ok(counts)
 }
 
 /// The counts after so many rounds: of what stands at most so many names deep inside each block type.
@@ -69,7 +81,7 @@ fn counts_after(
 ) -> Result<Vec<usize>, AllocError>
     ensures { IfOk result (λ v. v.items ≡ spec.counts_after rounds blocks.now) }
 {
-    let mut counts: Vec<usize> = blocks.iter().map(|_| 0).collect(alloc)?;
+    let mut counts = count_none(alloc, blocks)?;
     for _round in 0..rounds {
         counts = count_again(alloc, blocks, &counts)?;
     }

@@ -27,7 +27,12 @@ fn is_marked(marks: &[bool], number: TypeNumber) -> bool
 fn is_one_marked(marks: &[bool], types: &[TypeNumber]) -> bool
     ensures { result ≡ list_any (spec.is_marked marks.now) types.now }
 {
-    types.iter().any(|number| is_marked(marks, *number))
+    for number in types {
+        if is_marked(marks, *number) {
+            return true;
+        }
+    }
+    false
 }
 
 /// Whether a composite type has a component of a type that is marked.
@@ -59,10 +64,11 @@ fn mark_again(
 ) -> Result<Vec<bool>, AllocError>
     ensures { IfOk result (λ v. v.items ≡ map (spec.holds_marked marks.now) blocks.now) }
 {
-    blocks
-        .iter()
-        .map(|numbers| holds_marked(marks, numbers))
-        .collect(alloc)
+    let mut again = Vec::new(alloc);
+    for numbers in blocks {
+        again.push(holds_marked(marks, numbers))?;
+    }
+    Ok(again)
 }
 
 /// The marks after so many rounds. At first each composite type is marked, and so after a number of rounds each
@@ -84,7 +90,12 @@ fn marks_after(
 fn has_mark(marks: &[bool]) -> bool
     ensures { result ≡ list_any (λ b. b) marks.now }
 {
-    marks.iter().any(|mark| *mark)
+    for mark in marks {
+        if *mark {
+            return true;
+        }
+    }
+    false
 }
 
 /// Whether a composite type holds itself at any depth, or has a height over 16, in a declaration that has these

@@ -1,6 +1,6 @@
 //! E27: connections between two resources that have no link.
 
-ghost use Rattle.std.specs.Prelude.{◌≡◌, ◌↔◌, IfOk, IsTrue};
+ghost use Rattle.std.specs.Prelude.{◌≡◌, ◌↔◌, [], IfOk, IsTrue, OnOk};
 ghost use Rattle.fb_types.specs.Flat.{name_of_resource, port_in};
 ghost use Rattle.fb_types.specs.Mapped.{NoLink};
 ghost use Rattle.fb_joins.specs.Mapping.{IsMapping, IsHolding};
@@ -15,15 +15,15 @@ use std::collections::BTreeSet;
 /// The names of two resources: the one that sends, and the one that receives.
 type Way<'a> = (&'a [u8], &'a [u8]);
 
-/// The ordered pairs of resources that have a link.
-fn ways_of<'a>(alloc: Global, links: &'a [Link]) -> Result<BTreeSet<Way<'a>, Global>, AllocError>
-    ensures { IfOk result (AreWays links.now) }
+/// Adds the ordered pairs of resources that have a link, where there is none before.
+fn add_ways<'a>(ways: &mut BTreeSet<Way<'a>, Global>, links: &'a [Link]) -> Result<(), AllocError>
+    requires { AreWays [] ways.old }
+    ensures { OnOk result (AreWays links.now ways.new) }
 {
-    let mut ways = BTreeSet::new(alloc);
     for link in links {
         ways.insert((link.from.as_bytes(), link.to.as_bytes()))?;
     }
-    Ok(ways)
+    Ok(())
 }
 
 /// The name of the resource at a place.
@@ -85,7 +85,8 @@ pub fn lacks_link(
     requires { IsMapping library.now plan.now mapping.now }
     ensures { IfOk result (λ b. IsTrue b ↔ NoLink library.now plan.now) }
 {
-    let ways = ways_of(alloc, plan.links.as_slice())?;
+    let mut ways = BTreeSet::new(alloc);
+    add_ways(&mut ways, plan.links.as_slice())?;
     let network = &library.application.network;
     if has_unlinked(plan, mapping, &ways, network.event_connections.as_slice()) {
         return Ok(true);

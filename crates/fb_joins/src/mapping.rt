@@ -1,13 +1,16 @@
 //! E26: instances of the application that are not mapped, and names that are mapped twice.
 
-ghost use Rattle.std.specs.Prelude.{◌≡◌, IfOk, MatchOption, flat_map, map, true};
+ghost use Rattle.std.specs.Prelude.{◌≡◌, [], IfOk, IsTrue, MatchOption, false, flat_map, is_some, map, true};
+ghost use Rattle.std.specs.List.{list_all};
 ghost use Rattle.fb_types.specs.Repeated.{NameTwice, Twice};
 ghost use Rattle.fb_types.specs.Mapped.{NotMapped};
-ghost use Rattle.fb_joins.specs.Mapping.{IsMapping, IsListing, holder_in, resource_in};
+ghost use Rattle.fb_names.specs.Places.{place_in};
+ghost use Rattle.fb_joins.specs.Mapping.{AreListed, IsHeld, IsListing, IsMapping, holder_in, resource_in};
 
 use fb_types::deploy::{Plan, ResourceEntry};
 use fb_types::items::Items;
-use fb_types::library::{Library, PortName};
+use fb_types::library::{Instance, Library, PortName};
+use fb_types::name::Name;
 use std::alloc::{AllocError, Global};
 use std::collections::BTreeMap;
 
@@ -23,22 +26,49 @@ pub enum Mapping<'a> {
     Listed(Listing<'a>),
 }
 
-/// The resource that lists each name, or `None` where a name is listed twice.
-fn listing_of<'a>(
-    alloc: Global,
-    resources: &'a [ResourceEntry],
-) -> Result<Option<Listing<'a>>, AllocError>
-    ensures { IfOk result (λ o. MatchOption o (Twice (flat_map (λ r. r.instances) resources.now)) (IsListing resources.now)) }
+/// Lists the names of the resource of a number, and says whether none was listed before.
+fn list_names<'a>(
+    listing: &mut Listing<'a>,
+    names: &'a [Name],
+    number: usize,
+) -> Result<bool, AllocError>
+    ensures { IfOk result (AreListed names.now number listing.old listing.new) }
 {
-    let mut listing = BTreeMap::new(alloc);
-    for (number, resource) in resources.iter().enumerate() {
-        for name in resource.instances.as_slice() {
-            if listing.insert(name.as_bytes(), number)?.is_some() {
-                return Ok(None);
-            }
+    for name in names {
+        if listing.insert(name.as_bytes(), number)?.is_some() {
+            return Ok(false);
         }
     }
-    Ok(Some(listing))
+    Ok(true)
+}
+
+/// Lists what each resource lists, where nothing is listed before, and says whether no name is listed twice.
+fn list_all<'a>(
+    listing: &mut Listing<'a>,
+    resources: &'a [ResourceEntry],
+) -> Result<bool, AllocError>
+    requires { IsHeld [] listing.old }
+    ensures once { IfOk result (λ b. IsTrue b → IsListing resources.now listing.new) }
+    ensures twice { IfOk result (λ b. b ≡ false → Twice (flat_map (λ r. r.instances) resources.now)) }
+{
+    for (number, resource) in resources.iter().enumerate() {
+        if !list_names(listing, resource.instances.as_slice(), number)? {
+            return Ok(false);
+        }
+    }
+    Ok(true)
+}
+
+/// Whether each instance is listed.
+fn lists_each(listing: &Listing, instances: &[Instance]) -> bool
+    ensures { result ≡ list_all (λ i. is_some (place_in listing.now i.name)) instances.now }
+{
+    for instance in instances {
+        if !listing.contains_key(instance.name.as_bytes()) {
+            return false;
+        }
+    }
+    true
 }
 
 /// Where the instances of the application lie, or `None` where one is not mapped or a name is mapped twice.
@@ -53,14 +83,12 @@ pub fn mapping_of<'a>(
     if plan.holds_all {
         return Ok(Some(Mapping::All));
     }
-    let listing = match listing_of(alloc, plan.resources.as_slice())? {
-        Some(listing) => listing,
-        None => return Ok(None),
-    };
-    for instance in library.application.network.instances.as_slice() {
-        if !listing.contains_key(instance.name.as_bytes()) {
-            return Ok(None);
-        }
+    let mut listing = BTreeMap::new(alloc);
+    if !list_all(&mut listing, plan.resources.as_slice())? {
+        return Ok(None);
+    }
+    if !lists_each(&listing, library.application.network.instances.as_slice()) {
+        return Ok(None);
     }
     Ok(Some(Mapping::Listed(listing)))
 }

@@ -24,27 +24,35 @@ fn is_wrong(library: &Library, number: TypeNumber, parameter: &Parameter, input:
 fn has_wrong(library: &Library, instance: &Instance, number: TypeNumber, inputs: &[usize]) -> bool
     ensures { result ≡ spec.has_wrong library.now instance.now number inputs.now }
 {
-    instance.parameters.as_slice().iter().zip(inputs).any(|(parameter, input)| is_wrong(
-        library, number, parameter, *input,
-    ))
+    let parameters = instance.parameters.as_slice();
+    for (place, parameter) in parameters.iter().enumerate() {
+        let Some(input) = inputs.get(place) else {
+            return false;
+        };
+        if is_wrong(library, number, parameter, *input) {
+            return true;
+        }
+    }
+    false
 }
 
 /// Whether an instance of a network has such a parameter.
 fn has_wrong_in(library: &Library, network: &Network, numbers: &NetworkNumbers) -> bool
     ensures { result ≡ spec.has_wrong_in library.now network.now numbers.now }
 {
-    network
-        .instances
-        .as_slice()
-        .iter()
-        .zip(numbers.types.as_slice())
-        .zip(numbers.parameters.as_slice())
-        .any(|((instance, number), inputs)| has_wrong(
-            library,
-            instance,
-            *number,
-            inputs.as_slice(),
-        ))
+    let instances = network.instances.as_slice();
+    for (place, instance) in instances.iter().enumerate() {
+        let Some(number) = numbers.types.get(place) else {
+            return false;
+        };
+        let Some(inputs) = numbers.parameters.get(place) else {
+            return false;
+        };
+        if has_wrong(library, instance, *number, inputs.as_slice()) {
+            return true;
+        }
+    }
+    false
 }
 
 /// Whether an instance inside a block type has such a parameter.
@@ -65,9 +73,16 @@ fn has_wrong_inside(library: &Library, block: &BlockType, numbers: &Option<Netwo
 fn has_wrong_in_some(library: &Library, blocks: &[Option<NetworkNumbers>]) -> bool
     ensures { result ≡ some_inside_passes (λ n x. spec.has_wrong_in library.now n.1 x) library.now.blocks blocks.now }
 {
-    library.blocks.as_slice().iter().zip(blocks).any(|(block, network)| has_wrong_inside(
-        library, block, network,
-    ))
+    let types = library.blocks.as_slice();
+    for (place, block) in types.iter().enumerate() {
+        let Some(numbers) = blocks.get(place) else {
+            return false;
+        };
+        if has_wrong_inside(library, block, numbers) {
+            return true;
+        }
+    }
+    false
 }
 
 /// Whether an instance has a parameter that is no value of its input's type, where the numbers are those of the

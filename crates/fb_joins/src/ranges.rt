@@ -33,11 +33,12 @@ fn leads_out_in(library: &Library, boundary: Option<&Ports>, numbers: &NetworkNu
     ensures { result ≡ list_any (spec.leads_out library.now (option_copied boundary.entry) numbers.now.types) numbers.now.data_wires }
 {
     let types = numbers.types.as_slice();
-    numbers
-        .data_wires
-        .as_slice()
-        .iter()
-        .any(|wire| leads_out(library, boundary, types, wire))
+    for wire in numbers.data_wires.as_slice() {
+        if leads_out(library, boundary, types, wire) {
+            return true;
+        }
+    }
+    false
 }
 
 /// Whether a data connection inside a block type leads out of range.
@@ -58,9 +59,16 @@ fn leads_out_inside(library: &Library, block: &BlockType, numbers: &Option<Netwo
 fn leads_out_in_some(library: &Library, blocks: &[Option<NetworkNumbers>]) -> bool
     ensures { result ≡ some_inside_passes (spec.leads_out_in library.now) library.now.blocks blocks.now }
 {
-    library.blocks.as_slice().iter().zip(blocks).any(|(block, network)| leads_out_inside(
-        library, block, network,
-    ))
+    let types = library.blocks.as_slice();
+    for (place, block) in types.iter().enumerate() {
+        let Some(numbers) = blocks.get(place) else {
+            return false;
+        };
+        if leads_out_inside(library, block, numbers) {
+            return true;
+        }
+    }
+    false
 }
 
 /// Whether a data connection leads from a type to one that does not hold all its values, where no name is given

@@ -47,6 +47,36 @@ fn extend<'a>(
     Ok(())
 }
 
+/// Adds the variables that output events carry from their components to resources. `events` are the events that were
+/// met: at first none, as nothing is served.
+fn serve_all<'a>(
+    events: &mut Leads<'a>,
+    served: &mut Leads<'a>,
+    library: &'a Library,
+    interfaces: &'a [Ports],
+    plan: &Plan,
+    mapping: &Mapping,
+    numbers: &NetworkNumbers,
+) -> Result<(), AllocError>
+    requires events { events.old.keys ≡ [] }
+    requires served { served.old.keys ≡ [] }
+    requires interfaces { ArePortsOfKinds interfaces.now }
+    requires mapping { IsHolding plan.now mapping.now }
+    requires numbers { IsNetwork library.now (None, library.now.application.network) numbers.now }
+    ensures { OnOk result (AreServed library.now plan.now served.new) }
+{
+    let connections = library.application.network.event_connections.as_slice();
+    for (place, connection) in connections.iter().enumerate() {
+        let component = component_of(&connection.from);
+        let resource = resource_of(mapping, &connection.to);
+        if events.insert((component, connection.from.port.as_bytes(), resource))? {
+            let names = variables_with(library, interfaces, numbers, place);
+            extend(served, component, names, resource)?;
+        }
+    }
+    Ok(())
+}
+
 /// The variables that output events carry from their components to resources.
 pub fn served_by<'a>(
     alloc: Global,
@@ -63,14 +93,14 @@ pub fn served_by<'a>(
 {
     let mut events = BTreeSet::new(alloc);
     let mut served = BTreeSet::new(alloc);
-    let connections = library.application.network.event_connections.as_slice();
-    for (place, connection) in connections.iter().enumerate() {
-        let component = component_of(&connection.from);
-        let resource = resource_of(mapping, &connection.to);
-        if events.insert((component, connection.from.port.as_bytes(), resource))? {
-            let names = variables_with(library, interfaces, numbers, place);
-            extend(&mut served, component, names, resource)?;
-        }
-    }
+    serve_all(
+        &mut events,
+        &mut served,
+        library,
+        interfaces,
+        plan,
+        mapping,
+        numbers,
+    )?;
     Ok(served)
 }

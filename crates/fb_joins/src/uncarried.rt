@@ -5,7 +5,7 @@ ghost use Rattle.fb_types.specs.Repeated.{NameTwice};
 ghost use Rattle.fb_types.specs.Mapped.{NoEvent};
 ghost use Rattle.fb_names.specs.Numbers.{IsResolved};
 ghost use Rattle.fb_joins.specs.Mapping.{IsMapping, IsHolding};
-ghost use Rattle.fb_joins.specs.Serving.{AreServed, IsUnserved};
+ghost use Rattle.fb_joins.specs.Serving.{AreServed, HasUnserved, IsUnserved};
 
 use crate::mapping::{Mapping, resource_of};
 use crate::serving::{Leads, component_of, served_by};
@@ -37,6 +37,26 @@ fn is_unserved<'a>(
     !served.contains(&(component, variable, to))
 }
 
+/// Whether one of the data connections goes from one resource to another, and no event serves it.
+fn has_unserved<'a>(
+    library: &Library,
+    plan: &Plan,
+    mapping: &Mapping,
+    served: &Leads<'a>,
+    connections: &'a [Connection],
+) -> bool
+    requires mapping { IsHolding plan.now mapping.now }
+    requires served { AreServed library.now plan.now served.now }
+    ensures { IsTrue result ↔ HasUnserved library.now plan.now connections.now }
+{
+    for connection in connections {
+        if is_unserved(library, plan, mapping, served, connection) {
+            return true;
+        }
+    }
+    false
+}
+
 /// Whether a data connection of the application goes from one resource to another, and no output event WITH its
 /// variable goes from the same instance to that resource (E28).
 pub fn lacks_event(
@@ -60,10 +80,6 @@ pub fn lacks_event(
         mapping,
         &resolved.application,
     )?;
-    for connection in library.application.network.data_connections.as_slice() {
-        if is_unserved(library, plan, mapping, &served, connection) {
-            return Ok(true);
-        }
-    }
-    Ok(false)
+    let connections = library.application.network.data_connections.as_slice();
+    Ok(has_unserved(library, plan, mapping, &served, connections))
 }

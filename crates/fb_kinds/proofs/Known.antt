@@ -1,5 +1,6 @@
 -- Whether what expressions and statements name is known, by their parts.
-use Rattle.std.proofs.Common.{◌≡◌, Bool, ◌&&◌, List, ◌∷◌, ◌++◌, sym, ◌∙◌, ap}
+use Rattle.std.proofs.Common.{◌≡◌, Bool, true, false, ◌&&◌, List, ◌∷◌, ◌++◌, refl, sym, ◌∙◌, ap, inl, inr}
+use Rattle.std.specs.Prelude.{◌⊎◌}
 use Rattle.std.proofs.lemmas.List.Folds.{list_all-append}
 use Rattle.fb_types.specs.Names.{Name}
 use Rattle.fb_types.specs.Syntax as said
@@ -17,7 +18,7 @@ use Rattle.fb_types.specs.declared.text.Choice.{Choice, out-Choice}
 use Rattle.fb_kinds.specs.Checks.{all_known}
 use Rattle.fb_kinds.specs.Trees.{all_of, arguments_of, branch_of, branches_of, choice_of, choices_of}
 use Rattle.fb_kinds.proofs.Checks.{and_true}
-use Rattle.fb_kinds.proofs.Says.{assign_says, binary_says, branch_says, call_says, choice_says, group_says, if_says, unary_says, variable_says}
+use Rattle.fb_kinds.proofs.Says.{assign_says, binary_says, branch_says, call_says, choice_says, group_says, if_says, repeat_says, unary_says, variable_says, while_says}
 
 abbrev known_two : (t : BasicType) (a b : List Mention) → all_known t (a ++ b) ≡ (all_known t a && all_known t b)
 known_two t a b = list_all-append (is_known t) a b
@@ -87,6 +88,23 @@ pub if_known :
 if_known t s cs ds os ps is choices others =
     ap (known_in t) is ∙ ap (known_done t) (if_says ds ps) ∙ known_two t (mentions_choices (choices_of ds)) (mentions_body (all_of ps))
     ∙ (λ i. known_choices t (sym choices i) && known_body t (sym others i))
+
+and_flip : (a b : Bool) → (a && b) ≡ (b && a)
+and_flip true true = refl
+and_flip true false = refl
+and_flip false true = refl
+and_flip false false = refl
+
+-- a WHILE or a REPEAT, of which the condition is looked at first
+pub looped_known :
+    (t : BasicType) (s : Stmt) (c : Expr) (os ps : List Stmt) → (s ≡ read.While c ps) ⊎ (s ≡ read.Repeat ps c) → os ≡ ps
+    → known_in t s ≡ (known t c && known_body t os)
+looped_known t s c os ps (inl is) body =
+    ap (known_in t) is ∙ ap (known_done t) (while_says c ps) ∙ known_two t (mentions (expr_of c)) (mentions_body (all_of ps))
+    ∙ ap (λ (ss : List Stmt). known t c && known_body t ss) (sym body)
+looped_known t s c os ps (inr is) body =
+    ap (known_in t) is ∙ ap (known_done t) (repeat_says ps c) ∙ known_two t (mentions_body (all_of ps)) (mentions (expr_of c))
+    ∙ and_flip (known_body t ps) (known t c) ∙ ap (λ (ss : List Stmt). known t c && known_body t ss) (sym body)
 
 pub statements_known : (t : BasicType) (s : Stmt) (ss : List Stmt) → known_body t (s ∷ ss) ≡ (known_in t s && known_body t ss)
 statements_known t s ss = known_two t (mentions_in (stmt_of s)) (mentions_body (all_of ss))

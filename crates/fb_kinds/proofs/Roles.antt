@@ -13,12 +13,15 @@ use Rattle.fb_types.specs.declared.library.Variable.{Variable}
 use Rattle.fb_types.specs.declared.value.Ty.{Ty}
 use Rattle.fb_types.proofs.Positions.{named-position}
 use Rattle.fb_types.proofs.NameLaws.{contains_from_any, same_name-flip}
+use Rattle.fb_names.specs.Sorts.{names_of_sort}
+use Rattle.fb_names.specs.declared.ports.PortSort.{PortSort}
+use Rattle.fb_names.specs.declared.ports.PortSort.TheVariants as sort
 use Rattle.fb_kinds.specs.declared.interface.Role.{Role}
 use Rattle.fb_types.proofs.ByPlace.{element_at}
 use Rattle.fb_types.proofs.Options.{none_from_is_some}
 use Rattle.fb_types.proofs.TwiceLaws.{Twice-both, Twice-append_right}
 use Rattle.fb_kinds.specs.declared.interface.Role.TheVariants.{EventInput, EventOutput, Input, Output, Internal}
-use Rattle.fb_kinds.specs.Roles.{Declared, names_of, events_as, variables_as, with_roles, role_of, variables_of, type_named, is_event_input, is_event_output, is_input, is_output, type_in}
+use Rattle.fb_kinds.specs.Roles.{Declared, names_of, events_as, variables_as, with_roles, role_of, variables_of, type_named, is_event_input, is_event_output, is_input, is_output, is_port, type_in}
 
 -- ---- The first of several lists
 
@@ -268,6 +271,14 @@ output_says d n r is once =
     ap (says is_output) (is ∙ role_by_lists d n)
     ∙ output_said (event_at d.ports.event_inputs n) (event_at d.ports.event_outputs n) (variable_at d.ports.inputs n) (variable_at d.ports.outputs n) (variable_at d.internals n) (in_one d n once)
     ∙ is_some-named (λ (x : Variable). x.name) n d.ports.outputs
+
+pub port_says :
+    (s : PortSort) (d : Declared) (n : Name) (r : Option Role) → r ≡ role_of d n → ¬ (Twice (names_of d))
+    → says (is_port s) r ≡ among (names_of_sort s d.ports) n
+port_says sort.EventInput d n r is once = event_input_says d n r is
+port_says sort.EventOutput d n r is once = event_output_says d n r is once
+port_says sort.Input d n r is once = input_says d n r is once
+port_says sort.Output d n r is once = output_says d n r is once
 
 pub type_says : (d : Declared) (n : Name) (r : Option Role) → r ≡ role_of d n → ¬ (Twice (names_of d)) → says_type r ≡ type_named (variables_of d) n
 type_says d n r is once =

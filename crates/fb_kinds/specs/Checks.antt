@@ -17,7 +17,9 @@ use Rattle.fb_types.specs.declared.library.Ports.{Ports}
 use Rattle.fb_types.specs.declared.library.State.{State}
 use Rattle.fb_types.specs.declared.library.Transition.{Transition}
 use Rattle.fb_names.specs.Catalog.{IsBlock}
+use Rattle.fb_names.specs.Sorts.{names_of_sort}
 use Rattle.fb_names.specs.declared.catalog.BlockPlaces.{BlockPlaces}
+use Rattle.fb_names.specs.declared.ports.PortSort.{PortSort}
 
 -- The places of the names of each block type, in the order of the types.
 pub record AreBlocks (ts : List BlockType) (xs : List BlockPlaces) : Type 0 where
@@ -35,6 +37,10 @@ all_met ws = list_all is_met ws
 
 abbrev pub action_wanted : BasicType → Action → List Wanted
 action_wanted t a = all_of (optional a.algorithm) (algorithm_names t) ++ all_of (optional a.output) (event_names t.ports.event_outputs)
+
+-- ports of a sort alone stand WITH an event
+abbrev pub with_ports : PortSort → Ports → EventPort → Bool
+with_ports s p e = list_all (among (names_of_sort s p)) e.with
 
 -- the variables WITH an event input
 abbrev pub with_inputs : Ports → EventPort → Bool

@@ -2,55 +2,35 @@
 
 ghost use Rattle.std.specs.Prelude.{◌≡◌};
 ghost use Rattle.std.specs.List.{list_all};
-ghost use Rattle.fb_types.specs.Blocks.{among, variable_names};
+ghost use Rattle.fb_types.specs.Blocks.{among};
 ghost use Rattle.fb_types.specs.Unknown.{chart_wanted, withs_wanted};
-ghost use Rattle.fb_kinds.specs.Checks.{action_met, actions_met, all_met, transition_met, with_inputs, with_outputs};
+ghost use Rattle.fb_names.specs.Sorts.{names_of_sort};
+ghost use Rattle.fb_kinds.specs.Checks.{action_met, actions_met, all_met, transition_met, with_ports};
 
 use crate::interface::Interface;
 use crate::scope::Scope;
+use fb_names::ports::PortSort;
 use fb_types::library::{Action, EventPort, State, Transition};
 use fb_types::name::Name;
 
-/// Whether each name is that of a data input.
-fn are_inputs(names: &[Name], interface: &Interface) -> bool
-    ensures { result ≡ list_all (among (variable_names interface.now.ports.inputs)) names.now }
+/// Whether each name is that of a port of the sort.
+fn are_ports(names: &[Name], sort: PortSort, interface: &Interface) -> bool
+    ensures { result ≡ list_all (among (names_of_sort sort interface.now.ports)) names.now }
 {
     for name in names {
-        if !interface.is_input(name) {
+        if !interface.has_port(sort, name) {
             return false;
         }
     }
     true
 }
 
-fn have_inputs(events: &[EventPort], interface: &Interface) -> bool
-    ensures { result ≡ list_all (with_inputs interface.now.ports) events.now }
+/// Whether only ports of the sort stand WITH the events.
+fn have_ports(events: &[EventPort], sort: PortSort, interface: &Interface) -> bool
+    ensures { result ≡ list_all (with_ports sort interface.now.ports) events.now }
 {
     for event in events {
-        if !are_inputs(event.with.as_slice(), interface) {
-            return false;
-        }
-    }
-    true
-}
-
-/// Whether each name is that of a data output.
-fn are_outputs(names: &[Name], interface: &Interface) -> bool
-    ensures { result ≡ list_all (among (variable_names interface.now.ports.outputs)) names.now }
-{
-    for name in names {
-        if !interface.is_output(name) {
-            return false;
-        }
-    }
-    true
-}
-
-fn have_outputs(events: &[EventPort], interface: &Interface) -> bool
-    ensures { result ≡ list_all (with_outputs interface.now.ports) events.now }
-{
-    for event in events {
-        if !are_outputs(event.with.as_slice(), interface) {
+        if !are_ports(event.with.as_slice(), sort, interface) {
             return false;
         }
     }
@@ -62,15 +42,15 @@ pub fn are_withs_known(interface: &Interface) -> bool
     ensures { result ≡ all_met (withs_wanted interface.now.ports) }
 {
     let ports = interface.ports();
-    have_inputs(ports.event_inputs.as_slice(), interface)
-        && have_outputs(ports.event_outputs.as_slice(), interface)
+    have_ports(ports.event_inputs.as_slice(), PortSort::Input, interface)
+        && have_ports(ports.event_outputs.as_slice(), PortSort::Output, interface)
 }
 
 fn is_transition_known(transition: &Transition, scope: &Scope) -> bool
     ensures { result ≡ transition_met scope.now transition.now }
 {
     let is_event_known = match &transition.condition.event {
-        Some(event) => scope.interface().is_event_input(event),
+        Some(event) => scope.interface().has_port(PortSort::EventInput, event),
         None => true,
     };
     scope.is_state(&transition.from) && scope.is_state(&transition.to) && is_event_known
@@ -84,7 +64,7 @@ fn is_action_known(action: &Action, scope: &Scope) -> bool
         None => true,
     };
     let is_output_known = match &action.output {
-        Some(output) => scope.interface().is_event_output(output),
+        Some(output) => scope.interface().has_port(PortSort::EventOutput, output),
         None => true,
     };
     is_algorithm_known && is_output_known

@@ -1,12 +1,14 @@
 //! What the names of a block type's interface stand for, by their places.
 
 ghost use Rattle.std.specs.Prelude.{◌≡◌, List, option_map, slice_get};
-ghost use Rattle.fb_types.specs.Blocks.{among, event_names, named, variable_names};
+ghost use Rattle.fb_types.specs.Blocks.{among, named};
 ghost use Rattle.fb_types.specs.Repeated.{Twice};
 ghost use Rattle.fb_names.specs.Places.{IsIndex};
-ghost use Rattle.fb_kinds.specs.Roles.{is_event_input, is_event_output, is_input, is_output, names_of, role_of, type_in, type_named, variables_of, with_roles};
+ghost use Rattle.fb_names.specs.Sorts.{names_of_sort};
+ghost use Rattle.fb_kinds.specs.Roles.{is_port, names_of, role_of, type_in, type_named, variables_of, with_roles};
 
 use fb_names::places::{Places, place_of};
+use fb_names::ports::PortSort;
 use fb_types::library::{Ports, Variable};
 use fb_types::name::Name;
 use fb_types::value::Ty;
@@ -23,28 +25,17 @@ pub enum Role {
 }
 
 impl Role {
-    fn is_event_input(self) -> bool
-        ensures { result ≡ is_event_input self }
+    /// Whether it is a port of the sort.
+    fn is_port(self, sort: PortSort) -> bool
+        ensures { result ≡ is_port sort self }
     {
-        matches!(self, Role::EventInput)
-    }
-
-    fn is_event_output(self) -> bool
-        ensures { result ≡ is_event_output self }
-    {
-        matches!(self, Role::EventOutput)
-    }
-
-    fn is_input(self) -> bool
-        ensures { result ≡ is_input self }
-    {
-        matches!(self, Role::Input(_))
-    }
-
-    fn is_output(self) -> bool
-        ensures { result ≡ is_output self }
-    {
-        matches!(self, Role::Output(_))
+        match (self, sort) {
+            (Role::EventInput, PortSort::EventInput)
+            | (Role::EventOutput, PortSort::EventOutput)
+            | (Role::Input(_), PortSort::Input)
+            | (Role::Output(_), PortSort::Output) => true,
+            _ => false,
+        }
     }
 
     /// The type of a variable.
@@ -133,38 +124,12 @@ impl<'a, 'n> Interface<'a, 'n> {
         self.role_at(place)
     }
 
-    pub fn is_event_input(&self, name: &Name) -> bool
-        ensures { result ≡ among (event_names self.now.ports.event_inputs) name.now }
+    /// Whether a name is that of a port of the sort.
+    pub fn has_port(&self, sort: PortSort, name: &Name) -> bool
+        ensures { result ≡ among (names_of_sort sort self.now.ports) name.now }
     {
         match self.role_of(name) {
-            Some(role) => role.is_event_input(),
-            None => false,
-        }
-    }
-
-    pub fn is_event_output(&self, name: &Name) -> bool
-        ensures { result ≡ among (event_names self.now.ports.event_outputs) name.now }
-    {
-        match self.role_of(name) {
-            Some(role) => role.is_event_output(),
-            None => false,
-        }
-    }
-
-    pub fn is_input(&self, name: &Name) -> bool
-        ensures { result ≡ among (variable_names self.now.ports.inputs) name.now }
-    {
-        match self.role_of(name) {
-            Some(role) => role.is_input(),
-            None => false,
-        }
-    }
-
-    pub fn is_output(&self, name: &Name) -> bool
-        ensures { result ≡ among (variable_names self.now.ports.outputs) name.now }
-    {
-        match self.role_of(name) {
-            Some(role) => role.is_output(),
+            Some(role) => role.is_port(sort),
             None => false,
         }
     }

@@ -9,6 +9,7 @@ ghost use Rattle.fb_names.specs.Catalog.{IsBlock};
 use crate::interface::Interface;
 use fb_names::catalog::BlockPlaces;
 use fb_names::places::place_of;
+use fb_names::ports::PortSort;
 use fb_types::library::BasicType;
 use fb_types::name::Name;
 use fb_types::value::Ty;
@@ -76,7 +77,7 @@ impl<'a, 'n> Scope<'a, 'n> {
     pub fn is_input(&self, name: &Name) -> bool
         ensures { result ≡ is_input self.now.ports name.now }
     {
-        self.interface().is_input(name)
+        self.interface().has_port(PortSort::Input, name)
     }
 
     pub fn is_variable(&self, name: &Name) -> bool

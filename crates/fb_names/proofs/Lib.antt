@@ -1,4 +1,5 @@
 pub mod Seen
+pub mod ConnectionKeys
 pub mod TwiceIn
 pub mod NameTwice
 pub mod Unless

@@ -12,7 +12,6 @@ use fb_types::library::Library;
 use std::alloc::{AllocError, Global};
 
 /// The places of the names of a block type.
-#[derive(Drop)]
 pub struct BlockPlaces<'a> {
     /// Event inputs, event outputs, inputs, outputs and internal variables, numbered in this order as one list.
     pub ports: Places<'a>,
@@ -24,8 +23,20 @@ pub struct BlockPlaces<'a> {
     pub instances: Places<'a>,
 }
 
+// Written out, and not derived, here and below: so it is proved in this crate alone what is let go with such a value, and
+// not in each crate that lets one go.
+impl Drop for BlockPlaces<'_> {
+    fn drop(self) {
+        let BlockPlaces {
+            ports: _,
+            states: _,
+            algorithms: _,
+            instances: _,
+        } = self;
+    }
+}
+
 /// The places of the names of a declaration and a deployment, in which no name is given twice.
-#[derive(Drop)]
 pub struct Catalog<'a> {
     /// The block types of the declaration. The event blocks are not among them.
     pub types: Places<'a>,
@@ -35,6 +46,17 @@ pub struct Catalog<'a> {
     pub instances: Places<'a>,
     /// The resources.
     pub resources: Places<'a>,
+}
+
+impl Drop for Catalog<'_> {
+    fn drop(self) {
+        let Catalog {
+            types: _,
+            blocks: _,
+            instances: _,
+            resources: _,
+        } = self;
+    }
 }
 
 /// The places of all names, or `None` where a name, a connection or a link is given twice.

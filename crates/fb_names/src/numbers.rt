@@ -33,7 +33,6 @@ pub struct LinkEnds {
 }
 
 /// A network by numbers, in the order of the text.
-#[derive(Drop)]
 pub struct NetworkNumbers {
     /// For each instance, its type.
     pub types: Items<TypeNumber>,
@@ -41,6 +40,19 @@ pub struct NetworkNumbers {
     pub parameters: Items<Items<usize>>,
     pub event_wires: Items<Wire>,
     pub data_wires: Items<Wire>,
+}
+
+// Written out, and not derived: so it is proved in this crate alone what is let go with a network, and not in each crate
+// that lets one go.
+impl Drop for NetworkNumbers {
+    fn drop(self) {
+        let NetworkNumbers {
+            types: _,
+            parameters: _,
+            event_wires: _,
+            data_wires: _,
+        } = self;
+    }
 }
 
 /// A declaration and a deployment by numbers.

@@ -65,6 +65,9 @@ pub fn end_names(port: &PortName) -> EndNames<'_>
     }
 }
 
+/// The names at both ends of a connection: where it begins the component, if there is one, and the port, and so where it leads.
+type ConnectionNames<'a> = (Option<&'a [u8]>, &'a [u8], Option<&'a [u8]>, &'a [u8]);
+
 /// Whether a connection is given twice.
 pub(crate) fn has_connection_twice(
     alloc: Global,
@@ -72,9 +75,11 @@ pub(crate) fn has_connection_twice(
 ) -> Result<bool, AllocError>
     ensures { IfOk result (λ b. IsTrue b ↔ Twice (pairs_in [] connections.now)) }
 {
-    let mut seen: BTreeSet<(EndNames, EndNames), Global> = BTreeSet::new(alloc);
+    let mut seen: BTreeSet<ConnectionNames, Global> = BTreeSet::new(alloc);
     for connection in connections {
-        if !seen.insert((end_names(&connection.from), end_names(&connection.to)))? {
+        let from = end_names(&connection.from);
+        let to = end_names(&connection.to);
+        if !seen.insert((from.0, from.1, to.0, to.1))? {
             return Ok(true);
         }
     }

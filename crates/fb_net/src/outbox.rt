@@ -20,9 +20,20 @@ pub enum Out {
 }
 
 /// The lines, the events that go out in their order, and what the reaction asks of the timer of its instance.
-#[derive(Drop)]
 pub struct Outbox {
     pub lines: Vec<Line>,
     pub outs: Vec<Out>,
     pub timer: TimerAsk,
+}
+
+// Written out, and not derived: so it is proved here alone what is let go with an outbox, and not in each crate that lets
+// one go.
+impl Drop for Outbox {
+    fn drop(self) {
+        let Outbox {
+            lines: _,
+            outs: _,
+            timer: _,
+        } = self;
+    }
 }

@@ -22,9 +22,16 @@ use std::alloc::{AllocError, Global};
 use std::marker::Model;
 
 /// The blocks and held copies of one resource of a system. Contracts see what the blocks stand for in the model.
-#[derive(Drop)]
 pub struct Tree {
     forest: Forest,
+}
+
+// Written out, and not derived: so it is proved here alone what is let go with a tree, and not in each crate that lets one
+// go.
+impl Drop for Tree {
+    fn drop(self) {
+        let Tree { forest: _ } = self;
+    }
 }
 
 impl Model for Tree {

@@ -7,6 +7,9 @@ pub mod Turns
 pub mod Joins
 pub mod Adding
 pub mod Turning
+pub mod Besides
+pub mod Pairs
+pub mod Options
 pub mod Steps
 pub mod Chained
 pub mod Lists

@@ -3,9 +3,12 @@ use Rattle.std.proofs.Common.{◌≡◌, ℕ, suc, Bool, true, false, List, Resu
 use Rattle.fb_read.specs.declared.token.Mark.{Mark}
 use Rattle.fb_read.specs.declared.fault.ParseFault.{ParseFault}
 use Rattle.fb_read.specs.Tokens.{Tokens}
-use Rattle.fb_read.specs.Parser.{Parser, Reads, sees, after, run_from, many_from}
+use Rattle.fb_read.specs.declared.token.Mark.TheVariants as mark
+use Rattle.fb_types.specs.declared.text.Stmt.{Stmt}
+use Rattle.fb_types.specs.declared.text.Choice.{Choice}
+use Rattle.fb_read.specs.Parser.{Parser, Reads, sees, after, expect, rest_of, run_from, many_from}
 use Rattle.fb_read.specs.Added.{Adds}
-use Rattle.fb_read.specs.Statements.{several_from}
+use Rattle.fb_read.specs.Statements.{several_from, choice, elsif}
 use Rattle.fb_read.proofs.Adding.{added_on}
 
 pub several_more :
@@ -31,3 +34,16 @@ pub many_more :
 unfolding many_from
 many_more item end n found all ts mid new read b m r more =
     rw b (added_on (item (after end ts)) read new found all (λ xs. many_from item end n xs) (subst (λ (t : Tokens). Reads (item t) read new) m r) more)
+
+pub after_none : (k : Mark) (ts : Tokens) → sees k ts ≡ false → after k ts ≡ ts
+unfolding after
+after_none k ts none = rw none refl
+
+-- a choice behind ELSIF
+pub elsif_reads :
+    (inner : Parser Stmt) (ts mid new : Tokens) (read : Result Choice ParseFault)
+    → sees mark.Elsif ts ≡ true → mid ≡ after mark.Elsif ts → Reads (choice inner mid) read new → Reads (elsif inner ts) read new
+unfolding elsif expect after
+elsif_reads inner ts mid new read b m r =
+    let behind : mid ≡ rest_of ts = rw b at m in
+    rw b (subst (λ (t : Tokens). Reads (choice inner t) read new) behind r)

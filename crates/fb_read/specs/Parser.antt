@@ -143,6 +143,19 @@ finished end found = do
   expect mark.Semicolon
   pure found
 
+-- what was found, and what a rule reads behind this mark
+unfoldable pub behind : {A B : Type 0} → A → Mark → Parser B → Parser (A × B)
+behind found between second = do
+  expect between
+  y ← second
+  pure (found, y)
+
+-- what two rules read, with this mark between them
+unfoldable pub pair : {A B : Type 0} → Parser A → Mark → Parser B → Parser (A × B)
+pair first between second = do
+  x ← first
+  behind x between second
+
 -- the items up to a mark, and the mark; by the number of turns that are left and the items so far
 unfoldable pub many_from : {A : Type 0} → Parser A → Mark → ℕ → List A → Parser (List A)
 many_from item end zero found = refuse
@@ -182,6 +195,21 @@ separated_from item (suc n) found = do
 
 unfoldable pub separated : {A : Type 0} → Parser A → Parser (List A)
 separated item = λ ts. separated_from item (length ts) [] ts
+
+-- what the rule reads behind this mark, if the mark comes next
+unfoldable pub optional : {A : Type 0} → Parser A → Mark → Parser (Option A)
+optional item begin = do
+  some ← eat begin
+  if some then (do
+    x ← item
+    pure (Some x))
+      else pure None
+
+-- one or more items with commas between them, if this mark comes next
+unfoldable pub listed : {A : Type 0} → Parser A → Mark → Parser (List A)
+listed item begin = do
+  some ← eat begin
+  if some then separated item else pure []
 
 -- what a function that reads a rule ensures: the parser's outcome, unless memory fails
 abbrev pub Reads : {A : Type 0} → Outcome A → Result A ParseFault → Tokens → Type 0

@@ -9,16 +9,19 @@ ghost use Rattle.fb_read.specs.Statements.{begins_statement, begins_label, sees_
 
 use crate::fault::ParseFault;
 use crate::operator::operator_of;
+use crate::rule::Rule;
 use crate::token::{Magnitude, Mark, Placed, Token};
+use fb_types::items::Items;
 use fb_types::name::Name;
 use fb_types::text::BinaryOperator;
 use fb_types::value::Ty;
 use std::alloc::Global;
 use std::marker::Model;
 
-/// The tokens that are still to be read. Contracts see them without their places.
+/// The tokens that are still to be read, and the allocator of what is read. Contracts see the tokens, without their places.
 #[derive(Drop)]
 pub struct Cursor<'a> {
+    alloc: Global,
     rest: &'a [Placed],
 }
 
@@ -53,10 +56,22 @@ fn ty_of(mark: Mark) -> Option<Ty>
 impl<'a> Cursor<'a> {
     ghost use Rattle.fb_read.specs.Tokens.{tokens_of};
 
-    pub fn new(rest: &'a [Placed]) -> Cursor<'a>
+    pub fn new(alloc: Global, rest: &'a [Placed]) -> Cursor<'a>
         ensures { result ≡ tokens_of rest.now }
     {
-        Cursor { rest }
+        Cursor { alloc, rest }
+    }
+
+    /// The allocator of what is read.
+    pub fn alloc(&self) -> Global {
+        self.alloc
+    }
+
+    /// A list for what is to be read.
+    pub fn no_items<T>(&self) -> Items<T>
+        ensures { result ≡ [] }
+    {
+        Items::new(self.alloc)
     }
 
     /// How many tokens are left.
@@ -123,32 +138,15 @@ impl<'a> Cursor<'a> {
         }
     }
 
-    #[tactic(auto, unfolding(crate::specs::Parser::name))]
-    pub fn name(&mut self, alloc: Global) -> Result<Name, ParseFault>
-        ensures { Reads (spec.name self.old) result self.new }
-    {
-        match self.rest {
-            [first, rest @ ..] => match &first.token {
-                Token::Name(name) => {
-                    let name = name.try_clone(alloc)?;
-                    self.rest = rest;
-                    Ok(name)
-                }
-                _ => Err(ParseFault::Syntax),
-            },
-            [] => Err(ParseFault::Syntax),
-        }
-    }
-
     /// Takes the next token, if it is a name.
     #[tactic(auto, unfolding(crate::specs::Parser::name_if))]
-    pub fn name_if(&mut self, alloc: Global) -> Result<Option<Name>, ParseFault>
+    pub fn name_if(&mut self) -> Result<Option<Name>, ParseFault>
         ensures { Reads (spec.name_if self.old) result self.new }
     {
         match self.rest {
             [first, rest @ ..] => match &first.token {
                 Token::Name(name) => {
-                    let name = name.try_clone(alloc)?;
+                    let name = name.try_clone(self.alloc)?;
                     self.rest = rest;
                     Ok(Some(name))
                 }
@@ -173,26 +171,6 @@ impl<'a> Cursor<'a> {
                         Err(ParseFault::Syntax)
                     }
                 }
-                _ => Err(ParseFault::Syntax),
-            },
-            [] => Err(ParseFault::Syntax),
-        }
-    }
-
-    /// The elementary type that the next keyword names.
-    #[tactic(auto, unfolding(crate::specs::Parser::ty_name))]
-    pub fn ty(&mut self) -> Result<Ty, ParseFault>
-        ensures { Reads (spec.ty_name self.old) result self.new }
-    {
-        match self.rest {
-            [first, rest @ ..] => match &first.token {
-                Token::Mark(mark) => match ty_of(*mark) {
-                    Some(ty) => {
-                        self.rest = rest;
-                        Ok(ty)
-                    }
-                    None => Err(ParseFault::Syntax),
-                },
                 _ => Err(ParseFault::Syntax),
             },
             [] => Err(ParseFault::Syntax),
@@ -340,5 +318,46 @@ impl<'a> Cursor<'a> {
         ensures { result ≡ begins_label self.now }
     {
         self.sees(Mark::Minus) || self.sees_whole()
+    }
+}
+
+impl Rule for Name {
+    ghost parser = { spec.name };
+
+    #[tactic(auto, unfolding(crate::specs::Parser::name))]
+    fn read(cursor: &mut Cursor<'_>) -> Result<Name, ParseFault> {
+        match cursor.rest {
+            [first, rest @ ..] => match &first.token {
+                Token::Name(name) => {
+                    let name = name.try_clone(cursor.alloc)?;
+                    cursor.rest = rest;
+                    Ok(name)
+                }
+                _ => Err(ParseFault::Syntax),
+            },
+            [] => Err(ParseFault::Syntax),
+        }
+    }
+}
+
+/// The elementary type that the next keyword names.
+impl Rule for Ty {
+    ghost parser = { spec.ty_name };
+
+    #[tactic(auto, unfolding(crate::specs::Parser::ty_name))]
+    fn read(cursor: &mut Cursor<'_>) -> Result<Ty, ParseFault> {
+        match cursor.rest {
+            [first, rest @ ..] => match &first.token {
+                Token::Mark(mark) => match ty_of(*mark) {
+                    Some(ty) => {
+                        cursor.rest = rest;
+                        Ok(ty)
+                    }
+                    None => Err(ParseFault::Syntax),
+                },
+                _ => Err(ParseFault::Syntax),
+            },
+            [] => Err(ParseFault::Syntax),
+        }
     }
 }

@@ -7,7 +7,7 @@ ghost use Rattle.fb_read.specs.Nests.{Nests};
 
 use crate::cursor::Cursor;
 use crate::fault::ParseFault;
-use crate::rule::{beside, ended};
+use crate::rule::{Rule, beside, ended};
 use crate::token::Mark;
 use fb_types::boxed::Boxed;
 use fb_types::items::Items;
@@ -53,18 +53,6 @@ fn around(below: u32, depth: u32, expr: Expr, cursor: &Cursor<'_>) -> Result<Nes
     }
 }
 
-fn group_of(alloc: Global, x: Expr) -> Result<Expr, AllocError>
-    ensures { IfOk result (λ e. e ≡ Expr.Group x) }
-{
-    Ok(Expr::Group(Boxed::new(alloc, x)?))
-}
-
-fn unary_of(alloc: Global, operator: UnaryOperator, x: Expr) -> Result<Expr, AllocError>
-    ensures { IfOk result (λ e. e ≡ Expr.Unary operator x) }
-{
-    Ok(Expr::Unary(operator, Boxed::new(alloc, x)?))
-}
-
 /// Two values on the heap. Of a type parameter, since `?` stands between them: see [`beside`].
 fn both_boxed<T: Drop>(alloc: Global, x: T, y: T) -> Result<(Boxed<T>, Boxed<T>), AllocError>
     ensures { IfOk result (λ both. both ≡ (x, y)) }
@@ -72,29 +60,21 @@ fn both_boxed<T: Drop>(alloc: Global, x: T, y: T) -> Result<(Boxed<T>, Boxed<T>)
     Ok((Boxed::new(alloc, x)?, Boxed::new(alloc, y)?))
 }
 
-fn binary_of(alloc: Global, operator: BinaryOperator, x: Expr, y: Expr) -> Result<Expr, AllocError>
-    ensures { IfOk result (λ e. e ≡ Expr.Binary operator x y) }
-{
-    let (x, y) = both_boxed(alloc, x, y)?;
-    Ok(Expr::Binary(operator, x, y))
-}
-
 /// The rules that hold expressions take the reader of those as a parameter, so that each is proved by itself.
 #[derive(Drop)]
 struct ExpressionRules<F> {
-    alloc: Global,
     /// How deep the parts may nest.
     below: u32,
     inner: F,
 }
 
-impl<F: Fn(Global, &mut Cursor<'_>, u32, u8) -> Result<Nested, ParseFault>> ExpressionRules<F> {
+impl<F: Fn(&mut Cursor<'_>, u32, u8) -> Result<Nested, ParseFault>> ExpressionRules<F> {
     /// A part, whose operators have at most this level.
     fn part(&self, cursor: &mut Cursor<'_>, level: u8) -> Result<Nested, ParseFault>
         requires { Nests self.now.below (F.pre self.now.inner) (F.post self.now.inner) }
         ensures { Reads (spec.nested_expression self.now.below level cursor.old) result cursor.new }
     {
-        (self.inner)(self.alloc, cursor, self.below, level)
+        (self.inner)(cursor, self.below, level)
     }
 
     /// What stands behind an opening parenthesis, and the closing one.
@@ -105,7 +85,8 @@ impl<F: Fn(Global, &mut Cursor<'_>, u32, u8) -> Result<Nested, ParseFault>> Expr
     {
         let x = self.part(cursor, LOOSEST)?;
         let x = ended(cursor, Mark::Close, x)?;
-        around(self.below, x.nesting, group_of(self.alloc, x.expr)?, cursor)
+        let inside = Boxed::new(cursor.alloc(), x.expr)?;
+        around(self.below, x.nesting, Expr::Group(inside), cursor)
     }
 
     /// The operand of a unary operator.
@@ -119,8 +100,13 @@ impl<F: Fn(Global, &mut Cursor<'_>, u32, u8) -> Result<Nested, ParseFault>> Expr
         ensures { Reads (spec.prefixed self.now.below (spec.nested_expression self.now.below) operator cursor.old) result cursor.new }
     {
         let x = self.part(cursor, 0)?;
-        let expr = unary_of(self.alloc, operator, x.expr)?;
-        around(self.below, x.nesting, expr, cursor)
+        let operand = Boxed::new(cursor.alloc(), x.expr)?;
+        around(
+            self.below,
+            x.nesting,
+            Expr::Unary(operator, operand),
+            cursor,
+        )
     }
 
     /// The arguments of a call, and how deep the deepest nests. Each turn takes a token.
@@ -132,7 +118,7 @@ impl<F: Fn(Global, &mut Cursor<'_>, u32, u8) -> Result<Nested, ParseFault>> Expr
         if !cursor.begins_expression() {
             return Err(ParseFault::Syntax);
         }
-        let mut found = Items::new(self.alloc);
+        let mut found = cursor.no_items();
         let mut depth = 0;
         for _turn in 0..cursor.left() {
             let x = self.part(cursor, LOOSEST)?;
@@ -152,7 +138,7 @@ impl<F: Fn(Global, &mut Cursor<'_>, u32, u8) -> Result<Nested, ParseFault>> Expr
         ensures { Reads (spec.call self.now.below (spec.nested_expression self.now.below) function cursor.old) result cursor.new }
     {
         if cursor.eat(Mark::Close) {
-            return Ok(leaf(Expr::Call(function, Items::new(self.alloc))));
+            return Ok(leaf(Expr::Call(function, cursor.no_items())));
         }
         let found = self.arguments(cursor)?;
         let (found, depth) = ended(cursor, Mark::Close, found)?;
@@ -165,7 +151,7 @@ impl<F: Fn(Global, &mut Cursor<'_>, u32, u8) -> Result<Nested, ParseFault>> Expr
         requires { Nests self.now.below (F.pre self.now.inner) (F.post self.now.inner) }
         ensures { Reads (spec.named self.now.below (spec.nested_expression self.now.below) cursor.old) result cursor.new }
     {
-        let first = cursor.name(self.alloc)?;
+        let first = Name::read(cursor)?;
         if cursor.eat(Mark::Open) {
             self.call(cursor, first)
         } else {
@@ -226,8 +212,8 @@ impl<F: Fn(Global, &mut Cursor<'_>, u32, u8) -> Result<Nested, ParseFault>> Expr
         cursor.take();
         let (left, right) = beside(left, self.part(cursor, level - 1))?;
         let depth = left.nesting.max(right.nesting);
-        let longer = binary_of(self.alloc, operator, left.expr, right.expr)?;
-        around(self.below, depth, longer, cursor)
+        let (x, y) = both_boxed(cursor.alloc(), left.expr, right.expr)?;
+        around(self.below, depth, Expr::Binary(operator, x, y), cursor)
     }
 
     /// An expression of this level: operands of the level below it, and its operators between them. Each
@@ -251,12 +237,7 @@ impl<F: Fn(Global, &mut Cursor<'_>, u32, u8) -> Result<Nested, ParseFault>> Expr
 }
 
 /// An expression of this level that nests no deeper than `depth`.
-fn nested_expression(
-    alloc: Global,
-    cursor: &mut Cursor<'_>,
-    depth: u32,
-    level: u8,
-) -> Result<Nested, ParseFault>
+fn nested_expression(cursor: &mut Cursor<'_>, depth: u32, level: u8) -> Result<Nested, ParseFault>
     requires { depth ≤ 64 }
     ensures { Reads (spec.nested_expression depth level cursor.old) result cursor.new }
 {
@@ -264,7 +245,6 @@ fn nested_expression(
         return Err(ParseFault::Nesting);
     }
     ExpressionRules {
-        alloc,
         below: depth - 1,
         inner: nested_expression,
     }
@@ -273,9 +253,11 @@ fn nested_expression(
 
 /// An expression that nests at most 64 deep. The cursor is left behind it, or at the token at which it is
 /// refused.
-#[tactic(auto, unfolding(crate::specs::Expressions::expression))]
-pub fn expression(alloc: Global, cursor: &mut Cursor<'_>) -> Result<Expr, ParseFault>
-    ensures { Reads (spec.expression cursor.old) result cursor.new }
-{
-    Ok(nested_expression(alloc, cursor, MOST_NESTING, LOOSEST)?.expr)
+impl Rule for Expr {
+    ghost parser = { spec.expression };
+
+    #[tactic(auto, unfolding(crate::specs::Expressions::expression))]
+    fn read(cursor: &mut Cursor<'_>) -> Result<Expr, ParseFault> {
+        Ok(nested_expression(cursor, MOST_NESTING, LOOSEST)?.expr)
+    }
 }

@@ -6,21 +6,21 @@ ghost use Rattle.fb_read.specs.Network as spec;
 
 use crate::cursor::Cursor;
 use crate::fault::ParseFault;
-use crate::rule::{Rule, beside, ended, many, section, separated};
+use crate::rule::{Rule, beside, ended, many, pair, section, separated};
 use crate::token::Mark;
 use fb_types::items::Items;
 use fb_types::library::{Application, Connection, Instance, Network, Parameter, PortName};
+use fb_types::name::Name;
 use fb_types::value::Value;
-use std::alloc::Global;
 
 impl Rule for PortName {
     ghost parser = { spec.port };
 
     #[tactic(auto, unfolding(crate::specs::Network::port))]
-    fn read(alloc: Global, cursor: &mut Cursor<'_>) -> Result<PortName, ParseFault> {
-        let first = cursor.name(alloc)?;
+    fn read(cursor: &mut Cursor<'_>) -> Result<PortName, ParseFault> {
+        let first = Name::read(cursor)?;
         if cursor.eat(Mark::Dot) {
-            let port = cursor.name(alloc)?;
+            let port = Name::read(cursor)?;
             Ok(PortName {
                 component: Some(first),
                 port,
@@ -37,64 +37,60 @@ impl Rule for PortName {
 impl Rule for Connection {
     ghost parser = { spec.connection };
 
-    #[tactic(auto, unfolding(crate::specs::Network::connection))]
-    fn read(alloc: Global, cursor: &mut Cursor<'_>) -> Result<Connection, ParseFault> {
-        let first = PortName::read(alloc, cursor)?;
-        let first = ended(cursor, Mark::To, first)?;
-        let (from, to) = beside(first, PortName::read(alloc, cursor))?;
+    #[tactic(auto, using(crate::proofs::Pairs::connection_is))]
+    fn read(cursor: &mut Cursor<'_>) -> Result<Connection, ParseFault> {
+        let (from, to) = pair::<PortName, PortName>(cursor, Mark::To)?;
         ended(cursor, Mark::Semicolon, Connection { from, to })
     }
 }
 
 /// A constant: a truth value, or a whole number.
-#[tactic(auto, unfolding(crate::specs::Network::constant))]
-pub fn constant(cursor: &mut Cursor<'_>) -> Result<Value, ParseFault>
-    ensures { Reads (spec.constant cursor.old) result cursor.new }
-{
-    if cursor.eat(Mark::True) {
-        Ok(Value::Bool(true))
-    } else if cursor.eat(Mark::False) {
-        Ok(Value::Bool(false))
-    } else if cursor.eat(Mark::Minus) {
-        Ok(Value::Whole(cursor.whole()?.negative()))
-    } else {
-        Ok(Value::Whole(cursor.literal()?))
+impl Rule for Value {
+    ghost parser = { spec.constant };
+
+    #[tactic(auto, unfolding(crate::specs::Network::constant))]
+    fn read(cursor: &mut Cursor<'_>) -> Result<Value, ParseFault> {
+        if cursor.eat(Mark::True) {
+            Ok(Value::Bool(true))
+        } else if cursor.eat(Mark::False) {
+            Ok(Value::Bool(false))
+        } else if cursor.eat(Mark::Minus) {
+            Ok(Value::Whole(cursor.whole()?.negative()))
+        } else {
+            Ok(Value::Whole(cursor.literal()?))
+        }
     }
 }
 
 impl Rule for Parameter {
     ghost parser = { spec.parameter };
 
-    #[tactic(auto, unfolding(crate::specs::Network::parameter))]
-    fn read(alloc: Global, cursor: &mut Cursor<'_>) -> Result<Parameter, ParseFault> {
-        let name = cursor.name(alloc)?;
-        cursor.expect(Mark::Assign)?;
-        let value = constant(cursor)?;
+    #[tactic(auto, using(crate::proofs::Pairs::parameter_is))]
+    fn read(cursor: &mut Cursor<'_>) -> Result<Parameter, ParseFault> {
+        let (name, value) = pair::<Name, Value>(cursor, Mark::Assign)?;
         Ok(Parameter { name, value })
     }
 }
 
 #[tactic(auto, unfolding(crate::specs::Network::parameters))]
-fn parameters(alloc: Global, cursor: &mut Cursor<'_>) -> Result<Items<Parameter>, ParseFault>
+fn parameters(cursor: &mut Cursor<'_>) -> Result<Items<Parameter>, ParseFault>
     ensures { Reads (spec.parameters cursor.old) result cursor.new }
 {
     if cursor.eat(Mark::Open) {
-        let found = separated::<Parameter>(alloc, cursor)?;
+        let found = separated::<Parameter>(cursor)?;
         ended(cursor, Mark::Close, found)
     } else {
-        Ok(Items::new(alloc))
+        Ok(cursor.no_items())
     }
 }
 
 impl Rule for Instance {
     ghost parser = { spec.instance };
 
-    #[tactic(auto, unfolding(crate::specs::Network::instance))]
-    fn read(alloc: Global, cursor: &mut Cursor<'_>) -> Result<Instance, ParseFault> {
-        let name = cursor.name(alloc)?;
-        let name = ended(cursor, Mark::Colon, name)?;
-        let both = beside(name, cursor.name(alloc))?;
-        let (both, parameters) = beside(both, parameters(alloc, cursor))?;
+    #[tactic(auto, using(crate::proofs::Pairs::instance_is))]
+    fn read(cursor: &mut Cursor<'_>) -> Result<Instance, ParseFault> {
+        let both = pair::<Name, Name>(cursor, Mark::Colon)?;
+        let (both, parameters) = beside(both, parameters(cursor))?;
         let (name, block_type) = both;
         let found = Instance {
             name,
@@ -109,17 +105,15 @@ impl Rule for Network {
     ghost parser = { spec.network };
 
     #[tactic(auto, unfolding(crate::specs::Network::network))]
-    fn read(alloc: Global, cursor: &mut Cursor<'_>) -> Result<Network, ParseFault> {
+    fn read(cursor: &mut Cursor<'_>) -> Result<Network, ParseFault> {
         cursor.expect(Mark::Fbs)?;
-        let instances = many::<Instance>(alloc, cursor, Mark::EndFbs)?;
+        let instances = many::<Instance>(cursor, Mark::EndFbs)?;
         let event_connections = section::<Connection>(
-            alloc,
             cursor,
             Mark::EventConnections,
             Mark::EndConnections,
         )?;
         let data_connections = section::<Connection>(
-            alloc,
             cursor,
             Mark::DataConnections,
             Mark::EndConnections,
@@ -136,10 +130,10 @@ impl Rule for Application {
     ghost parser = { spec.application };
 
     #[tactic(auto, unfolding(crate::specs::Network::application))]
-    fn read(alloc: Global, cursor: &mut Cursor<'_>) -> Result<Application, ParseFault> {
+    fn read(cursor: &mut Cursor<'_>) -> Result<Application, ParseFault> {
         cursor.expect(Mark::Application)?;
-        let name = cursor.name(alloc)?;
-        let (name, network) = beside(name, Network::read(alloc, cursor))?;
+        let name = Name::read(cursor)?;
+        let (name, network) = beside(name, Network::read(cursor))?;
         ended(cursor, Mark::EndApplication, Application { name, network })
     }
 }

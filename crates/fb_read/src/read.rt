@@ -49,8 +49,8 @@ fn parse(alloc: Global, text: &[u8], tokens: &[Placed]) -> Result<Library, ReadE
     requires { length text.now ≤ most_bytes }
     ensures { Parses result (ended (library (tokens_of tokens.now))) }
 {
-    let mut cursor = Cursor::new(tokens);
-    match Library::read(alloc, &mut cursor) {
+    let mut cursor = Cursor::new(alloc, tokens);
+    match Library::read(&mut cursor) {
         Ok(library) => {
             if cursor.left() == 0 {
                 Ok(library)

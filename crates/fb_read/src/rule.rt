@@ -10,14 +10,13 @@ use crate::cursor::Cursor;
 use crate::fault::ParseFault;
 use crate::token::Mark;
 use fb_types::items::Items;
-use std::alloc::Global;
 
 /// What a rule of the grammar reads. The cursor begins at the rule's first token and is left behind its
 /// last one, or at the token that the rule refuses.
 pub trait Rule: Drop {
     ghost parser: { Parser Self };
 
-    fn read(alloc: Global, cursor: &mut Cursor<'_>) -> Result<Self, ParseFault>
+    fn read(cursor: &mut Cursor<'_>) -> Result<Self, ParseFault>
         ensures { Reads (parser cursor.old) result cursor.new };
 }
 
@@ -30,6 +29,28 @@ pub fn beside<A: Drop, B: Drop>(found: A, read: Result<B, ParseFault>) -> Result
     ensures read { read ≡ second_of result }
 {
     Ok((found, read?))
+}
+
+/// What was found, and what a rule reads behind this mark.
+#[tactic(auto, unfolding(crate::specs::Parser::behind))]
+pub fn behind<A: Drop, B: Rule>(
+    cursor: &mut Cursor<'_>,
+    found: A,
+    between: Mark,
+) -> Result<(A, B), ParseFault>
+    ensures { Reads (spec.behind found between B.parser cursor.old) result cursor.new }
+{
+    let found = ended(cursor, between, found)?;
+    beside(found, B::read(cursor))
+}
+
+/// What two rules read, with this mark between them.
+#[tactic(auto, unfolding(crate::specs::Parser::pair))]
+pub fn pair<A: Rule, B: Rule>(cursor: &mut Cursor<'_>, between: Mark) -> Result<(A, B), ParseFault>
+    ensures { Reads (spec.pair A.parser between B.parser cursor.old) result cursor.new }
+{
+    let first = A::read(cursor)?;
+    behind(cursor, first, between)
 }
 
 /// The items that were found, and what was read behind them.
@@ -61,7 +82,6 @@ pub fn finished<T: Drop>(cursor: &mut Cursor<'_>, end: Mark, found: T) -> Result
 /// What the rule reads up to a mark, behind the items that were found, and that mark. Each turn takes a
 /// token, so there are enough turns.
 pub fn many_after<T: Rule>(
-    alloc: Global,
     cursor: &mut Cursor<'_>,
     end: Mark,
     found: Items<T>,
@@ -73,27 +93,23 @@ pub fn many_after<T: Rule>(
         if cursor.eat(end) {
             return Ok(found);
         }
-        found = added(found, T::read(alloc, cursor))?;
+        found = added(found, T::read(cursor))?;
     }
     Err(ParseFault::Syntax)
 }
 
 /// What the rule reads up to a mark, and that mark.
 #[tactic(auto, unfolding(crate::specs::Parser::many, crate::specs::Parser::many_after))]
-pub fn many<T: Rule>(
-    alloc: Global,
-    cursor: &mut Cursor<'_>,
-    end: Mark,
-) -> Result<Items<T>, ParseFault>
+pub fn many<T: Rule>(cursor: &mut Cursor<'_>, end: Mark) -> Result<Items<T>, ParseFault>
     ensures { Reads (spec.many T.parser end cursor.old) result cursor.new }
 {
-    many_after(alloc, cursor, end, Items::new(alloc))
+    let none = cursor.no_items();
+    many_after(cursor, end, none)
 }
 
 /// The items of the section that begins and ends with these marks, where there is one.
 #[tactic(auto, unfolding(crate::specs::Parser::section))]
 pub fn section<T: Rule>(
-    alloc: Global,
     cursor: &mut Cursor<'_>,
     begin: Mark,
     end: Mark,
@@ -101,15 +117,14 @@ pub fn section<T: Rule>(
     ensures { Reads (spec.section T.parser begin end cursor.old) result cursor.new }
 {
     if cursor.eat(begin) {
-        many::<T>(alloc, cursor, end)
+        many::<T>(cursor, end)
     } else {
-        Ok(Items::new(alloc))
+        Ok(cursor.no_items())
     }
 }
 
 /// What the rule reads as long as this mark comes next, behind the items that were found.
 pub fn run_after<T: Rule>(
-    alloc: Global,
     cursor: &mut Cursor<'_>,
     begin: Mark,
     found: Items<T>,
@@ -121,21 +136,45 @@ pub fn run_after<T: Rule>(
         if !cursor.sees(begin) {
             return Ok(found);
         }
-        found = added(found, T::read(alloc, cursor))?;
+        found = added(found, T::read(cursor))?;
     }
     Ok(found)
 }
 
 /// What the rule reads, once or more, with commas between. Each turn takes a token.
-pub fn separated<T: Rule>(alloc: Global, cursor: &mut Cursor<'_>) -> Result<Items<T>, ParseFault>
+pub fn separated<T: Rule>(cursor: &mut Cursor<'_>) -> Result<Items<T>, ParseFault>
     ensures { Reads (spec.separated T.parser cursor.old) result cursor.new }
 {
-    let mut found = Items::new(alloc);
+    let mut found = cursor.no_items();
     for _turn in 0..cursor.left() {
-        found = added(found, T::read(alloc, cursor))?;
+        found = added(found, T::read(cursor))?;
         if !cursor.eat(Mark::Comma) {
             return Ok(found);
         }
     }
     Err(ParseFault::Syntax)
+}
+
+/// What the rule reads behind this mark, where the mark comes next.
+#[tactic(auto, unfolding(crate::specs::Parser::optional))]
+pub fn optional<T: Rule>(cursor: &mut Cursor<'_>, begin: Mark) -> Result<Option<T>, ParseFault>
+    ensures { Reads (spec.optional T.parser begin cursor.old) result cursor.new }
+{
+    if cursor.eat(begin) {
+        Ok(Some(T::read(cursor)?))
+    } else {
+        Ok(None)
+    }
+}
+
+/// What the rule reads behind this mark, once or more with commas between, where the mark comes next.
+#[tactic(auto, unfolding(crate::specs::Parser::listed))]
+pub fn listed<T: Rule>(cursor: &mut Cursor<'_>, begin: Mark) -> Result<Items<T>, ParseFault>
+    ensures { Reads (spec.listed T.parser begin cursor.old) result cursor.new }
+{
+    if cursor.eat(begin) {
+        separated::<T>(cursor)
+    } else {
+        Ok(cursor.no_items())
+    }
 }

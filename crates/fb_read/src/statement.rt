@@ -6,14 +6,13 @@ ghost use Rattle.fb_read.specs.Statements as spec;
 ghost use Rattle.fb_read.specs.StatementNests.{StatementNests};
 
 use crate::cursor::Cursor;
-use crate::expression::expression;
 use crate::fault::ParseFault;
-use crate::rule::{Rule, added, beside, ended, finished, separated};
+use crate::rule::{Rule, added, behind, beside, ended, finished, optional, pair, separated};
 use crate::token::Mark;
 use fb_types::items::Items;
+use fb_types::name::Name;
 use fb_types::reference::Reference;
 use fb_types::text::{Body, Branch, Choice, Expr, Label, Stmt};
-use std::alloc::Global;
 
 /// How deep a statement may nest.
 const MOST_NESTING: u32 = 64;
@@ -34,7 +33,7 @@ impl Rule for Label {
     ghost parser = { spec.label };
 
     #[tactic(auto, unfolding(crate::specs::Statements::label))]
-    fn read(_alloc: Global, cursor: &mut Cursor<'_>) -> Result<Label, ParseFault> {
+    fn read(cursor: &mut Cursor<'_>) -> Result<Label, ParseFault> {
         let first = bound(cursor)?;
         let last = if cursor.eat(Mark::DotDot) {
             bound(cursor)?
@@ -45,74 +44,56 @@ impl Rule for Label {
     }
 }
 
-#[tactic(auto, unfolding(crate::specs::Statements::assignment))]
-fn assignment(alloc: Global, cursor: &mut Cursor<'_>) -> Result<Stmt, ParseFault>
+#[tactic(auto, using(crate::proofs::Pairs::assignment_is))]
+fn assignment(cursor: &mut Cursor<'_>) -> Result<Stmt, ParseFault>
     ensures { Reads (spec.assignment cursor.old) result cursor.new }
 {
-    let target = cursor.name(alloc)?;
-    let target = ended(cursor, Mark::Assign, target)?;
-    let (target, value) = beside(target, expression(alloc, cursor))?;
+    let (target, value) = pair::<Name, Expr>(cursor, Mark::Assign)?;
     let found = Stmt::Assign(Reference::new(target), value);
     ended(cursor, Mark::Semicolon, found)
 }
 
-/// The step of a FOR, where it has one.
-#[tactic(auto, unfolding(crate::specs::Statements::step))]
-fn step(alloc: Global, cursor: &mut Cursor<'_>) -> Result<Option<Expr>, ParseFault>
-    ensures { Reads (spec.step cursor.old) result cursor.new }
-{
-    if cursor.eat(Mark::By) {
-        Ok(Some(expression(alloc, cursor)?))
-    } else {
-        Ok(None)
-    }
-}
-
 /// The end of a FOR and its step, from TO on.
 #[tactic(auto, unfolding(crate::specs::Statements::for_end))]
-fn for_end(alloc: Global, cursor: &mut Cursor<'_>) -> Result<(Expr, Option<Expr>), ParseFault>
+fn for_end(cursor: &mut Cursor<'_>) -> Result<(Expr, Option<Expr>), ParseFault>
     ensures { Reads (spec.for_end cursor.old) result cursor.new }
 {
     cursor.expect(Mark::To)?;
-    let end = expression(alloc, cursor)?;
-    let (end, step) = beside(end, step(alloc, cursor))?;
-    Ok((end, step))
+    let end = Expr::read(cursor)?;
+    beside(end, optional::<Expr>(cursor, Mark::By))
 }
 
 /// A statement that holds no others.
 #[tactic(auto, unfolding(crate::specs::Statements::simple))]
-fn simple(alloc: Global, cursor: &mut Cursor<'_>) -> Result<Stmt, ParseFault>
+fn simple(cursor: &mut Cursor<'_>) -> Result<Stmt, ParseFault>
     ensures { Reads (spec.simple cursor.old) result cursor.new }
 {
     if cursor.eat(Mark::Semicolon) {
         Ok(Stmt::Empty)
     } else if cursor.eat(Mark::Exit) {
-        cursor.expect(Mark::Semicolon)?;
-        Ok(Stmt::Exit)
+        ended(cursor, Mark::Semicolon, Stmt::Exit)
     } else if cursor.eat(Mark::Return) {
-        cursor.expect(Mark::Semicolon)?;
-        Ok(Stmt::Return)
+        ended(cursor, Mark::Semicolon, Stmt::Return)
     } else {
-        assignment(alloc, cursor)
+        assignment(cursor)
     }
 }
 
 /// The rules that hold statements take the reader of those as a parameter, so that each is proved by itself.
 #[derive(Drop)]
 pub struct StatementRules<F> {
-    alloc: Global,
     /// How deep the statements inside may nest.
     below: u32,
     inner: F,
 }
 
-impl<F: Fn(Global, &mut Cursor<'_>, u32) -> Result<Stmt, ParseFault>> StatementRules<F> {
+impl<F: Fn(&mut Cursor<'_>, u32) -> Result<Stmt, ParseFault>> StatementRules<F> {
     /// A statement inside.
     fn part(&self, cursor: &mut Cursor<'_>) -> Result<Stmt, ParseFault>
         requires { StatementNests self.now.below (F.pre self.now.inner) (F.post self.now.inner) }
         ensures { Reads (spec.nested_statement self.now.below cursor.old) result cursor.new }
     {
-        (self.inner)(self.alloc, cursor, self.below)
+        (self.inner)(cursor, self.below)
     }
 
     /// The statements up to what begins none. Each turn takes a token.
@@ -120,7 +101,7 @@ impl<F: Fn(Global, &mut Cursor<'_>, u32) -> Result<Stmt, ParseFault>> StatementR
         requires { StatementNests self.now.below (F.pre self.now.inner) (F.post self.now.inner) }
         ensures { Reads (spec.block (spec.nested_statement self.now.below) cursor.old) result cursor.new }
     {
-        let mut found = Items::new(self.alloc);
+        let mut found = cursor.no_items();
         for _turn in 0..cursor.left() {
             if !cursor.begins_statement() {
                 return Ok(found);
@@ -136,19 +117,10 @@ impl<F: Fn(Global, &mut Cursor<'_>, u32) -> Result<Stmt, ParseFault>> StatementR
         requires { StatementNests self.now.below (F.pre self.now.inner) (F.post self.now.inner) }
         ensures { Reads (spec.choice (spec.nested_statement self.now.below) cursor.old) result cursor.new }
     {
-        let condition = expression(self.alloc, cursor)?;
+        let condition = Expr::read(cursor)?;
         let condition = ended(cursor, Mark::Then, condition)?;
         let (condition, body) = beside(condition, self.block(cursor))?;
         Ok(Choice { condition, body })
-    }
-
-    #[tactic(auto, unfolding(crate::specs::Statements::elsif))]
-    fn elsif(&self, cursor: &mut Cursor<'_>) -> Result<Choice, ParseFault>
-        requires { StatementNests self.now.below (F.pre self.now.inner) (F.post self.now.inner) }
-        ensures { Reads (spec.elsif (spec.nested_statement self.now.below) cursor.old) result cursor.new }
-    {
-        cursor.expect(Mark::Elsif)?;
-        self.choice(cursor)
     }
 
     /// What stands behind IF, with each ELSIF. Each turn takes a token.
@@ -156,12 +128,12 @@ impl<F: Fn(Global, &mut Cursor<'_>, u32) -> Result<Stmt, ParseFault>> StatementR
         requires { StatementNests self.now.below (F.pre self.now.inner) (F.post self.now.inner) }
         ensures { Reads (spec.choices (spec.nested_statement self.now.below) cursor.old) result cursor.new }
     {
-        let mut found = added(Items::new(self.alloc), self.choice(cursor))?;
+        let mut found = added(cursor.no_items(), self.choice(cursor))?;
         for _turn in 0..cursor.left() {
-            if !cursor.sees(Mark::Elsif) {
+            if !cursor.eat(Mark::Elsif) {
                 return Ok(found);
             }
-            found = added(found, self.elsif(cursor))?;
+            found = added(found, self.choice(cursor))?;
         }
         Ok(found)
     }
@@ -172,7 +144,7 @@ impl<F: Fn(Global, &mut Cursor<'_>, u32) -> Result<Stmt, ParseFault>> StatementR
         requires { StatementNests self.now.below (F.pre self.now.inner) (F.post self.now.inner) }
         ensures { Reads (spec.branch (spec.nested_statement self.now.below) cursor.old) result cursor.new }
     {
-        let labels = separated::<Label>(self.alloc, cursor)?;
+        let labels = separated::<Label>(cursor)?;
         cursor.expect(Mark::Colon)?;
         let body = self.block(cursor)?;
         Ok(Branch { labels, body })
@@ -183,7 +155,7 @@ impl<F: Fn(Global, &mut Cursor<'_>, u32) -> Result<Stmt, ParseFault>> StatementR
         requires { StatementNests self.now.below (F.pre self.now.inner) (F.post self.now.inner) }
         ensures { Reads (spec.branches (spec.nested_statement self.now.below) cursor.old) result cursor.new }
     {
-        let mut found = added(Items::new(self.alloc), self.branch(cursor))?;
+        let mut found = added(cursor.no_items(), self.branch(cursor))?;
         for _turn in 0..cursor.left() {
             if !cursor.begins_label() {
                 return Ok(found);
@@ -202,7 +174,7 @@ impl<F: Fn(Global, &mut Cursor<'_>, u32) -> Result<Stmt, ParseFault>> StatementR
         if cursor.eat(Mark::Else) {
             self.block(cursor)
         } else {
-            Ok(Items::new(self.alloc))
+            Ok(cursor.no_items())
         }
     }
 
@@ -235,7 +207,7 @@ impl<F: Fn(Global, &mut Cursor<'_>, u32) -> Result<Stmt, ParseFault>> StatementR
         requires { StatementNests self.now.below (F.pre self.now.inner) (F.post self.now.inner) }
         ensures { Reads (spec.case_statement (spec.nested_statement self.now.below) cursor.old) result cursor.new }
     {
-        let selector = expression(self.alloc, cursor)?;
+        let selector = Expr::read(cursor)?;
         let (selector, cases) = beside(selector, self.case_body(cursor))?;
         let (branches, others) = cases;
         Ok(Stmt::Case(selector, branches, others))
@@ -263,21 +235,19 @@ impl<F: Fn(Global, &mut Cursor<'_>, u32) -> Result<Stmt, ParseFault>> StatementR
         requires { StatementNests self.now.below (F.pre self.now.inner) (F.post self.now.inner) }
         ensures { Reads (spec.for_to (spec.nested_statement self.now.below) variable start cursor.old) result cursor.new }
     {
-        let (first, bounds) = beside((variable, start), for_end(self.alloc, cursor))?;
+        let (first, bounds) = beside((variable, start), for_end(cursor))?;
         let (all, body) = beside((first, bounds), self.loop_body(cursor, Mark::EndFor))?;
         let ((variable, start), (end, step)) = all;
         Ok(Stmt::For(variable, start, end, step, body))
     }
 
     /// What stands behind FOR.
-    #[tactic(auto, unfolding(crate::specs::Statements::for_statement))]
+    #[tactic(auto, using(crate::proofs::Pairs::for_statement_is))]
     fn for_statement(&self, cursor: &mut Cursor<'_>) -> Result<Stmt, ParseFault>
         requires { StatementNests self.now.below (F.pre self.now.inner) (F.post self.now.inner) }
         ensures { Reads (spec.for_statement (spec.nested_statement self.now.below) cursor.old) result cursor.new }
     {
-        let variable = cursor.name(self.alloc)?;
-        cursor.expect(Mark::Assign)?;
-        let start = expression(self.alloc, cursor)?;
+        let (variable, start) = pair::<Name, Expr>(cursor, Mark::Assign)?;
         self.for_to(cursor, Reference::new(variable), start)
     }
 
@@ -287,20 +257,19 @@ impl<F: Fn(Global, &mut Cursor<'_>, u32) -> Result<Stmt, ParseFault>> StatementR
         requires { StatementNests self.now.below (F.pre self.now.inner) (F.post self.now.inner) }
         ensures { Reads (spec.while_statement (spec.nested_statement self.now.below) cursor.old) result cursor.new }
     {
-        let condition = expression(self.alloc, cursor)?;
+        let condition = Expr::read(cursor)?;
         let (condition, body) = beside(condition, self.loop_body(cursor, Mark::EndWhile))?;
         Ok(Stmt::While(condition, body))
     }
 
     /// What stands behind REPEAT.
-    #[tactic(auto, unfolding(crate::specs::Statements::repeat_statement))]
+    #[tactic(auto, using(crate::proofs::Pairs::repeat_is))]
     fn repeat_statement(&self, cursor: &mut Cursor<'_>) -> Result<Stmt, ParseFault>
         requires { StatementNests self.now.below (F.pre self.now.inner) (F.post self.now.inner) }
         ensures { Reads (spec.repeat_statement (spec.nested_statement self.now.below) cursor.old) result cursor.new }
     {
         let body = self.block(cursor)?;
-        cursor.expect(Mark::Until)?;
-        let condition = expression(self.alloc, cursor)?;
+        let (body, condition) = behind::<Items<Stmt>, Expr>(cursor, body, Mark::Until)?;
         finished(cursor, Mark::EndRepeat, Stmt::Repeat(body, condition))
     }
 
@@ -320,20 +289,19 @@ impl<F: Fn(Global, &mut Cursor<'_>, u32) -> Result<Stmt, ParseFault>> StatementR
         } else if cursor.eat(Mark::Repeat) {
             self.repeat_statement(cursor)
         } else {
-            simple(self.alloc, cursor)
+            simple(cursor)
         }
     }
 }
 
 /// A statement that nests no deeper than `depth`.
-fn nested_statement(alloc: Global, cursor: &mut Cursor<'_>, depth: u32) -> Result<Stmt, ParseFault>
+fn nested_statement(cursor: &mut Cursor<'_>, depth: u32) -> Result<Stmt, ParseFault>
     ensures { Reads (spec.nested_statement depth cursor.old) result cursor.new }
 {
     if depth == 0 {
         return Err(ParseFault::Nesting);
     }
     StatementRules {
-        alloc,
         below: depth - 1,
         inner: nested_statement,
     }
@@ -343,11 +311,10 @@ fn nested_statement(alloc: Global, cursor: &mut Cursor<'_>, depth: u32) -> Resul
 /// The statements of an algorithm, each of which nests at most 64 deep, and END_ALGORITHM. The cursor is
 /// left behind it, or at the token that is refused.
 #[tactic(auto, unfolding(crate::specs::Statements::body))]
-pub fn body(alloc: Global, cursor: &mut Cursor<'_>) -> Result<Body, ParseFault>
+pub fn body(cursor: &mut Cursor<'_>) -> Result<Body, ParseFault>
     ensures { Reads (spec.body cursor.old) result cursor.new }
 {
     let rules = StatementRules {
-        alloc,
         below: MOST_NESTING,
         inner: nested_statement,
     };

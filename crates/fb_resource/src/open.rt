@@ -29,8 +29,8 @@ impl Resource {
         ensures { IfOk result (λ x. (limit : ℕ) → IsFresh system.now limit number x) }
     {
         system.facts();
-        let tree = Tree::build(alloc, system, number)?;
         let queues = Queues::open(alloc, system, agenda)?;
+        let tree = Tree::build(alloc, system, number)?;
         let inner = Inner {
             number,
             tree,

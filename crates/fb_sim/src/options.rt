@@ -7,7 +7,7 @@ use fb_types::run::Form;
 use std::marker::Model;
 
 /// What is read. Contracts see the bytes.
-#[derive(Debug, Drop)]
+#[derive(Drop)]
 pub struct Inputs<'a> {
     /// The text of the declaration, at most 1 MiB.
     pub declaration: &'a [u8],
@@ -27,7 +27,7 @@ impl<'a> Model for Inputs<'a> {
 }
 
 /// How a run is made.
-#[derive(Clone, Copy, Debug, PartialEq, Eq)]
+#[derive(Clone, Copy)]
 pub struct Options {
     /// The tick at which the run ends, 1 to 10^12. It is not run any more.
     pub horizon: u64,

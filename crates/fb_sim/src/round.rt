@@ -36,7 +36,13 @@ use std::thread::Threads;
 
 /// How many of the jobs have something to do.
 fn busy_in(jobs: &[Job]) -> usize {
-    jobs.iter().filter(|job| !job.is_idle()).count()
+    let mut busy: usize = 0;
+    for job in jobs {
+        if !job.is_idle() {
+            busy = busy.saturating_add(1);
+        }
+    }
+    busy
 }
 
 /// How many lines the jobs gave.

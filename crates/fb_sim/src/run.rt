@@ -52,7 +52,7 @@ pub(crate) fn close<W: Write>(
     }
 }
 
-/// Runs an accepted system by workers, and writes its trace.
+/// Runs an accepted system by one worker or by several, and writes its trace.
 fn run_system<R: Threads + Wait + Sync, W: Write, P: Gate>(
     rt: &R,
     alloc: Global,
@@ -65,6 +65,9 @@ fn run_system<R: Threads + Wait + Sync, W: Write, P: Gate>(
     ensures trace { (given : Given) → Declares given system.now → IfOk result (λ o. Writes given options (W.contents out.old) (W.contents out.new) (ending_of o)) }
     ensures failed { (given : Given) → Declares given system.now → IfErr result (FailsRun given options (W.contents out.old) (W.contents out.new)) }
 {
+    if options.workers == 1 {
+        return run_by_one(alloc, system, options, out);
+    }
     let core = open_core(alloc, system, options.steps)?;
     let (finish, written) = run_on(rt, alloc, system, core, options, out, gate)?;
     match finish {
@@ -105,8 +108,5 @@ pub fn run<R: Threads + Wait + Sync, W: Write, P: Gate>(
         return Err(RunError::BadOption);
     }
     let system = open(alloc, inputs)?;
-    if options.workers == 1 {
-        return run_by_one(alloc, &system, options, out);
-    }
     run_system(rt, alloc, &system, options, out, gate)
 }

@@ -20,7 +20,7 @@ pub(crate) enum SessionState {
 }
 
 /// How far a simulation is, as contracts see it.
-#[derive(Clone, Copy, Debug, PartialEq, Eq)]
+#[derive(Clone, Copy)]
 pub enum Stage {
     /// It goes on.
     Running,

@@ -1,6 +1,8 @@
 pub mod Arguments
+pub mod Divided
 pub mod Faults
 pub mod Keys
+pub mod Knowing
 pub mod Wanted
 pub mod Once
 pub mod Places

@@ -1,10 +1,10 @@
 -- Runs of statements and turns, put together from their parts.
-use Rattle.std.proofs.Common.{◌≡◌, ℕ, ℤ, zero, suc, ◌+◌, ◌<◌, ◌≤◌, arith, Bool, true, false, cond, not, ◌&&◌, ◌||◌, List, [], ◌∷◌, drop, length, get_or, Result, Ok, Err, refl, sym, ◌∙◌, ap, subst, add-one, rules}
+use Rattle.std.proofs.Common.{◌≡◌, ℕ, ℤ, zero, suc, ◌+◌, ◌<◌, ◌≤◌, arith, Bool, true, false, cond, not, ◌&&◌, ◌||◌, List, [], ◌∷◌, Option, drop, length, get_or, Result, Ok, Err, refl, sym, ◌∙◌, ap, subst, add-one, rules}
 use Rattle.std.specs.Prelude.{int_le}
 use Rattle.std.specs.List.{list_any}
 use Rattle.std.proofs.Math.Seq.{drop-cons}
 use Rattle.fb_types.specs.Names.{Name, with_value}
-use Rattle.fb_types.specs.Syntax.{Expr, Stmt, Assign, If, For, Repeat, Stmts, expr_of, stmt_of}
+use Rattle.fb_types.specs.Syntax.{Expr, Stmt, Assign, If, Case, For, While, Repeat, Stmts, Branches, expr_of, step_of, stmt_of}
 use Rattle.fb_types.specs.Values.{Values, Types, truth_of, and_then, value_of, whole, fits}
 use Rattle.fb_types.specs.Bodies.{Point, End, Went, Left, Returned, Stopped, Running, After, Then, Step, TurnThen, Loop, Runs, RunsAll, RunsChoice, RunsBranch, Assigns, Advances, Counts, label_fits}
 use Rattle.fb_types.specs.declared.text.Label.{Label}
@@ -29,7 +29,7 @@ Leads rest m all p = (e : End) (q : Point) → rest m e q → all p e q
 
 -- ---- Lists
 
-cut_at : {A : Type 0} (xs : List A) (i : ℕ) (x : A) → i < length xs → x ≡ get_or xs i x → drop i xs ≡ x ∷ drop (i + 1) xs
+pub cut_at : {A : Type 0} (xs : List A) (i : ℕ) (x : A) → i < length xs → x ≡ get_or xs i x → drop i xs ≡ x ∷ drop (i + 1) xs
 cut_at xs i x within is = drop-cons xs i x within ∙ rw (← is) (rw add-one refl)
 
 pub nothing_left : {A : Type 0} (xs : List A) (i : ℕ) → length xs ≤ i → drop i xs ≡ []
@@ -238,6 +238,20 @@ assign_says n e = rw (← variants.rolls-Assign n e) (rw fold-roll-Stmt refl)
 
 pub if_says : (cs : List Choice) (others : List read.Stmt) → stmt_of (read.If cs others) ≡ If (choices_of cs) (all_of others)
 if_says cs others = rw (← variants.rolls-If cs others) (rw fold-roll-Stmt refl)
+
+pub case_says : (e : expr.Expr) (bs : List Branch) (others : List read.Stmt) → stmt_of (read.Case e bs others) ≡ Case (expr_of e) (branches_of bs) (all_of others)
+case_says e bs others = rw (← variants.rolls-Case e bs others) (rw fold-roll-Stmt refl)
+
+pub for_says : (n : Name) (a b : expr.Expr) (c : Option expr.Expr) (body : List read.Stmt) → stmt_of (read.For n a b c body) ≡ For n (expr_of a) (expr_of b) (step_of c) (all_of body)
+for_says n a b c body = rw (← variants.rolls-For n a b c body) (rw fold-roll-Stmt refl)
+
+pub while_says : (c : expr.Expr) (body : List read.Stmt) → stmt_of (read.While c body) ≡ While (expr_of c) (all_of body)
+while_says c body = rw (← variants.rolls-While c body) (rw fold-roll-Stmt refl)
+
+-- CASE, once its selector has a value
+pub case_runs : (T : Types) (c : Expr) (bs : Branches) (others : Stmts) (vars : Values) (left : ℕ) (v : Value) (e : End) (q : Point) → value_of c vars ≡ Ok v
+    → RunsBranch T bs (whole v) (RunsAll T others) (record { vars = vars; left = left }) e q → Runs T (Case c bs others) (record { vars = vars; left = suc left }) e q
+case_runs T c bs others vars left v e q is run = rw is run
 
 -- ---- One statement alone
 

@@ -1,18 +1,20 @@
 -- A number handed on as a number, and a truth value as a truth value, say what the values would.
-use Rattle.std.proofs.Common.{◌≡◌, ℤ, pos, ◌+ℤ◌, ◌-ℤ◌, ◌*ℤ◌, Bool, true, false, Result, Ok, Err, ◌⊎◌, ⊎_elim, refl, ap, ◌∙◌}
+use Rattle.std.proofs.Common.{◌≡◌, ℤ, pos, ◌+ℤ◌, ◌-ℤ◌, ◌*ℤ◌, neg_ℤ, Bool, true, false, Result, Ok, Err, ◌⊎◌, ⊎_elim, refl, sym, ap, ◌∙◌}
 use Rattle.std.specs.Prelude.{if◌then◌else◌, int_div, int_lt, int_le, not, ◌&&◌, ◌||◌}
-use Rattle.fb_types.specs.Values.{and_then, binary_value, whole, truth, told, judged, quotient, modulus, same_whole, same_value, same_truth, within_signed}
+use Rattle.fb_types.specs.Values.{and_then, unary_value, binary_value, whole, truth, told, judged, quotient, modulus, same_whole, same_value, same_truth, within_signed}
 use Rattle.fb_types.specs.declared.text.BinaryOperator.{BinaryOperator}
+use Rattle.fb_types.specs.declared.text.UnaryOperator.{UnaryOperator}
+use Rattle.fb_types.specs.declared.text.UnaryOperator.TheVariants as unary
 use Rattle.fb_types.specs.declared.text.BinaryOperator.TheVariants.{Or, Xor, And, Equal, NotEqual, Less, Greater, LessOrEqual, GreaterOrEqual, Add, Subtract, Multiply, Divide, Modulo}
 use Rattle.fb_types.specs.declared.value.Value.{Value}
 use Rattle.fb_types.specs.declared.value.Value.TheVariants as value
 use Rattle.fb_types.specs.declared.value.Reason.{Reason}
 use Rattle.fb_types.specs.declared.value.Reason.TheVariants as reason
 use Rattle.fb_types.specs.Values.{Values, value_of}
-use Rattle.fb_types.specs.Syntax.{Expr, Binary, expr_of}
+use Rattle.fb_types.specs.Syntax.{Expr, Unary, Binary, expr_of}
 use Rattle.fb_types.specs.declared.text.Expr as read
 use Rattle.fb_types.specs.declared.text.Expr.TheVariants as variant
-use Rattle.fb_st.specs.Wanted.{wholes, truths, gives_number, takes_numbers}
+use Rattle.fb_st.specs.Wanted.{wholes, truths, as_whole, as_bool, false_if_known, both_joined, told_joined, told_equal, gives_number, takes_numbers}
 
 -- an operator looks at its operands as numbers, where a number is asked of it
 by_wholes : (o : BinaryOperator) (v w : Value) → wholes (binary_value o v w) ≡ wholes (binary_value o (value.Whole (whole v)) (value.Whole (whole w)))
@@ -140,13 +142,96 @@ truth_known o (Err r) s x y g e f = absurd cc
 pub binary_is : (d : read.Expr) (o : BinaryOperator) (l r : read.Expr) → d ≡ variant.Binary o l r → expr_of d ≡ Binary o (expr_of l) (expr_of r)
 binary_is d o l r is = rw is (simp read.the_lemmas refl)
 
+-- ---- What is handed on as a number, or as a truth value, is the value again, where it is such a value.
+
+whole_again : (r : Result Value Reason) → ((z : ℤ) → wholes r ≡ Ok z → r ≡ Ok (value.Whole z)) → as_whole (wholes r) ≡ r
+whole_again (Ok v) h = sym (h (whole v) refl)
+whole_again (Err e) h = refl
+
+bool_again : (r : Result Value Reason) → ((b : Bool) → truths r ≡ Ok b → r ≡ Ok (value.Bool b)) → as_bool (truths r) ≡ r
+bool_again (Ok v) h = sym (h (truth v) refl)
+bool_again (Err e) h = refl
+
+false_again : (r : Result Value Reason) → ((z : ℤ) → wholes r ≡ Ok z → r ≡ Ok (value.Whole z)) → false_if_known (wholes r) ≡ truths r
+false_again (Ok v) h = ap truths (sym (h (whole v) refl))
+false_again (Err e) h = refl
+
+negated_number : (r : Result Value Reason) (z : ℤ) → wholes (and_then r (unary_value unary.Negate)) ≡ Ok z → and_then r (unary_value unary.Negate) ≡ Ok (value.Whole z)
+negated_number (Ok v) z e = judged_number (neg_ℤ (whole v)) z e
+negated_number (Err r) z e = absurd cc
+
+negated_truth : (r : Result Value Reason) (b : Bool) → truths (and_then r (unary_value unary.Not)) ≡ Ok b → and_then r (unary_value unary.Not) ≡ Ok (value.Bool b)
+negated_truth (Ok v) b e = told_is (not (truth v)) b e
+negated_truth (Err r) b e = absurd cc
+
+-- what an operator at one expression says that was read
+pub unary_is : (d : read.Expr) (o : UnaryOperator) (l : read.Expr) → d ≡ variant.Unary o l → expr_of d ≡ Unary o (expr_of l)
+unary_is d o l is = rw is (simp read.the_lemmas refl)
+
+module _ (x e : Expr) (vars : Values) where
+  pub negated_again : x ≡ Unary unary.Negate e → as_whole (wholes (value_of x vars)) ≡ value_of x vars
+  negated_again is = rw is (whole_again (value_of (Unary unary.Negate e) vars) (negated_number (value_of e vars)))
+
+  pub negated_untrue : x ≡ Unary unary.Negate e → false_if_known (wholes (value_of x vars)) ≡ truths (value_of x vars)
+  negated_untrue is = rw is (false_again (value_of (Unary unary.Negate e) vars) (negated_number (value_of e vars)))
+
+  pub not_again : x ≡ Unary unary.Not e → as_bool (truths (value_of x vars)) ≡ value_of x vars
+  not_again is = rw is (bool_again (value_of (Unary unary.Not e) vars) (negated_truth (value_of e vars)))
+
+-- ---- Two truth values that are joined, and two values that are compared
+
+joined_told : (o : BinaryOperator) → ((v w : Value) → truths (binary_value o v w) ≡ Ok (both_joined o (truth v) (truth w))) → (r s : Result Value Reason)
+    → told_joined o (truths r) (truths s) ≡ truths (and_then r (λ v. and_then s (λ w. binary_value o v w)))
+joined_told o fits (Ok v) (Ok w) = sym (fits v w)
+joined_told o fits (Ok v) (Err e) = refl
+joined_told o fits (Err e) s = refl
+
+same_as : (b : Bool) → same_truth b true ≡ b
+same_as true = refl
+same_as false = refl
+
+other_than : (b : Bool) → same_truth b false ≡ not b
+other_than true = refl
+other_than false = refl
+
+equal_told : (o : BinaryOperator) (wanted : Bool) → ((v w : Value) → truths (binary_value o v w) ≡ Ok (same_truth (same_value v w) wanted)) → (r s : Result Value Reason)
+    → told_equal wanted r s ≡ truths (and_then r (λ v. and_then s (λ w. binary_value o v w)))
+equal_told o wanted fits (Ok v) (Ok w) = sym (fits v w)
+equal_told o wanted fits (Ok v) (Err e) = refl
+equal_told o wanted fits (Err e) s = refl
+
+module _ (x : Expr) (o : BinaryOperator) (e f : Expr) (is : x ≡ Binary o e f) (vars : Values) where
+  pub or_told : o ≡ Or → told_joined Or (truths (value_of e vars)) (truths (value_of f vars)) ≡ truths (value_of x vars)
+  or_told same = rw (is, same) (joined_told Or (λ v w. refl) (value_of e vars) (value_of f vars))
+
+  pub xor_told : o ≡ Xor → told_joined Xor (truths (value_of e vars)) (truths (value_of f vars)) ≡ truths (value_of x vars)
+  xor_told same = rw (is, same) (joined_told Xor (λ v w. refl) (value_of e vars) (value_of f vars))
+
+  pub and_told : o ≡ And → told_joined And (truths (value_of e vars)) (truths (value_of f vars)) ≡ truths (value_of x vars)
+  and_told same = rw (is, same) (joined_told And (λ v w. refl) (value_of e vars) (value_of f vars))
+
+  pub same_told : o ≡ Equal → told_equal true (value_of e vars) (value_of f vars) ≡ truths (value_of x vars)
+  same_told same = rw (is, same) (equal_told Equal true (λ v w. ap (λ b. Ok b) (sym (same_as (same_value v w)))) (value_of e vars) (value_of f vars))
+
+  pub other_told : o ≡ NotEqual → told_equal false (value_of e vars) (value_of f vars) ≡ truths (value_of x vars)
+  other_told same = rw (is, same) (equal_told NotEqual false (λ v w. ap (λ b. Ok b) (sym (other_than (same_value v w)))) (value_of e vars) (value_of f vars))
+
 -- The same, said of an expression that is an operator at two others.
 module _ (x : Expr) (o : BinaryOperator) (e f : Expr) (is : x ≡ Binary o e f) (vars : Values) where
-  pub number_of : (z : ℤ) → gives_number o ≡ true → wholes (value_of x vars) ≡ Ok z → value_of x vars ≡ Ok (value.Whole z)
+  number_of : (z : ℤ) → gives_number o ≡ true → wholes (value_of x vars) ≡ Ok z → value_of x vars ≡ Ok (value.Whole z)
   number_of z = rw is (number_is_value o (value_of e vars) (value_of f vars) z)
 
-  pub truth_of : (b : Bool) → gives_number o ≡ false → truths (value_of x vars) ≡ Ok b → value_of x vars ≡ Ok (value.Bool b)
+  truth_of : (b : Bool) → gives_number o ≡ false → truths (value_of x vars) ≡ Ok b → value_of x vars ≡ Ok (value.Bool b)
   truth_of b = rw is (truth_is_value o (value_of e vars) (value_of f vars) b)
+
+  pub number_again : gives_number o ≡ true → as_whole (wholes (value_of x vars)) ≡ value_of x vars
+  number_again g = whole_again (value_of x vars) (λ z. number_of z g)
+
+  pub truth_again : gives_number o ≡ false → as_bool (truths (value_of x vars)) ≡ value_of x vars
+  truth_again g = bool_again (value_of x vars) (λ b. truth_of b g)
+
+  pub number_untrue : gives_number o ≡ true → false_if_known (wholes (value_of x vars)) ≡ truths (value_of x vars)
+  number_untrue g = false_again (value_of x vars) (λ z. number_of z g)
 
 -- each of these gives a number
 pub gives_of : (o : BinaryOperator) → (o ≡ Add) ⊎ (o ≡ Subtract) ⊎ (o ≡ Multiply) ⊎ (o ≡ Divide) ⊎ (o ≡ Modulo) → gives_number o ≡ true

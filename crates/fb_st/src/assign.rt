@@ -69,7 +69,7 @@ pub fn step_value(step: &Option<Expr>, frame: &Frame) -> Result<Value, Reason>
 }
 
 /// Where the variable of FOR ends, and its step, both whole numbers.
-#[derive(Clone, Copy, Debug, PartialEq, Eq)]
+#[derive(Clone, Copy)]
 pub struct Count {
     pub end: Value,
     pub step: Value,

@@ -6,12 +6,14 @@ ghost use Rattle.fb_types.specs.Syntax.{expr_of, exprs};
 ghost use Rattle.fb_types.specs.Values.{truth_of, value_of, values_of as values_of_all, and_then, value_if_known, function_named};
 ghost use Rattle.fb_st.specs.Frames.{values_of};
 ghost use Rattle.fb_st.specs.Faults.{after, met};
-ghost use Rattle.fb_st.specs.Wanted.{wholes, truths};
+ghost use Rattle.fb_st.specs.Wanted.{wholes, truths, as_whole, as_bool, false_if_known, both, told_joined, told_equal};
 
 use crate::fault::{compared, noted, noted_truth, noted_value};
 use crate::frame::Frame;
 use crate::function::{call_with_one, call_with_three, call_with_two};
-use crate::operator::{are_same, is_arithmetic, negated, number_of_two, truth_value, whole_of};
+use crate::operator::{
+    are_same, is_arithmetic, joined, negated, number_of_two, truth_value, whole_of,
+};
 use crate::small::{small_number, small_truth};
 use fb_types::function::Function;
 use fb_types::name::Name;
@@ -41,12 +43,10 @@ fn value(expr: &Expr, frame: &Frame) -> Result<Value, Reason>
         Expr::Truth(truth) => Ok(Value::Bool(*truth)),
         Expr::Variable(variable) => Ok(frame.value(variable)),
         Expr::Group(inner) => value(inner.get(), frame),
-        Expr::Unary(UnaryOperator::Negate, _) => Ok(Value::Whole(number(expr, frame)?)),
-        Expr::Unary(UnaryOperator::Not, _) => Ok(Value::Bool(truth(expr, frame)?)),
-        Expr::Binary(operator, _, _) if is_arithmetic(*operator) => {
-            Ok(Value::Whole(number(expr, frame)?))
-        }
-        Expr::Binary(_, _, _) => Ok(Value::Bool(truth(expr, frame)?)),
+        Expr::Unary(UnaryOperator::Negate, _) => number(expr, frame),
+        Expr::Unary(UnaryOperator::Not, _) => told(expr, frame),
+        Expr::Binary(operator, _, _) if is_arithmetic(*operator) => number(expr, frame),
+        Expr::Binary(_, _, _) => told(expr, frame),
         Expr::Call(name, arguments) => call(name, arguments.as_slice(), frame),
     }
 }
@@ -55,15 +55,24 @@ fn value(expr: &Expr, frame: &Frame) -> Result<Value, Reason>
 /// has where a number is wanted, counts as 0.
 #[cycle(eval)]
 #[inline(always)]
-fn number(expr: &Expr, frame: &Frame) -> Result<i128, Reason>
-    ensures { result ≡ wholes (value_of (expr_of expr.now) (values_of frame.now)) }
+fn number(expr: &Expr, frame: &Frame) -> Result<Value, Reason>
+    ensures { result ≡ as_whole (wholes (value_of (expr_of expr.now) (values_of frame.now))) }
 {
     let mut fault = None;
     let number = counted(expr, frame, &mut fault);
     match fault {
-        None => Ok(number),
+        None => Ok(Value::Whole(number)),
         Some(reason) => Err(reason),
     }
+}
+
+/// The truth value that an expression comes to, as a value.
+#[cycle(eval)]
+#[inline(always)]
+fn told(expr: &Expr, frame: &Frame) -> Result<Value, Reason>
+    ensures { result ≡ as_bool (truths (value_of (expr_of expr.now) (values_of frame.now))) }
+{
+    Ok(Value::Bool(truth(expr, frame)?))
 }
 
 /// The whole number that an expression comes to. The first reason that is met is kept in `fault`, so that a number is
@@ -117,35 +126,18 @@ fn truth(expr: &Expr, frame: &Frame) -> Result<bool, Reason>
         Expr::Truth(truth) => Ok(*truth),
         Expr::Variable(variable) => Ok(truth_value(frame.value(variable))),
         Expr::Group(inner) => truth(inner.get(), frame),
-        Expr::Unary(UnaryOperator::Negate, operand) => {
-            let _ = negated(number(operand.get(), frame)?)?;
-            Ok(false)
-        }
+        Expr::Unary(UnaryOperator::Negate, _) => untrue(expr, frame),
         Expr::Unary(UnaryOperator::Not, operand) => Ok(!truth(operand.get(), frame)?),
         Expr::Binary(operator, left, right) => match operator {
-            BinaryOperator::Or => {
-                let a = truth(left.get(), frame)?;
-                let b = truth(right.get(), frame)?;
-                Ok(a || b)
-            }
+            BinaryOperator::Or => joined_truths(BinaryOperator::Or, left.get(), right.get(), frame),
             BinaryOperator::Xor => {
-                let a = truth(left.get(), frame)?;
-                let b = truth(right.get(), frame)?;
-                Ok(a != b)
+                joined_truths(BinaryOperator::Xor, left.get(), right.get(), frame)
             }
             BinaryOperator::And => {
-                let a = truth(left.get(), frame)?;
-                let b = truth(right.get(), frame)?;
-                Ok(a && b)
+                joined_truths(BinaryOperator::And, left.get(), right.get(), frame)
             }
-            BinaryOperator::Equal => {
-                let first = eval(left.get(), frame)?;
-                Ok(are_same(first, eval(right.get(), frame)?))
-            }
-            BinaryOperator::NotEqual => {
-                let first = eval(left.get(), frame)?;
-                Ok(!are_same(first, eval(right.get(), frame)?))
-            }
+            BinaryOperator::Equal => are_equal(left.get(), right.get(), true, frame),
+            BinaryOperator::NotEqual => are_equal(left.get(), right.get(), false, frame),
             BinaryOperator::Less
             | BinaryOperator::Greater
             | BinaryOperator::LessOrEqual
@@ -160,15 +152,55 @@ fn truth(expr: &Expr, frame: &Frame) -> Result<bool, Reason>
             | BinaryOperator::Subtract
             | BinaryOperator::Multiply
             | BinaryOperator::Divide
-            | BinaryOperator::Modulo => {
-                let _ = number(expr, frame)?;
-                Ok(false)
-            }
+            | BinaryOperator::Modulo => untrue(expr, frame),
         },
         Expr::Call(name, arguments) => Ok(truth_value(call(name, arguments.as_slice(), frame)?)),
     }
 }
 
+/// FALSE for an expression that comes to a number, or the reason why it comes to none.
+#[cycle(eval)]
+fn untrue(expr: &Expr, frame: &Frame) -> Result<bool, Reason>
+    ensures { result ≡ false_if_known (wholes (value_of (expr_of expr.now) (values_of frame.now))) }
+{
+    let _ = number(expr, frame)?;
+    Ok(false)
+}
+
+/// The truth values of two operands, joined by OR, XOR or AND. Both are evaluated.
+#[cycle(eval)]
+#[inline(always)]
+fn joined_truths(
+    operator: BinaryOperator,
+    left: &Expr,
+    right: &Expr,
+    frame: &Frame,
+) -> Result<bool, Reason>
+    ensures { result ≡ told_joined operator (truths (value_of (expr_of left.now) (values_of frame.now))) (truths (value_of (expr_of right.now) (values_of frame.now))) }
+{
+    let first = truth(left, frame)?;
+    Ok(joined(operator, first, truth(right, frame)?))
+}
+
+/// The values of two operands or arguments.
+#[cycle(eval)]
+#[inline(always)]
+fn both_values(left: &Expr, right: &Expr, frame: &Frame) -> Result<(Value, Value), Reason>
+    ensures { result ≡ both (value_of (expr_of left.now) (values_of frame.now)) (value_of (expr_of right.now) (values_of frame.now)) }
+{
+    let first = eval(left, frame)?;
+    Ok((first, eval(right, frame)?))
+}
+
+/// Whether two operands have the same value, where that is wanted, or else whether they have not.
+#[cycle(eval)]
+#[inline(always)]
+fn are_equal(left: &Expr, right: &Expr, wanted: bool, frame: &Frame) -> Result<bool, Reason>
+    ensures { result ≡ told_equal wanted (value_of (expr_of left.now) (values_of frame.now)) (value_of (expr_of right.now) (values_of frame.now)) }
+{
+    let (first, second) = both_values(left, right, frame)?;
+    Ok(are_same(first, second) == wanted)
+}
 /// The function of this name at its arguments.
 #[cycle(eval)]
 #[inline(never)]
@@ -179,12 +211,11 @@ fn call(name: &Name, arguments: &[Expr], frame: &Frame) -> Result<Value, Reason>
     match arguments {
         [one] => call_with_one(function, eval(one, frame)?),
         [one, two] => {
-            let first = eval(one, frame)?;
-            call_with_two(function, first, eval(two, frame)?)
+            let (first, second) = both_values(one, two, frame)?;
+            call_with_two(function, first, second)
         }
         [one, two, three] => {
-            let first = eval(one, frame)?;
-            let second = eval(two, frame)?;
+            let (first, second) = both_values(one, two, frame)?;
             call_with_three(function, first, second, eval(three, frame)?)
         }
         _ => {

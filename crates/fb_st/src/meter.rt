@@ -5,7 +5,7 @@ ghost use Rattle.std.specs.Prelude.{◌≡◌, suc, OnOk, IfErr};
 use fb_types::value::Reason;
 
 /// How a statement ends where no reason stops the run.
-#[derive(Clone, Copy, Debug, PartialEq, Eq)]
+#[derive(Clone, Copy, PartialEq, Eq)]
 pub enum Flow {
     /// The run goes on behind it.
     Went,
@@ -16,7 +16,7 @@ pub enum Flow {
 }
 
 /// The steps that a resource has left in the current tick.
-#[derive(Clone, Copy, Debug, PartialEq, Eq)]
+#[derive(Clone, Copy)]
 pub struct StepMeter {
     pub left: u64,
 }

@@ -2,7 +2,7 @@
 
 ghost use Rattle.std.specs.Prelude.{◌≡◌, false, ◌+ℤ◌, ◌-ℤ◌, ◌*ℤ◌, neg_ℤ, int_div, int_rem, IfSome};
 ghost use Rattle.fb_types.specs.Values.{judged, told, whole, truth, binary_value, same_value, quotient, modulus};
-ghost use Rattle.fb_st.specs.Wanted.{wholes, gives_number};
+ghost use Rattle.fb_st.specs.Wanted.{wholes, gives_number, both_joined};
 
 use fb_types::text::BinaryOperator;
 use fb_types::value::{Reason, Value};
@@ -134,6 +134,18 @@ pub fn are_same(left: Value, right: Value) -> bool
         (Value::Bool(a), Value::Bool(b)) => a == b,
         (Value::Whole(x), Value::Whole(y)) => x == y,
         _ => false,
+    }
+}
+
+/// Two truth values, joined by OR, XOR or else AND.
+#[inline(always)]
+pub fn joined(operator: BinaryOperator, a: bool, b: bool) -> bool
+    ensures { result ≡ both_joined operator a b }
+{
+    match operator {
+        BinaryOperator::Or => a || b,
+        BinaryOperator::Xor => a != b,
+        _ => a && b,
     }
 }
 

@@ -4,27 +4,19 @@ use Rattle.std.proofs.lemmas.List.Elements.{All-nil}
 use Rattle.fb_types.specs.Headline.{Inputs, system_of}
 use Rattle.fb_system.specs.Ends.{AreSources, AreTargets, ComesFrom, LeadsTo}
 use Rattle.fb_system.specs.Heads.{AreHeads, IsRowOfHead}
-use Rattle.fb_system.specs.Systems.{HaveRows, inputs_of, StandFor}
-use Rattle.fb_system.specs.declared.ends.Ends.{Ends}
+use Rattle.fb_system.specs.Systems.{HaveRows, inputs_of, IsKept, StandFor}
 use Rattle.fb_system.specs.declared.ends.SourceRow.{SourceRow}
 use Rattle.fb_system.specs.declared.ends.TargetRow.{TargetRow}
 use Rattle.fb_system.specs.declared.heads.Head.{Head}
-use Rattle.fb_system.specs.declared.heads.Heads.{Heads}
 use Rattle.fb_system.specs.declared.kept.Kept.{Kept}
 use Rattle.fb_system.specs.declared.whole.Whole.{Whole}
 
 -- ---- The rows of the inputs as which a system is seen
 
--- what a system keeps, by the inputs
-record AreRows (i : Inputs) (k : Kept) : Type 0 where
-  heads : AreHeads (system_of i) k.heads.rows
-  targets : AreTargets (system_of i) k.ends.targets
-  sources : AreSources (system_of i) k.ends.sources
-
-rows_seen : (h k : Kept) (w : Whole) (i : Inputs) → h ≡ k → inputs_of w ≡ i → HaveRows w k → AreRows i h
+pub rows_seen : (h k : Kept) (w : Whole) (i : Inputs) → h ≡ k → inputs_of w ≡ i → HaveRows w k → IsKept i h
 rows_seen h k w i e s is =
-    subst (λ (i : Inputs). AreRows i h) s
-    (subst (λ (h : Kept). AreRows (inputs_of w) h) (sym e) (record { heads = is.heads; targets = is.targets; sources = is.sources }))
+    subst (λ (i : Inputs). IsKept i h) s
+    (subst (λ (h : Kept). IsKept (inputs_of w) h) (sym e) (record { heads = is.heads; targets = is.targets; sources = is.sources }))
 
 pub heads_seen : (h k : Kept) (w : Whole) (i : Inputs) → h ≡ k → inputs_of w ≡ i → HaveRows w k → AreHeads (system_of i) h.heads.rows
 heads_seen h k w i e s is = (rows_seen h k w i e s is).heads
@@ -37,10 +29,10 @@ sources_seen h k w i e s is = (rows_seen h k w i e s is).sources
 
 -- ---- Making
 
-have_rows : (v w : Whole) (h k : Kept) (i : Inputs) → v ≡ w → h ≡ k → inputs_of w ≡ i → StandFor w → AreRows i k → HaveRows v h
+pub have_rows : (v w : Whole) (h k : Kept) (i : Inputs) → v ≡ w → h ≡ k → inputs_of w ≡ i → StandFor w → IsKept i k → HaveRows v h
 have_rows v w h k i e f s is rows =
-    let all : AreRows (inputs_of v) h =
-    subst (λ (h : Kept). AreRows (inputs_of v) h) (sym f) (subst (λ (i : Inputs). AreRows i k) (sym (ap inputs_of e ∙ s)) rows) in
+    let all : IsKept (inputs_of v) h =
+    subst (λ (h : Kept). IsKept (inputs_of v) h) (sym f) (subst (λ (i : Inputs). IsKept i k) (sym (ap inputs_of e ∙ s)) rows) in
     record {
       tables = subst (λ (w : Whole). StandFor w) (sym e) is;
       heads = all.heads;
@@ -59,10 +51,3 @@ without_rows v w h k e f heads targets sources is =
       targets = subst (λ (rows : List TargetRow). AreTargets sys rows) (sym targets) (All-nil (λ (r : TargetRow). LeadsTo sys r.from 0 r.first));
       sources = subst (λ (rows : List SourceRow). AreSources sys rows) (sym sources) (All-nil (λ (r : SourceRow). ComesFrom sys r.to r.source));
     })
-
--- .. and with them
-pub with_rows :
-    (v w : Whole) (h : Kept) (heads : Heads) (ends : Ends) (i : Inputs) → v ≡ w → h ≡ record { heads = heads; ends = ends } → inputs_of w ≡ i → StandFor w
-    → AreHeads (system_of i) heads.rows → AreTargets (system_of i) ends.targets → AreSources (system_of i) ends.sources → HaveRows v h
-with_rows v w h heads ends i e f s is all targets sources =
-    have_rows v w h (record { heads = heads; ends = ends }) i e f s is (record { heads = all; targets = targets; sources = sources })

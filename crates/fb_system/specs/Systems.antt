@@ -38,3 +38,9 @@ pub record HaveRows (w : Whole) (k : Kept) : Type 0 where
   pub heads : AreHeads (system_of (inputs_of w)) k.heads.rows
   pub targets : AreTargets (system_of (inputs_of w)) k.ends.targets
   pub sources : AreSources (system_of (inputs_of w)) k.ends.sources
+
+-- The rows that are kept beside the tables of a system of these inputs.
+pub record IsKept (i : Inputs) (k : Kept) : Type 0 where
+  pub heads : AreHeads (system_of i) k.heads.rows
+  pub targets : AreTargets (system_of i) k.ends.targets
+  pub sources : AreSources (system_of i) k.ends.sources

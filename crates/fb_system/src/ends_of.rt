@@ -1,36 +1,48 @@
 //! The ends of the connections of a system.
 
-ghost use Rattle.std.specs.Prelude.{◌≡◌, ◌<◌, length, if◌then◌else◌, IfOk, OnOk};
+ghost use Rattle.std.specs.Prelude.{◌<◌, ◌≤◌, length, if◌then◌else◌, IfOk, OnOk};
 ghost use Rattle.fb_types.specs.Headline.{system_of};
+ghost use Rattle.fb_types.specs.Numbers.{path_at, ports_at};
 ghost use Rattle.fb_system.specs.Ends.{AreSources, AreTargets};
 
 use crate::ends::{Ends, FirstRows, MOST_ENDS, SourceRow, TargetRow};
 use crate::rows::number_of;
 use crate::system::System;
 use fb_types::items::Items;
-use fb_types::library::Ports;
 use fb_types::run::{Place, Target};
 use std::alloc::{AllocError, Global};
 
-/// How many event outputs, or event inputs, a type has.
-fn count_events(ports: &Ports, are_outputs: bool) -> usize
-    ensures { result ≡ length (if are_outputs then ports.now.event_outputs else ports.now.event_inputs) }
+/// How many of the event outputs, or of the event inputs, of an instance have rows. Its event inputs are connected to what
+/// is inside, so only those of a composite have any.
+fn count_events(system: &System, instance: u32, are_outputs: bool) -> usize
+    requires { instance < length (system_of system.now).paths }
+    ensures { let its = ports_at (system_of system.now) (path_at (system_of system.now) instance) in
+        result ≤ length (if are_outputs then its.event_outputs else its.event_inputs) }
 {
+    let ports = system.ports(instance);
     if are_outputs {
         ports.event_outputs.len()
+    } else if system.components(instance).is_empty() {
+        0
     } else {
         ports.event_inputs.len()
     }
 }
 
-/// How many data outputs, or data inputs, a type has.
-fn count_variables(ports: &Ports, are_outputs: bool) -> usize
-    ensures { result ≡ length (if are_outputs then ports.now.outputs else ports.now.inputs) }
+/// How many of the data outputs, or of the data inputs, of an instance have rows. Its data outputs are connected to what
+/// is inside, so only those of a composite have any.
+fn count_variables(system: &System, instance: u32, are_outputs: bool) -> usize
+    requires { instance < length (system_of system.now).paths }
+    ensures { let its = ports_at (system_of system.now) (path_at (system_of system.now) instance) in
+        result ≤ length (if are_outputs then its.outputs else its.inputs) }
 {
-    if are_outputs {
-        ports.outputs.len()
-    } else {
+    let ports = system.ports(instance);
+    if !are_outputs {
         ports.inputs.len()
+    } else if system.components(instance).is_empty() {
+        0
+    } else {
+        ports.outputs.len()
     }
 }
 
@@ -45,7 +57,7 @@ fn add_targets(
     requires rows { AreTargets (system_of system.now) rows.old }
     ensures { OnOk result (AreTargets (system_of system.now) rows.new) }
 {
-    for event in 0..count_events(system.ports(instance), is_output) {
+    for event in 0..count_events(system, instance, is_output) {
         if rows.len() >= MOST_ENDS {
             return Ok(());
         }
@@ -71,7 +83,7 @@ fn add_sources(
     requires rows { AreSources (system_of system.now) rows.old }
     ensures { OnOk result (AreSources (system_of system.now) rows.new) }
 {
-    for variable in 0..count_variables(system.ports(instance), is_output) {
+    for variable in 0..count_variables(system, instance, is_output) {
         if rows.len() >= MOST_ENDS {
             return Ok(());
         }
@@ -86,8 +98,7 @@ fn add_sources(
     Ok(())
 }
 
-/// Adds the ends of an instance. Its event inputs and its data outputs are connected to what is inside, so only those of a
-/// composite have rows.
+/// Adds the ends of an instance.
 fn add_instance(ends: &mut Ends, system: &System, instance: u32) -> Result<(), AllocError>
     requires instance { instance < length (system_of system.now).paths }
     requires targets { AreTargets (system_of system.now) ends.old.targets }
@@ -95,19 +106,14 @@ fn add_instance(ends: &mut Ends, system: &System, instance: u32) -> Result<(), A
     ensures targets { OnOk result (AreTargets (system_of system.now) ends.new.targets) }
     ensures sources { OnOk result (AreSources (system_of system.now) ends.new.sources) }
 {
-    let is_composite = !system.components(instance).is_empty();
     let event_inputs = number_of(ends.targets.len())?;
-    if is_composite {
-        add_targets(&mut ends.targets, system, instance, false)?;
-    }
+    add_targets(&mut ends.targets, system, instance, false)?;
     let event_outputs = number_of(ends.targets.len())?;
     add_targets(&mut ends.targets, system, instance, true)?;
     let inputs = number_of(ends.sources.len())?;
     add_sources(&mut ends.sources, system, instance, false)?;
     let outputs = number_of(ends.sources.len())?;
-    if is_composite {
-        add_sources(&mut ends.sources, system, instance, true)?;
-    }
+    add_sources(&mut ends.sources, system, instance, true)?;
     ends.firsts.push(FirstRows {
         event_inputs,
         event_outputs,

@@ -4,6 +4,7 @@ ghost use Rattle.std.specs.Prelude.{◌≡◌, ◌<◌, ◌^◌, IfOk, length, �
 ghost use Rattle.std.specs.List.{list_any};
 ghost use Rattle.fb_types.specs.Names.{same_name};
 ghost use Rattle.fb_types.specs.Blocks.{among, variables_with, ports_of_event_block};
+ghost use Rattle.fb_types.specs.declared.event_kind.EventKind.{EventKind};
 ghost use Rattle.fb_system.specs.Stands.{ArePlaces, ArePlacesOfEach, AreWithPlaces};
 ghost use Rattle.fb_system.specs.Tables.{AreOfEventBlocks};
 
@@ -11,7 +12,7 @@ use crate::with_places::WithPlaces;
 use fb_types::event_kind::EventKind;
 use fb_types::event_ports::ports_of;
 use fb_types::items::Items;
-use fb_types::library::{EventPort, Variable};
+use fb_types::library::{EventPort, Ports, Variable};
 use fb_types::name::Name;
 use std::alloc::{AllocError, Global};
 
@@ -63,10 +64,11 @@ fn places_with_each(
     Ok(all)
 }
 
-fn of_kind(alloc: Global, kind: EventKind) -> Result<WithPlaces, AllocError>
-    ensures { IfOk result (AreWithPlaces (ports_of_event_block kind)) }
+/// The places of the variables WITH each event of the interface of an event block.
+fn of_ports(alloc: Global, ports: &Ports) -> Result<WithPlaces, AllocError>
+    requires { (kind : EventKind) × (ports.now ≡ ports_of_event_block kind) }
+    ensures { IfOk result (AreWithPlaces ports.now) }
 {
-    let ports = ports_of(alloc, kind)?;
     let inputs = places_with_each(
         alloc,
         ports.event_inputs.as_slice(),
@@ -78,6 +80,13 @@ fn of_kind(alloc: Global, kind: EventKind) -> Result<WithPlaces, AllocError>
         ports.outputs.as_slice(),
     )?;
     Ok(WithPlaces { inputs, outputs })
+}
+
+fn of_kind(alloc: Global, kind: EventKind) -> Result<WithPlaces, AllocError>
+    ensures { IfOk result (AreWithPlaces (ports_of_event_block kind)) }
+{
+    let ports = ports_of(alloc, kind)?;
+    of_ports(alloc, &ports)
 }
 
 /// The places of the variables WITH each event of each event block.

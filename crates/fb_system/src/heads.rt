@@ -14,7 +14,7 @@ pub const ROW: usize = 48;
 pub(crate) const MOST_ROWS: usize = 65536;
 
 /// What a head is of: an event that an instance takes, or else emits, with the resource that the line names.
-#[derive(Clone, Copy, Debug, PartialEq, Eq)]
+#[derive(Clone, Copy, PartialEq, Eq)]
 pub struct HeadOf {
     pub resource: u32,
     pub instance: u32,

@@ -1,12 +1,13 @@
 //! The resources of all instances.
 
-ghost use Rattle.std.specs.Prelude.{◌≡◌, ◌<◌, length, IfOk};
+ghost use Rattle.std.specs.Prelude.{◌≡◌, ◌<◌, length, IfOk, OnOk};
 ghost use Rattle.fb_types.specs.Flat.{paths_of, resource_of};
 ghost use Rattle.fb_types.specs.declared.deploy.Plan.{Plan};
 ghost use Rattle.fb_fabric.specs.Layouts.{path_of};
 ghost use Rattle.fb_system.specs.Linking.{AreHomes, IsLinked};
 
 use crate::links::Links;
+use crate::whole::Whole;
 use fb_fabric::fabric::Fabric;
 use fb_types::items::Items;
 use std::alloc::{AllocError, Global};
@@ -23,11 +24,7 @@ fn home_of(fabric: &Fabric, links: &Links, instance: u32) -> usize
 }
 
 /// For each instance, the resource that holds it.
-pub(crate) fn homes_of(
-    alloc: Global,
-    fabric: &Fabric,
-    links: &Links,
-) -> Result<Items<usize>, AllocError>
+fn homes_of(alloc: Global, fabric: &Fabric, links: &Links) -> Result<Items<usize>, AllocError>
     ensures { IfOk result (λ homes. (plan : Plan) → IsLinked fabric.now plan links.now → AreHomes fabric.now plan homes) }
 {
     fabric.facts();
@@ -36,4 +33,13 @@ pub(crate) fn homes_of(
         homes.push(home_of(fabric, links, instance as u32))?;
     }
     Ok(homes)
+}
+
+/// Gives tables the resources of all instances.
+pub(crate) fn add_homes(alloc: Global, tables: &mut Whole) -> Result<(), AllocError>
+    ensures same { OnOk result (tables.new ≡ record tables.old { homes = tables.new.homes }) }
+    ensures homes { OnOk result (IsLinked tables.old.fabric tables.old.deploy tables.old.links → AreHomes tables.old.fabric tables.old.deploy tables.new.homes) }
+{
+    tables.homes = homes_of(alloc, &tables.fabric, &tables.links)?;
+    Ok(())
 }

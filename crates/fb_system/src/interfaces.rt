@@ -20,10 +20,19 @@ use fb_types::library::{BlockType, Library};
 use std::alloc::{AllocError, Global};
 
 /// The types of a declaration and the event blocks: for each event the places of the variables WITH it.
-#[derive(Drop)]
 pub struct Interfaces {
     blocks: Items<WithPlaces>,
     event_blocks: Items<WithPlaces>,
+}
+
+// Written out, and not derived: so what lets interfaces go does so by one call.
+impl Drop for Interfaces {
+    fn drop(self) {
+        let Interfaces {
+            blocks: _,
+            event_blocks: _,
+        } = self;
+    }
 }
 
 impl Interfaces {

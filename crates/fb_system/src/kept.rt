@@ -1,18 +1,28 @@
 //! What a system keeps in rows beside its tables.
 
-ghost use Rattle.std.specs.Prelude.{◌≡◌, []};
+ghost use Rattle.std.specs.Prelude.{◌≡◌, [], IfOk};
+ghost use Rattle.fb_system.specs.Systems.{IsKept};
 
 use crate::ends::Ends;
+use crate::ends_of::ends_of;
 use crate::heads::Heads;
-use std::alloc::Global;
+use crate::heads_of::heads_of;
+use crate::system::System;
+use std::alloc::{AllocError, Global};
 
 /// The rows of a system. They are made once, so that what an event asks for most is found at once.
-#[derive(Drop)]
 pub(crate) struct Kept {
     /// The heads of its lines.
     pub heads: Heads,
     /// The ends of its connections.
     pub ends: Ends,
+}
+
+// Written out, and not derived, as that of the tables.
+impl Drop for Kept {
+    fn drop(self) {
+        let Kept { heads: _, ends: _ } = self;
+    }
 }
 
 impl Kept {
@@ -27,4 +37,13 @@ impl Kept {
             ends: Ends::new(alloc),
         }
     }
+}
+
+/// The rows of a system.
+pub(crate) fn rows_of(alloc: Global, system: &System) -> Result<Kept, AllocError>
+    ensures { IfOk result (IsKept system.now) }
+{
+    let heads = heads_of(alloc, system)?;
+    let ends = ends_of(alloc, system)?;
+    Ok(Kept { heads, ends })
 }

@@ -19,13 +19,23 @@ type Ways = Vec<Items<Option<usize>>>;
 
 /// The resources of instances and of links, by number. Contracts see the resource that holds each instance, and the
 /// resources of each link.
-#[derive(Drop)]
 pub struct Links {
     /// For each instance of the application, the resource that holds it.
     holders: Items<usize>,
     /// For each link, its resources.
     ends: Items<LinkEnds>,
     ways: Ways,
+}
+
+// Written out, and not derived: so what lets links go does so by one call.
+impl Drop for Links {
+    fn drop(self) {
+        let Links {
+            holders: _,
+            ends: _,
+            ways: _,
+        } = self;
+    }
 }
 
 impl Model for Links {

@@ -7,7 +7,7 @@ use fb_types::value::Value;
 use std::alloc::AllocError;
 
 /// A value for the slot of the data input at a place.
-#[derive(Clone, Copy, Debug, PartialEq, Eq)]
+#[derive(Clone, Copy)]
 pub struct SlotValue {
     pub place: u32,
     pub value: Value,

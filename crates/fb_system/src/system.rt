@@ -1,6 +1,7 @@
 //! The system that stands for accepted inputs.
 
 ghost use Rattle.std.specs.Prelude.{◌≡◌, ◌+◌, ◌<◌, ◌≤◌, [], List, ℕ, length, option_map, slice_get, slice_index_or, ◌↔◌, IfOk, IfSome, IsTrue};
+ghost use Rattle.std.specs.Arc.{arc_value};
 ghost use Rattle.fb_types.specs.Flat.{latency_at};
 ghost use Rattle.fb_types.specs.Headline.{AreAccepted, system_of, inputs};
 ghost use Rattle.fb_types.specs.Limits.{IsWithinLimits};
@@ -15,15 +16,13 @@ ghost use Rattle.fb_system.specs.Ends.{ComesFrom, LeadsTo};
 ghost use Rattle.fb_system.specs.Heads.{IsHead};
 ghost use Rattle.fb_system.specs.Linking.{AreHomes, IsLinked};
 ghost use Rattle.fb_system.specs.Ports.{IsPort, IsSource, IsTarget, IsVariable, variable_of};
-ghost use Rattle.fb_system.specs.Systems.{inputs_of, IsGiven, StandFor};
+ghost use Rattle.fb_system.specs.Systems.{inputs_of, IsGiven, IsKept, StandFor};
 
-use crate::ends_of::ends_of;
 use crate::given::Given;
 use crate::heads::{Head, HeadOf};
-use crate::heads_of::heads_of;
-use crate::homes::homes_of;
+use crate::homes::add_homes;
 use crate::initial_values::{input_values, output_values};
-use crate::kept::Kept;
+use crate::kept::{Kept, rows_of};
 use crate::links::Links;
 use crate::stimulus::StimulusAt;
 use crate::types::{ports_of_type, with_places_of_type};
@@ -120,7 +119,7 @@ impl System {
         requires { (homes : List ℕ) → (IsLinked tables.fabric tables.deploy tables.links → AreHomes tables.fabric tables.deploy homes) → StandFor (record tables { homes = homes }) }
         ensures { IfOk result (λ s. s ≡ inputs_of tables) }
     {
-        tables.homes = homes_of(alloc, &tables.fabric, &tables.links)?;
+        add_homes(alloc, &mut tables)?;
         let whole = Arc::new(alloc, tables)?;
         let kept = Arc::new(alloc, Kept::new(alloc))?;
         let bare = System { whole, kept };
@@ -131,9 +130,15 @@ impl System {
     fn with_rows(&self, alloc: Global) -> Result<System, AllocError>
         ensures { IfOk result (λ s. s ≡ self.now) }
     {
-        let heads = heads_of(alloc, self)?;
-        let ends = ends_of(alloc, self)?;
-        let kept = Arc::new(alloc, Kept { heads, ends })?;
+        let rows = rows_of(alloc, self)?;
+        self.with_kept(Arc::new(alloc, rows)?)
+    }
+
+    /// The same system with these rows. No table is copied.
+    fn with_kept(&self, kept: Arc<Kept, Global>) -> Result<System, AllocError>
+        requires { IsKept self.now (arc_value kept) }
+        ensures { IfOk result (λ s. s ≡ self.now) }
+    {
         let whole = Arc::try_clone(&self.whole)?;
         Ok(System { whole, kept })
     }
@@ -142,9 +147,7 @@ impl System {
     pub fn share(&self) -> Result<System, AllocError>
         ensures { IfOk result (λ s. s ≡ self.now) }
     {
-        let whole = Arc::try_clone(&self.whole)?;
-        let kept = Arc::try_clone(&self.kept)?;
-        Ok(System { whole, kept })
+        self.with_kept(Arc::try_clone(&self.kept)?)
     }
 
     /// What was accepted, and what every system keeps.

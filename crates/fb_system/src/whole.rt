@@ -11,7 +11,6 @@ use fb_types::items::Items;
 use fb_types::library::Ports;
 
 /// Accepted inputs, with the tables by which their numbers are looked up.
-#[derive(Drop)]
 pub(crate) struct Whole {
     pub deploy: Deploy,
     pub stimuli: Items<Stimulus>,
@@ -27,6 +26,22 @@ pub(crate) struct Whole {
     pub rows: Items<StimulusRow>,
     /// For each instance, the resource that holds it.
     pub homes: Items<usize>,
+}
+
+// Written out, and not derived: so each way on which a system wants memory lets the tables go by one call.
+impl Drop for Whole {
+    fn drop(self) {
+        let Whole {
+            deploy: _,
+            stimuli: _,
+            fabric: _,
+            links: _,
+            event_blocks: _,
+            interfaces: _,
+            rows: _,
+            homes: _,
+        } = self;
+    }
 }
 
 /// The stimulus at a row.

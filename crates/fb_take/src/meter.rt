@@ -7,7 +7,7 @@ ghost use Rattle.fb_take.specs.Counts.{HasNoSteps, IsMetered, before_step, meter
 
 /// The steps that are left in the tick of the last event that was taken, and how many local events were
 /// raised in it.
-#[derive(Clone, Copy, Debug, PartialEq, Eq)]
+#[derive(Clone, Copy)]
 pub struct Meter {
     pub tick: Option<u64>,
     pub left: u64,

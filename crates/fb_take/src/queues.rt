@@ -14,7 +14,6 @@ use fb_types::run::{Message, TimerAsk};
 use std::alloc::{AllocError, Global};
 
 /// Where the events of takings come from, and where what they give goes.
-#[derive(Drop)]
 pub struct Queues {
     /// The events that wait.
     pub agenda: Agenda,
@@ -24,6 +23,19 @@ pub struct Queues {
     pub mail: Vec<Message>,
     /// The lines, and room for what one reaction puts out.
     pub outbox: Outbox,
+}
+
+// Written out, and not derived: so it is proved here alone what is let go with the queues, and not in each crate that lets
+// them go.
+impl Drop for Queues {
+    fn drop(self) {
+        let Queues {
+            agenda: _,
+            sent: _,
+            mail: _,
+            outbox: _,
+        } = self;
+    }
 }
 
 impl Queues {

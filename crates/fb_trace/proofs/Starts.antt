@@ -43,6 +43,11 @@ others_of sys l vs ks are = ap values_text (others (variable_at vs) ks l.values 
 all_behind : {X : Type 0} (xs : List X) → take (length xs - 1) (drop 1 xs) ≡ drop 1 xs
 all_behind xs = take_all (length xs - 1) (drop 1 xs) (omega (arith, length-drop 1 xs))
 
+pub others_counted :
+    {X Y : Type 0} (xs : List X) (ys : List Y) → length xs ≡ length ys → length (take (length xs - 1) (drop 1 xs)) ≡ length (take (length ys - 1) (drop 1 ys))
+others_counted xs ys same =
+    ap length (all_behind xs) ∙ length-drop 1 xs ∙ ap (λ (n : ℕ). n - 1) same ∙ sym (length-drop 1 ys) ∙ sym (ap length (all_behind ys))
+
 -- .. as they are sliced
 pub others_sliced :
     (sys : System) (l : run.Line) (vs : List Variable) (ks : List ℕ) → ArePlaces vs (line_variables sys l) ks

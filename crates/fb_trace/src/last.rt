@@ -1,9 +1,9 @@
 //! The last line of a trace.
 
-ghost use Rattle.std.specs.Prelude.{◌≡◌, ◌<◌, length, IfErr, OnOk};
+ghost use Rattle.std.specs.Prelude.{◌≡◌, ◌<◌, [], ◌∷◌, ◌++◌, codes, decimal, length, IfErr, OnOk};
 ghost use Rattle.std.specs.Io.KnownBytes.{Appends};
 ghost use Rattle.fb_types.specs.Headline.{system_of};
-ghost use Rattle.fb_types.specs.Simulation.{AtHorizon, AtStop};
+ghost use Rattle.fb_types.specs.Simulation.{AtStop};
 ghost use Rattle.fb_types.specs.Text.{last_line, reason_text};
 ghost use Rattle.fb_trace.specs.End.{ending_of, EndsIn};
 ghost use Rattle.fb_trace.specs.Progress.{Gathers, IsPartWritten};
@@ -17,7 +17,7 @@ use fb_types::value::Reason;
 use std::io::Write;
 
 /// How a run ends.
-#[derive(Clone, Copy, Debug, PartialEq, Eq)]
+#[derive(Clone, Copy)]
 pub enum RunEnd {
     /// It came to its horizon, the tick at which it was to end.
     Horizon(u64),
@@ -25,14 +25,9 @@ pub enum RunEnd {
     Stop(StopMark),
 }
 
-fn put_horizon<W: Write>(
-    page: &mut Page,
-    out: &mut W,
-    system: &System,
-    horizon: u64,
-) -> Result<(), WriteFault>
+fn put_horizon<W: Write>(page: &mut Page, out: &mut W, horizon: u64) -> Result<(), WriteFault>
     ensures { Gathers (W.contents out.old) (W.contents out.new) page.old page.new
-        (last_line (system_of system.now) (AtHorizon horizon)) result }
+        (codes "end " ++ decimal horizon ++ 10 ∷ []) result }
 {
     page.put(out, b"end ")?;
     page.put_number(out, horizon as u128)?;
@@ -78,7 +73,7 @@ pub(crate) fn put_last<W: Write>(
         (last_line (system_of system.now) (ending_of end.now)) result }
 {
     match end {
-        RunEnd::Horizon(horizon) => put_horizon(page, out, system, *horizon),
+        RunEnd::Horizon(horizon) => put_horizon(page, out, *horizon),
         RunEnd::Stop(mark) => put_stop(page, out, system, mark),
     }
 }

@@ -1,18 +1,16 @@
 -- One block before the first event.
-use Rattle.std.proofs.Common.{◌≡◌, ℕ, ◌<◌, ◌+◌, suc, List, [], ◌∷◌, ◌++◌, map, length, Contains, true, false, Option, Some, None, refl, sym, ◌∙◌, ap, subst, inl, inr, rules}
+use Rattle.std.proofs.Common.{◌≡◌, ℕ, ◌<◌, suc, List, [], ◌∷◌, ◌++◌, map, length, Contains, true, false, Option, Some, None, refl, sym, ◌∙◌, ap, subst}
 use Rattle.std.specs.Prelude.{if◌then◌else◌, option_map, slice_get, unwrap_or}
 use Rattle.std.proofs.lemmas.Option.{slice_get-map, same_Some}
 use Rattle.fb_types.specs.Names.{Name, Path}
 use Rattle.fb_types.specs.Values.{Values}
-use Rattle.fb_types.specs.Blocks.{Kind, Basic, Event, Composite, among, ports, ports_of, variable_names, variables_of}
-use Rattle.fb_types.specs.EventBlocks.{memory_at_start}
-use Rattle.fb_types.specs.Flat.{kind_at, kind_of}
+use Rattle.fb_types.specs.Blocks.{Kind, Basic, Composite, among, ports, ports_of, variable_names, variables_of}
+use Rattle.fb_types.specs.Flat.{kind_of}
 use Rattle.fb_types.specs.Headline.{AreAccepted, Inputs, system_of}
 use Rattle.fb_types.specs.Numbers.{path_at, ports_at}
 use Rattle.fb_types.specs.Simulation.{first_state, opening_block, opening_memory}
 use Rattle.fb_types.specs.States as model
 use Rattle.fb_types.specs.Systems.{System}
-use Rattle.fb_types.specs.declared.event_kind.EventKind.{EventKind}
 use Rattle.fb_types.specs.declared.library.BasicType.{BasicType}
 use Rattle.fb_types.specs.declared.library.BlockType.{BlockType}
 use Rattle.fb_types.specs.declared.library.CompositeType.{CompositeType}
@@ -23,15 +21,13 @@ use Rattle.fb_types.specs.declared.value.Value.{Value}
 use Rattle.fb_st.specs.Frames.{Declared, declared_in, is_declared, values_of}
 use Rattle.fb_st.specs.declared.frame.Slot.{Slot}
 use Rattle.fb_ecc.specs.Opened.{IsOfDeclaration, IsOpened, slot_of}
-use Rattle.fb_ecc.specs.Places.{IsBlockOf, state_at}
+use Rattle.fb_ecc.specs.Places.{state_at}
 use Rattle.fb_ecc.specs.declared.state.BasicState.{BasicState}
 use Rattle.fb_system.specs.Stimuli.{initial_inputs, initial_outputs}
-use Rattle.fb_tree.specs.Worlds.{BasicStands, CompositeStands, EventStands, NodeStands, ShellStands, StandsFor, ValuesStand, begins}
-use Rattle.fb_tree.specs.declared.block.Block.{Block}
+use Rattle.fb_tree.specs.Worlds.{BasicStands, NodeStands, ShellStands, StandsFor, ValuesStand, begins}
 use Rattle.fb_tree.specs.declared.block.Block.TheVariants as block
 use Rattle.fb_tree.specs.declared.block.BasicBlock.{BasicBlock}
 use Rattle.fb_tree.specs.declared.block.CompositeBlock.{CompositeBlock}
-use Rattle.fb_tree.specs.declared.block.EventBlock.{EventBlock}
 use Rattle.fb_tree.specs.declared.shell.Shell.{Shell}
 use Rattle.fb_tree.specs.Opening.{AreDeclared, begun_all}
 use Rattle.fb_types.proofs.ByPlace.{slice_get-append_left}

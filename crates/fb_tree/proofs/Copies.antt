@@ -1,5 +1,5 @@
 -- Held copies before the first event.
-use Rattle.std.proofs.Common.{◌≡◌, ◌≢◌, ℕ, ◌<◌, ◌≤◌, ◌+◌, Bool, true, false, cond, nat_eq, List, [], ◌∷◌, ◌++◌, map, length, Option, Some, None, refl, sym, ◌∙◌, ap, subst, inl, inr, arith}
+use Rattle.std.proofs.Common.{◌≡◌, ◌≢◌, ℕ, ◌<◌, ◌+◌, Bool, true, false, cond, nat_eq, List, [], ◌∷◌, ◌++◌, map, length, Option, Some, None, refl, sym, ◌∙◌, ap, subst, inl, inr, arith}
 use Rattle.std.specs.Prelude.{if◌then◌else◌, option_map, position, slice_get, unwrap_or}
 use Rattle.std.specs.BTreeMap.{get}
 use Rattle.std.specs.Ordering.{bool_cmp, is_eq, nat_cmp, ordering_then}
@@ -7,13 +7,12 @@ use Rattle.std.specs.declared.cmp.Ordering.{Ordering}
 use Rattle.std.specs.declared.cmp.Ordering.TheVariants as order
 use Rattle.std.proofs.lemmas.Bool.{cases_lt}
 use Rattle.std.proofs.lemmas.Bool.Decides.{nat_tests}
-use Rattle.std.proofs.lemmas.Option.{slice_get-get_or, slice_get-map, same_Some}
-use Rattle.fb_types.specs.Names.{Name, Path, Port, same_name}
+use Rattle.std.proofs.lemmas.Option.{slice_get-map, same_Some}
+use Rattle.fb_types.specs.Names.{Name, Port, same_name}
 use Rattle.fb_types.specs.Blocks.{Kind, ports, ports_of, variable_names}
 use Rattle.fb_types.specs.Headline.{AreAccepted, Inputs, system_of}
 use Rattle.fb_types.specs.Numbers.{path_at, ports_at}
 use Rattle.fb_types.specs.Repeated.{Twice}
-use Rattle.fb_types.specs.Systems.{System}
 use Rattle.fb_types.specs.declared.library.Ports.{Ports}
 use Rattle.fb_types.specs.declared.library.Variable.{Variable}
 use Rattle.fb_types.specs.declared.value.Value.{Value}
@@ -23,7 +22,7 @@ use Rattle.fb_system.specs.Ports.{IsVariable, variable_of, variables_at}
 use Rattle.fb_tree.specs.Worlds.{key_cmp, key_of}
 use Rattle.fb_tree.specs.Opening.{Covers, CoversPlaces, Held, KeepsCovers}
 use Rattle.fb_types.proofs.ByPlace.{slice_get-append_left, slice_get-after, element_at}
-use Rattle.fb_tree.proofs.Known.{data_names, kind_once, kind_there, known_of, once_of, stood}
+use Rattle.fb_tree.proofs.Known.{kind_once, kind_there, known_of, once_of, stood}
 
 -- ---- Keys
 

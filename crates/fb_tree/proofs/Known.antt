@@ -1,13 +1,12 @@
 -- What acceptance says of the instances of a declaration.
 use Rattle.std.proofs.Common.{◌≡◌, ℕ, ◌<◌, ◌≤◌, ◌+◌, zero, suc, List, [], ◌∷◌, ◌++◌, map, length, get_or, Option, Some, None, Contains, true, false, Bool, refl, sym, ◌∙◌, ap, subst, inl, inr, arith, append_assoc}
-use Rattle.std.proofs.lemmas.Bool.{true≢false, false_from_ne_true}
+use Rattle.std.proofs.lemmas.Bool.{true≢false}
 use Rattle.std.proofs.lemmas.List.Elements.{Contains-append_left, Contains-append_right, Contains-append_cases}
-use Rattle.std.proofs.lemmas.Option.{slice_get-get_or, slice_get_within, slice_get-map}
+use Rattle.std.proofs.lemmas.Option.{slice_get-get_or}
 use Rattle.std.specs.Prelude.{flat_map, not, ◌&&◌, option_map, option_and_then, position, slice_get, unwrap_or}
-use Rattle.std.specs.List.{list_all}
 use Rattle.fb_types.specs.Names.{Name, Path, same_name}
-use Rattle.fb_types.specs.Blocks.{Kind, Basic, Event, Composite, among, event_blocks, event_names, named, ports_of, ports_of_event_block, variable_names}
-use Rattle.fb_types.specs.Flat.{inside, instance_at, instance_in, kind_at, kind_of, kind_of_instance, network_at, network_of, paths_inside, paths_of, resource_names_of, type_name, type_named}
+use Rattle.fb_types.specs.Blocks.{Kind, Basic, Event, among, event_blocks, event_names, named, ports_of, variable_names}
+use Rattle.fb_types.specs.Flat.{inside, instance_at, instance_in, kind_at, kind_of, kind_of_instance, network_at, paths_inside, paths_of, resource_names_of, type_name, type_named}
 use Rattle.fb_types.specs.Headline.{AreAccepted, Inputs, system_of}
 use Rattle.fb_types.specs.Numbers.{path_at}
 use Rattle.fb_types.specs.Repeated.{NameTwice, Placed, Twice, algorithm_names, basics, basics_in, block_type_names, instance_names, interfaces, internals_of, networks, networks_in, parameter_lists, port_names, state_names, with_lists}

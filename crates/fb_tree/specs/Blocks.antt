@@ -1,7 +1,6 @@
 -- A function block with its variables (IEC 61499-1, 5.1 to 5.3).
 use Rattle.std.specs.Prelude.{ℕ, List, [], slice_set}
 use Rattle.fb_types.specs.declared.value.Value.{Value}
-use Rattle.fb_event.specs.State.{State}
 use Rattle.fb_tree.specs.declared.block.Block.{Block}
 use Rattle.fb_tree.specs.declared.block.Block.TheVariants as block
 use Rattle.fb_tree.specs.declared.shell.Shell.{Shell}

@@ -1,5 +1,5 @@
 -- What the blocks of one resource stand for in the model (IEC 61499-1, 5.2 and 5.3; that a resource has blocks of its own instances, and held copies, is this project's profile).
-use Rattle.std.specs.Prelude.{◌≡◌, ◌<◌, ◌≢◌, ℕ, Bool, false, List, [], ◌∷◌, length, Option, Some, None, unwrap_or, slice_get, slice_set}
+use Rattle.std.specs.Prelude.{◌≡◌, ◌<◌, ◌≢◌, ℕ, Bool, false, List, length, Option, Some, unwrap_or, slice_get, slice_set}
 use Rattle.std.specs.BTreeMap.{get}
 use Rattle.std.specs.Ordering.{nat_cmp, bool_cmp, ordering_then}
 use Rattle.std.specs.declared.cmp.Ordering.{Ordering}

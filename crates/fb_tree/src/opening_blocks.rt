@@ -1,12 +1,14 @@
 //! One block before the first event.
 
-ghost use Rattle.std.specs.Prelude.{◌≡◌, ◌<◌, length, map, Some, true, IfOk, OnOk};
-ghost use Rattle.fb_types.specs.Blocks.{Basic, variable_names};
+ghost use Rattle.std.specs.Prelude.{◌≡◌, ◌<◌, length, map, slice_get, Some, true, IfOk, OnOk};
+ghost use Rattle.fb_types.specs.Blocks.{Basic, Event, variable_names};
 ghost use Rattle.fb_types.specs.Headline.{system_of};
 ghost use Rattle.fb_types.specs.Numbers.{path_at, ports_at};
 ghost use Rattle.fb_types.specs.Simulation.{opening_block};
+ghost use Rattle.fb_types.specs.declared.library.BlockType.TheVariants as types;
 ghost use Rattle.fb_st.specs.Frames.{declared_in, values_of};
 ghost use Rattle.fb_ecc.specs.Numbered.{chart_of};
+ghost use Rattle.fb_system.specs.Ports.{IsCompositeAt};
 ghost use Rattle.fb_system.specs.Stimuli.{initial_inputs, initial_outputs};
 ghost use Rattle.fb_tree.specs.Worlds.{BasicStands, StandsFor};
 ghost use Rattle.fb_tree.specs.Opening.{AreCharts, AreDeclared, begun_all};
@@ -20,6 +22,7 @@ use fb_event::state::EventState;
 use fb_names::numbers::TypeNumber;
 use fb_st::frame::Frame;
 use fb_system::system::System;
+use fb_types::event_kind::EventKind;
 use fb_types::items::Items;
 use fb_types::library::{BasicType, BlockType, Variable};
 use fb_types::reference::Reference;
@@ -86,8 +89,62 @@ fn basic_of(
     Ok(state)
 }
 
-/// The block of an instance. A basic block shares the chart of its type, which is put among the others where the block
-/// is the first of the type.
+/// The block of an instance of an event block.
+fn event_block_of(
+    alloc: Global,
+    system: &System,
+    instance: u32,
+    kind: EventKind,
+) -> Result<Block, AllocError>
+    requires instance { instance < length (system_of system.now).paths }
+    requires kind { (system_of system.now).kind (path_at (system_of system.now) instance) ≡ Some (Event kind) }
+    ensures { IfOk result (λ b. let p = path_at (system_of system.now) instance in StandsFor (system_of system.now) p b (opening_block (system_of system.now) p)) }
+{
+    let inputs = inputs_of(alloc, system, instance)?;
+    let shell = shell_of(alloc, system, instance)?;
+    Ok(Block::Event(EventBlock {
+        state: EventState::new(kind),
+        inputs,
+        shell,
+    }))
+}
+
+/// The block of an instance of a basic type, which shares the chart of its type. It is put among the others where the
+/// block is the first of the type.
+fn basic_block_of(
+    alloc: Global,
+    system: &System,
+    instance: u32,
+    block: &BasicType,
+    place: usize,
+    charts: &mut Charts,
+) -> Result<Block, AllocError>
+    requires instance { instance < length (system_of system.now).paths }
+    requires kind { (system_of system.now).kind (path_at (system_of system.now) instance) ≡ Some (Basic block.now) }
+    requires place { slice_get system.now.library.blocks place ≡ Some (types.Basic block.now) }
+    requires charts { AreCharts system.now charts.old }
+    ensures stands { IfOk result (λ b. let p = path_at (system_of system.now) instance in StandsFor (system_of system.now) p b (opening_block (system_of system.now) p)) }
+    ensures charts { OnOk result (AreCharts system.now charts.new) }
+{
+    system.facts();
+    let chart = chart_at(alloc, block, place, charts)?;
+    let state = basic_of(alloc, system, instance, block, chart)?;
+    let shell = shell_of(alloc, system, instance)?;
+    Ok(Block::Basic(BasicBlock { state, shell }))
+}
+
+/// The block of an instance of a composite type.
+fn composite_block_of(alloc: Global, system: &System, instance: u32) -> Result<Block, AllocError>
+    requires instance { instance < length (system_of system.now).paths }
+    requires composite { IsCompositeAt (system_of system.now) instance }
+    ensures { IfOk result (λ b. let p = path_at (system_of system.now) instance in StandsFor (system_of system.now) p b (opening_block (system_of system.now) p)) }
+{
+    let inputs = inputs_of(alloc, system, instance)?;
+    let shell = shell_of(alloc, system, instance)?;
+    Ok(Block::Composite(CompositeBlock { inputs, shell }))
+}
+
+/// The block of an instance. The charts are those of the types of the basic blocks that were made before.
 pub(crate) fn block_of(
     alloc: Global,
     system: &System,
@@ -100,27 +157,13 @@ pub(crate) fn block_of(
     ensures charts { OnOk result (AreCharts system.now charts.new) }
 {
     system.facts();
-    let shell = shell_of(alloc, system, instance)?;
     match system.kind(instance) {
-        TypeNumber::Event(kind) => {
-            let state = EventState::new(kind);
-            let inputs = inputs_of(alloc, system, instance)?;
-            Ok(Block::Event(EventBlock {
-                state,
-                inputs,
-                shell,
-            }))
-        }
+        TypeNumber::Event(kind) => event_block_of(alloc, system, instance, kind),
         TypeNumber::Declared(place) => match system.library().blocks.get(place) {
             Some(BlockType::Basic(block)) => {
-                let chart = chart_at(alloc, block, place, charts)?;
-                let state = basic_of(alloc, system, instance, block, chart)?;
-                Ok(Block::Basic(BasicBlock { state, shell }))
+                basic_block_of(alloc, system, instance, block, place, charts)
             }
-            Some(BlockType::Composite(_)) => {
-                let inputs = inputs_of(alloc, system, instance)?;
-                Ok(Block::Composite(CompositeBlock { inputs, shell }))
-            }
+            Some(BlockType::Composite(_)) => composite_block_of(alloc, system, instance),
             None => unreachable!(),
         },
     }

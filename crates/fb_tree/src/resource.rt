@@ -24,7 +24,6 @@ pub type HeldCopies = BTreeMap<(u32, u32, bool), Value, Global>;
 
 /// The instances of one resource, and the held copies of the variables of other resources to which they are
 /// connected.
-#[derive(Drop)]
 pub struct Forest {
     /// The number of the resource.
     pub resource: usize,
@@ -35,6 +34,19 @@ pub struct Forest {
     /// stand beside it, so that each is found at once however deep it is.
     pub blocks: Items<Block>,
     pub held: HeldCopies,
+}
+
+// Written out, and not derived: so it is proved here alone what is let go with a forest, and not in each crate that lets
+// one go.
+impl Drop for Forest {
+    fn drop(self) {
+        let Forest {
+            resource: _,
+            seats: _,
+            blocks: _,
+            held: _,
+        } = self;
+    }
 }
 
 /// What stands for a value that is not there.

@@ -1,7 +1,8 @@
 -- Steps of a loop over a list.
-use Rattle.std.proofs.Common.{◌≡◌, ℕ, ◌<◌, ◌≤◌, ◌+◌, List, [], ◌∷◌, ◌++◌, length, map, take, drop, get_or, sym, ◌∙◌, ap, subst}
+use Rattle.std.proofs.Common.{◌≡◌, ℕ, ◌<◌, ◌≤◌, ◌+◌, Bool, true, false, cond, List, [], ◌∷◌, ◌++◌, length, map, take, drop, get_or, Some, sym, ◌∙◌, ap, subst}
 use Rattle.std.specs.Prelude.{All}
-use Rattle.std.proofs.lemmas.List.{take_more, take_all, map-append, take-append-drop}
+use Rattle.std.specs.List.{find}
+use Rattle.std.proofs.lemmas.List.{at_drop_more, take_more, take_all, map-append, take-append-drop}
 use Rattle.std.proofs.lemmas.List.Elements.{All-push}
 use Rattle.fb_types.specs.Repeated.{Twice}
 use Rattle.fb_types.proofs.TwiceLaws.{Twice-append_left}
@@ -38,3 +39,23 @@ all_next {A} P xs i x h e so_far here =
 
 pub all_of_taken : {A : Type 0} (P : A → Type 0) (xs : List A) (i : ℕ) → length xs ≤ i → All P (take i xs) → All P xs
 all_of_taken {A} P xs i h all = subst (λ (ys : List A). All P ys) (take_all i xs h) all
+
+-- ---- A loop that looks for the first element that passes a test
+
+-- the answer of the test at the element at hand
+find_next :
+    {A : Type 0} (p : A → Bool) (xs : List A) (i : ℕ) (x : A) (b : Bool) → i < length xs → x ≡ get_or xs i x → find p xs ≡ find p (drop i xs) → p x ≡ b
+    → find p xs ≡ cond b (Some x) (find p (drop (i + 1) xs))
+find_next {A} p xs i x b h e before is =
+    before ∙ at_drop_more (find p) xs i x h ∙ ap (λ (y : A). find p (y ∷ drop (i + 1) xs)) (sym e)
+    ∙ ap (λ c. cond c (Some x) (find p (drop (i + 1) xs))) is
+
+pub found_here :
+    {A : Type 0} (p : A → Bool) (xs : List A) (i : ℕ) (x : A) → i < length xs → x ≡ get_or xs i x → find p xs ≡ find p (drop i xs) → p x ≡ true
+    → Some x ≡ find p xs
+found_here p xs i x h e before passes = sym (find_next p xs i x true h e before passes)
+
+pub found_later :
+    {A : Type 0} (p : A → Bool) (xs : List A) (i : ℕ) (x : A) → i < length xs → x ≡ get_or xs i x → find p xs ≡ find p (drop i xs) → p x ≡ false
+    → find p xs ≡ find p (drop (i + 1) xs)
+found_later p xs i x h e before fails = find_next p xs i x false h e before fails

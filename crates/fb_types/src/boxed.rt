@@ -6,9 +6,16 @@ use std::alloc::{AllocError, Global};
 use std::marker::Model;
 
 /// A value on the heap. Contracts see the value, and no pointer.
-#[derive(Drop)]
 pub struct Boxed<T> {
     inner: Box<T>,
+}
+
+// Written out, and not derived: so it is proved in this crate alone what is let go with it, and not in each crate that
+// lets one go.
+impl<T: Drop> Drop for Boxed<T> {
+    fn drop(self) {
+        let Boxed { inner: _ } = self;
+    }
 }
 
 impl<T> Model for Boxed<T> {

@@ -11,28 +11,57 @@ use std::alloc::{AllocError, Global};
 use std::marker::Model;
 
 /// A resource of a device, with the instances of the application that it holds.
-#[derive(Drop)]
 pub struct ResourceEntry {
     pub device: Name,
     pub name: Name,
     pub instances: Items<Name>,
 }
 
+// Written out, and not derived, here and below: so it is proved in this crate alone what is let go with such a value, and
+// not in each crate that lets one go.
+impl Drop for ResourceEntry {
+    fn drop(self) {
+        let ResourceEntry {
+            device: _,
+            name: _,
+            instances: _,
+        } = self;
+    }
+}
+
 /// Carries the connections from one resource to another.
-#[derive(Drop)]
 pub struct Link {
     pub from: Name,
     pub to: Name,
     pub latency: Latency,
 }
 
+impl Drop for Link {
+    fn drop(self) {
+        let Link {
+            from: _,
+            to: _,
+            latency: _,
+        } = self;
+    }
+}
+
 /// Resources and links, each numbered by its place from 0. Where `holds_all` is set, the one resource
 /// holds every instance, whatever its list says.
-#[derive(Drop)]
 pub struct Plan {
     pub resources: Items<ResourceEntry>,
     pub links: Items<Link>,
     pub holds_all: bool,
+}
+
+impl Drop for Plan {
+    fn drop(self) {
+        let Plan {
+            resources: _,
+            links: _,
+            holds_all: _,
+        } = self;
+    }
 }
 
 /// A plan within the limits: 1 to 256 resources, one where it holds all, and at most 1,024 links.
@@ -96,17 +125,35 @@ impl Deploy {
 }
 
 /// A value for the slot of an input variable.
-#[derive(Drop)]
 pub struct Setting {
     pub variable: Name,
     pub value: Value,
 }
 
+impl Drop for Setting {
+    fn drop(self) {
+        let Setting {
+            variable: _,
+            value: _,
+        } = self;
+    }
+}
+
 /// An event from outside, at an event input of an instance of the application. It sets slots first.
-#[derive(Drop)]
 pub struct Stimulus {
     pub tick: u64,
     pub instance: Name,
     pub event: Name,
     pub settings: Items<Setting>,
+}
+
+impl Drop for Stimulus {
+    fn drop(self) {
+        let Stimulus {
+            tick: _,
+            instance: _,
+            event: _,
+            settings: _,
+        } = self;
+    }
 }

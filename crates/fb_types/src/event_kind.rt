@@ -4,7 +4,7 @@ ghost use Rattle.std.specs.Prelude.{◌≡◌};
 ghost use Rattle.fb_types.specs.EventPorts.{kind_place};
 
 /// The type of an event block (in the manner of IEC 61499-1, Annex A).
-#[derive(Clone, Copy, Debug, PartialEq, Eq)]
+#[derive(Clone, Copy)]
 pub enum EventKind {
     /// E_RESTART
     Restart,

@@ -7,7 +7,7 @@ ghost use Rattle.fb_types.specs.Values.{function_named};
 use crate::name::Name;
 
 /// A function that expressions may call (IEC 61131-3, 6.6.2.5). Its arguments go by position.
-#[derive(Clone, Copy, Debug, PartialEq, Eq)]
+#[derive(Clone, Copy)]
 pub enum Function {
     /// MIN: the lesser of two numbers.
     Min,

@@ -8,9 +8,16 @@ use std::alloc::{AllocError, Global};
 use std::marker::Model;
 
 /// A list on the heap. Contracts see its elements alone: no pointer and no room.
-#[derive(Drop)]
 pub struct Items<T> {
     all: Vec<T>,
+}
+
+// Written out, and not derived: so it is proved in this crate alone what is let go with a list, and not in each crate that
+// lets one go.
+impl<T: Drop> Drop for Items<T> {
+    fn drop(self) {
+        let Items { all: _ } = self;
+    }
 }
 
 impl<T> Model for Items<T> {

@@ -14,7 +14,7 @@ use std::cmp::Ordering;
 /// | 1 | timer | instance number | 0 |
 /// | 2 | arrival over a link | link number | its number on that link, from 0 |
 /// | 3 | local event | its number within that tick and resource, from 0 | 0 |
-#[derive(Clone, Copy, Debug, PartialEq, Eq, PartialOrd, Ord)]
+#[derive(Clone, Copy, PartialEq, Eq, PartialOrd, Ord)]
 pub struct Key {
     /// In milliseconds of virtual time.
     pub tick: u64,

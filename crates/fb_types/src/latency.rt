@@ -8,7 +8,7 @@ use std::alloc::{AllocError, Global};
 use std::marker::Model;
 
 /// From this tick of sending on, a message takes so many ticks.
-#[derive(Clone, Copy, Debug, PartialEq, Eq)]
+#[derive(Clone, Copy)]
 pub struct Entry {
     pub from: u64,
     pub latency: u64,
@@ -16,9 +16,16 @@ pub struct Entry {
 
 /// A table of latencies by the tick of sending: 1 to 64 entries, the first at tick 0, in strictly rising
 /// ticks of at most 10^12, each latency from 1 to 1,000,000 ticks. Contracts see the list of its entries.
-#[derive(Drop)]
 pub struct Latency {
     entries: Items<Entry>,
+}
+
+// Written out, and not derived: so it is proved in this crate alone what is let go with a table, and not in each crate that
+// lets one go.
+impl Drop for Latency {
+    fn drop(self) {
+        let Latency { entries: _ } = self;
+    }
 }
 
 impl Model for Latency {

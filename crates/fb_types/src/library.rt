@@ -14,17 +14,33 @@ use crate::text::{Body, Expr};
 use crate::value::{Ty, Value};
 
 /// An event input or output, with the variables that go WITH it.
-#[derive(Drop)]
 pub struct EventPort {
     pub name: Name,
     pub with: Items<Name>,
 }
 
-#[derive(Drop)]
+// Written out, and not derived, here and below: so it is proved in this crate alone what is let go with such a value, and
+// not in each crate that lets one go.
+impl Drop for EventPort {
+    fn drop(self) {
+        let EventPort { name: _, with: _ } = self;
+    }
+}
+
 pub struct Variable {
     pub name: Name,
     pub ty: Ty,
     pub initial: Option<Value>,
+}
+
+impl Drop for Variable {
+    fn drop(self) {
+        let Variable {
+            name: _,
+            ty: _,
+            initial: _,
+        } = self;
+    }
 }
 
 impl Variable {
@@ -51,7 +67,6 @@ impl Variable {
 }
 
 /// The interface of a type, each list in the order of the declaration.
-#[derive(Drop)]
 pub struct Ports {
     pub event_inputs: Items<EventPort>,
     pub event_outputs: Items<EventPort>,
@@ -59,42 +74,87 @@ pub struct Ports {
     pub outputs: Items<Variable>,
 }
 
+impl Drop for Ports {
+    fn drop(self) {
+        let Ports {
+            event_inputs: _,
+            event_outputs: _,
+            inputs: _,
+            outputs: _,
+        } = self;
+    }
+}
+
 /// An algorithm, an output event, or an algorithm followed by an output event.
-#[derive(Drop)]
 pub struct Action {
     pub algorithm: Option<Name>,
     pub output: Option<Name>,
 }
 
+impl Drop for Action {
+    fn drop(self) {
+        let Action {
+            algorithm: _,
+            output: _,
+        } = self;
+    }
+}
+
 /// A state of an execution control chart.
-#[derive(Drop)]
 pub struct State {
     pub name: Name,
     pub actions: Items<Action>,
 }
 
+impl Drop for State {
+    fn drop(self) {
+        let State {
+            name: _,
+            actions: _,
+        } = self;
+    }
+}
+
 /// An event input, a guard, or an event input followed by a guard. With neither it is `1`.
-#[derive(Drop)]
 pub struct Condition {
     pub event: Option<Name>,
     pub guard: Option<Expr>,
 }
 
-#[derive(Drop)]
+impl Drop for Condition {
+    fn drop(self) {
+        let Condition { event: _, guard: _ } = self;
+    }
+}
+
 pub struct Transition {
     pub from: Name,
     pub to: Name,
     pub condition: Condition,
 }
 
-#[derive(Drop)]
+impl Drop for Transition {
+    fn drop(self) {
+        let Transition {
+            from: _,
+            to: _,
+            condition: _,
+        } = self;
+    }
+}
+
 pub struct Algorithm {
     pub name: Name,
     pub body: Body,
 }
 
+impl Drop for Algorithm {
+    fn drop(self) {
+        let Algorithm { name: _, body: _ } = self;
+    }
+}
+
 /// A basic block type. The first state is the initial one.
-#[derive(Drop)]
 pub struct BasicType {
     pub name: Name,
     pub ports: Ports,
@@ -104,51 +164,116 @@ pub struct BasicType {
     pub algorithms: Items<Algorithm>,
 }
 
+impl Drop for BasicType {
+    fn drop(self) {
+        let BasicType {
+            name: _,
+            ports: _,
+            internals: _,
+            states: _,
+            transitions: _,
+            algorithms: _,
+        } = self;
+    }
+}
+
 /// A port of a component, or with no component one of the composite that the network belongs to.
-#[derive(Drop)]
 pub struct PortName {
     pub component: Option<Name>,
     pub port: Name,
 }
 
-#[derive(Drop)]
+impl Drop for PortName {
+    fn drop(self) {
+        let PortName {
+            component: _,
+            port: _,
+        } = self;
+    }
+}
+
 pub struct Connection {
     pub from: PortName,
     pub to: PortName,
 }
 
-#[derive(Drop)]
+impl Drop for Connection {
+    fn drop(self) {
+        let Connection { from: _, to: _ } = self;
+    }
+}
+
 pub struct Parameter {
     pub name: Name,
     pub value: Value,
 }
 
-#[derive(Drop)]
+impl Drop for Parameter {
+    fn drop(self) {
+        let Parameter { name: _, value: _ } = self;
+    }
+}
+
 pub struct Instance {
     pub name: Name,
     pub block_type: Name,
     pub parameters: Items<Parameter>,
 }
 
+impl Drop for Instance {
+    fn drop(self) {
+        let Instance {
+            name: _,
+            block_type: _,
+            parameters: _,
+        } = self;
+    }
+}
+
 /// Instances and their connections, in the order of the text.
-#[derive(Drop)]
 pub struct Network {
     pub instances: Items<Instance>,
     pub event_connections: Items<Connection>,
     pub data_connections: Items<Connection>,
 }
 
-#[derive(Drop)]
+impl Drop for Network {
+    fn drop(self) {
+        let Network {
+            instances: _,
+            event_connections: _,
+            data_connections: _,
+        } = self;
+    }
+}
+
 pub struct CompositeType {
     pub name: Name,
     pub ports: Ports,
     pub network: Network,
 }
 
-#[derive(Drop)]
+impl Drop for CompositeType {
+    fn drop(self) {
+        let CompositeType {
+            name: _,
+            ports: _,
+            network: _,
+        } = self;
+    }
+}
+
 pub enum BlockType {
     Basic(BasicType),
     Composite(CompositeType),
+}
+
+impl Drop for BlockType {
+    fn drop(self) {
+        match self {
+            BlockType::Basic(_) | BlockType::Composite(_) => {}
+        }
+    }
 }
 
 impl BlockType {
@@ -174,10 +299,18 @@ impl BlockType {
 }
 
 /// The application: a network whose instances are mapped to resources.
-#[derive(Drop)]
 pub struct Application {
     pub name: Name,
     pub network: Network,
+}
+
+impl Drop for Application {
+    fn drop(self) {
+        let Application {
+            name: _,
+            network: _,
+        } = self;
+    }
 }
 
 /// What a declaration text declares.
@@ -201,19 +334,34 @@ impl Drop for Library {
 pub fn block_named<'a>(blocks: &'a [BlockType], name: &Name) -> Option<&'a BlockType>
     ensures { option_copied result ≡ find (λ b. same_name (type_name b) name.now) blocks.now }
 {
-    blocks.iter().find(|block| block.type_name().is(name))
+    for block in blocks {
+        if block.type_name().is(name) {
+            return Some(block);
+        }
+    }
+    None
 }
 
 /// The instance that has the name.
 pub fn instance_named<'a>(instances: &'a [Instance], name: &Name) -> Option<&'a Instance>
     ensures { option_copied result ≡ find (λ i. same_name i.name name.now) instances.now }
 {
-    instances.iter().find(|instance| instance.name.is(name))
+    for instance in instances {
+        if instance.name.is(name) {
+            return Some(instance);
+        }
+    }
+    None
 }
 
 /// Whether one of the variables has the name.
 pub fn has_variable(variables: &[Variable], name: &Name) -> bool
     ensures { result ≡ list_any (λ v. same_name name.now v.name) variables.now }
 {
-    variables.iter().any(|variable| name.is(&variable.name))
+    for variable in variables {
+        if name.is(&variable.name) {
+            return true;
+        }
+    }
+    false
 }

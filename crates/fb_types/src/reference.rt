@@ -10,10 +10,17 @@ use std::sync::atomic::{AtomicUsize, Ordering};
 /// variables. Contracts see the name alone: who uses the place compares the name that stands there, so a
 /// place that is wrong costs time and nothing else. The place is noted by who first finds the variable, also
 /// where several threads share the text.
-#[derive(Drop)]
 pub struct Reference {
     name: Name,
     place: AtomicUsize,
+}
+
+// Written out, and not derived: so it is proved in this crate alone what is let go with it, and not in each crate that
+// lets one go.
+impl Drop for Reference {
+    fn drop(self) {
+        let Reference { name: _, place: _ } = self;
+    }
 }
 
 impl Model for Reference {

@@ -14,7 +14,6 @@ use std::alloc::AllocError;
 pub type Values = Few<Value>;
 
 /// A line of the trace: an event that was taken at an input of an instance, or emitted at an output.
-#[derive(Drop)]
 pub struct Line {
     /// The key of the event whose taking gave the line.
     pub key: Key,
@@ -28,8 +27,22 @@ pub struct Line {
     pub values: Values,
 }
 
+// Written out, and not derived, here and below: so it is proved in this crate alone what is let go with such a value, and
+// not in each crate that lets one go.
+impl Drop for Line {
+    fn drop(self) {
+        let Line {
+            key: _,
+            taken: _,
+            instance: _,
+            event: _,
+            values: _,
+        } = self;
+    }
+}
+
 /// An event input of an instance, or an event output of a composite that is reached from inside.
-#[derive(Clone, Copy, Debug, PartialEq, Eq)]
+#[derive(Clone, Copy, PartialEq, Eq)]
 pub struct Target {
     pub instance: u32,
     pub event: u32,
@@ -38,7 +51,7 @@ pub struct Target {
 }
 
 /// A variable of an instance, by its place among the data inputs or the data outputs of the instance's type.
-#[derive(Clone, Copy, Debug, PartialEq, Eq)]
+#[derive(Clone, Copy, PartialEq, Eq)]
 pub struct Place {
     pub instance: u32,
     pub variable: u32,
@@ -46,7 +59,7 @@ pub struct Place {
 }
 
 /// A value that was emitted, with the output variable that it is of.
-#[derive(Clone, Copy, Debug, PartialEq, Eq)]
+#[derive(Clone, Copy)]
 pub struct Carried {
     pub instance: u32,
     /// The place of the variable among the outputs of the instance's type.
@@ -55,7 +68,6 @@ pub struct Carried {
 }
 
 /// An event on its way over a link.
-#[derive(Drop)]
 pub struct Message {
     pub link: u32,
     /// Its number on that link, from 0.
@@ -66,8 +78,19 @@ pub struct Message {
     pub values: Items<Carried>,
 }
 
+impl Drop for Message {
+    fn drop(self) {
+        let Message {
+            link: _,
+            number: _,
+            arrives: _,
+            target: _,
+            values: _,
+        } = self;
+    }
+}
+
 /// An event that waits.
-#[derive(Drop)]
 pub enum Event {
     /// A stimulus, by its row.
     Stimulus(u32),
@@ -77,6 +100,14 @@ pub enum Event {
     Arrival(Message),
     /// A local event, at its target.
     Local(Target),
+}
+
+impl Drop for Event {
+    fn drop(self) {
+        match self {
+            Event::Stimulus(_) | Event::Timer(_) | Event::Arrival(_) | Event::Local(_) => {}
+        }
+    }
 }
 
 /// An output event that was emitted, by its place among the event outputs, with the values of its WITH
@@ -91,7 +122,7 @@ pub struct Emission {
 pub type Emits = Few<Emission>;
 
 /// What a reaction asks of the timer of its event block.
-#[derive(Clone, Copy, Debug, PartialEq, Eq)]
+#[derive(Clone, Copy, PartialEq, Eq)]
 pub enum TimerAsk {
     /// The timer stays as it is.
     Keep,
@@ -102,7 +133,7 @@ pub enum TimerAsk {
 }
 
 /// Why a reaction ends early.
-#[derive(Clone, Copy, Debug, PartialEq, Eq)]
+#[derive(Clone, Copy)]
 pub enum Halt {
     Stop(Reason),
     Memory,

@@ -1,7 +1,7 @@
 //! The kinds of expressions.
 
 /// The kind of an expression, of a variable or of a value (IEC 61131-3, 7.3.2).
-#[derive(Clone, Copy, Debug, PartialEq, Eq)]
+#[derive(Clone, Copy)]
 pub enum Sort {
     /// BOOL
     TruthValue,

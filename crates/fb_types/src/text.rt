@@ -5,13 +5,13 @@ use crate::items::Items;
 use crate::name::Name;
 use crate::reference::Reference;
 
-#[derive(Clone, Copy, Debug, PartialEq, Eq)]
+#[derive(Clone, Copy)]
 pub enum UnaryOperator {
     Negate,
     Not,
 }
 
-#[derive(Clone, Copy, Debug, PartialEq, Eq)]
+#[derive(Clone, Copy)]
 pub enum BinaryOperator {
     Or,
     Xor,
@@ -32,7 +32,6 @@ pub enum BinaryOperator {
 /// An expression. Time literals are whole numbers, in ticks. What stands in parentheses is a `Group`,
 /// so that the tree tells how deep the text nests.
 #[cycle(expr)]
-#[derive(Drop)]
 pub enum Expr {
     Whole(i128),
     Truth(bool),
@@ -43,9 +42,24 @@ pub enum Expr {
     Call(Name, Items<Expr>),
 }
 
+// Written out, and not derived, here and below: so it is proved in this crate alone what is let go with such a value, and
+// not in each crate that lets one go.
+impl Drop for Expr {
+    fn drop(self) {
+        match self {
+            Expr::Whole(_)
+            | Expr::Truth(_)
+            | Expr::Variable(_)
+            | Expr::Group(_)
+            | Expr::Unary(_, _)
+            | Expr::Binary(_, _, _)
+            | Expr::Call(_, _) => {}
+        }
+    }
+}
+
 /// A statement. ELSE is the last list of IF and CASE, which is empty where the text has none.
 #[cycle(stmt)]
-#[derive(Drop)]
 pub enum Stmt {
     Empty,
     Exit,
@@ -58,31 +72,68 @@ pub enum Stmt {
     Repeat(Items<Stmt>, Expr),
 }
 
+impl Drop for Stmt {
+    #[cycle(stmt_drop)]
+    fn drop(self) {
+        match self {
+            Stmt::Empty
+            | Stmt::Exit
+            | Stmt::Return
+            | Stmt::Assign(_, _)
+            | Stmt::If(_, _)
+            | Stmt::Case(_, _, _)
+            | Stmt::For(_, _, _, _, _)
+            | Stmt::While(_, _)
+            | Stmt::Repeat(_, _) => {}
+        }
+    }
+}
+
 /// IF or ELSIF: the statements behind a condition.
 #[cycle(stmt)]
-#[derive(Drop)]
 pub struct Choice {
     pub condition: Expr,
     pub body: Items<Stmt>,
 }
 
+impl Drop for Choice {
+    #[cycle(stmt_drop)]
+    fn drop(self) {
+        let Choice {
+            condition: _,
+            body: _,
+        } = self;
+    }
+}
+
 /// The statements behind the labels of a CASE.
 #[cycle(stmt)]
-#[derive(Drop)]
 pub struct Branch {
     pub labels: Items<Label>,
     pub body: Items<Stmt>,
 }
 
+impl Drop for Branch {
+    #[cycle(stmt_drop)]
+    fn drop(self) {
+        let Branch { labels: _, body: _ } = self;
+    }
+}
+
 /// A label, from its first bound to its last.
-#[derive(Clone, Copy, Debug, PartialEq, Eq)]
+#[derive(Clone, Copy)]
 pub struct Label {
     pub first: i128,
     pub last: i128,
 }
 
 /// The statements of an algorithm.
-#[derive(Drop)]
 pub struct Body {
     pub statements: Items<Stmt>,
+}
+
+impl Drop for Body {
+    fn drop(self) {
+        let Body { statements: _ } = self;
+    }
 }

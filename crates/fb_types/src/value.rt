@@ -4,7 +4,7 @@ ghost use Rattle.std.specs.Prelude.{◌≡◌};
 ghost use Rattle.fb_types.specs.Values.{fits};
 
 /// An elementary type (IEC 61131-3, 6.4.2). TIME has the range of LINT, in ticks of one millisecond.
-#[derive(Clone, Copy, Debug, PartialEq, Eq)]
+#[derive(Clone, Copy)]
 pub enum Ty {
     Sint,
     Int,

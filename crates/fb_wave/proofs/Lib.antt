@@ -1,3 +1,4 @@
+pub mod Handing
 pub mod Heading
 pub mod Marking
 pub mod Numbering

@@ -1,16 +1,14 @@
 -- Numbers that are read digit by digit.
-use Rattle.std.proofs.Common.{◌≡◌, ℕ, ◌+◌, ◌-◌, ◌*◌, ◌/◌, ◌%◌, ◌^◌, ◌<◌, ◌≤◌, Bool, true, false, List, [], ◌∷◌, ◌++◌, length, take, drop, get_or, decimal, refl, sym, ap, subst, ◌∙◌, arith, inl, inr, length-append, take-append-drop, append_assoc}
-use Rattle.std.specs.Prelude.{not, ◌&&◌, All, MatchOption, Option, Some, None}
-use Rattle.std.specs.List.{list_all}
+use Rattle.std.proofs.Common.{◌≡◌, ℕ, ◌+◌, ◌-◌, ◌*◌, ◌/◌, ◌%◌, ◌^◌, ◌<◌, ◌≤◌, true, false, List, [], ◌∷◌, ◌++◌, length, take, drop, get_or, decimal, refl, sym, ap, subst, ◌∙◌, arith, inl, inr, length-append, take-append-drop, append_assoc}
+use Rattle.std.specs.Prelude.{not, All, MatchOption, Option, Some, None}
 use Rattle.std.proofs.lemmas.Bool.{cases_lt, and_from, or_from, not_from_false, ne_eqb}
 use Rattle.std.proofs.lemmas.Fmt.{decimal_digit, decimal_step_wide, decimal_by_steps_wide}
-use Rattle.std.proofs.lemmas.Grind.{take_at_read}
 use Rattle.std.proofs.lemmas.List.{take_all, drop_more, take_more, length-take-le, get_or_append_left, get_or-take}
 use Rattle.std.proofs.lemmas.List.Elements.{All-push, All-nil}
 use Rattle.std.proofs.lemmas.List.Folds.{list_all-append}
 use Rattle.fb_wave.proofs.Cutting.{cut_once, word_once}
 use Rattle.fb_wave.specs.Reading.{HasNoNumber, IsGrown, IsNoNumber, IsWide, number_text}
-use Rattle.fb_wave.specs.Words.{is_end, is_word, is_ended, IsCut}
+use Rattle.fb_wave.specs.Words.{is_end, is_word, IsCut}
 
 -- ---- What the digits of a number are
 

@@ -1,6 +1,6 @@
 -- Values, and variables with values, that are read from a text.
-use Rattle.std.proofs.Common.{◌≡◌, ℕ, ℤ, suc, zero, pos, negsuc, neg_ℤ, ◌+◌, ◌^◌, ◌<◌, ◌≤◌, Bool, true, false, ltb, leb, List, [], ◌∷◌, ◌++◌, length, map, take, drop, get_or, min, decimal, codes, refl, sym, ap, ◌∙◌, subst, arith, append_assoc, append-nil}
-use Rattle.std.specs.Prelude.{not, ◌&&◌, int_le, int_lt, MatchOption, Option, Some, None}
+use Rattle.std.proofs.Common.{◌≡◌, ℕ, ℤ, suc, zero, pos, negsuc, neg_ℤ, ◌+◌, ◌^◌, ◌<◌, ◌≤◌, Bool, true, false, List, [], ◌∷◌, ◌++◌, length, map, take, drop, get_or, min, decimal, codes, refl, sym, ap, ◌∙◌, arith, append_assoc, append-nil}
+use Rattle.std.specs.Prelude.{◌&&◌, int_le, int_lt, MatchOption, Option, Some, None}
 use Rattle.std.proofs.lemmas.Bool.{and_parts, and_from, ltb-true, leb-true, false≢true}
 use Rattle.std.proofs.lemmas.List.{append_cancel_left, take_more, take_all, drop_all, get_or-map, length-map, map-append, length-take-le, length_push}
 use Rattle.std.proofs.lemmas.Option.{slice_get-map, slice_get-get_or}
@@ -17,7 +17,7 @@ use Rattle.fb_types.specs.declared.value.Value.TheVariants as value
 use Rattle.fb_wave.proofs.Cutting.{cut_once, uncut, word_once}
 use Rattle.fb_wave.proofs.Numerals.{digits_of, decimal_once}
 use Rattle.fb_wave.specs.Reading.{IsSmall, IsSmallValue, IsNoNumber, HasNoDigits, IsNoWhole, IsNoTruth, IsNone, IsNoValue, IsTextOfValue, IsTextOfWhole, binding_text, IsBound, IsUnbound, name_at, type_at, fit_each, AreRead, AreUnread}
-use Rattle.fb_wave.specs.Words.{is_end, is_word, is_ended, IsCut}
+use Rattle.fb_wave.specs.Words.{is_word, is_ended, IsCut}
 
 -- ---- Values of every type are small
 

@@ -15,10 +15,11 @@ use crate::last::read_last;
 use crate::line::read_line;
 use crate::page::DumpPage;
 use crate::table::{Guess, PortTable};
+use crate::words::cut;
 use fb_system::system::System;
 use fb_trace::last::RunEnd;
 use fb_types::run::Form;
-use std::alloc::{AllocError, Global};
+use std::alloc::Global;
 use std::io::{BufRead, Write};
 
 /// Reads the next line into a buffer, with its line feed. It is empty where there is none.
@@ -37,10 +38,8 @@ fn next_line<R: BufRead>(input: &mut R, line: &mut Vec<u8>) -> Result<(), WaveEr
 /// The form of the lines of a trace that begins with this one. In form two the second word is a number, and in form one
 /// it is a name.
 fn form_of(line: &[u8]) -> Form {
-    let mut words = line.split(|byte| *byte == b' ');
-    words.next();
-    match words.next() {
-        Some([first, ..]) if first.is_ascii_digit() => Form::Two,
+    match cut(line) {
+        Some((_, [_, first, ..])) if first.is_ascii_digit() => Form::Two,
         _ => Form::One,
     }
 }
@@ -74,27 +73,28 @@ pub(crate) struct Progress {
 }
 
 impl Progress {
-    /// Tells of a line, and says whether a trace can go on with it.
+    /// Tells of the line of that number, where a trace can go on with it.
     fn take(
         &mut self,
         alloc: Global,
         table: &PortTable,
         form: Form,
+        number: u64,
         line: &[u8],
-    ) -> Result<bool, AllocError>
+    ) -> Result<(), WaveError>
         requires table { IsTable table.now }
         requires dump { IsDump (system_of table.now.system.now) self.old.dump }
-        ensures { IfOk result (λ goes. IsTrue goes → IsTaken (system_of table.now.system.now) form line.now self.old self.new) }
+        ensures { OnOk result (IsTaken (system_of table.now.system.now) form line.now self.old self.new) }
     {
         let Some(line) = read_line(alloc, table, &mut self.guess, form, line)? else {
-            return Ok(false);
+            return Err(WaveError::Refused(number));
         };
         if line.key.tick < self.tick {
-            return Ok(false);
+            return Err(WaveError::Refused(number));
         }
         self.dump.take(table.system, &line, &mut self.page.text)?;
         self.tick = line.key.tick;
-        Ok(true)
+        Ok(())
     }
 
     /// Tells of the end, and writes all that waits, where nothing is left to read. This end is in a line of that number.
@@ -119,15 +119,16 @@ impl Progress {
         if !is_over(input, line)? {
             return Err(WaveError::Refused(number.saturating_add(1)));
         }
-        self.page.flush(out)?;
-        Ok(())
+        self.page.flush(out)
     }
 
-    /// Reads a trace, and writes its dump.
+    /// Reads a trace, and writes its dump. The buffer is for the line that was read last: it is lent, so that no way out of
+    /// the loop lets one go.
     pub(crate) fn copy<R: BufRead, W: Write>(
         &mut self,
         alloc: Global,
         table: &PortTable,
+        line: &mut Vec<u8>,
         input: &mut R,
         out: &mut W,
     ) -> Result<(), WaveError>
@@ -138,19 +139,15 @@ impl Progress {
         ensures whole { OnOk result (IfSome (R.remaining input.old) (λ text. IsWave (system_of table.now.system.now) text (W.contents out.old) (W.contents out.new))) }
         ensures part { IfErr result (λ _. WritesFront (system_of table.now.system.now) (W.contents out.old) (W.contents out.new)) }
     {
-        let mut line = Vec::new(alloc);
-        next_line(input, &mut line)?;
+        next_line(input, line)?;
         let form = form_of(line.as_slice());
         for number in 1..u64::MAX {
             if let Some(end) = read_last(table.system, line.as_slice()) {
-                self.finish(table.system, end, number, &mut line, input, out)?;
-                return Ok(());
+                return self.finish(table.system, end, number, line, input, out);
             }
-            if !self.take(alloc, table, form, line.as_slice())? {
-                return Err(WaveError::Refused(number));
-            }
+            self.take(alloc, table, form, number, line.as_slice())?;
             self.page.flush_much(out)?;
-            next_line(input, &mut line)?;
+            next_line(input, line)?;
         }
         Err(WaveError::Read)
     }

@@ -14,8 +14,7 @@ fn put_code(text: &mut Vec<u8>, letter: &[u8], signal: usize) -> Result<(), Allo
     text.extend_from_slice(b" ")?;
     text.extend_from_slice(letter)?;
     put_decimal(text, signal as u64)?;
-    text.extend_from_slice(b" ")?;
-    Ok(())
+    text.extend_from_slice(b" ")
 }
 
 /// Declares a signal of a kind, called by a letter and its number. Its name ends in a mark.
@@ -35,8 +34,7 @@ fn put_declared(
     put_code(text, letter, signal)?;
     text.extend_from_slice(name)?;
     text.extend_from_slice(mark)?;
-    text.extend_from_slice(b" $end\n")?;
-    Ok(())
+    text.extend_from_slice(b" $end\n")
 }
 
 /// Declares the event of a port, and the register that counts its events.
@@ -44,8 +42,7 @@ pub(crate) fn put_event(text: &mut Vec<u8>, signal: usize, name: &[u8]) -> Resul
     ensures { OnOk result (text.new.items ≡ text.old.items ++ spec.event_declared signal name.now) }
 {
     put_declared(text, b"event 1", b"e", signal, name, b"")?;
-    put_declared(text, b"reg 64", b"n", signal, name, b"_count")?;
-    Ok(())
+    put_declared(text, b"reg 64", b"n", signal, name, b"_count")
 }
 
 /// The kind of the signal of a variable: a truth value is a wire.

@@ -64,8 +64,7 @@ fn put_stop(text: &mut Vec<u8>, resource: &[u8], reason: Reason) -> Result<(), A
     text.extend_from_slice(resource)?;
     text.extend_from_slice(b" ")?;
     text.extend_from_slice(reason_text(reason))?;
-    text.extend_from_slice(b" $end\n")?;
-    Ok(())
+    text.extend_from_slice(b" $end\n")
 }
 
 /// The signals of a line.
@@ -116,8 +115,7 @@ fn turn(levels: &mut Levels, told: u64, tick: u64, text: &mut Vec<u8>) -> Result
         return Ok(());
     }
     put_changes(text, levels)?;
-    put_time(text, told, tick)?;
-    Ok(())
+    put_time(text, told, tick)
 }
 
 /// The variables at some places have these values, each as a signal whose number is that of the first and its place.
@@ -159,8 +157,7 @@ fn tell(
         AreLevels n (fires ++ event ∷ []) (tells ++ more) (touches ++ event ∷ [] ++ map (λ t. t.0) more) levels.new) }
 {
     levels.fire(event)?;
-    tell_all(levels, first, places, values)?;
-    Ok(())
+    tell_all(levels, first, places, values)
 }
 
 impl Dump {
@@ -207,8 +204,7 @@ impl Dump {
             marks.first,
             marks.places,
             values,
-        )?;
-        Ok(())
+        )
     }
 
     /// Puts what changed in the last tick, and the end, behind a text.
@@ -224,7 +220,6 @@ impl Dump {
             → OnOk result (sent ++ text.new.items ≡ dump_text (system_of system.now) ls (ending_of end)) }
     {
         put_changes(text, &mut self.levels)?;
-        put_end(text, system, self.tick, end)?;
-        Ok(())
+        put_end(text, system, self.tick, end)
     }
 }

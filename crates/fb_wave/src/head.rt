@@ -76,8 +76,7 @@ fn put_instances(
             depth = height;
         }
     }
-    put_closed(text, depth)?;
-    Ok(())
+    put_closed(text, depth)
 }
 
 /// Puts what the signals of all instances begin with.
@@ -125,6 +124,5 @@ pub(crate) fn put_head(
     put_resources(text, system, firsts)?;
     text.extend_from_slice(b"$enddefinitions $end\n#0\n$dumpvars\n")?;
     put_begun(text, system, firsts)?;
-    text.extend_from_slice(b"$end\n")?;
-    Ok(())
+    text.extend_from_slice(b"$end\n")
 }

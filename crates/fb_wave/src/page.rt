@@ -53,7 +53,6 @@ impl DumpPage {
         if self.text.len() < MANY {
             return Ok(());
         }
-        self.flush(out)?;
-        Ok(())
+        self.flush(out)
     }
 }

@@ -11,8 +11,7 @@ pub(crate) fn put_opened(text: &mut Vec<u8>, name: &[u8]) -> Result<(), AllocErr
 {
     text.extend_from_slice(b"$scope module ")?;
     text.extend_from_slice(name)?;
-    text.extend_from_slice(b" $end\n")?;
-    Ok(())
+    text.extend_from_slice(b" $end\n")
 }
 
 /// Closes so many scopes.

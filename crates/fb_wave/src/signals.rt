@@ -54,15 +54,23 @@ fn put_events(
 fn is_carried(events: &[EventPort], variable: &Variable) -> bool
     ensures { result ≡ spec.is_carried events.now variable.now }
 {
-    events
-        .iter()
-        .any(|event| is_among(event.with.as_slice(), &variable.name))
+    for event in events {
+        if is_among(event.with.as_slice(), &variable.name) {
+            return true;
+        }
+    }
+    false
 }
 
 fn is_among(names: &[Name], name: &Name) -> bool
     ensures { result ≡ among names.now name.now }
 {
-    names.iter().any(|other| name.is(other))
+    for other in names {
+        if name.is(other) {
+            return true;
+        }
+    }
+    false
 }
 
 /// Puts a variable, if lines carry it.

@@ -1,6 +1,6 @@
 //! The ports of a system by what lines have of them.
 
-ghost use Rattle.std.specs.Prelude.{◌≡◌, ◌+◌, ◌≤◌, ◌++◌, All, IfOk, IfSome, length, map};
+ghost use Rattle.std.specs.Prelude.{◌≡◌, ◌≤◌, ◌++◌, All, IfOk, IfSome, length, map};
 ghost use Rattle.fb_types.specs.Headline.{system_of};
 ghost use Rattle.fb_names.specs.Places.{names_in};
 ghost use Rattle.fb_wave.specs.Ports as spec;
@@ -8,7 +8,7 @@ ghost use Rattle.fb_wave.specs.Ports.{IsPortOf};
 ghost use Rattle.fb_wave.specs.Tables.{IsTable};
 
 use crate::ports::{Port, port_text};
-use crate::words::{behind, cut};
+use crate::words::{behind, is_end};
 use fb_names::places::{Places, place_of, places_of};
 use fb_system::system::System;
 use fb_types::name::Name;
@@ -92,24 +92,20 @@ fn names_of(alloc: Global, texts: &[Name]) -> Result<Vec<&Name>, AllocError>
     Ok(names)
 }
 
-/// What stands behind the first byte.
-fn past_one(text: &[u8]) -> Option<&[u8]>
-    ensures { IfSome result (λ rest. length rest.now + 1 ≡ length text.now) }
-{
-    if text.is_empty() {
-        return None;
-    }
-    Some(&text[1..])
-}
-
 /// How long the text of a port is that a text begins with: it ends where its third word ends.
 fn port_len(text: &[u8]) -> Option<usize>
     ensures { IfSome result (λ n. n ≤ length text.now) }
 {
-    let holder = cut(text)?;
-    let sign = cut(past_one(holder.1)?)?;
-    let port = cut(past_one(sign.1)?)?;
-    Some(text.len() - port.1.len())
+    let mut words: usize = 0;
+    for place in 0..text.len() {
+        if is_end(text[place]) {
+            words += 1;
+            if words == 3 {
+                return Some(place);
+            }
+        }
+    }
+    None
 }
 
 impl<'a> PortTable<'a> {

@@ -47,5 +47,6 @@ pub fn write_wave<R: BufRead, W: Write>(
         guess,
         tick: 0,
     };
-    progress.copy(alloc, &table, input, out)
+    let mut line = Vec::new(alloc);
+    progress.copy(alloc, &table, &mut line, input, out)
 }

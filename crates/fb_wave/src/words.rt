@@ -5,7 +5,7 @@ ghost use Rattle.fb_wave.specs.Words as spec;
 ghost use Rattle.fb_wave.specs.Words.{IsCut};
 
 /// Whether a byte ends a word: a blank or a line feed.
-fn is_end(byte: u8) -> bool
+pub(crate) fn is_end(byte: u8) -> bool
     ensures { result ≡ spec.is_end byte }
 {
     byte == b' ' || byte == b'\n'

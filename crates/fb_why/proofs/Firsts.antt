@@ -1,7 +1,7 @@
 -- Loops that look for the first element that passes a test, or fails it.
-use Rattle.std.proofs.Common.{◌≡◌, ℕ, ◌+◌, ◌<◌, ◌≤◌, Bool, true, false, ◌&&◌, List, ◌∷◌, drop, get_or, length, Option, Some, None, refl, sym, ◌∙◌, ap, arith}
+use Rattle.std.proofs.Common.{◌≡◌, ℕ, ◌+◌, ◌<◌, ◌≤◌, Bool, true, false, ◌&&◌, ◌||◌, List, ◌∷◌, drop, get_or, length, Option, Some, None, refl, sym, ◌∙◌, ap, arith}
 use Rattle.std.specs.Prelude.{position, option_map, slice_get}
-use Rattle.std.specs.List.{list_all}
+use Rattle.std.specs.List.{list_all, list_any}
 use Rattle.std.proofs.lemmas.List.{at_drop_all, at_drop_more}
 use Rattle.std.proofs.lemmas.Option.{slice_get-get_or}
 use Rattle.fb_types.proofs.Positions.{position-first, position-later}
@@ -55,3 +55,22 @@ pub holds_on :
 holds_on {A} f xs i x within is before holds =
     before ∙ at_drop_more (list_all f) xs i x within ∙ ap (λ (y : A). f y && list_all f (drop (i + 1) xs)) (sym is)
     ∙ ap (λ b. b && list_all f (drop (i + 1) xs)) holds
+
+-- ---- A loop that looks for an element that passes a test
+
+pub any_found :
+    {A : Type 0} (f : A → Bool) (xs : List A) (i : ℕ) (x : A) → i < length xs → x ≡ get_or xs i x → list_any f xs ≡ list_any f (drop i xs) → f x ≡ true
+    → true ≡ list_any f xs
+any_found {A} f xs i x within is before passes =
+    sym (before ∙ at_drop_more (list_any f) xs i x within ∙ ap (λ (y : A). f y || list_any f (drop (i + 1) xs)) (sym is)
+    ∙ ap (λ b. b || list_any f (drop (i + 1) xs)) passes)
+
+pub any_on :
+    {A : Type 0} (f : A → Bool) (xs : List A) (i : ℕ) (x : A) → i < length xs → x ≡ get_or xs i x → list_any f xs ≡ list_any f (drop i xs) → f x ≡ false
+    → list_any f xs ≡ list_any f (drop (i + 1) xs)
+any_on {A} f xs i x within is before fails =
+    before ∙ at_drop_more (list_any f) xs i x within ∙ ap (λ (y : A). f y || list_any f (drop (i + 1) xs)) (sym is)
+    ∙ ap (λ b. b || list_any f (drop (i + 1) xs)) fails
+
+pub any_none : {A : Type 0} (f : A → Bool) (xs : List A) (i : ℕ) → length xs ≤ i → list_any f xs ≡ list_any f (drop i xs) → false ≡ list_any f xs
+any_none f xs i past before = sym (before ∙ at_drop_all (list_any f) xs i past)

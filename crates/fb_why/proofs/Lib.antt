@@ -6,6 +6,7 @@ mod Listed
 mod Once
 mod Parted
 mod ConnectionKeys
+mod LinkPairs
 mod Linked
 mod Carried
 mod Served

@@ -1,8 +1,6 @@
 -- Networks in which no two data connections lead to one port.
-use Rattle.std.proofs.Common.{◌≡◌, List, [], ◌∷◌, Some, None, Contains, Ordering, refl, sym, ◌∙◌, ap, subst, inl, inr}
-use Rattle.std.specs.Prelude.{All, flat_map, map}
-use Rattle.std.specs.Ordering.{is_eq, ordering_then}
-use Rattle.std.specs.declared.cmp.Ordering.TheVariants as order
+use Rattle.std.proofs.Common.{◌≡◌, ℕ, zero, suc, false, List, [], ◌∷◌, Option, Some, None, Contains, refl, sym, ap, subst, inl, inr}
+use Rattle.std.specs.Prelude.{All, flat_map, map, option_map, slice_get}
 use Rattle.std.proofs.lemmas.List.Elements.{All-contains}
 use Rattle.fb_types.specs.Names.{Port}
 use Rattle.fb_types.specs.Flat.{pairs_in, port_in}
@@ -12,23 +10,9 @@ use Rattle.fb_types.specs.declared.library.BlockType.{BlockType}
 use Rattle.fb_types.specs.declared.library.BlockType.TheVariants as block
 use Rattle.fb_types.specs.declared.library.Connection.{Connection}
 use Rattle.fb_types.specs.declared.library.Library.{Library}
-use Rattle.fb_names.specs.Ends.{end_port}
-use Rattle.fb_types.proofs.Elements.{Contains-nil, Contains-cons_cases, flat_map-Contains}
-use Rattle.fb_names.proofs.Seen.{IsExact, end_cmp, pair_cmp-exact}
+use Rattle.fb_types.proofs.Elements.{Contains-nil, Contains-cons_cases, Contains-map, flat_map-Contains}
+use Rattle.fb_why.specs.Pairs.{Paired, compared}
 use Rattle.fb_why.specs.Sources.{IsParted, targets}
-
-then_itself : (r : Ordering) → is_eq (ordering_then r r) ≡ is_eq r
-then_itself order.Less = refl
-then_itself order.Equal = refl
-then_itself order.Greater = refl
-
--- two ends are equal exactly where their ports are
-pub end_cmp-exact : IsExact end_cmp end_port
-end_cmp-exact a b =
-    let d = pair_cmp-exact (a, a) (b, b) in (
-      λ h. ap (λ (p : Port × Port). p.0) (d.0 (then_itself (end_cmp a b) ∙ h)),
-      λ e. sym (then_itself (end_cmp a b)) ∙ d.1 (λ i. (e i, e i)),
-    )
 
 -- the seconds of all pairs are the targets
 pub targets_are : (cs : List Connection) → map (λ c. c.1) (pairs_in [] cs) ≡ targets cs
@@ -58,3 +42,32 @@ all_parted lib cs ts connections blocks once each w =
           let r = flat_map-Contains networks_in lib.blocks w.0 rest in
           inside_parted r.0 w.0 (All-contains IsParted ts r.0 each (subst (λ (ts : List BlockType). Contains ts r.0) (sym blocks) r.1)) r.2 twice
     ]
+
+-- ---- Connections that are compared by where they lead
+
+Twice-map : {A B : Type 0} (f : A → B) (xs : List A) → Twice xs → Twice (map f xs)
+Twice-map f [] t = absurd t
+Twice-map f (x ∷ xs) t = elim t [ inl c ↦ inl (Contains-map f xs x c) | inr rest ↦ inr (Twice-map f xs rest) ]
+
+-- where a connection leads, beside none
+abbrev beside_none : Port → Port × Port
+beside_none p = (record { at = []; name = [] }, p)
+
+compared_are : (cs : List Connection) → map beside_none (targets cs) ≡ map (compared false) cs
+compared_are [] = refl
+compared_are (c ∷ cs) = ap (λ (ps : List (Port × Port)). beside_none (port_in [] c.to) ∷ ps) (compared_are cs)
+
+led_to : (cs : List Connection) (k : ℕ) (p : Port × Port) → slice_get (map (compared false) cs) k ≡ Some p → slice_get (targets cs) k ≡ Some p.1
+led_to [] k p h = absurd (cc)
+led_to (c ∷ cs) zero p h = ap (option_map (λ (q : Port × Port). q.1)) h
+led_to (c ∷ cs) (suc k) p h = led_to cs k p h
+
+pub paired_targets : (cs : List Connection) (o : Option (ℕ × ℕ)) → Paired (map (compared false) cs) o → Paired (targets cs) o
+paired_targets cs None once = λ t.
+    once (subst (λ (ps : List (Port × Port)). Twice ps) (compared_are cs) (Twice-map beside_none (targets cs) t))
+paired_targets cs (Some r) pair = record {
+  in_order = pair.in_order;
+  what = pair.what.1;
+  first = led_to cs r.0 pair.what pair.first;
+  again = led_to cs r.1 pair.what pair.again;
+}

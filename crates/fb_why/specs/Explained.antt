@@ -2,13 +2,13 @@
 use Rattle.std.specs.Prelude.{List, [], ◌∷◌, ◌++◌, codes}
 use Rattle.fb_types.specs.Names.{Name}
 
-abbrev of_declarations : List Name
+abbrev pub of_declarations : List Name
 of_declarations = codes "E01" ∷ codes "E02" ∷ codes "E03" ∷ codes "E04" ∷ codes "E05" ∷ []
 
-abbrev of_inputs : List Name
+abbrev pub of_inputs : List Name
 of_inputs = codes "E10" ∷ codes "E11" ∷ codes "E12" ∷ codes "E13" ∷ codes "E14" ∷ codes "E15" ∷ codes "E16" ∷ []
 
-abbrev of_checks : List Name
+abbrev pub of_checks : List Name
 of_checks =
     codes "E20" ∷ codes "E21" ∷ codes "E22" ∷ codes "E23" ∷ codes "E24" ∷ codes "E25" ∷ codes "E26" ∷ codes "E27" ∷ codes "E28" ∷ codes "E29"
     ∷ codes "E30" ∷ []

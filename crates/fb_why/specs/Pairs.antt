@@ -1,6 +1,11 @@
 -- What stands twice in a list, by its places.
-use Rattle.std.specs.Prelude.{◌≡◌, ◌<◌, ℕ, List, Option, Some, MatchOption, slice_get}
+use Rattle.std.specs.Prelude.{◌≡◌, ◌<◌, ℕ, Bool, List, [], Option, Some, MatchOption, cond, slice_get}
+use Rattle.std.specs.Borrow.{Bor}
+use Rattle.fb_types.specs.Names.{Name, Port}
+use Rattle.fb_types.specs.Flat.{port_in}
 use Rattle.fb_types.specs.Repeated.{Twice}
+use Rattle.fb_types.specs.declared.library.Connection.{Connection}
+use Rattle.fb_names.specs.Ends.{end_port}
 
 -- The same stands at both places, the earlier one first.
 pub record IsPair {A : Type 0} (xs : List A) (places : ℕ × ℕ) : Type 0 where
@@ -12,3 +17,20 @@ pub record IsPair {A : Type 0} (xs : List A) (places : ℕ × ℕ) : Type 0 wher
 -- a pair, or none where nothing stands twice
 abbrev pub Paired : {A : Type 0} → List A → Option (ℕ × ℕ) → Type 0
 Paired xs o = MatchOption o (¬ (Twice xs)) (IsPair xs)
+
+-- ---- Connections
+
+-- the names at both ends: where a connection begins the component, if there is one, and the port, and so where it leads
+abbrev pub Key : Type 0
+Key = Option (Bor Name) × Bor Name × Option (Bor Name) × Bor Name
+
+-- the two ports for which they stand
+abbrev pub key_ports : Key → Port × Port
+key_ports k = (end_port (k.0, k.1), end_port (k.2, k.3))
+
+abbrev nowhere : Port
+nowhere = record { at = []; name = [] }
+
+-- what connections are compared by: both ends, or where they lead alone
+abbrev pub compared : Bool → Connection → Port × Port
+compared both c = (cond both (port_in [] c.from) nowhere, port_in [] c.to)

@@ -1,17 +1,31 @@
 //! The explanation of a refusal.
 
-ghost use Rattle.std.specs.Prelude.{◌≡◌, IfSome, is_some, map};
+ghost use Rattle.std.specs.Prelude.{◌≡◌, ◌++◌, ◌∷◌, [], IfSome, codes, is_some, map};
 ghost use Rattle.std.specs.List.{list_any};
 ghost use Rattle.fb_types.specs.Names.{same_name};
+ghost use Rattle.fb_why.specs.Explained as spec;
 ghost use Rattle.fb_why.specs.Explained.{explained};
 
-use crate::table::{EXPLANATIONS, Explanation};
+use crate::table::{Explanation, OF_CHECKS, OF_DECLARATIONS, OF_INPUTS};
 
-/// All explanations. Who looks through them need not know what they say.
-fn all() -> &'static [Explanation]
-    ensures { map (λ e. e.name.now) result.now ≡ explained }
+// Who looks through a table need not know what its rows say, so each is lent by a function that says their names alone.
+
+fn of_declarations() -> &'static [Explanation]
+    ensures { map (λ e. e.name.now) result.now ≡ spec.of_declarations }
 {
-    &EXPLANATIONS
+    &OF_DECLARATIONS
+}
+
+fn of_inputs() -> &'static [Explanation]
+    ensures { map (λ e. e.name.now) result.now ≡ spec.of_inputs }
+{
+    &OF_INPUTS
+}
+
+fn of_checks() -> &'static [Explanation]
+    ensures { map (λ e. e.name.now) result.now ≡ spec.of_checks ++ codes "file fault" ∷ [] }
+{
+    &OF_CHECKS
 }
 
 /// The first explanation of the name.
@@ -32,5 +46,14 @@ pub fn explain(name: &str) -> Option<Explanation>
     ensures named { IfSome result (λ e. e.name.now ≡ name.now) }
     ensures all { is_some result ≡ list_any (λ n. same_name n name.now) explained }
 {
-    look_up(all(), name.as_bytes())
+    let name = name.as_bytes();
+    let found = look_up(of_declarations(), name);
+    if found.is_some() {
+        return found;
+    }
+    let found = look_up(of_inputs(), name);
+    if found.is_some() {
+        return found;
+    }
+    look_up(of_checks(), name)
 }

@@ -1,13 +1,13 @@
 //! The first thing of a list that stood in it before.
 
 ghost use Rattle.std.specs.Prelude.{◌≡◌, ◌++◌, [], map, IfOk};
-ghost use Rattle.fb_types.specs.Flat.{pairs_in};
 ghost use Rattle.fb_names.specs.Ends.{link_ends};
 ghost use Rattle.fb_names.specs.Places.{names_in};
-ghost use Rattle.fb_why.specs.Pairs.{Paired};
+ghost use Rattle.fb_why.specs.Pairs.{Paired, compared, key_ports};
 ghost use Rattle.fb_why.specs.Sources.{targets};
 
-use fb_names::repeats::{EndNames, end_names};
+use crate::unlinked::place_of_link;
+use fb_names::repeats::end_names;
 use fb_types::deploy::Link;
 use fb_types::library::Connection;
 use fb_types::name::Name;
@@ -77,6 +77,18 @@ pub(crate) fn listed_pair(alloc: Global, names: &[Name]) -> Result<Option<Repeat
 /// The names at both ends of a connection: where it begins the component, if there is one, and the port, and so where it leads.
 type ConnectionNames<'a> = (Option<&'a [u8]>, &'a [u8], Option<&'a [u8]>, &'a [u8]);
 
+/// The names by which two connections are the same: those of both ends, or where they lead alone.
+fn names_of(connection: &Connection, both: bool) -> ConnectionNames<'_>
+    ensures { key_ports result ≡ compared both connection.now }
+{
+    let (component, port) = end_names(&connection.to);
+    if both {
+        let (first_component, first_port) = end_names(&connection.from);
+        return (first_component, first_port, component, port);
+    }
+    (None, &[], component, port)
+}
+
 /// Connections with the places where they stand.
 type Connections<'a> = BTreeMap<ConnectionNames<'a>, usize, Global>;
 
@@ -84,75 +96,29 @@ type Connections<'a> = BTreeMap<ConnectionNames<'a>, usize, Global>;
 fn note_connections<'a>(
     seen: &mut Connections<'a>,
     connections: &'a [Connection],
+    both: bool,
 ) -> Result<Option<Repeat>, AllocError>
     requires { seen.old.entries ≡ [] }
-    ensures { IfOk result (Paired (pairs_in [] connections.now)) }
+    ensures { IfOk result (Paired (map (compared both) connections.now)) }
 {
     for (second, connection) in connections.iter().enumerate() {
-        let from = end_names(&connection.from);
-        let to = end_names(&connection.to);
-        if let Some(first) = seen.insert((from.0, from.1, to.0, to.1), second)? {
+        if let Some(first) = seen.insert(names_of(connection, both), second)? {
             return Ok(Some((first, second)));
         }
     }
     Ok(None)
 }
 
-/// The first connection that stood before, with the place where it did.
+/// The first connection that is the same as one before, by both ends or by where they lead alone, with the place of that one.
 pub(crate) fn connection_pair(
     alloc: Global,
     connections: &[Connection],
+    both: bool,
 ) -> Result<Option<Repeat>, AllocError>
-    ensures { IfOk result (Paired (pairs_in [] connections.now)) }
+    ensures { IfOk result (Paired (map (compared both) connections.now)) }
 {
     let mut seen = BTreeMap::new(alloc);
-    note_connections(&mut seen, connections)
-}
-
-/// The names of two resources with the place of the link from the one to the other.
-type LinkPlaces<'a> = BTreeMap<(&'a [u8], &'a [u8]), usize, Global>;
-
-/// Notes links in a table, up to one whose resources are noted there.
-fn note_links<'a>(
-    seen: &mut LinkPlaces<'a>,
-    links: &'a [Link],
-) -> Result<Option<Repeat>, AllocError>
-    requires { seen.old.entries ≡ [] }
-    ensures { IfOk result (Paired (map link_ends links.now)) }
-{
-    for (second, link) in links.iter().enumerate() {
-        if let Some(first) = seen.insert((link.from.as_bytes(), link.to.as_bytes()), second)? {
-            return Ok(Some((first, second)));
-        }
-    }
-    Ok(None)
-}
-
-/// The first link that goes from and to the same resources as one before, with the place of that one.
-pub(crate) fn link_pair(alloc: Global, links: &[Link]) -> Result<Option<Repeat>, AllocError>
-    ensures { IfOk result (Paired (map link_ends links.now)) }
-{
-    let mut seen = BTreeMap::new(alloc);
-    note_links(&mut seen, links)
-}
-
-/// Ports with the places of the connections that lead to them.
-type Targets<'a> = BTreeMap<EndNames<'a>, usize, Global>;
-
-/// Notes where connections lead in a table, up to one whose port is noted there.
-fn note_targets<'a>(
-    seen: &mut Targets<'a>,
-    connections: &'a [Connection],
-) -> Result<Option<Repeat>, AllocError>
-    requires { seen.old.entries ≡ [] }
-    ensures { IfOk result (Paired (targets connections.now)) }
-{
-    for (second, connection) in connections.iter().enumerate() {
-        if let Some(first) = seen.insert(end_names(&connection.to), second)? {
-            return Ok(Some((first, second)));
-        }
-    }
-    Ok(None)
+    note_connections(&mut seen, connections, both)
 }
 
 /// The first connection that leads to the port of one before, with the place of that one.
@@ -162,6 +128,19 @@ pub(crate) fn target_pair(
 ) -> Result<Option<Repeat>, AllocError>
     ensures { IfOk result (Paired (targets connections.now)) }
 {
-    let mut seen = BTreeMap::new(alloc);
-    note_targets(&mut seen, connections)
+    connection_pair(alloc, connections, false)
+}
+
+/// The first link that goes from and to the same resources as one before, with the place of that one. Links are few, so no table is
+/// made of them.
+pub(crate) fn link_pair(links: &[Link]) -> Option<Repeat>
+    ensures { Paired (map link_ends links.now) result }
+{
+    for (second, link) in links.iter().enumerate() {
+        let before = &links[..second];
+        if let Some(first) = place_of_link(before, link.from.as_bytes(), link.to.as_bytes()) {
+            return Some((first, second));
+        }
+    }
+    None
 }

@@ -11,8 +11,11 @@ pub struct Explanation {
     pub look: &'static str,
 }
 
-/// All explanations, in the order of their numbers. docs/FORMATS.md shows them; `tools/explained.py` compares the two.
-pub static EXPLANATIONS: [Explanation; 24] = [
+// Three tables, since the proof of the function that lends one costs the square of its text. docs/FORMATS.md shows them one behind the
+// other; `tools/explained.py` compares.
+
+/// Of what the text of a declaration is refused for.
+pub static OF_DECLARATIONS: [Explanation; 5] = [
     Explanation {
         name: "E01",
         meaning: "A byte of the declaration is none that may stand outside comments.",
@@ -58,6 +61,10 @@ pub static EXPLANATIONS: [Explanation; 24] = [
         ],
         look: "Long chains of one operator: give a part of it to a variable of its own. The branches of one IF or CASE nest no deeper than one of them.",
     },
+];
+
+/// Of what a deployment or stimuli are refused for, by themselves.
+pub static OF_INPUTS: [Explanation; 7] = [
     Explanation {
         name: "E10",
         meaning: "The deployment is no TOML.",
@@ -121,6 +128,10 @@ pub static EXPLANATIONS: [Explanation; 24] = [
         ],
         look: "The first number of each entry. The second one is the latency.",
     },
+];
+
+/// Of what the check refuses, and of files.
+pub static OF_CHECKS: [Explanation; 12] = [
     Explanation {
         name: "E20",
         meaning: "A name, an event connection or a link is given twice.",

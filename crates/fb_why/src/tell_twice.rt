@@ -134,59 +134,43 @@ fn push_inside(text: &mut Text, block: &BlockType, found: InBlock) {
     }
 }
 
-/// The name at a place of a list, or how far on the place is behind its end.
-fn name_at<T: Called>(items: &[T], place: usize) -> Result<&Name, usize> {
+/// The sort and the name of what stands at a place of lists behind each other, or how far on the place is behind their ends.
+type Found<'a> = Result<(&'static str, &'a Name), usize>;
+
+/// What is found with one more list behind.
+fn or_in<'a, T: Called>(found: Found<'a>, sort: &'static str, items: &'a [T]) -> Found<'a> {
+    let place = match found {
+        Ok(_) => return found,
+        Err(place) => place,
+    };
     match items.get(place) {
-        Some(item) => Ok(item.name()),
+        Some(item) => Ok((sort, item.name())),
         None => Err(place.saturating_sub(items.len())),
     }
 }
 
-/// The sort and the name of what stands at a place among the ports of a block type.
-fn port_at(block: &BlockType, place: usize) -> Result<(&'static str, &Name), usize> {
+/// What stands at a place among the ports and internal variables of a block type.
+fn variable_at(block: &BlockType, place: usize) -> Found<'_> {
     let ports = block.ports();
-    let place = match name_at(ports.event_inputs.as_slice(), place) {
-        Ok(name) => return Ok(("an event input", name)),
-        Err(place) => place,
-    };
-    let place = match name_at(ports.event_outputs.as_slice(), place) {
-        Ok(name) => return Ok(("an event output", name)),
-        Err(place) => place,
-    };
-    let place = match name_at(ports.inputs.as_slice(), place) {
-        Ok(name) => return Ok(("a data input", name)),
-        Err(place) => place,
-    };
-    match name_at(ports.outputs.as_slice(), place) {
-        Ok(name) => Ok(("a data output", name)),
-        Err(place) => Err(place),
-    }
-}
-
-/// The same of ports and internal variables.
-fn variable_at(block: &BlockType, place: usize) -> Option<(&'static str, &Name)> {
-    let place = match port_at(block, place) {
-        Ok(found) => return Some(found),
-        Err(place) => place,
-    };
+    let found = or_in(Err(place), "an event input", ports.event_inputs.as_slice());
+    let found = or_in(found, "an event output", ports.event_outputs.as_slice());
+    let found = or_in(found, "a data input", ports.inputs.as_slice());
+    let found = or_in(found, "a data output", ports.outputs.as_slice());
     match block {
-        BlockType::Basic(basic) => {
-            let variable = basic.internals.get(place)?;
-            Some(("an internal variable", &variable.name))
-        }
-        BlockType::Composite(_) => None,
+        BlockType::Basic(basic) => or_in(found, "an internal variable", basic.internals.as_slice()),
+        BlockType::Composite(_) => found,
     }
 }
 
 fn push_ports(text: &mut Text, block: &BlockType, (first, second): Repeat) {
-    let Some((sort, name)) = variable_at(block, first) else {
+    let Ok((sort, name)) = variable_at(block, first) else {
         return;
     };
     text.named(": ", name);
     text.words(AGAIN);
     text.words(", as ");
     text.words(sort);
-    if let Some((sort, _)) = variable_at(block, second) {
+    if let Ok((sort, _)) = variable_at(block, second) {
         text.words(" and as ");
         text.words(sort);
     }

@@ -108,7 +108,7 @@ fn twice_in_network(alloc: Global, network: &Network) -> Result<Option<InNetwork
     if let Some((instance, pair)) = parameter_pair(alloc, instances)? {
         return Ok(Some(InNetwork::Parameter(instance, pair)));
     }
-    match connection_pair(alloc, network.event_connections.as_slice())? {
+    match connection_pair(alloc, network.event_connections.as_slice(), true)? {
         Some(pair) => Ok(Some(InNetwork::Connection(pair))),
         None => Ok(None),
     }
@@ -252,7 +252,7 @@ pub(crate) fn twice_place(
     if let Some(pair) = called_pair(alloc, plan.resources.as_slice())? {
         return Ok(Some(GivenTwice::Resource(pair)));
     }
-    match link_pair(alloc, plan.links.as_slice())? {
+    match link_pair(plan.links.as_slice()) {
         Some(pair) => Ok(Some(GivenTwice::Link(pair))),
         None => Ok(None),
     }

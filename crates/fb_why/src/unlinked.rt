@@ -69,15 +69,23 @@ fn is_joining(link: &Link, from: &[u8], to: &[u8]) -> bool
     link.from.as_bytes() == from && link.to.as_bytes() == to
 }
 
+/// The place of the first link from the one resource to the other.
+pub(crate) fn place_of_link(links: &[Link], from: &[u8], to: &[u8]) -> Option<usize>
+    ensures { result ≡ position (is_joining from.now to.now) links.now }
+{
+    for (place, link) in links.iter().enumerate() {
+        if is_joining(link, from, to) {
+            return Some(place);
+        }
+    }
+    None
+}
+
 fn has_link(links: &[Link], from: &[u8], to: &[u8]) -> bool
     ensures { result ≡ list_any (is_joining from.now to.now) links.now }
 {
-    for link in links {
-        if is_joining(link, from, to) {
-            return true;
-        }
-    }
-    false
+    let place = place_of_link(links, from, to);
+    place.is_some()
 }
 
 /// Whether the ends of a connection lie in one resource, or there is a link for it.

@@ -7,7 +7,7 @@ use Rattle.std.proofs.lemmas.Option.{same_Some}
 use Rattle.fb_inputs.specs.declared.row.Draft.{Draft}
 use Rattle.fb_inputs.specs.declared.row.Word.{Word}
 use Rattle.fb_inputs.specs.Numbers.{natural}
-use Rattle.fb_inputs.specs.Refusals.{bad_row, bad_number, over_limit, ◌>>=◌}
+use Rattle.fb_inputs.specs.Refusals.{bad_row, bad_number, over_limit}
 use Rattle.fb_inputs.specs.Rows.{Row, draft, event, word, words}
 use Rattle.fb_inputs.specs.Words.{Text}
 use Rattle.fb_inputs.specs.Lists as lists

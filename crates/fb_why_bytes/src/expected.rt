@@ -7,28 +7,6 @@ use std::alloc::{AllocError, Global};
 /// How long a text may be to be tried with every token, in bytes: each try reads all of it.
 const MOST_TRIED: usize = 65_536;
 
-/// A sort of tokens, and one of it.
-#[derive(Clone, Copy)]
-struct TokenSort {
-    name: &'static str,
-    token: &'static str,
-}
-
-static SORTS: [TokenSort; 3] = [
-    TokenSort {
-        name: "name",
-        token: "X",
-    },
-    TokenSort {
-        name: "whole",
-        token: "1",
-    },
-    TokenSort {
-        name: "time",
-        token: "T#1s",
-    },
-];
-
 /// The keywords and the signs, and the names that the grammar asks for.
 static WORDS: [&str; 82] = [
     "FUNCTION_BLOCK",
@@ -138,13 +116,11 @@ pub fn expected(alloc: Global, before: &[u8]) -> Result<String, AllocError> {
 }
 
 fn add_expected(alloc: Global, all: &mut String, before: &[u8]) -> Result<(), AllocError> {
-    for sort in &SORTS {
-        if may_stand(alloc, before, sort.token)? {
-            add(all, sort.name)?;
-        }
-    }
+    let named = add_if(alloc, all, before, "name", "X")?;
+    add_if(alloc, all, before, "whole", "1")?;
+    add_if(alloc, all, before, "time", "T#1s")?;
     // Where any name may stand, so may these.
-    if !all.as_str().starts_with("name") {
+    if !named {
         add_words(alloc, all, before, &["IN", "ST"])?;
     }
     add_words(alloc, all, before, &WORDS)
@@ -158,11 +134,24 @@ fn add_words(
     words: &[&str],
 ) -> Result<(), AllocError> {
     for word in words {
-        if may_stand(alloc, before, word)? {
-            add(all, word)?;
-        }
+        add_if(alloc, all, before, word, word)?;
     }
     Ok(())
+}
+
+/// Adds a sort of tokens, if the text may go on with one of it, and says whether it may.
+fn add_if(
+    alloc: Global,
+    all: &mut String,
+    before: &[u8],
+    sort: &str,
+    token: &str,
+) -> Result<bool, AllocError> {
+    let may = may_stand(alloc, before, token)?;
+    if may {
+        add(all, sort)?;
+    }
+    Ok(may)
 }
 
 fn add(all: &mut String, word: &str) -> Result<(), AllocError> {

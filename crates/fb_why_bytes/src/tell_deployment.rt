@@ -2,9 +2,9 @@
 
 use crate::place::{DeployKey, DeployPlace, TableFault, TablePlace};
 use crate::table::{key_text, value_at};
-use crate::text::Text;
+use crate::text::{Text, front};
 use std::alloc::{AllocError, Global};
-use toml::{Table, Value};
+use toml::Table;
 
 /// Where a deployment is refused, and what was wanted there.
 pub fn tell_deployment(
@@ -34,7 +34,7 @@ fn push_deployment(alloc: Global, text: &mut Text, bytes: &[u8], place: DeployPl
 fn push_position(text: &mut Text, bytes: &[u8], at: usize) {
     let mut line = 1usize;
     let mut column = 1usize;
-    for byte in bytes.iter().take(at) {
+    for byte in front(bytes, at) {
         if *byte == b'\n' {
             line = line.saturating_add(1);
             column = 1;
@@ -42,27 +42,20 @@ fn push_position(text: &mut Text, bytes: &[u8], at: usize) {
             column = column.saturating_add(1);
         }
     }
-    text.words("line ");
-    text.number(line);
-    text.words(", column ");
-    text.number(column);
-    text.words(": this is no TOML");
+    text.position(line, column);
+    text.words("this is no TOML");
 }
 
 fn push_table(text: &mut Text, table: TablePlace) {
     match table {
         TablePlace::Top => {}
-        TablePlace::Resource(place) => {
-            text.place(place);
-            text.words(" resource: ");
-        }
+        TablePlace::Resource(place) => text.placed("", place, " resource: "),
         TablePlace::Link(place) => push_link(text, place),
     }
 }
 
 fn push_link(text: &mut Text, link: usize) {
-    text.place(link);
-    text.words(" link: ");
+    text.placed("", link, " link: ");
 }
 
 /// What is wrong with the table.
@@ -82,9 +75,7 @@ fn push_fault(alloc: Global, text: &mut Text, bytes: &[u8], table: TablePlace, f
         }
         TableFault::Element(key, place) => {
             text.words(key_text(key));
-            text.words(": the ");
-            text.place(place);
-            text.words(kind_of_element(key));
+            text.placed(": the ", place, kind_of_element(key));
         }
         TableFault::Empty => text.words("there is no resource"),
         TableFault::Both => text.words("there are both latency and latencies"),
@@ -160,15 +151,12 @@ fn is_known(table: TablePlace, key: &str) -> bool {
 
 /// The table of a document that is told.
 fn table_at(keys: &Table, table: TablePlace) -> Option<&Table> {
-    match table {
-        TablePlace::Top => Some(keys),
-        TablePlace::Resource(place) => element_at(value_at(keys, DeployKey::Resource)?, place),
-        TablePlace::Link(place) => element_at(value_at(keys, DeployKey::Link)?, place),
-    }
-}
-
-fn element_at(value: &Value, place: usize) -> Option<&Table> {
-    value.as_array()?.get(place)?.as_table()
+    let (key, place) = match table {
+        TablePlace::Top => return Some(keys),
+        TablePlace::Resource(place) => (DeployKey::Resource, place),
+        TablePlace::Link(place) => (DeployKey::Link, place),
+    };
+    value_at(keys, key)?.as_array()?.get(place)?.as_table()
 }
 
 /// What is wrong with the numbers of a deployment.
@@ -176,9 +164,11 @@ fn push_numbers(text: &mut Text, place: DeployPlace) {
     match place {
         DeployPlace::Latency { link, entry } => {
             push_link(text, link);
-            text.words("the latency of the ");
-            text.place(entry);
-            text.words(" entry is not within 1 to 1,000,000");
+            text.placed(
+                "the latency of the ",
+                entry,
+                " entry is not within 1 to 1,000,000",
+            );
         }
         DeployPlace::NoEntry { link } => {
             push_link(text, link);
@@ -190,9 +180,9 @@ fn push_numbers(text: &mut Text, place: DeployPlace) {
         }
         DeployPlace::Entry { link, entry } => {
             push_link(text, link);
-            text.words("the tick of the ");
-            text.place(entry);
-            text.words(
+            text.placed(
+                "the tick of the ",
+                entry,
                 " entry is not behind that of the entry before it, or is over 1,000,000,000,000",
             );
         }

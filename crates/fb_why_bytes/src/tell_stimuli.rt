@@ -24,35 +24,30 @@ fn push_stimuli(alloc: Global, text: &mut Text, bytes: &[u8], place: StimuliPlac
         StimuliPlace::Bytes => text.words("there are more than 16,777,216 bytes"),
         StimuliPlace::Heading => text.words("the first record is not tick,event,values"),
         StimuliPlace::Row { row, fault } => {
-            text.place(row);
-            text.words(" row behind the heading: ");
+            text.placed("", row, " row behind the heading: ");
             push_row(alloc, text, bytes, row, fault);
         }
     }
 }
 
-/// What is wrong with the row at the place.
-fn push_row(alloc: Global, text: &mut Text, bytes: &[u8], place: usize, fault: RowFault) {
+/// The record of the row at a place, if it is there.
+fn row_at(alloc: Global, bytes: &[u8], place: usize) -> Option<Result<ByteRecord, Error>> {
     let mut rows = records_of(alloc, bytes);
-    if let Some(row) = rows.nth(place.saturating_add(1)) {
-        push_record(alloc, text, row, fault);
-    }
+    rows.nth(place.saturating_add(1))
 }
 
-/// What is wrong with the record of the row. There is no text where it was not read: memory was wanting.
-fn push_record(alloc: Global, text: &mut Text, row: Result<ByteRecord, Error>, fault: RowFault) {
-    match row {
-        Ok(row) => push_fault(alloc, text, &row, fault),
-        Err(_) => text.give_up(),
+/// What is wrong with the row at the place. There is no text where it was not read: memory was wanting.
+fn push_row(alloc: Global, text: &mut Text, bytes: &[u8], place: usize, fault: RowFault) {
+    match row_at(alloc, bytes, place) {
+        Some(Ok(row)) => push_fault(alloc, text, &row, fault),
+        Some(Err(_)) => text.give_up(),
+        None => {}
     }
 }
 
 fn push_fault(alloc: Global, text: &mut Text, row: &ByteRecord, fault: RowFault) {
     match fault {
-        RowFault::Fields => {
-            text.number(row.len());
-            text.words(" fields, and not 3");
-        }
+        RowFault::Fields => text.numbered("", row.len(), " fields, and not 3"),
         RowFault::Event => push_field(text, "the event ", row.get(1), " is not INSTANCE.EVENT"),
         RowFault::Word(place) => push_word(alloc, text, row, place, " is not NAME=VALUE"),
         RowFault::Tick => push_field(text, "the tick ", row.get(0), " is not a number"),
@@ -70,8 +65,9 @@ fn push_fault(alloc: Global, text: &mut Text, row: &ByteRecord, fault: RowFault)
 
 /// Adds a word of the last field, with what is wrong with it.
 fn push_word(alloc: Global, text: &mut Text, row: &ByteRecord, place: usize, behind: &str) {
-    match word_at(alloc, row.get(2), place) {
-        Ok(word) => push_field(text, "the word ", word, behind),
+    let values = row.get(2).unwrap_or(&[]);
+    match words_of(alloc, values) {
+        Ok(words) => push_field(text, "the word ", words.get(place).copied(), behind),
         Err(_) => text.give_up(),
     }
 }
@@ -83,17 +79,4 @@ fn push_field(text: &mut Text, before: &str, field: Option<&[u8]>, behind: &str)
         text.quoted(field);
     }
     text.words(behind);
-}
-
-/// The word at a place among those of a field.
-fn word_at(
-    alloc: Global,
-    values: Option<&[u8]>,
-    place: usize,
-) -> Result<Option<&[u8]>, AllocError> {
-    let Some(values) = values else {
-        return Ok(None);
-    };
-    let words = words_of(alloc, values)?;
-    Ok(words.get(place).copied())
 }

@@ -2,7 +2,7 @@
 
 use crate::applies::MOST_BYTES;
 use crate::expected::expected;
-use crate::text::Text;
+use crate::text::{Text, front};
 use crate::text_place::TextPlace;
 use fb_read::error::ReadError;
 use std::alloc::{AllocError, Global};
@@ -29,11 +29,7 @@ fn push_fault(alloc: Global, told: &mut Text, text: &[u8], fault: &ReadError, pl
         line,
         column,
     } = place;
-    told.words("line ");
-    told.number(line);
-    told.words(", column ");
-    told.number(column);
-    told.words(": ");
+    told.position(line, column);
     let before = text.get(..start).unwrap_or(text);
     let here = token(text.get(start..end).unwrap_or(&[]));
     push_matter(alloc, told, fault, before, here);
@@ -54,11 +50,7 @@ fn push_matter(alloc: Global, told: &mut Text, fault: &ReadError, before: &[u8],
         ReadError::Byte => push_about(told, "", here, " may stand in comments alone"),
         ReadError::Token => push_no_token(told, here),
         ReadError::Syntax { .. } => push_syntax(alloc, told, before, here),
-        ReadError::TooLong => {
-            told.words("a text has at most ");
-            told.number(MOST_BYTES);
-            told.words(" bytes");
-        }
+        ReadError::TooLong => told.numbered("a text has at most ", MOST_BYTES, " bytes"),
         ReadError::Nesting => push_about(told, "with ", here, " more than 64 are nested"),
     }
 }
@@ -106,13 +98,10 @@ fn push_wanted(told: &mut Text, wanted: &str) {
 
 /// Adds bytes as a text, not too many of them: what is not printable by its number.
 fn push_shown(told: &mut Text, bytes: &[u8]) {
-    for byte in bytes.iter().take(MOST_TOLD) {
+    for byte in front(bytes, MOST_TOLD) {
         match *byte {
             b' '..=b'~' => told.letter(*byte),
-            _ => {
-                told.words("byte ");
-                told.number(usize::from(*byte));
-            }
+            _ => told.numbered("byte ", usize::from(*byte), ""),
         }
     }
     if bytes.len() > MOST_TOLD {

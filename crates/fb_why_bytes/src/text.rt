@@ -16,6 +16,11 @@ fn ending(place: usize) -> &'static str {
     }
 }
 
+/// The first bytes, so many where there are more.
+pub fn front(bytes: &[u8], most: usize) -> &[u8] {
+    bytes.get(..most).unwrap_or(bytes)
+}
+
 /// How a byte is told: one that is no printing character of ASCII as a question mark.
 fn shown(byte: u8) -> u8 {
     match byte {
@@ -67,23 +72,32 @@ impl Text {
         }
     }
 
-    pub fn number(&mut self, number: usize) {
+    /// A number between words.
+    pub fn numbered(&mut self, before: &str, number: usize, behind: &str) {
+        self.words(before);
         if self.written.is_ok() {
             self.written = write!(self.all, "{number}");
         }
+        self.words(behind);
     }
 
-    /// A place that is counted from 0, as in 1st for 0.
-    pub fn place(&mut self, place: usize) {
+    /// A place between words. It is counted from 0, and told as 1st for 0.
+    pub fn placed(&mut self, before: &str, place: usize, behind: &str) {
         let counted = place.saturating_add(1);
-        self.number(counted);
-        self.words(ending(counted));
+        self.numbered(before, counted, ending(counted));
+        self.words(behind);
+    }
+
+    /// A line and a column of a text.
+    pub fn position(&mut self, line: usize, column: usize) {
+        self.numbered("line ", line, "");
+        self.numbered(", column ", column, ": ");
     }
 
     /// Bytes between quotes, not too many of them.
     pub fn quoted(&mut self, bytes: &[u8]) {
         self.words("\"");
-        for byte in bytes.iter().take(MOST_TOLD) {
+        for byte in front(bytes, MOST_TOLD) {
             self.letter(shown(*byte));
         }
         self.words(if bytes.len() > MOST_TOLD {

@@ -8,7 +8,7 @@ use fb_resource::resource::Resource;
 use fb_types::run::StopMark;
 
 /// How far resources are.
-#[derive(Clone, Copy, Debug, PartialEq, Eq)]
+#[derive(Clone, Copy)]
 pub(crate) enum End {
     /// Some resource has ticks to run yet.
     Open,

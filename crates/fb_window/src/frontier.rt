@@ -9,7 +9,7 @@ use fb_resource::resource::Resource;
 
 /// A place among the lines, which are in order by tick, then resource: those before it are final, and where it is
 /// within, those of its own resource at its tick are too.
-#[derive(Clone, Copy, Debug, PartialEq, Eq)]
+#[derive(Clone, Copy)]
 pub(crate) struct Frontier {
     /// The tick.
     pub(crate) tick: u64,

@@ -8,3 +8,6 @@ interfaces_of-requires c = (
   c.in_ok-catalog.ensures.catalog,
   known_of (inputs_in c.args.case.now) c.in_ok-catalog.ensures.accepted,
 )
+
+pub returns-clause-accepted : goal.returns-clause-accepted
+returns-clause-accepted c = c.in_ok-catalog.ensures.accepted

@@ -6,3 +6,12 @@ pub returns-clause-holders : goal.returns-clause-holders
 returns-clause-holders c =
     c.in_ok-holders.ensures
     ∙ (λ j. map (λ (i : Instance). c.in_ok-mapping.ensures.ok.holds.holder i.name j) c.args.case.now.library.now.application.network.instances)
+
+pub returns-clause-ok : goal.returns-clause-ok
+returns-clause-ok c = c.in_ok-judge_events.ensures.ok
+
+pub judge_links-requires-clause-passed : goal.judge_links-requires-clause-passed
+judge_links-requires-clause-passed c = c.in_ok-mapping.ensures.passed
+
+pub judge_events-requires-clause-passed : goal.judge_events-requires-clause-passed
+judge_events-requires-clause-passed c = c.in_ok-judge_links.ensures.ok

@@ -1,13 +1,19 @@
-use Rattle.std.proofs.Common.{Bor, List, ℕ, Option, Err, [], map, inl, inr, refl, sym, subst}
+use Rattle.std.proofs.Common.{Bor, List, ℕ, Option, Err, map, inl, inr, refl, sym, subst}
 use Rattle.clap.specs.Words.{Text}
-use Rattle.fb_call.specs.Line.{AreRequest, IsHelp}
+use Rattle.fb_call.specs.Line.{AreRequest, IsFault, IsHelp}
 use Rattle.fb_call.specs.declared.line.LineFault.{LineFault}
 use Rattle.fb_call.specs.declared.line.Request.{Request}
 use Rattle.fb_command.specs.Command.{Does}
 use Rattle.fb_command.specs.Outcomes.{End}
-use Rattle.fb_command.specs.declared.failure.Failure.TheVariants.{Memory}
+use Rattle.fb_command.specs.declared.failure.Failure.TheVariants.{Line, Memory}
 use Rattle.fb_command.proofs.Reporting.{ended_so, helped}
 use Rattle.fb_command.proofs.command.obey.Goals as goal
+
+pub returns-in-Ok-Call : goal.returns-in-Ok-Call
+returns-in-Ok-Call g c =
+    let words = map (λ (w : Bor (List ℕ)). w.now) c.args.words.now in
+    let asked = subst (λ (r : Request). AreRequest words r) c.in-Ok-Call.field-0-is c.in-Ok-Call.ensures.request in
+    (c.perform.ensures.0, c.perform.ensures.1, inl (c.in-Ok-Call.call, asked, c.in-Ok-Call.ensures.taken, c.perform.ensures.2))
 
 pub returns-in-Ok-Explain : goal.returns-in-Ok-Explain
 returns-in-Ok-Explain g c =
@@ -40,6 +46,16 @@ returns-in-Err-Help g c =
     ended_so c.ended-in-Err-Help.result c.help_to.result c.ended-in-Err-Help.ensures (g.E.Write.contents c.args.err.now)
     (λ (end : End) (reports : Text) (note : Option Text). Does g.S.Source.gives g.S.Source.opens source source words old new end reports note)
     (inr (inr (inr (helped words old new c.as_str.result.now (c.in-Err-Help.ensures.help help) c.help_to.result c.help_to.ensures.whole c.help_to.ensures.part, (refl, refl, refl)))))
+
+pub returns-in-Err-Fault : goal.returns-in-Err-Fault
+returns-in-Err-Fault g c =
+    let words = map (λ (w : Bor (List ℕ)). w.now) c.args.words.now in
+    let source = c.args.source.now in
+    let old = g.W.Write.contents c.args.out.now in
+    let fault : IsFault c.in-Err-Fault.field-0 = subst (λ (x : LineFault). IsFault x) (sym c.in-Err-Fault.field-0-is) tt in
+    ended_so c.ended-in-Err-Fault.result (Err (Line _)) c.ended-in-Err-Fault.ensures (g.E.Write.contents c.args.err.now)
+    (λ (end : End) (reports : Text) (note : Option Text). Does g.S.Source.gives g.S.Source.opens source source words old old end reports note)
+    (inr (inr (inr ((c.in-Err-Fault.ensures.none fault, refl), (refl, refl, refl)))))
 
 pub returns-in-Err-Memory : goal.returns-in-Err-Memory
 returns-in-Err-Memory g c =

@@ -1,5 +1,4 @@
-use Rattle.std.proofs.Common.{rules, ◌≡◌, ◌∙◌, Some, sym, string_bytes, true}
-use Rattle.fb_command.specs.Notes.{number_of}
+use Rattle.std.proofs.Common.{rules, ◌≡◌, ◌∙◌, sym, string_bytes, true}
 use Rattle.fb_command.specs.Texts.{given_of}
 use Rattle.fb_command.proofs.Noting.{noted}
 use Rattle.fb_command.proofs.notes.note_of.Goals as goal

@@ -1,4 +1,4 @@
-use Rattle.std.proofs.Common.{◌≡◌, Bor, List, ℕ, Option, Some, option_map, refl, sym, subst, string_bytes}
+use Rattle.std.proofs.Common.{Bor, List, ℕ, Option, Some, option_map, refl, subst}
 use Rattle.std.specs.Prelude.{MatchOption}
 use Rattle.fb_why.specs.Findings.{IsSilent, Tells}
 use Rattle.fb_why.specs.declared.spot.Finding.{Finding}

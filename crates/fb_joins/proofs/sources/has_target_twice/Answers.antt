@@ -1,9 +1,5 @@
-use Rattle.std.proofs.Common.{[], refl}
-use Rattle.fb_types.specs.Flat.{port_in}
-use Rattle.fb_types.specs.declared.library.Connection.{Connection}
-use Rattle.fb_names.specs.Ends.{end_port}
-use Rattle.fb_names.proofs.Seen.{seen_more_of_part, seen_twice_of_part}
-use Rattle.fb_joins.proofs.Targets.{end_cmp, end_cmp-exact, targets_more, targets_twice}
+use Rattle.std.proofs.Common.{refl}
+use Rattle.fb_joins.proofs.Targets.{targets_more, targets_twice}
 use Rattle.fb_joins.proofs.sources.has_target_twice.Goals as goal
 
 pub returns-then-not-branch : goal.returns-then-not-branch

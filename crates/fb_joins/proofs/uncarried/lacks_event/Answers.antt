@@ -1,24 +1,9 @@
-use Rattle.std.proofs.Common.{sym, ◌∙◌}
-use Rattle.std.proofs.lemmas.Bool.{true≢false}
-use Rattle.fb_joins.specs.Serving.{IsUnserved}
-use Rattle.fb_joins.proofs.Elements.{exists_none, exists_at, exists_more, exists_all}
-use Rattle.fb_joins.proofs.Unserved.{event_lacking, event_answer}
+use Rattle.fb_joins.proofs.Unserved.{event_answer}
 use Rattle.fb_joins.proofs.uncarried.lacks_event.Goals as goal
 
-pub loop-connection-init : goal.loop-connection-init
-loop-connection-init c = exists_none (IsUnserved c.args.library.now c.args.plan.now)
-
-pub returns-then-is_unserved : goal.returns-then-is_unserved
-returns-then-is_unserved c =
-    event_lacking c.args.library.now c.args.plan.now _ _ c.requires.once c.requires.resolved.application c.as_slice-connection-items.ensures
-    (exists_at (IsUnserved c.args.library.now c.args.plan.now) _ _ _ c.loop-connection-test.true c.connection-item.is (c.is_unserved.ensures.0 c.if-is_unserved.true))
-
-pub loop-connection-preserved : goal.loop-connection-preserved
-loop-connection-preserved c =
-    exists_more (IsUnserved c.args.library.now c.args.plan.now) _ _ _ c.loop-connection-test.true c.connection-item.is c.loop-connection.invariant
-    (λ un. true≢false (sym (c.is_unserved.ensures.1 un) ∙ c.if-is_unserved.false))
+pub has_unserved-requires : goal.has_unserved-requires
+has_unserved-requires c = record { mapping = c.requires.mapping.holds; served = c.in_ok-served.ensures }
 
 pub returns : goal.returns
 returns c =
-    event_answer c.args.library.now c.args.plan.now _ _ c.requires.once c.requires.resolved.application c.as_slice-connection-items.ensures
-    (exists_all (IsUnserved c.args.library.now c.args.plan.now) _ _ c.loop-connection-test.false c.loop-connection.invariant)
+    event_answer c.args.library.now c.args.plan.now _ _ _ c.requires.once c.requires.resolved.application c.as_slice-connections.ensures c.has_unserved.ensures

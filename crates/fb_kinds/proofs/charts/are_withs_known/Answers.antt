@@ -5,14 +5,16 @@ use Rattle.fb_kinds.specs.Checks.{with_inputs, with_outputs}
 use Rattle.fb_kinds.proofs.Checks.{then_answer, else_answer, withs_met}
 use Rattle.fb_kinds.proofs.charts.are_withs_known.Goals as goal
 
-pub returns-then-have_inputs : goal.returns-then-have_inputs
-returns-then-have_inputs c =
+pub returns-then-have_ports : goal.returns-then-have_ports
+returns-then-have_ports c =
     then_answer (list_all (with_outputs c.args.interface.now.ports) c.args.interface.now.ports.event_outputs)
-    (c.have_inputs.ensures ∙ ap (list_all (with_inputs c.args.interface.now.ports)) (c.as_slice.ensures ∙ ap (λ (x : Ports). x.event_inputs) c.ports-ports.ensures))
-    (c.have_outputs.ensures ∙ ap (list_all (with_outputs c.args.interface.now.ports)) (c.as_slice-then-have_inputs.ensures ∙ ap (λ (x : Ports). x.event_outputs) c.ports-ports.ensures))
-    (withs_met c.args.interface.now.ports) c.if-have_inputs.true
+    (c.have_ports.ensures ∙ ap (list_all (with_inputs c.args.interface.now.ports)) (c.as_slice.ensures ∙ ap (λ (x : Ports). x.event_inputs) c.ports-ports.ensures))
+    (c.have_ports-then-have_ports.ensures
+    ∙ ap (list_all (with_outputs c.args.interface.now.ports)) (c.as_slice-then-have_ports.ensures ∙ ap (λ (x : Ports). x.event_outputs) c.ports-ports.ensures))
+    (withs_met c.args.interface.now.ports) c.if-have_ports.true
 
-pub returns-else-have_inputs : goal.returns-else-have_inputs
-returns-else-have_inputs c =
+pub returns-else-have_ports : goal.returns-else-have_ports
+returns-else-have_ports c =
     else_answer (list_all (with_outputs c.args.interface.now.ports) c.args.interface.now.ports.event_outputs)
-    (c.have_inputs.ensures ∙ ap (list_all (with_inputs c.args.interface.now.ports)) (c.as_slice.ensures ∙ ap (λ (x : Ports). x.event_inputs) c.ports-ports.ensures)) (withs_met c.args.interface.now.ports) c.if-have_inputs.false
+    (c.have_ports.ensures ∙ ap (list_all (with_inputs c.args.interface.now.ports)) (c.as_slice.ensures ∙ ap (λ (x : Ports). x.event_inputs) c.ports-ports.ensures))
+    (withs_met c.args.interface.now.ports) c.if-have_ports.false

@@ -1,7 +1,7 @@
 use Rattle.std.proofs.Common.{◌&&◌, refl, sym, ◌∙◌, ap}
 use Rattle.fb_types.specs.declared.text.Choice.{out-Choice}
 use Rattle.fb_kinds.proofs.Checks.{else_answer, then_answer}
-use Rattle.fb_kinds.proofs.Known.{assign_known, branch_known, branches_known, choice_known, choices_known, if_known, known, known_body, known_branch, known_branches, known_choice, known_choices, known_in, statements_known}
+use Rattle.fb_kinds.proofs.Known.{assign_known, branch_known, branches_known, choice_known, choices_known, if_known, known, known_body, known_branch, known_branches, known_choice, known_choices, known_in, looped_known, statements_known}
 use Rattle.fb_kinds.proofs.Tested.{all_done, all_off, all_on}
 use Rattle.fb_kinds.proofs.mentions.+statement.Goals as goal
 
@@ -91,3 +91,16 @@ is_statement_known-returns-else-are_choices_known t c =
     else_answer (known_body c.args.scope.now c.in-If.others) c.are_choices_known.ensures
     (if_known c.args.scope.now c.args.statement.now c.as_slice.result.now c.in-If.choices c.in-If.others c.in-If.others c.in-If.is c.as_slice.ensures refl)
     c.if-are_choices_known.false
+
+pub is_statement_known-returns-then-is_expression_known-4 : goal.is_statement_known-returns-then-is_expression_known-4
+is_statement_known-returns-then-is_expression_known-4 t c =
+    then_answer (known_body c.args.scope.now c.as_slice-then-is_expression_known-4.result.now) c.is_expression_known-in-While.ensures
+    c.are_statements_known-then-is_expression_known-4.ensures
+    (looped_known c.args.scope.now c.args.statement.now c.in-While.condition c.as_slice-then-is_expression_known-4.result.now c.in-While.body
+    c.in-While.is c.as_slice-then-is_expression_known-4.ensures) c.if-is_expression_known-4.true
+
+pub is_statement_known-returns-else-is_expression_known-4 : goal.is_statement_known-returns-else-is_expression_known-4
+is_statement_known-returns-else-is_expression_known-4 t c =
+    else_answer (known_body c.args.scope.now c.in-While.body) c.is_expression_known-in-While.ensures
+    (looped_known c.args.scope.now c.args.statement.now c.in-While.condition c.in-While.body c.in-While.body c.in-While.is refl)
+    c.if-is_expression_known-4.false

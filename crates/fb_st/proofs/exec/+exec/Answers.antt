@@ -1,17 +1,19 @@
 use Rattle.std.proofs.Common.{List, length, subst, ◌≡◌, sym, ◌∙◌, ap, not, Bool, ℤ, refl, Result, Ok, false, true, arith}
 use Rattle.std.proofs.lemmas.Result.{err_from_is_err_and}
 use Rattle.fb_types.specs.Names.{Name}
-use Rattle.fb_types.specs.Syntax.{Stmt, Stmts, Assign, For, Repeat, expr_of, stmt_of, step_of}
+use Rattle.fb_types.specs.Syntax.{Stmt, Stmts, Assign, If, Case, For, While, Repeat, expr_of, stmt_of, step_of}
 use Rattle.fb_types.specs.Values.{Types, Values, truth_of, whole}
 use Rattle.fb_types.specs.Bodies.{Point, End, Running, Went, Left, Returned, Stopped, Step, Then, RunsAll, Runs, Advances, passed}
+use Rattle.fb_types.specs.declared.text.Branch.{Branch}
+use Rattle.fb_types.specs.declared.text.Choice.{Choice}
 use Rattle.fb_types.specs.declared.text.Stmt as read
 use Rattle.fb_types.specs.declared.value.Reason.{Reason}
 use Rattle.fb_types.specs.declared.value.Reason.TheVariants as reason
 use Rattle.fb_st.specs.declared.frame.Slot.{Slot}
 use Rattle.fb_st.specs.declared.meter.Flow.TheVariants as flow
 use Rattle.fb_st.specs.Frames.{declared_in, types_in, values_of}
-use Rattle.fb_st.specs.Flows.{end_of, point, before_step, all_of}
-use Rattle.fb_st.proofs.Runs.{one_runs, assign_says, began, for_counts, for_not_begun, stopped_by, ended_by, told_by, turn_as, counted_as, counts_as, loop_over, loop_left, loop_returned, loop_stopped, loop_goes_on, repeat_says, repeat_goes_on, repeat_over, repeat_stops, repeat_left, repeat_returned, repeat_stopped}
+use Rattle.fb_st.specs.Flows.{end_of, point, before_step, all_of, branches_of, choices_of}
+use Rattle.fb_st.proofs.Runs.{one_runs, assign_says, if_says, case_says, for_says, while_says, case_runs, began, for_counts, for_not_begun, stopped_by, ended_by, told_by, turn_as, counted_as, counts_as, loop_over, loop_left, loop_returned, loop_stopped, loop_goes_on, repeat_says, repeat_goes_on, repeat_over, repeat_stops, repeat_left, repeat_returned, repeat_stopped}
 use Rattle.fb_st.proofs.exec.+exec.Goals as goal
 
 -- ---- FOR
@@ -39,6 +41,66 @@ run_for-returns-clause-run t c =
     (sym c.eval.ensures ∙ c.in_ok-first.was) (sym c.eval-2.ensures ∙ c.in_ok-last.was) (sym c.step_value.ensures ∙ c.in_ok-by.was) refl refl ok.0 ok.1
     (counts_as (declared_in c.assign.new.self) (declared_in c.args.frame.now) c.args.variable.now (whole c.in_ok-last.last) (whole c.in_ok-by.by) (all_of c.args.body.now)
     (point c.assign.new.self c.args.meter.now) (point c.run_counts.new.frame c.run_counts.new.meter) (end_of c.run_counts.result) c.assign.ensures.declared c.run_counts.ensures.run)
+
+-- ---- A statement, once its step is begun
+
+pub run-returns-in-Assign-clause-run : goal.run-returns-in-Assign-clause-run
+run-returns-in-Assign-clause-run t c =
+    began (types_in (declared_in c.args.frame.now)) (stmt_of c.args.statement.now) (Assign c.in-Assign.variable (expr_of c.in-Assign.expr))
+    (values_of c.args.frame.now) c.args.meter.now.left c.step.new.self.left (end_of c.run_assignment.result) (point c.run_assignment.new.frame c.step.new.self)
+    (ap stmt_of c.in-Assign.is ∙ assign_says c.in-Assign.variable c.in-Assign.expr) c.in_ok-step.ensures.ok (c.run_assignment.ensures.run c.step.new.self.left)
+
+pub run-returns-in-If-clause-run : goal.run-returns-in-If-clause-run
+run-returns-in-If-clause-run t c =
+    let cs = c.as_slice.result.now in
+    let others = c.as_slice-in-If.result.now in
+    let said : stmt_of c.args.statement.now ≡ If (choices_of cs) (all_of others) =
+    ap stmt_of c.in-If.is ∙ if_says c.in-If.choices c.in-If.others
+    ∙ ap (λ (l : List Choice). If (choices_of l) (all_of c.in-If.others)) (sym c.as_slice.ensures)
+    ∙ ap (λ (l : List read.Stmt). If (choices_of cs) (all_of l)) (sym c.as_slice-in-If.ensures) in
+    began (types_in (declared_in c.args.frame.now)) (stmt_of c.args.statement.now) (If (choices_of cs) (all_of others))
+    (values_of c.args.frame.now) c.args.meter.now.left c.step.new.self.left (end_of c.run_choice.result) (point c.run_choice.new.frame c.run_choice.new.meter)
+    said c.in_ok-step.ensures.ok c.run_choice.ensures.run
+
+pub run-returns-in_ok-value-in-Case-clause-run : goal.run-returns-in_ok-value-in-Case-clause-run
+run-returns-in_ok-value-in-Case-clause-run t c =
+    let T : Types = types_in (declared_in c.args.frame.now) in
+    let e = expr_of c.in-Case.selector in
+    let bs = c.as_slice-in-Case.result.now in
+    let others = c.as_slice-in-Case-2.result.now in
+    let said : stmt_of c.args.statement.now ≡ Case e (branches_of bs) (all_of others) =
+    ap stmt_of c.in-Case.is ∙ case_says c.in-Case.selector c.in-Case.branches c.in-Case.others
+    ∙ ap (λ (l : List Branch). Case e (branches_of l) (all_of c.in-Case.others)) (sym c.as_slice-in-Case.ensures)
+    ∙ ap (λ (l : List read.Stmt). Case e (branches_of bs) (all_of l)) (sym c.as_slice-in-Case-2.ensures) in
+    began T (stmt_of c.args.statement.now) (Case e (branches_of bs) (all_of others))
+    (values_of c.args.frame.now) c.args.meter.now.left c.step.new.self.left (end_of c.run_branch.result) (point c.run_branch.new.frame c.run_branch.new.meter)
+    said c.in_ok-step.ensures.ok
+    (case_runs T e (branches_of bs) (all_of others) (values_of c.args.frame.now) c.step.new.self.left c.in_ok-value-in-Case.value (end_of c.run_branch.result)
+    (point c.run_branch.new.frame c.run_branch.new.meter) (sym c.eval.ensures ∙ c.in_ok-value-in-Case.was) c.run_branch.ensures.run)
+
+pub run-returns-in-For-clause-run : goal.run-returns-in-For-clause-run
+run-returns-in-For-clause-run t c =
+    let n : Name = c.in-For.variable in
+    let first = expr_of c.in-For.start in
+    let last = expr_of c.in-For.end in
+    let by = step_of c.in-For.step in
+    let body = c.as_slice-in-For.result.now in
+    let said : stmt_of c.args.statement.now ≡ For n first last by (all_of body) =
+    ap stmt_of c.in-For.is ∙ for_says n c.in-For.start c.in-For.end c.in-For.step c.in-For.body
+    ∙ ap (λ (l : List read.Stmt). For n first last by (all_of l)) (sym c.as_slice-in-For.ensures) in
+    began (types_in (declared_in c.args.frame.now)) (stmt_of c.args.statement.now) (For n first last by (all_of body))
+    (values_of c.args.frame.now) c.args.meter.now.left c.step.new.self.left (end_of c.run_for.result) (point c.run_for.new.frame c.run_for.new.meter)
+    said c.in_ok-step.ensures.ok c.run_for.ensures.run
+
+pub run-returns-in-While-clause-run : goal.run-returns-in-While-clause-run
+run-returns-in-While-clause-run t c =
+    let test = expr_of c.in-While.condition in
+    let body = c.as_slice-in-While.result.now in
+    let said : stmt_of c.args.statement.now ≡ While test (all_of body) =
+    ap stmt_of c.in-While.is ∙ while_says c.in-While.condition c.in-While.body ∙ ap (λ (l : List read.Stmt). While test (all_of l)) (sym c.as_slice-in-While.ensures) in
+    began (types_in (declared_in c.args.frame.now)) (stmt_of c.args.statement.now) (While test (all_of body))
+    (values_of c.args.frame.now) c.args.meter.now.left c.step.new.self.left (end_of c.run_while.result) (point c.run_while.new.frame c.run_while.new.meter)
+    said c.in_ok-step.ensures.ok c.run_while.ensures.run
 
 -- ---- REPEAT
 

@@ -1,11 +1,26 @@
-use Rattle.std.proofs.Common.{List, ℕ, append-nil, drop, subst}
+use Rattle.std.proofs.Common.{List, ℕ, ◌<◌, append-nil, drop, length, sym, ap, subst, ◌∙◌}
+use Rattle.std.proofs.lemmas.List.{length-map}
+use Rattle.std.proofs.lemmas.List.Elements.{All-drop, All-take}
 use Rattle.fb_types.specs.Headline.{system_of}
 use Rattle.fb_types.specs.Numbers.{line_of}
 use Rattle.fb_types.specs.Text.{values_text}
-use Rattle.fb_trace.specs.Progress.{Gathers, Puts}
-use Rattle.fb_trace.proofs.Starts.{others_sliced}
-use Rattle.fb_trace.proofs.Steps.{Gathers-after}
+use Rattle.fb_system.specs.Stands.{variable_at}
+use Rattle.fb_trace.specs.Progress.{Fails, Gathers, Puts}
+use Rattle.fb_trace.proofs.Starts.{others_counted, others_sliced}
+use Rattle.fb_trace.proofs.Steps.{Gathers-after, Gathers-passed}
 use Rattle.fb_trace.proofs.lines.put_more.Goals as goal
+
+pub put_values-requires-clause-counted : goal.put_values-requires-clause-counted
+put_values-requires-clause-counted g c =
+    let shown = c.shown_by-shown.result in
+    others_counted c.as_slice-values.result.now shown.places.now
+    (ap length c.as_slice-values.ensures ∙ c.requires.belongs.values ∙ sym (ap length c.shown_by-shown.ensures.named)
+    ∙ length-map shown.places.now (variable_at shown.variables.now))
+
+pub put_values-requires-clause-within : goal.put_values-requires-clause-within
+put_values-requires-clause-within g c =
+    let fits : ℕ → Type 0 = λ k. k < length c.shown_by-shown.result.variables.now in
+    All-take fits _ _ (All-drop fits 1 _ c.shown_by-shown.ensures.within)
 
 pub returns-clause-text : goal.returns-clause-text
 returns-clause-text g c =
@@ -21,3 +36,14 @@ returns-clause-text g c =
     (others_sliced sys l shown.variables.now shown.places.now c.shown_by-shown.ensures) (rw c.as_slice-values.ensures at c.in_ok-put_values.ensures.whole) in
     subst (λ (t : List ℕ). Gathers old new page c.make_room.new.self t c.make_room.result) (append-nil (values_text (drop 1 (line_of sys l).values)))
     (Gathers-after c.make_room.result whole c.make_room.ensures.text)
+
+pub returns-in_err-put_values-clause-text : goal.returns-in_err-put_values-clause-text
+returns-in_err-put_values-clause-text g c =
+    let sys = system_of c.args.system.now in
+    let l = c.args.line.now in
+    let shown = c.shown_by-shown.result in
+    let old = g.W.Write.contents c.args.out.now in
+    let between = g.W.Write.contents c.put_values.new.out in
+    Gathers-passed _ c.from_residual.ensures.1
+    (subst (λ (t : List ℕ). Fails old between c.args.page.now t c.in_err-put_values.field-0.0.written)
+    (others_sliced sys l shown.variables.now shown.places.now c.shown_by-shown.ensures) (rw c.as_slice-values.ensures at c.in_err-put_values.ensures.part))

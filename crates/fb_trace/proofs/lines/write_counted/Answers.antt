@@ -1,7 +1,15 @@
 use Rattle.std.proofs.Common.{append-nil}
-use Rattle.fb_trace.proofs.Ends.{part_passed}
+use Rattle.fb_trace.proofs.Ends.{all_got, part_passed}
 use Rattle.fb_trace.proofs.Steps.{Fails-after}
 use Rattle.fb_trace.proofs.lines.write_counted.Goals as goal
+
+pub returns-clause-whole : goal.returns-clause-whole
+returns-clause-whole g c =
+    all_got (rw c.new-page.ensures at c.in_ok-put_lines.ensures.whole) c.in_ok-flush.ensures.text.whole c.in_ok-flush.ensures.empty
+
+pub returns-in_err-put_lines-clause-part : goal.returns-in_err-put_lines-clause-part
+returns-in_err-put_lines-clause-part g c =
+    part_passed _ c.from_residual.ensures.1 (rw c.new-page.ensures at c.in_err-put_lines.ensures.part)
 
 pub returns-in_err-flush-clause-part : goal.returns-in_err-flush-clause-part
 returns-in_err-flush-clause-part g c =

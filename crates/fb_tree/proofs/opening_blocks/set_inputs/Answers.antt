@@ -1,4 +1,4 @@
-use Rattle.std.proofs.Common.{◌∙◌, ◌<◌, length, sym, arith, Some}
+use Rattle.std.proofs.Common.{◌∙◌, ◌<◌, length, arith}
 use Rattle.std.proofs.lemmas.Option.{slice_get-get_or}
 use Rattle.fb_tree.proofs.Frames.{at_index, declared_step, values_step}
 use Rattle.fb_tree.proofs.opening_blocks.set_inputs.Goals as goal

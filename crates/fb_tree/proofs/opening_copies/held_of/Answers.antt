@@ -1,4 +1,4 @@
-use Rattle.std.proofs.Common.{◌∙◌, sym}
+use Rattle.std.proofs.Common.{◌∙◌}
 use Rattle.fb_tree.proofs.Copies.{instance_covered, instance_skipped}
 use Rattle.fb_tree.proofs.opening_copies.held_of.Goals as goal
 use Rattle.fb_tree.proofs.opening_copies.held_of.Goals.{then-resource+in_ok-hold_places+in_ok-hold_places-2, else-resource}

@@ -1,6 +1,4 @@
 use Rattle.std.proofs.Common.{ℕ, ◌<◌}
-use Rattle.fb_types.specs.Headline.{system_of}
-use Rattle.fb_system.specs.Ports.{IsVariable}
 use Rattle.fb_tree.specs.Opening.{Covers, KeepsCovers}
 use Rattle.fb_tree.proofs.opening_copies.hold_places.Given as goal
 

@@ -1,4 +1,4 @@
-use Rattle.std.proofs.Common.{◌∙◌, sym}
+use Rattle.std.proofs.Common.{◌∙◌}
 use Rattle.std.proofs.lemmas.Result.{on_ok_weaker}
 use Rattle.fb_tree.proofs.Seating.{seated_away, seated_more}
 use Rattle.fb_tree.proofs.opening_seats.seat_one.Goals as goal

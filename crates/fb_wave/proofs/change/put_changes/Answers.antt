@@ -1,8 +1,24 @@
-use Rattle.std.proofs.Common.{◌≤◌, false, length, refl, arith}
+use Rattle.std.proofs.Common.{◌≡◌, ℕ, ◌<◌, ◌≤◌, false, List, length, get_or, set, refl, sym, ap, subst, ◌∙◌, arith}
 use Rattle.fb_wave.specs.declared.levels.Cell.{Cell}
 use Rattle.fb_wave.specs.declared.levels.Level.TheVariants.{Count}
-use Rattle.fb_wave.proofs.Turning.{turned_text, turned_levels}
+use Rattle.fb_wave.proofs.Turning.{turned_levels, turned_more, turned_none, turned_text}
 use Rattle.fb_wave.proofs.change.put_changes.Goals as goal
+
+pub loop-place-init : goal.loop-place-init
+loop-place-init c = turned_none c.args.text.now.items c.args.levels.now
+
+pub loop-place-preserved : goal.loop-place-preserved
+loop-place-preserved c =
+    let from = c.args.levels.now in
+    let to = c.loop-place.levels in
+    let turned = c.loop-place.invariant in
+    let p = c.loop-place.place in
+    let s = c.index-signal.result.now in
+    let within : p < length from.noted.items = omega (arith, c.len-place-end.ensures, from.noted.ok.0, c.loop-place-test.true) in
+    let at : s ≡ get_or from.noted.items p s = c.index-signal.ensures ∙ ap (λ (l : List ℕ). get_or l p s) turned.noted in
+    turned_more c.args.text.now.items c.loop-place.text.items c.put_change.new.text.items from to _ p s c.index.result.now c.index_mut.result.now turned within at
+    (subst (λ (k : ℕ). k < length from.cells.items) (sym at) (c.requires p s within)) c.index.ensures c.in_ok-put_change.ensures
+    (ap (λ (x : Cell). set to.cells.items s (record { shown = x.shown; is_noted = false })) c.index_mut.ensures.value) refl
 
 pub returns-clause-text : goal.returns-clause-text
 returns-clause-text c n f t u are =

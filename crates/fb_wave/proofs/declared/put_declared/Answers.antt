@@ -1,4 +1,5 @@
 use Rattle.std.proofs.Common.{◌≡◌, ℕ, List, [], ◌∷◌, ◌++◌, decimal, codes, ap, ◌∙◌, append_assoc}
+use Rattle.fb_wave.proofs.Handing.{on_put}
 use Rattle.fb_wave.proofs.declared.put_declared.Goals as goal
 
 regroup :
@@ -11,7 +12,9 @@ returns c =
     let name = c.args.name.now in
     let mark = c.args.mark.now in
     let code : List ℕ = codes " " ++ (c.args.letter.now ++ decimal c.args.signal) ++ codes " " in
-    c.in_ok-extend_from_slice-5.ensures.items
+    on_put c.extend_from_slice-5.result _ _ _ _ c.extend_from_slice-5.ensures.items
+    (λ e.
+    e
     ∙ ap (λ (l : List ℕ). l ++ codes " $end\n")
     (c.in_ok-extend_from_slice-4.ensures.items
     ∙ ap (λ (l : List ℕ). l ++ mark)
@@ -20,4 +23,4 @@ returns c =
     (c.in_ok-put_code.ensures
     ∙ ap (λ (l : List ℕ). l ++ code)
     (c.in_ok-extend_from_slice-2.ensures.items ∙ ap (λ (l : List ℕ). l ++ kind) c.in_ok-extend_from_slice.ensures.items))))
-    ∙ regroup c.args.text.now.items (codes "$var ") kind (codes " ") (c.args.letter.now ++ decimal c.args.signal) name mark (codes " $end") (10 ∷ [])
+    ∙ regroup c.args.text.now.items (codes "$var ") kind (codes " ") (c.args.letter.now ++ decimal c.args.signal) name mark (codes " $end") (10 ∷ []))

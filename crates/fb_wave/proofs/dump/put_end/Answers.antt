@@ -1,16 +1,12 @@
-use Rattle.std.proofs.Common.{◌≡◌, ℕ, List, ◌++◌, Ok, Err, Result, sym, ap, ◌∙◌, append_assoc}
-use Rattle.std.specs.Prelude.{OnOk}
+use Rattle.std.proofs.Common.{◌≡◌, ℕ, List, ◌++◌, sym, ap, ◌∙◌, append_assoc}
 use Rattle.fb_types.specs.Headline.{system_of}
 use Rattle.fb_types.specs.Names.{Name}
 use Rattle.fb_trace.specs.End.{ending_of}
 use Rattle.fb_trace.specs.declared.last.RunEnd.{RunEnd}
 use Rattle.fb_wave.specs.Changes.{time_text}
 use Rattle.fb_wave.specs.Dumps.{end_text, stop_comment}
+use Rattle.fb_wave.proofs.Handing.{on_ok}
 use Rattle.fb_wave.proofs.dump.put_end.Goals as goal
-
-on_ok : {A E : Type 0} (r : Result A E) (P Q : Type 0) → (P → Q) → OnOk r P → OnOk r Q
-on_ok (Ok x) P Q f h = f h
-on_ok (Err e) P Q f h = tt
 
 pub returns-in_ok-put_time-in-Stop : goal.returns-in_ok-put_time-in-Stop
 returns-in_ok-put_time-in-Stop c =
@@ -21,9 +17,8 @@ returns-in_ok-put_time-in-Stop c =
     let new = c.put_stop.new.text.items in
     let time : List ℕ = time_text c.args.told m.tick in
     let stop : List ℕ = stop_comment c.resource_name-resource.result.now m.reason in
-    on_ok c.put_stop.result (new ≡ mid ++ stop) (new ≡ old ++ end_text sys c.args.told (ending_of c.args.end))
+    on_ok c.put_stop.result (new ≡ mid ++ stop) (new ≡ old ++ end_text sys c.args.told (ending_of c.args.end)) c.put_stop.ensures
     (λ e.
     e ∙ ap (λ (t : List ℕ). t ++ stop) c.in_ok-put_time-in-Stop.ensures ∙ append_assoc old time stop
     ∙ ap (λ (n : Name). old ++ (time ++ stop_comment n m.reason)) c.resource_name-resource.ensures
     ∙ ap (λ (x : RunEnd). old ++ end_text sys c.args.told (ending_of x)) (sym c.in-Stop.is))
-    c.put_stop.ensures

@@ -6,4 +6,4 @@ tell_all-requires-clause-places c = λ k d h. let w = c.requires.places k d h in
 
 pub returns-clause-levels : goal.returns-clause-levels
 returns-clause-levels c n fires tells touches are =
-    c.in_ok-tell_all.ensures.levels n (fires ++ c.args.event ∷ []) tells (touches ++ c.args.event ∷ []) (c.in_ok-fire.ensures.levels n fires tells touches are)
+    c.tell_all.ensures.levels n (fires ++ c.args.event ∷ []) tells (touches ++ c.args.event ∷ []) (c.in_ok-fire.ensures.levels n fires tells touches are)

@@ -2,6 +2,7 @@ use Rattle.std.proofs.Common.{◌++◌}
 use Rattle.fb_wave.specs.Signals.{sizes_of}
 use Rattle.fb_wave.specs.Told.{fires_of, tells_of, touches_of}
 use Rattle.fb_wave.proofs.Telling.{turn_next, turn_same}
+use Rattle.fb_wave.proofs.Handing.{on_ok}
 use Rattle.fb_wave.proofs.dump.turn.Goals as goal
 
 pub returns-then-tick-told-clause-turned : goal.returns-then-tick-told-clause-turned
@@ -10,8 +11,10 @@ returns-then-tick-told-clause-turned c sys ls sent t =
 
 pub returns-clause-turned : goal.returns-clause-turned
 returns-clause-turned c sys ls sent t =
+    on_ok c.put_time.result _ _ c.put_time.ensures
+    (λ e.
     turn_next sys ls sent c.args.text.now.items c.put_changes.new.text.items c.put_time.new.text.items c.args.told c.args.tick c.args.levels.now c.put_changes.new.levels
     c.if-tick-told.false t
     (c.in_ok-put_changes.ensures.text (sizes_of sys sys.paths) (fires_of sys ls) (tells_of sys ls) (touches_of sys t.now) t.levels)
-    c.in_ok-put_time.ensures
-    (c.in_ok-put_changes.ensures.levels (sizes_of sys sys.paths) (fires_of sys ls) (tells_of sys ls) (touches_of sys t.now) t.levels)
+    e
+    (c.in_ok-put_changes.ensures.levels (sizes_of sys sys.paths) (fires_of sys ls) (tells_of sys ls) (touches_of sys t.now) t.levels))

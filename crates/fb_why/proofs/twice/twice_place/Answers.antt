@@ -7,7 +7,6 @@ use Rattle.fb_types.specs.declared.deploy.Link.{Link}
 use Rattle.fb_types.specs.declared.deploy.ResourceEntry.{ResourceEntry}
 use Rattle.fb_types.specs.declared.library.BlockType.{BlockType}
 use Rattle.fb_types.specs.declared.library.Network.{Network}
-use Rattle.fb_names.specs.Ends.{link_ends}
 use Rattle.fb_names.specs.GivenTwice.{NetworkTwice}
 use Rattle.fb_why.specs.Pairs.{IsPair}
 use Rattle.fb_why.specs.Twice.{IsTwiceInNetwork, IsTwiceInSome}
@@ -26,4 +25,4 @@ returns-in-None c =
     (MatchOption-at_none (All IsBlockOnce ts) (λ (r : ℕ × InBlock). IsTwiceInSome ts r.0 r.1) c.in_default-3.is c.in_ok-block.ensures)
     (MatchOption-at_none (¬ (NetworkTwice net)) (IsTwiceInNetwork net) c.in_default-4.is c.in_ok-found.ensures)
     (MatchOption-at_none (¬ (Twice (map (λ (r : ResourceEntry). r.name) rs))) (IsPair (map (λ (r : ResourceEntry). r.name) rs)) c.in_default-5.is c.in_ok-pair-2.ensures)
-    (MatchOption-at_none (¬ (Twice (map link_ends ls))) (IsPair (map link_ends ls)) c.in-None.is c.in_ok-pair-3.ensures)
+    c.in-None.ensures

@@ -1,7 +1,6 @@
-use Rattle.std.proofs.Common.{◌≡◌, ◌≤◌, ◌<◌, false, true, length, ◌∙◌, arith, rules}
-use Rattle.csv.specs.Reading.{strip_bom}
+use Rattle.std.proofs.Common.{◌<◌, length, arith}
 use Rattle.csv.specs.Records.{fields_of}
-use Rattle.fb_inputs.specs.Stimuli.{is_head, most_bytes}
+use Rattle.fb_inputs.specs.Stimuli.{most_bytes}
 use Rattle.fb_inputs.specs.Readers.{rows_from}
 use Rattle.fb_inputs.proofs.Records.{at_more, at_end}
 use Rattle.fb_inputs.proofs.Rows.{headed, unheaded, empty}

@@ -53,3 +53,30 @@ returns-in_ok-enter-in-Some-Composite-clause-reacted c =
     done-reacted i (entering i k at) (Arrives i k at left) c.args.self.now.forest.now c.enter.new.self.forest.now c.args.self.now.outbox.now c.enter.new.self.outbox.now left
     (composite-enters i k at t is c.requires.target.port c.if-at.false left) (λ w. refl) (λ w. refl)
     c.in_ok-enter-in-Some-Composite.ensures.entered
+
+pub arrive_event-requires-clause-typed : goal.arrive_event-requires-clause-typed
+arrive_event-requires-clause-typed c = c.requires.typed
+
+pub arrive_basic-requires-clause-kind : goal.arrive_basic-requires-clause-kind
+arrive_basic-requires-clause-kind c =
+    let i = c.args.self.now.system.now in
+    let declared : slice_get i.library.blocks c.in-Declared.place ≡ Some (block.Basic c.in-Some-Basic.block) =
+    ap (λ (l : Library). slice_get l.blocks c.in-Declared.place) (sym c.library.ensures) ∙ sym c.in-Some-Basic.ensures.value ∙ ap Some c.in-Some-Basic.field-0-is in
+    sym c.in-Declared.ensures ∙ ap (option_map kind_of) declared
+
+pub arrive_basic-requires-clause-one : goal.arrive_basic-requires-clause-one
+arrive_basic-requires-clause-one c = (c.requires.typed.0, c.requires.typed.1, c.requires.here)
+
+pub enter-requires-clause-composite : goal.enter-requires-clause-composite
+enter-requires-clause-composite c =
+    let i = c.args.self.now.system.now in
+    let declared : slice_get i.library.blocks c.in-Declared.place ≡ Some (block.Composite c.in-Some-Composite.field-0-0) =
+    ap (λ (l : Library). slice_get l.blocks c.in-Declared.place) (sym c.library.ensures) ∙ sym c.in-Some-Composite.ensures.value ∙ ap Some c.in-Some-Composite.field-0-is in
+    (c.in-Some-Composite.field-0-0, sym c.in-Declared.ensures ∙ ap (option_map kind_of) declared)
+
+pub leave-requires-clause-composite : goal.leave-requires-clause-composite
+leave-requires-clause-composite c =
+    let i = c.args.self.now.system.now in
+    let declared : slice_get i.library.blocks c.in-Declared.place ≡ Some (block.Composite c.in-Some-Composite.field-0-0) =
+    ap (λ (l : Library). slice_get l.blocks c.in-Declared.place) (sym c.library.ensures) ∙ sym c.in-Some-Composite.ensures.value ∙ ap Some c.in-Some-Composite.field-0-is in
+    (c.in-Some-Composite.field-0-0, sym c.in-Declared.ensures ∙ ap (option_map kind_of) declared)

@@ -28,3 +28,9 @@ pub returns-in_err-tell-clause-kept : goal.returns-in_err-tell-clause-kept
 returns-in_err-tell-clause-kept c =
     let end = c.react_basic-end in
     kept-then c.args.self.now.system.now c.args.self.now.forest.now end.new.forest c.tell.new.self.forest.now (kept-world c.args.self.now.system.now c.args.self.now.forest.now end.new.forest end.ensures.resource end.ensures.whole) c.tell.ensures.kept
+
+pub tell-requires-clause-counted : goal.tell-requires-clause-counted
+tell-requires-clause-counted c = c.in_ok-values.ensures.counted
+
+pub returns-clause-fewer : goal.returns-clause-fewer
+returns-clause-fewer c = c.react_basic-end.ensures.fewer

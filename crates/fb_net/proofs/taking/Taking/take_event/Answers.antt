@@ -1,6 +1,7 @@
 use Rattle.std.proofs.Common.{Ok, arith, sym, subst}
 use Rattle.fb_types.specs.declared.run.Event.{Event}
-use Rattle.fb_net.specs.Steps.{WasTaken}
+use Rattle.fb_net.specs.Events.{IsNumbered}
+use Rattle.fb_net.specs.Steps.{MayTake, WasTaken}
 use Rattle.fb_net.proofs.ByEvent.{local-taken}
 use Rattle.fb_net.proofs.taking.Taking.take_event.Goals as goal
 
@@ -29,3 +30,22 @@ returns-in-Local-clause-taken c =
       fewer = done.ensures.fewer;
       kept = done.ensures.kept;
     })
+
+pub returns-in-Stimulus-clause-taken : goal.returns-in-Stimulus-clause-taken
+returns-in-Stimulus-clause-taken c =
+    let done = c.take_stimulus in
+    subst (λ (e : Event). WasTaken c.args.self.now e c.args.meter.now.left done.result done.new.self done.new.meter.left) (sym c.in-Stimulus.is) done.ensures.taken
+
+pub returns-in-Arrival-clause-taken : goal.returns-in-Arrival-clause-taken
+returns-in-Arrival-clause-taken c =
+    let done = c.take_arrival in
+    subst (λ (e : Event). WasTaken c.args.self.now e c.args.meter.now.left done.result done.new.self done.new.meter.left) (sym c.in-Arrival.is) done.ensures.taken
+
+pub take_stimulus-requires : goal.take_stimulus-requires
+take_stimulus-requires c = subst (λ (e : Event). MayTake c.args.self.now e) c.in-Stimulus.is c.requires
+
+pub take_timer-requires : goal.take_timer-requires
+take_timer-requires c = subst (λ (e : Event). MayTake c.args.self.now e) c.in-Timer.is c.requires
+
+pub arrive-requires-clause-target : goal.arrive-requires-clause-target
+arrive-requires-clause-target c = subst (λ (e : Event). IsNumbered c.args.self.now.system.now e) c.in-Local.is c.requires.event.numbered

@@ -23,3 +23,9 @@ returns-then-is_empty-clause-taken c =
 pub returns-then-is_empty-clause-kept : goal.returns-then-is_empty-clause-kept
 returns-then-is_empty-clause-kept c =
     kept-same c.args.self.now.system.now c.args.self.now.forest.now
+
+pub write_taken-requires-clause-port : goal.write_taken-requires-clause-port
+write_taken-requires-clause-port c = c.requires.place.port
+
+pub write_taken-requires-clause-lines : goal.write_taken-requires-clause-lines
+write_taken-requires-clause-lines c = c.requires.place.ready.outs.lines

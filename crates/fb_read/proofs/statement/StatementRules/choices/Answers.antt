@@ -1,11 +1,12 @@
-use Rattle.std.proofs.Common.{◌≡◌, true, false, [], ◌∙◌, rules, arith}
+use Rattle.std.proofs.Common.{◌≡◌, true, false, [], Ok, ap, sym, ◌∙◌, rules, arith}
 use Rattle.std.proofs.lemmas.Grind.{common_steps}
 use Rattle.fb_read.specs.declared.token.Mark.TheVariants as mark
 use Rattle.fb_read.specs.Parser.{sees}
 use Rattle.fb_read.specs.Statements.{nested_statement, choices, elsif, several, several_from}
 use Rattle.fb_read.proofs.Turns.{one_more, no_more}
 use Rattle.fb_read.proofs.Adding.{item_of, fault_of}
-use Rattle.fb_read.proofs.Turning.{several_more, several_over}
+use Rattle.fb_read.specs.Tokens.{Tokens}
+use Rattle.fb_read.proofs.Turning.{several_more, several_over, after_none, elsif_reads}
 use Rattle.fb_read.proofs.statement.StatementRules.choices.Goals as goal
 
 pub returns-in_err-found : goal.returns-in_err-found
@@ -22,24 +23,26 @@ loop-turn-init g c =
     let more = i.2 in
     first_of (search rules, grind (arith, common_steps))
 
-pub returns-then-not-sees : goal.returns-then-not-sees
-returns-then-not-sees g c =
+pub returns-then-not-eat : goal.returns-then-not-eat
+returns-then-not-eat g c =
     let over : sees mark.Elsif c.loop-turn.cursor ≡ false = search rules in
     one_more (λ n. several_from (sees mark.Elsif) (elsif (nested_statement c.args.self.now.below)) n c.loop-turn.found c.loop-turn.cursor) _ c.loop-turn._turn c.loop-turn-test.true c.loop-turn.invariant
     ∙ several_over (sees mark.Elsif) (elsif (nested_statement c.args.self.now.below)) _ c.loop-turn.found c.loop-turn.cursor over
+    ∙ ap (λ (t : Tokens). Ok (c.loop-turn.found, t)) (sym (c.eat.ensures.after ∙ after_none mark.Elsif c.loop-turn.cursor over))
 
 pub returns-in_err-found-2 : goal.returns-in_err-found-2
 unfolding several_from
 returns-in_err-found-2 g c =
+    let begun : sees mark.Elsif c.loop-turn.cursor ≡ true = search rules in
     let e = one_more (λ n. several_from (sees mark.Elsif) (elsif (nested_statement c.args.self.now.below)) n c.loop-turn.found c.loop-turn.cursor) _ c.loop-turn._turn c.loop-turn-test.true c.loop-turn.invariant in
-    let r = fault_of _ _ _ c.loop-turn.found _ c.elsif.ensures c.in_err-found-2.ensures in
+    let r = fault_of _ _ _ c.loop-turn.found _ (elsif_reads _ c.loop-turn.cursor _ _ _ begun c.eat.ensures.after c.choice-in-loop-turn.ensures) c.in_err-found-2.ensures in
     first_of (search rules, grind (arith, common_steps))
 
 pub loop-turn-preserved : goal.loop-turn-preserved
 loop-turn-preserved g c =
     let begun : sees mark.Elsif c.loop-turn.cursor ≡ true = search rules in
     one_more (λ n. several_from (sees mark.Elsif) (elsif (nested_statement c.args.self.now.below)) n c.loop-turn.found c.loop-turn.cursor) _ c.loop-turn._turn c.loop-turn-test.true c.loop-turn.invariant
-    ∙ several_more (sees mark.Elsif) (elsif (nested_statement c.args.self.now.below)) _ c.loop-turn.found _ c.loop-turn.cursor _ _ begun c.elsif.ensures c.in_ok-found-2.ensures
+    ∙ several_more (sees mark.Elsif) (elsif (nested_statement c.args.self.now.below)) _ c.loop-turn.found _ c.loop-turn.cursor _ _ begun (elsif_reads _ c.loop-turn.cursor _ _ _ begun c.eat.ensures.after c.choice-in-loop-turn.ensures) c.in_ok-found-2.ensures
 
 pub returns : goal.returns
 unfolding several_from

@@ -1,7 +1,7 @@
-use Rattle.fb_system.proofs.KeptRows.{with_rows}
+use Rattle.std.proofs.Common.{subst, sym}
+use Rattle.fb_system.specs.Systems.{IsKept}
+use Rattle.fb_system.specs.declared.kept.Kept.{Kept}
 use Rattle.fb_system.proofs.system.System.with_rows.Goals as goal
 
-pub invariant_of-result : goal.invariant_of-result
-invariant_of-result c =
-    with_rows _ _ _ _ _ _ c.in_ok-whole.ensures c.in_ok-kept.ensures.ok c.self.view_is c.self.invariant.tables c.in_ok-heads.ensures c.in_ok-ends.ensures.targets
-    c.in_ok-ends.ensures.sources
+pub with_kept-requires : goal.with_kept-requires
+with_kept-requires c = subst (λ (k : Kept). IsKept c.args.self.now k) (sym c.in_ok-new.ensures.ok) c.in_ok-rows.ensures

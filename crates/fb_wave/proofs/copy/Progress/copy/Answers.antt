@@ -3,6 +3,7 @@ use Rattle.fb_types.specs.Headline.{system_of}
 use Rattle.fb_wave.specs.Lines.{IsLast}
 use Rattle.fb_wave.specs.Copying.{IsTaken}
 use Rattle.fb_wave.proofs.Copied.{copied_all, copied_none, copied_one, front_copied, front_flushed, front_none, front_taken, front_unfinished, if_err}
+use Rattle.fb_wave.proofs.Handing.{on_err, on_ok}
 use Rattle.fb_wave.proofs.copy.Progress.copy.Goals as goal
 
 pub loop-number-init : goal.loop-number-init
@@ -14,7 +15,7 @@ loop-number-preserved g c =
     let sys = system_of c.args.table.now.system.now in
     let form = c.form_of-form.result in
     copied_one sys form c.loop-number.self c.take.new.self _ c.loop-number.line.items c.next_line-in-loop-number.new.line.items _ _ _ _ _ _ c.loop-number.invariant
-    (subst (λ (l : List ℕ). IsTaken sys form l c.loop-number.self c.take.new.self) c.as_slice-in-loop-number-2.ensures.value (c.in_ok-take.ensures c.if-not-branch.false)) refl refl
+    (subst (λ (l : List ℕ). IsTaken sys form l c.loop-number.self c.take.new.self) c.as_slice-in-loop-number-2.ensures.value c.in_ok-take.ensures) refl refl
     c.in_ok-flush_much.ensures.whole c.in_ok-next_line-2.ensures.read
 
 pub finish-requires-clause-dump : goal.finish-requires-clause-dump
@@ -26,27 +27,26 @@ take-requires-clause-dump g c = c.loop-number.invariant.numbers
 pub returns-in-Some-clause-whole : goal.returns-in-Some-clause-whole
 returns-in-Some-clause-whole g c =
     let sys = system_of c.args.table.now.system.now in
-    copied_all sys c.form_of-form.result c.loop-number.self c.loop-number.line.items _ _ _ _ _ c.in-Some.end c.loop-number.invariant
-    (subst (λ (l : List ℕ). IsLast sys l c.in-Some.end) c.as_slice-in-loop-number.ensures.value c.in-Some.ensures) c.in_ok-finish.ensures.whole
+    on_ok c.finish.result _ _ c.finish.ensures.whole
+    (copied_all sys c.form_of-form.result c.loop-number.self c.loop-number.line.items _ _ _ _ _ c.in-Some.end c.loop-number.invariant
+    (subst (λ (l : List ℕ). IsLast sys l c.in-Some.end) c.as_slice-in-loop-number.ensures.value c.in-Some.ensures))
 
 pub returns-in_err-next_line-clause-part : goal.returns-in_err-next_line-clause-part
 returns-in_err-next_line-clause-part g c = if_err _ _ (front_none _ _)
 
-pub returns-in_err-finish-clause-part : goal.returns-in_err-finish-clause-part
-returns-in_err-finish-clause-part g c = if_err _ _ (front_unfinished _ _ _ _ _ _ _ _ _ c.loop-number.invariant c.in_err-finish.ensures.part)
+pub returns-in-Some-clause-part : goal.returns-in-Some-clause-part
+returns-in-Some-clause-part g c =
+    on_err c.finish.result _ _ c.finish.ensures.part (front_unfinished _ _ _ _ _ _ _ _ _ c.loop-number.invariant)
 
 pub returns-in_err-take-clause-part : goal.returns-in_err-take-clause-part
 returns-in_err-take-clause-part g c = if_err _ _ (front_copied _ _ _ _ _ _ _ _ c.loop-number.invariant)
-
-pub returns-then-not-branch-clause-part : goal.returns-then-not-branch-clause-part
-returns-then-not-branch-clause-part g c = front_copied _ _ _ _ _ _ _ _ c.loop-number.invariant
 
 pub returns-in_err-flush_much-clause-part : goal.returns-in_err-flush_much-clause-part
 returns-in_err-flush_much-clause-part g c =
     let sys = system_of c.args.table.now.system.now in
     if_err _ _
     (front_taken sys _ _ _ _ _ _ _ _ _ c.loop-number.invariant
-    (subst (λ (l : List ℕ). IsTaken sys c.form_of-form.result l c.loop-number.self c.take.new.self) c.as_slice-in-loop-number-2.ensures.value (c.in_ok-take.ensures c.if-not-branch.false))
+    (subst (λ (l : List ℕ). IsTaken sys c.form_of-form.result l c.loop-number.self c.take.new.self) c.as_slice-in-loop-number-2.ensures.value c.in_ok-take.ensures)
     c.in_err-flush_much.ensures.part)
 
 pub returns-in_err-next_line-2-clause-part : goal.returns-in_err-next_line-2-clause-part
@@ -54,7 +54,7 @@ returns-in_err-next_line-2-clause-part g c =
     let sys = system_of c.args.table.now.system.now in
     if_err _ _
     (front_flushed sys _ _ _ _ _ _ _ _ _ _ c.loop-number.invariant
-    (subst (λ (l : List ℕ). IsTaken sys c.form_of-form.result l c.loop-number.self c.take.new.self) c.as_slice-in-loop-number-2.ensures.value (c.in_ok-take.ensures c.if-not-branch.false))
+    (subst (λ (l : List ℕ). IsTaken sys c.form_of-form.result l c.loop-number.self c.take.new.self) c.as_slice-in-loop-number-2.ensures.value c.in_ok-take.ensures)
     c.in_ok-flush_much.ensures.whole)
 
 pub returns-clause-part : goal.returns-clause-part

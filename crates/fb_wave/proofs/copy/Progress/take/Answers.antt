@@ -6,7 +6,7 @@ use Rattle.fb_wave.specs.Lines.{IsTextOf}
 use Rattle.fb_wave.proofs.copy.Progress.take.Goals as goal
 
 pub returns : goal.returns
-returns c = λ goes.
+returns c =
     let sys = system_of c.args.table.now.system.now in
     record {
       line = c.in-Some.line;

@@ -6,6 +6,7 @@ use Rattle.fb_wave.specs.Signals.{sizes_of}
 use Rattle.fb_wave.specs.Told.{fires_of, pairs, tells_of, touches_of}
 use Rattle.fb_wave.proofs.Marking.{line_once, marks_told}
 use Rattle.fb_wave.proofs.Telling.{tells_more}
+use Rattle.fb_wave.proofs.Handing.{on_any, on_ok}
 use Rattle.fb_wave.proofs.dump.Dump.take.Goals as goal
 
 pub returns-clause-told : goal.returns-clause-told
@@ -20,17 +21,20 @@ returns-clause-told c ls sent t =
     let at : List Value → Type 0 =
     λ vs. AreLevels n (fires ++ m.event ∷ []) (tells_of sys ls ++ more vs) ((touches_of sys u.now ++ m.event ∷ []) ++ map (λ (p : ℕ × Value). p.0) (more vs)) c.tell.new.levels
     in
+    on_ok c.tell.result _ _ (c.tell.ensures.levels n fires (tells_of sys ls) (touches_of sys u.now) u.levels)
+    (λ told.
     tells_more sys ls (sent ++ c.turn.new.text.items) l c.turn.new.levels c.tell.new.levels u
     (marks_told sys l m n fires (touches_of sys u.now) (tells_of sys ls) c.tell.new.levels
     (line_once c.args.system.now l c.facts.ensures.accepted) c.marks_of-marks.ensures
-    (subst at c.as_slice-values.ensures (c.in_ok-tell.ensures.levels n fires (tells_of sys ls) (touches_of sys u.now) u.levels)))
+    (subst at c.as_slice-values.ensures told)))
 
 pub returns-clause-numbers : goal.returns-clause-numbers
 returns-clause-numbers c =
-    record {
+    on_any c.tell.result _
+    (record {
       firsts_are = c.requires.dump.firsts_are;
-      fit = record { counted = c.in_ok-tell.ensures.counted ∙ c.in_ok-turn.ensures.counted ∙ c.requires.dump.fit.counted; within = c.in_ok-tell.ensures.within };
-    }
+      fit = record { counted = c.tell.ensures.counted ∙ c.in_ok-turn.ensures.counted ∙ c.requires.dump.fit.counted; within = c.tell.ensures.within };
+    })
 
 pub tell-requires-clause-places : goal.tell-requires-clause-places
 tell-requires-clause-places c =

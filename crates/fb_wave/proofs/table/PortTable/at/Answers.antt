@@ -1,10 +1,15 @@
-use Rattle.std.proofs.Common.{◌≡◌, List, ℕ, Some, ◌++◌, length, refl, ap, ◌∙◌}
+use Rattle.std.proofs.Common.{◌≡◌, List, ℕ, Some, ◌++◌, length, refl, sym, ap, subst, ◌∙◌}
 use Rattle.std.specs.Prelude.{slice_get}
 use Rattle.std.proofs.lemmas.Option.{slice_get_read}
 use Rattle.fb_types.specs.Headline.{system_of}
-use Rattle.fb_wave.specs.Ports.{port_text}
+use Rattle.fb_wave.specs.Ports.{IsPortOf}
 use Rattle.fb_wave.proofs.Gluing.{port_named}
 use Rattle.fb_wave.proofs.table.PortTable.at.Goals as goal
+
+pub returns-clause-port : goal.returns-clause-port
+returns-clause-port c =
+    let found = c.in_ok-port.ensures.lookup in
+    subst (IsPortOf (system_of c.args.self.now.system.now)) (sym found.1) (c.requires.ports_are c.args.place c.in_ok-port.port.now found.3.0)
 
 pub returns-clause-text : goal.returns-clause-text
 returns-clause-text c =

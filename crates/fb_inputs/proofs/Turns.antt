@@ -1,0 +1,68 @@
+-- What a reader gives next, put behind what was found.
+use Rattle.std.proofs.Common.{◌≡◌, ℕ, Bool, true, false, List, length, Some, Result, Ok, Err, Bor, refl, sym, ◌∙◌, ap}
+use Rattle.std.specs.Option.{IfSome}
+use Rattle.std.proofs.lemmas.Option.{same_Some}
+use Rattle.csv.specs.Reading.{FlexibleStep, RowStep, strip_bom}
+use Rattle.csv.specs.Records.{fields_of}
+use Rattle.csv.specs.declared.error.Error.{Error}
+use Rattle.csv.specs.declared.iter.ByteRecordsIntoIter.{ByteRecordsIntoIter}
+use Rattle.csv.specs.declared.record.ByteRecord.{ByteRecord}
+use Rattle.fb_types.specs.declared.deploy.Stimulus.{Stimulus}
+use Rattle.fb_inputs.specs.declared.error.InputError.{InputError}
+use Rattle.fb_inputs.specs.declared.error.InputError.TheVariants.{Memory, Row}
+use Rattle.fb_inputs.specs.Refusals.{number_of}
+use Rattle.fb_inputs.specs.Words.{Text}
+use Rattle.fb_inputs.specs.Stimuli.{all_behind, is_head, stimuli_from}
+use Rattle.fb_inputs.specs.Readers.{IsAdded, IsAt, IsOpened, IsTold, Opens, kept_of, known, rows_from}
+use Rattle.fb_inputs.proofs.Records.{at_more}
+use Rattle.fb_inputs.proofs.Rows.{next_found, next_refused, start_read}
+
+abbrev Rest : Type 0
+Rest = ByteRecordsIntoIter (Bor (List ℕ))
+
+-- the text that is left is one
+pub one_left : (a : Rest) (z y : Text) → IsAt a z → IsAt a y → z ≡ y
+one_left a z y here there = same_Some z y (sym here.source ∙ there.source)
+
+pub turn_more :
+    (a b : Rest) (z : Text) (front behind : List Stimulus) (r : Result ByteRecord Error) (u : Unit {0}) → IsAt a z → RowStep known a.rdr b.rdr b.left (Some r) → FlexibleStep a.rdr b.rdr (Some r)
+    → IsAdded r front behind (Ok u)
+    → (y : Text) × IsAt b y × (all_behind front (stimuli_from (length front) (rows_from a.rdr.state z)) ≡ all_behind behind (stimuli_from (length behind) (rows_from b.rdr.state y)))
+turn_more a b z front behind (Ok row) u here step flexible added =
+    let (y, there, rows) = at_more a b z (fields_of row) here step.0 step.1 step.2 flexible in
+    let (s, found, is) = added in
+    (y, there, rw is (next_found front (fields_of row) (rows_from b.rdr.state y) _ s _ rows found refl))
+turn_more a b z front behind (Err e) u here step flexible added = absurd cc
+
+pub turn_refused :
+    (a b : Rest) (z : Text) (front behind : List Stimulus) (r : Result ByteRecord Error) (e : InputError) → IsAt a z → RowStep known a.rdr b.rdr b.left (Some r) → FlexibleStep a.rdr b.rdr (Some r)
+    → IsAdded r front behind (Err e) → IfSome (number_of e) (λ n. all_behind front (stimuli_from (length front) (rows_from a.rdr.state z)) ≡ Err n)
+turn_refused a b z front behind (Ok row) e here step flexible added =
+    let (y, there, rows) = at_more a b z (fields_of row) here step.0 step.1 step.2 flexible in
+    next_refused e front (fields_of row) (rows_from b.rdr.state y) _ _ rows added refl
+turn_refused a b z front behind (Err x) e here step flexible added = let memory : e ≡ Memory = cc in rw memory tt
+
+-- ---- The heading
+
+-- what is answered, once the first record was looked at
+abbrev pub heading_of : Result Bool InputError → Result Bool InputError
+heading_of (Ok true) = Ok true
+heading_of (Ok false) = Err Row
+heading_of (Err e) = Err e
+
+pub heading_found :
+    (bytes : Text) (a b : Rest) (r : Result ByteRecord Error) (told : Result Bool InputError) → IsOpened a (strip_bom bytes) → RowStep known a.rdr b.rdr b.left (Some r)
+    → FlexibleStep a.rdr b.rdr (Some r) → IsTold r told → Opens bytes (kept_of b (heading_of told))
+heading_found bytes a b (Ok row) told opened step flexible is =
+    let (here, start) = opened in
+    let (y, there, rows) = at_more a b (strip_bom bytes) (fields_of row) here step.0 step.1 step.2 flexible in
+    let read = start_read bytes a.rdr.state _ start rows in
+    rw is
+    ((elim (is_head (fields_of row)) as (λ t. is_head (fields_of row) ≡ t → Opens bytes (kept_of b (heading_of (Ok t)))) [
+      | true ↦ λ e. record { left = y; here = there; head = fields_of row; headed = e; read = read }
+      | false ↦ λ e. (refl, record { first = fields_of row; rows = rows_from b.rdr.state y; read = read; other = e })
+    ]) refl)
+heading_found bytes a b (Err e) told opened step flexible is = rw is tt
+
+pub told_by : (r : Result Bool InputError) (x b : Bool) → r ≡ Ok x → x ≡ b → r ≡ Ok b
+told_by r x b is same = is ∙ ap (λ t. Ok t) same

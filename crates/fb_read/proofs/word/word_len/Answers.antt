@@ -1,0 +1,24 @@
+use Rattle.std.proofs.Common.{arith, rules}
+use Rattle.std.proofs.lemmas.Grind.{common_steps}
+use Rattle.fb_read.proofs.word.word_len.Goals as goal
+
+pub loop-end-preserved : goal.loop-end-preserved
+loop-end-preserved c = first_of (grind (arith, common_steps), search rules)
+
+pub returns-clause-some : goal.returns-clause-some
+returns-clause-some c = first_of (grind (arith, common_steps), search rules)
+
+pub returns-clause-value : goal.returns-clause-value
+returns-clause-value c = first_of (grind (arith, common_steps), search rules)
+
+pub returns-clause-within : goal.returns-clause-within
+returns-clause-within c = first_of (grind (arith, common_steps), search rules)
+
+pub returns-then-not-is_word-clause-some : goal.returns-then-not-is_word-clause-some
+returns-then-not-is_word-clause-some c = first_of (grind (arith, common_steps), search rules)
+
+pub returns-then-not-is_word-clause-value : goal.returns-then-not-is_word-clause-value
+returns-then-not-is_word-clause-value c = first_of (grind (arith, common_steps), search rules)
+
+pub returns-then-not-is_word-clause-within : goal.returns-then-not-is_word-clause-within
+returns-then-not-is_word-clause-within c = first_of (grind (arith, common_steps), search rules)

@@ -1,0 +1,22 @@
+use Rattle.std.proofs.Common.{sym, ◌∙◌, ap}
+use Rattle.std.specs.List.{find}
+use Rattle.std.proofs.lemmas.List.{at_drop_all}
+use Rattle.fb_types.specs.Flat.{type_name}
+use Rattle.fb_types.specs.Names.{same_name}
+use Rattle.fb_types.specs.declared.library.BlockType.{BlockType}
+use Rattle.fb_types.proofs.LoopSteps.{found_here, found_later}
+use Rattle.fb_types.proofs.library.block_named.Goals as goal
+
+pub returns-then-is : goal.returns-then-is
+returns-then-is c =
+    found_here (λ (x : BlockType). same_name (type_name x) c.args.name.now) _ _ _ c.loop-block-test.true c.block-item.is c.loop-block.invariant
+    (ap (λ n. same_name n c.args.name.now) (sym c.type_name.ensures) ∙ sym c.is.ensures ∙ c.if-is.true)
+
+pub loop-block-preserved : goal.loop-block-preserved
+loop-block-preserved c =
+    found_later (λ (x : BlockType). same_name (type_name x) c.args.name.now) _ _ _ c.loop-block-test.true c.block-item.is c.loop-block.invariant
+    (ap (λ n. same_name n c.args.name.now) (sym c.type_name.ensures) ∙ sym c.is.ensures ∙ c.if-is.false)
+
+pub returns : goal.returns
+returns c =
+    sym (c.loop-block.invariant ∙ at_drop_all (find (λ (x : BlockType). same_name (type_name x) c.args.name.now)) c.args.blocks.now c.loop-block.block-index c.loop-block-test.false)
