@@ -52,6 +52,4 @@ def crates_as_built():
     """Returns the repository's crates, lowest first, as the kit's building commands see them."""
     rtlib.Crate, rt.Crate.allowed = rt.Crate, rt.handles_of(TOP)
     crates = rtlib.crates_below(TOP)
-    for it in crates:
-        rt.read_files(it)
     return sorted(crates, key=lambda it: len(it.below()))
