@@ -1,5 +1,5 @@
 -- Commands that are made argument by argument, none of them global.
-use Rattle.std.proofs.Common.{◌≡◌, ◌||◌, Bool, Result, Ok, Err, false, sym, ap, ap₂, subst, ◌∙◌}
+use Rattle.std.proofs.Common.{◌≡◌, ◌||◌, Bool, Result, Ok, Err, false, ap, ap₂, subst, ◌∙◌}
 use Rattle.std.specs.Prelude.{IfOk}
 use Rattle.clap.specs.Words.{App, Rule, AddsArg, AddsSubcommand, app_of, rule_of, with_rule, with_subcommand}
 use Rattle.clap.specs.declared.builder.arg.Arg.{Arg}
@@ -37,11 +37,6 @@ local_well (Ok c) a at = at.local
 pub joined : (old new sub : Command) (a b : App) → AddsSubcommand old sub new → (fields_of sub).has_globals ≡ false → app_of old ≡ a → app_of sub ≡ b → app_of new ≡ with_subcommand a b.top
 joined old new sub a b adds local is of = adds.shape local ∙ ap₂ with_subcommand is (ap (λ (x : App). x.top) of)
 
-pub joined_well : {E : Type 0} (old : Command) (made : Result Command E) (sub : Command) (a b : App) → IfOk made (AddsSubcommand old sub) → (fields_of sub).has_globals ≡ false
-    → app_of old ≡ a → app_of sub ≡ b → IfOk made (λ c. app_of c ≡ with_subcommand a b.top)
-joined_well old (Err e) sub a b adds local is of = tt
-joined_well old (Ok new) sub a b adds local is of = joined old new sub a b adds local is of
-
 -- what holds of all that may be made holds of what was made
 pub made_so : {M E : Type 0} (r : Result M E) (x : M) (P : M → Type 0) → IfOk r P → r ≡ Ok x → P x
 made_so {M} {E} r x P holds is = subst (λ (s : Result M E). IfOk s P) is holds
@@ -55,14 +50,6 @@ stands_well (Ok c) a app local = record { app = app; local = local }
 -- one more argument of a command that may not be there
 abbrev pub AddsArgTo : {E : Type 0} → Result Command E → Arg → Command → Type 0
 AddsArgTo before x new = (old : Command) × (before ≡ Ok old) × AddsArg old x new
-
-pub arg_added :
-    {E : Type 0} (before made : Result Command E) (old : Command) (x y : Arg) → before ≡ Ok old → ◌≡◌ {A = Result Arg E} (Ok x) (Ok y) → IfOk made (AddsArg old y)
-    → IfOk made (AddsArgTo before x)
-arg_added before (Err e) old x y is same adds = tt
-arg_added before (Ok new) old x y is same adds =
-    let one : x ≡ y = cc in
-    (old, is, subst (λ (z : Arg). AddsArg old z new) (sym one) adds)
 
 pub grown_on :
     {E : Type 0} (before made : Result Command E) (x : Arg) (a : App) (r : Rule) → IfOk made (AddsArgTo before x) → x.global ≡ false → rule_of x ≡ r

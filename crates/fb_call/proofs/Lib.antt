@@ -5,3 +5,4 @@ pub mod BuildLaws
 pub mod FormLaws
 pub mod GetterLaws
 pub mod LineLaws
+mod Fronts

@@ -22,6 +22,10 @@ pub if_none : {T : Type 0} (r : Option T) (P : Type 0) → P → IfNone r P
 if_none (Some x) P p = tt
 if_none None P p = p
 
+pub when_none : {T : Type 0} (r : Option T) (P Q : Type 0) → (P → Q) → IfNone r P → IfNone r Q
+when_none (Some x) P Q f p = tt
+when_none None P Q f p = f p
+
 some_is : {T : Type 0} {x y : T} → Some x ≡ Some y → x ≡ y
 some_is {T} {x} {y} e = ap (unwrap_or_of x) e
   where

@@ -1,6 +1,6 @@
 //! The command line.
 
-ghost use Rattle.std.specs.Prelude.{◌≡◌, ◌≢◌, ℕ, Ok, IfOk, IfErr, IfSome, IfNone, OnOk, map, codes, false};
+ghost use Rattle.std.specs.Prelude.{◌≡◌, ◌≢◌, ℕ, Ok, IfOk, IfErr, IfSome, IfNone, None, OnOk, map, codes, false};
 ghost use Rattle.fb_call.specs.Line as spec;
 ghost use Rattle.fb_call.specs.Line.{AreRequest, AreNoCall, AskHelp, AsksWave, AreForms, IsCall, IsFault, IsFlag, IsForm, IsHelp, IsNumber, IsOrder, IsRequest, IsRequestOf, IsTaken, command_name, request_name};
 ghost use Rattle.fb_call.specs.declared.line.LineFault.TheVariants.{Memory};
@@ -9,7 +9,7 @@ ghost use Rattle.fb_call.specs.declared.line.Order.{Order};
 ghost use Rattle.fb_call.specs.declared.line.Request.{Request};
 ghost use Rattle.fb_call.specs.declared.line.Wave.{Wave};
 ghost use Rattle.fb_types.specs.declared.run.Form.{Form};
-ghost use Rattle.clap.specs.Words.{AddsArg, AddsSubcommand, app_of, rows_of, found_of, rule_of, kind_of, subcommand_rows_of};
+ghost use Rattle.clap.specs.Words.{AddsArg, AddsSubcommand, app_of, first_of, rows_of, found_of, rule_of, kind_of, subcommand_rows_of};
 ghost use Rattle.clap.specs.declared.builder.command.Command.{Command as Cmd};
 ghost use Rattle.clap.specs.declared.builder.command.Command.TheViews.{out-Command as fields_of};
 
@@ -66,7 +66,7 @@ pub enum Order {
         steps: u64,
         /// How many workers there are, 1 to 64.
         workers: u64,
-        /// Whether all is run by one queue of events on one thread, whatever the number of workers.
+        /// Whether all is run by one agenda on one thread, whatever the number of workers.
         serial: bool,
         /// The form of the trace.
         form: Form,
@@ -146,8 +146,7 @@ const STEPS_HELP: &str =
 const WORKERS_HELP: &str =
     "How many workers run the resources, 1 to 64; the trace is the same with any number.";
 
-const SERIAL_HELP: &str =
-    "Runs all resources by one queue of events on one thread; the trace is the same.";
+const SERIAL_HELP: &str = "Runs all resources by one agenda on one thread; the trace is the same.";
 
 const PROGRESS_HELP: &str =
     "Tells on standard error each hundredth of the horizon that the run reaches, with the lines so far; with --serial nothing.";
@@ -414,9 +413,10 @@ fn order_of(name: &str, found: &ArgMatches<'_>) -> Option<Order>
     }
 }
 
-fn call_of<'a>(name: &str, found: &ArgMatches<'a>) -> Option<Call<'a>>
-    ensures name { IfSome result (λ c. name.now ≡ command_name c.order) }
-    ensures rows { IfSome result (λ c. IsCall (rows_of (found_of found.now)) c) }
+/// The request for a run or a check with what was found, where the command has such a name.
+fn call_of<'a>(name: &str, found: &ArgMatches<'a>) -> Option<Request<'a>>
+    ensures name { IfSome result (λ r. name.now ≡ request_name r) }
+    ensures rows { IfSome result (IsRequest (rows_of (found_of found.now))) }
     ensures none { IfNone result ((c : Call) → name.now ≡ command_name c.order → IsCall (rows_of (found_of found.now)) c → ⊥) }
 {
     let declaration = found.get_str("DECL")?;
@@ -424,27 +424,38 @@ fn call_of<'a>(name: &str, found: &ArgMatches<'a>) -> Option<Call<'a>>
     let stimuli = found.get_str("stim");
     let why = has_flag(found, "why");
     let order = order_of(name, found)?;
-    Some(Call {
+    Some(Request::Call(Call {
         order,
         declaration,
         deploy,
         stimuli,
         why,
-    })
+    }))
 }
 
-fn wave_of<'a>(found: &ArgMatches<'a>) -> Option<Wave<'a>>
-    ensures rows { IfSome result (λ w. AsksWave (rows_of (found_of found.now)) w) }
+/// The request for waveforms with what was found.
+fn wave_of<'a>(found: &ArgMatches<'a>) -> Option<Request<'a>>
+    ensures name { IfSome result (λ r. codes "wave" ≡ request_name r) }
+    ensures rows { IfSome result (IsRequest (rows_of (found_of found.now))) }
     ensures none { IfNone result ((w : Wave) → AsksWave (rows_of (found_of found.now)) w → ⊥) }
 {
     let declaration = found.get_str("DECL")?;
     let deploy = found.get_str("deploy");
     let trace = found.get_str("TRACE")?;
-    Some(Wave {
+    Some(Request::Wave(Wave {
         declaration,
         deploy,
         trace,
-    })
+    }))
+}
+
+/// The request for what a refusal means, with the name that was found.
+fn explain_of<'a>(found: &ArgMatches<'a>) -> Option<Request<'a>>
+    ensures name { IfSome result (λ r. codes "explain" ≡ request_name r) }
+    ensures rows { IfSome result (IsRequest (rows_of (found_of found.now))) }
+    ensures none { IfNone result (first_of (codes "NAME") (rows_of (found_of found.now)) ≡ None) }
+{
+    Some(Request::Explain(found.get_str("NAME")?))
 }
 
 fn request_of<'a>(name: &str, found: &ArgMatches<'a>) -> Option<Request<'a>>
@@ -452,13 +463,11 @@ fn request_of<'a>(name: &str, found: &ArgMatches<'a>) -> Option<Request<'a>>
     ensures rows { IfSome result (λ r. IsRequest (rows_of (found_of found.now)) r) }
     ensures none { IfNone result ((r : Request) → name.now ≡ request_name r → IsRequest (rows_of (found_of found.now)) r → ⊥) }
 {
-    if name == "explain" {
-        return Some(Request::Explain(found.get_str("NAME")?));
+    match name {
+        "explain" => explain_of(found),
+        "wave" => wave_of(found),
+        _ => call_of(name, found),
     }
-    if name == "wave" {
-        return Some(Request::Wave(wave_of(found)?));
-    }
-    Some(Request::Call(call_of(name, found)?))
 }
 
 fn fault(alloc: Global, error: &Error) -> LineFault

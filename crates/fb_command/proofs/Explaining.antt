@@ -3,7 +3,7 @@ use Rattle.std.proofs.Common.{◌≡◌, ◌∙◌, ℕ, List, Option, Result, O
 use Rattle.std.specs.Prelude.{IsErrAnd}
 use Rattle.std.specs.Io.KnownBytes.{Appends}
 use Rattle.fb_why.specs.declared.table.Explanation.{Explanation}
-use Rattle.fb_command.specs.Command.{ExplainsRefusal}
+use Rattle.fb_command.specs.Command.{ExplainsRefusal, IsRefusalName}
 use Rattle.fb_command.specs.Failures.{IsPartWritten, WritesPart, explained_text}
 use Rattle.fb_command.specs.declared.failure.Failure.{Failure}
 use Rattle.fb_command.specs.declared.failure.Failure.TheVariants.{Refused, File, Write, Memory, Line, BadOption}
@@ -12,20 +12,20 @@ use Rattle.fb_command.specs.declared.status.Done.TheVariants.{Explained}
 
 module _
     (e : Explanation) (name : List ℕ) (old new : Option (List ℕ)) (bytes text first second : List ℕ)
-    (is : text ≡ explained_text e.name.now e.meaning.now first second e.look.now) (named : e.name.now ≡ name) (same : bytes ≡ text)
+    (is : text ≡ explained_text e.name.now e.meaning.now first second e.look.now) (named : e.name.now ≡ name) (there : IsRefusalName name) (same : bytes ≡ text)
   where
     shown : bytes ≡ explained_text name e.meaning.now first second e.look.now
     shown = subst (λ (n : List ℕ). bytes ≡ explained_text n e.meaning.now first second e.look.now) named (same ∙ is)
 
     -- all of it
     pub explains : Appends old new bytes → ExplainsRefusal name old new (Ok Explained)
-    explains got = (e, first, second, named, subst (Appends old new) shown got)
+    explains got = (there, e, first, second, named, subst (Appends old new) shown got)
 
     -- a part
     part : (f : Failure) → WritesPart old new bytes f → ExplainsRefusal name old new (Err f)
     part (Refused refusal) got = absurd got
     part File got = absurd got
-    part (Write n) got = (e, first, second, named, subst (λ (bs : List ℕ). IsPartWritten old new bs n) shown got)
+    part (Write n) got = (there, e, first, second, named, subst (λ (bs : List ℕ). IsPartWritten old new bs n) shown got)
     part Memory got = absurd got
     part (Line message) got = absurd got
     part BadOption got = absurd got

@@ -1,5 +1,4 @@
 mod Explaining
-mod Fronts
 mod Showing
 mod Noting
 mod Reporting

@@ -11,7 +11,7 @@ use Rattle.fb_sim.specs.declared.outcome.Refusal as sim
 use Rattle.fb_sim.specs.declared.outcome.Refusal.TheVariants as of
 use Rattle.fb_sim.specs.declared.outcome.RunError.{RunError}
 use Rattle.fb_sim.specs.declared.outcome.RunError.TheVariants as run
-use Rattle.fb_wave.specs.Waves.{WritesFront}
+use Rattle.fb_wave.specs.Waves.{FailsWave}
 use Rattle.fb_wave.specs.declared.error.WaveError.{WaveError}
 use Rattle.fb_wave.specs.declared.error.WaveError.TheVariants as wave
 use Rattle.fb_call.specs.declared.line.Wave.{Wave}
@@ -20,7 +20,7 @@ use Rattle.fb_command.specs.declared.failure.Failure.{Failure}
 use Rattle.fb_command.specs.Outcomes.{End, Held}
 use Rattle.fb_command.specs.Reading.{Reading, AreRead}
 use Rattle.fb_command.specs.Showing.{Dumps, Opening, Shows, files_of}
-use Rattle.fb_command.specs.declared.source.SourceFault.{SourceFault}
+use Rattle.fb_call.specs.declared.source.SourceFault.{SourceFault}
 
 -- nothing is written where the inputs are refused
 pub dumps_none : (given : Given) (trace old : Held) (error : RunError) → IsRefusal given error → Dumps given trace old old (Err (failure_of error))
@@ -50,13 +50,13 @@ dumps_none given trace old run.Failed is = absurd is
 
 -- a beginning is written where the trace is refused, or where reading it, writing or memory fails
 pub dumps_front :
-    (given : Given) (trace old new : Held) (i : Inputs) → Declares given i → WritesFront (system_of i) old new → (e : WaveError)
+    (given : Given) (trace old new : Held) (i : Inputs) → Declares given i → (e : WaveError) → FailsWave (system_of i) old new e
     → Dumps given trace old new (Err (failure_of_wave e))
-dumps_front given trace old new i is front (wave.Refused line) = inr (line, refl, (i, is, front))
-dumps_front given trace old new i is front wave.Memory = inr (i, is, front)
-dumps_front given trace old new i is front wave.Read = (i, is, front)
-dumps_front given trace old new i is front (wave.Write n) = (i, is, front)
-dumps_front given trace old new i is front wave.Names = inr (i, is, front)
+dumps_front given trace old new i is (wave.Refused line) front = inr (line, refl, (i, is, front))
+dumps_front given trace old new i is wave.Memory front = inr (i, is, front)
+dumps_front given trace old new i is wave.Read front = (i, is, front)
+dumps_front given trace old new i is (wave.Write n) part = (i, is, part)
+dumps_front given trace old new i is wave.Names front = inr (i, is, front)
 
 -- a failure that is passed on
 pub passed : (given : Given) (trace old new : Held) (r : End) (f : Failure) → IsErrAnd r (λ g. g ≡ f) → Dumps given trace old new (Err f) → Dumps given trace old new r

@@ -29,7 +29,7 @@ use Rattle.fb_call.specs.declared.line.Order.{Order}
 use Rattle.fb_call.specs.declared.line.Order.TheVariants.{Check, Run}
 use Rattle.fb_call.specs.declared.line.Request.TheVariants as request
 use Rattle.fb_call.specs.declared.line.Wave.{Wave}
-use Rattle.fb_command.specs.declared.source.SourceFault.{SourceFault}
+use Rattle.fb_call.specs.declared.source.SourceFault.{SourceFault}
 use Rattle.fb_command.specs.declared.status.Done.{Done}
 use Rattle.fb_command.specs.declared.status.Done.TheVariants.{Helped, Explained, Accepted, Shown, Ended, Stopped}
 use Rattle.fb_command.specs.declared.texts.Part.{Part}
@@ -128,17 +128,21 @@ pub record IsFileFault {S : Type 0} (reads : Reading S) (from to : S) (c : Call)
 abbrev pub Performs : {S : Type 0} → Reading S → (from to : S) → Call → (old new : Held) → End → (reports : Text) → (note : Option Text) → Type 0
 Performs reads from to c old new end reports note = AreReadAndDone reads from to c old new end reports note ⊎ IsFileFault reads from to c old new end reports note
 
+-- there is a refusal of this name
+abbrev pub IsRefusalName : (name : Text) → Type 0
+IsRefusalName name = list_any (λ n. same_name n name) explained ≡ true
+
 -- the words ask what a refusal means
 abbrev pub ExplainsRefusal : (name : Text) → (old new : Held) → End → Type 0
 ExplainsRefusal name old new (Ok Explained) =
-    (e : Explanation) × (first : Text) × (second : Text) × (e.name.now ≡ name) × Appends old new (explained_text name e.meaning.now first second e.look.now)
+    IsRefusalName name × (e : Explanation) × (first : Text) × (second : Text) × (e.name.now ≡ name) × Appends old new (explained_text name e.meaning.now first second e.look.now)
 ExplainsRefusal name old new (Ok Helped) = ⊥
 ExplainsRefusal name old new (Ok Accepted) = ⊥
 ExplainsRefusal name old new (Ok Ended) = ⊥
 ExplainsRefusal name old new (Ok Shown) = ⊥
 ExplainsRefusal name old new (Ok Stopped) = ⊥
 ExplainsRefusal name old new (Err (Write n)) =
-    (e : Explanation) × (first : Text) × (second : Text) × (e.name.now ≡ name) × IsPartWritten old new (explained_text name e.meaning.now first second e.look.now) n
+    IsRefusalName name × (e : Explanation) × (first : Text) × (second : Text) × (e.name.now ≡ name) × IsPartWritten old new (explained_text name e.meaning.now first second e.look.now) n
 ExplainsRefusal name old new (Err (Line message)) =
     (list_any (λ n. same_name n name) explained ≡ false) × (string_bytes message ≡ no_refusal name) × (new ≡ old)
 ExplainsRefusal name old new (Err Memory) = new ≡ old

@@ -16,8 +16,8 @@ use Rattle.fb_command.specs.declared.failure.Failure.{Failure}
 use Rattle.fb_command.specs.declared.failure.Failure.TheVariants.{Refused, File, Write, Memory, Line, BadOption}
 use Rattle.fb_command.specs.declared.failure.RefusalLine.{RefusalLine}
 use Rattle.fb_command.specs.declared.failure.RefusalLine.TheVariants.{Numbered, Syntax, Trace}
-use Rattle.fb_command.specs.declared.source.SourceFault.{SourceFault}
-use Rattle.fb_command.specs.declared.source.SourceFault.TheVariants as source
+use Rattle.fb_call.specs.declared.source.SourceFault.{SourceFault}
+use Rattle.fb_call.specs.declared.source.SourceFault.TheVariants as source
 use Rattle.fb_command.specs.declared.status.Done.{Done}
 use Rattle.fb_command.specs.declared.status.Done.TheVariants.{Helped, Explained, Accepted, Shown, Ended, Stopped}
 

@@ -1,5 +1,4 @@
 pub mod Failures
-pub mod Files
 pub mod Texts
 pub mod Reading
 pub mod Notes

@@ -7,8 +7,8 @@ use Rattle.fb_why.specs.declared.spot.Finding.{Finding}
 use Rattle.fb_command.specs.declared.failure.Failure.{Failure}
 use Rattle.fb_command.specs.declared.failure.Failure.TheVariants.{Refused}
 use Rattle.fb_command.specs.declared.failure.RefusalLine.TheVariants.{Numbered, Syntax}
-use Rattle.fb_command.specs.declared.source.SourceFault.{SourceFault}
-use Rattle.fb_command.specs.declared.source.SourceFault.TheVariants.{File}
+use Rattle.fb_call.specs.declared.source.SourceFault.{SourceFault}
+use Rattle.fb_call.specs.declared.source.SourceFault.TheVariants.{File}
 use Rattle.fb_command.specs.declared.texts.Part.{Part}
 use Rattle.fb_command.specs.declared.texts.Part.TheVariants.{Declaration, Deployment, Stimuli}
 

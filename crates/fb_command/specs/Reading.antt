@@ -5,7 +5,7 @@ use Rattle.fb_read.specs.Whole.{most_bytes}
 use Rattle.fb_inputs.specs.Stimuli as stimuli
 use Rattle.fb_sim.specs.Given.{Given}
 use Rattle.fb_call.specs.declared.line.Call.{Call}
-use Rattle.fb_command.specs.declared.source.SourceFault.{SourceFault}
+use Rattle.fb_call.specs.declared.source.SourceFault.{SourceFault}
 use Rattle.fb_command.specs.declared.texts.Part.{Part}
 use Rattle.fb_command.specs.declared.texts.Part.TheVariants.{Declaration, Deployment, Stimuli}
 

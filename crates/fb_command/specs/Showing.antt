@@ -4,7 +4,7 @@ use Rattle.clap.specs.Words.{Text}
 use Rattle.fb_types.specs.Headline.{Inputs, system_of}
 use Rattle.fb_sim.specs.Given.{Given}
 use Rattle.fb_sim.specs.Serial.{Declares}
-use Rattle.fb_wave.specs.Waves.{IsWave, WritesFront}
+use Rattle.fb_wave.specs.Waves.{IsWave, WritesFront, WritesPart}
 use Rattle.fb_call.specs.declared.line.Call.{Call}
 use Rattle.fb_call.specs.declared.line.Order.TheVariants.{Check}
 use Rattle.fb_call.specs.declared.line.Wave.{Wave}
@@ -14,7 +14,7 @@ use Rattle.fb_command.specs.Reading.{Reading, AreRead, IsUnread}
 use Rattle.fb_command.specs.declared.failure.Failure.TheVariants.{Refused, File, Write, Memory, Line, BadOption}
 use Rattle.fb_command.specs.declared.failure.RefusalLine.{RefusalLine}
 use Rattle.fb_command.specs.declared.failure.RefusalLine.TheVariants.{Trace}
-use Rattle.fb_command.specs.declared.source.SourceFault.{SourceFault}
+use Rattle.fb_call.specs.declared.source.SourceFault.{SourceFault}
 use Rattle.fb_command.specs.declared.status.Done.TheVariants.{Helped, Explained, Accepted, Shown, Ended, Stopped}
 use Rattle.fb_command.specs.declared.texts.Part.{Part}
 
@@ -32,6 +32,10 @@ files_of w = record { order = Check; declaration = w.declaration; deploy = w.dep
 abbrev pub DumpsFront : Given → (old new : Held) → Type 0
 DumpsFront given old new = (i : Inputs) × Declares given i × WritesFront (system_of i) old new
 
+-- The inputs are accepted, and the writer got the first bytes of such a dump, but not all, and `written` is how many.
+abbrev pub DumpsPart : Given → (old new : Held) → (written : ℕ) → Type 0
+DumpsPart given old new written = (i : Inputs) × Declares given i × WritesPart (system_of i) old new written
+
 -- the inputs are refused, as a check refuses them, or the trace is, in this line
 abbrev pub IsRefusedFor : Given → (old new : Held) → RefusalLine → Type 0
 IsRefusedFor given old new refusal = (IsRefused given refusal × (new ≡ old)) ⊎ ((line : ℕ) × (refusal ≡ Trace line) × DumpsFront given old new)
@@ -46,7 +50,7 @@ Dumps given trace old new (Ok Ended) = ⊥
 Dumps given trace old new (Ok Stopped) = ⊥
 Dumps given trace old new (Err (Refused refusal)) = IsRefusedFor given old new refusal
 Dumps given trace old new (Err File) = DumpsFront given old new
-Dumps given trace old new (Err (Write n)) = DumpsFront given old new
+Dumps given trace old new (Err (Write n)) = DumpsPart given old new n
 Dumps given trace old new (Err Memory) = (new ≡ old) ⊎ DumpsFront given old new
 Dumps given trace old new (Err (Line message)) = ⊥
 Dumps given trace old new (Err BadOption) = ⊥

@@ -3,7 +3,7 @@ use Rattle.std.specs.Prelude.{ℕ, List, Option, option_map, Result, Ok, Err}
 use Rattle.std.specs.Global.{Vec}
 use Rattle.fb_sim.specs.Given.{Given}
 use Rattle.fb_command.specs.declared.texts.Texts.{Texts}
-use Rattle.fb_command.specs.declared.source.SourceFault.{SourceFault}
+use Rattle.fb_call.specs.declared.source.SourceFault.{SourceFault}
 
 -- the bytes of the files
 abbrev pub given_of : Texts → Given

@@ -13,11 +13,11 @@ ghost use Rattle.fb_command.specs.declared.status.Done.TheVariants.{Helped};
 use crate::failure::Failure;
 use crate::notes::{note_of, note_of_file};
 use crate::output::write_text;
-use crate::source::Source;
 use crate::status::{Done, ExitStatus, status};
 use crate::texts::{Texts, read_files};
 use crate::wave::show;
 use fb_call::line::{Call, LineFault, Order, Request, parse};
+use fb_call::source::Source;
 use fb_phase::OpenGate;
 use fb_sim::options::{Inputs, Options};
 use fb_sim::outcome::Outcome;
@@ -50,7 +50,7 @@ fn done_of(outcome: Outcome) -> Done
     }
 }
 
-/// Writes the trace of the inputs, by one queue of events or by workers.
+/// Writes the trace of the inputs, by one agenda or by workers.
 fn run_inputs<R: Threads + Wait + Sync, W: Write>(
     rt: &R,
     alloc: Global,

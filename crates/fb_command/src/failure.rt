@@ -4,7 +4,7 @@ ghost use Rattle.std.specs.Prelude.{◌≡◌};
 ghost use Rattle.fb_command.specs.Failures.{failure_of, failure_of_read, failure_of_input, failure_of_refusal, failure_of_source, failure_of_wave};
 ghost use Rattle.fb_command.specs.declared.failure.Failure.TheVariants.{Memory};
 
-use crate::source::SourceFault;
+use fb_call::source::SourceFault;
 use fb_inputs::error::InputError;
 use fb_read::error::ReadError;
 use fb_sim::outcome::{Refusal, RunError};

@@ -3,16 +3,14 @@
 //! What is promised above is the contract of `command::command`: for every way in which a call can end, its status,
 //! what was read, what was written, and what was told of a failure.
 //!
-//! To be read in this order: `command`; `texts`, `source` and `files`, what is read; `wave`; `output`; `failure`, `notes` and
+//! To be read in this order: `command`; `texts`, what is read; `wave`; `output`; `failure`, `notes` and
 //! `status`, how it ends.
 #![tactic(auto)]
 
 pub mod command;
 pub mod failure;
-pub mod files;
 mod notes;
 pub mod output;
-pub mod source;
 pub mod status;
 mod texts;
 mod wave;

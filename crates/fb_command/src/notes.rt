@@ -5,9 +5,9 @@ ghost use Rattle.fb_command.specs.Notes.{IsFileNote, IsMatter, IsNote, IsNoteOfN
 ghost use Rattle.fb_command.specs.Texts.{given_of};
 
 use crate::failure::{Failure, RefusalLine};
-use crate::source::SourceFault;
 use crate::texts::{Part, Texts, Unread};
 use fb_call::line::Call;
+use fb_call::source::SourceFault;
 use fb_why::finding::finding_of;
 use std::alloc::Global;
 

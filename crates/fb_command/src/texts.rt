@@ -4,8 +4,8 @@ ghost use Rattle.std.specs.Prelude.{◌≡◌, IfOk, IfErr, option_map};
 ghost use Rattle.fb_command.specs.Reading.{AreRead, IsUnread, MayRead};
 ghost use Rattle.fb_command.specs.Texts.{contents_of, given_of};
 
-use crate::source::{Source, SourceFault};
 use fb_call::line::Call;
+use fb_call::source::{Source, SourceFault};
 use fb_sim::options::Inputs;
 use std::alloc::Global;
 

@@ -4,10 +4,10 @@ ghost use Rattle.std.specs.Prelude.{◌≡◌};
 ghost use Rattle.fb_command.specs.Showing.{Dumps, Shows, files_of};
 
 use crate::failure::Failure;
-use crate::source::Source;
 use crate::status::Done;
 use crate::texts::read_files;
 use fb_call::line::{Call, Order, Wave};
+use fb_call::source::Source;
 use fb_sim::options::Inputs;
 use fb_sim::reading::{let_go, open};
 use fb_wave::wave::write_wave;

@@ -3,6 +3,5 @@ pub mod Actions
 pub mod Charts
 pub mod Indexing
 pub mod Links
-pub mod Names
 pub mod Soundness
 pub mod Trials

@@ -1,14 +1,14 @@
 //! The places of the names of a basic type, while its chart is made.
 
 ghost use Rattle.std.specs.Prelude.{◌≡◌, IfOk, map, option_map, unwrap_or};
-ghost use Rattle.fb_types.specs.Blocks.{event_names, variable_names};
 ghost use Rattle.fb_types.specs.Repeated.{Twice};
-ghost use Rattle.fb_names.specs.Places.{IsIndex, names_in, place_in};
+ghost use Rattle.fb_names.specs.Places.{IsIndex, place_in};
 ghost use Rattle.fb_ecc.specs.Indexed.{AreNumbers};
 ghost use Rattle.fb_ecc.specs.Opened.{IsOfDeclaration};
 
-use fb_names::places::{Places, place_of, places_of};
-use fb_types::library::{Algorithm, BasicType, EventPort, State, Variable};
+use fb_names::named::{Named, places};
+use fb_names::places::{Places, place_of};
+use fb_types::library::BasicType;
 use fb_types::name::Name;
 use std::alloc::{AllocError, Global};
 
@@ -36,65 +36,15 @@ impl<'a> Drop for Numbers<'a> {
     }
 }
 
-/// The places of names that differ.
-fn places_once<'a>(alloc: Global, names: &[&'a Name]) -> Result<Places<'a>, AllocError>
-    requires { ¬ (Twice (names_in names.now)) }
-    ensures { IfOk result (IsIndex (names_in names.now)) }
+/// The places of the names of a list, which differ.
+fn places_once<'a, T: Named>(alloc: Global, items: &'a [T]) -> Result<Places<'a>, AllocError>
+    requires { ¬ (Twice (map T.called items.now)) }
+    ensures { IfOk result (IsIndex (map T.called items.now)) }
 {
-    match places_of(alloc, names)? {
+    match places(alloc, items)? {
         Some(places) => Ok(places),
         None => unreachable!(),
     }
-}
-
-fn places_of_states<'a>(alloc: Global, states: &'a [State]) -> Result<Places<'a>, AllocError>
-    requires { ¬ (Twice (map (λ s. s.name) states.now)) }
-    ensures { IfOk result (IsIndex (map (λ s. s.name) states.now)) }
-{
-    let mut names = Vec::new(alloc);
-    for state in states {
-        names.push(&state.name)?;
-    }
-    places_once(alloc, names.as_slice())
-}
-
-fn places_of_algorithms<'a>(
-    alloc: Global,
-    algorithms: &'a [Algorithm],
-) -> Result<Places<'a>, AllocError>
-    requires { ¬ (Twice (map (λ a. a.name) algorithms.now)) }
-    ensures { IfOk result (IsIndex (map (λ a. a.name) algorithms.now)) }
-{
-    let mut names = Vec::new(alloc);
-    for algorithm in algorithms {
-        names.push(&algorithm.name)?;
-    }
-    places_once(alloc, names.as_slice())
-}
-
-fn places_of_events<'a>(alloc: Global, events: &'a [EventPort]) -> Result<Places<'a>, AllocError>
-    requires { ¬ (Twice (event_names events.now)) }
-    ensures { IfOk result (IsIndex (event_names events.now)) }
-{
-    let mut names = Vec::new(alloc);
-    for event in events {
-        names.push(&event.name)?;
-    }
-    places_once(alloc, names.as_slice())
-}
-
-fn places_of_variables<'a>(
-    alloc: Global,
-    variables: &'a [Variable],
-) -> Result<Places<'a>, AllocError>
-    requires { ¬ (Twice (variable_names variables.now)) }
-    ensures { IfOk result (IsIndex (variable_names variables.now)) }
-{
-    let mut names = Vec::new(alloc);
-    for variable in variables {
-        names.push(&variable.name)?;
-    }
-    places_once(alloc, names.as_slice())
 }
 
 impl<'a> Numbers<'a> {
@@ -104,12 +54,12 @@ impl<'a> Numbers<'a> {
         ensures { IfOk result (AreNumbers block.now) }
     {
         let ports = &block.ports;
-        let states = places_of_states(alloc, block.states.as_slice())?;
-        let algorithms = places_of_algorithms(alloc, block.algorithms.as_slice())?;
-        let event_inputs = places_of_events(alloc, ports.event_inputs.as_slice())?;
-        let event_outputs = places_of_events(alloc, ports.event_outputs.as_slice())?;
-        let inputs = places_of_variables(alloc, ports.inputs.as_slice())?;
-        let outputs = places_of_variables(alloc, ports.outputs.as_slice())?;
+        let states = places_once(alloc, block.states.as_slice())?;
+        let algorithms = places_once(alloc, block.algorithms.as_slice())?;
+        let event_inputs = places_once(alloc, ports.event_inputs.as_slice())?;
+        let event_outputs = places_once(alloc, ports.event_outputs.as_slice())?;
+        let inputs = places_once(alloc, ports.inputs.as_slice())?;
+        let outputs = places_once(alloc, ports.outputs.as_slice())?;
         Ok(Numbers {
             states,
             algorithms,

@@ -28,7 +28,12 @@ pub fn is_latency(ticks: i64) -> bool
 fn has_latencies(table: &[LatencyDraft]) -> bool
     ensures { result ≡ spec.has_latencies table.now }
 {
-    table.iter().all(|p| is_latency(p.ticks))
+    for pair in table {
+        if !is_latency(pair.ticks) {
+            return false;
+        }
+    }
+    true
 }
 
 /// Whether an entry may begin at a tick behind one that begins at `last`.
@@ -122,7 +127,11 @@ fn entry_of(pair: LatencyDraft) -> Entry
 fn entries_of(alloc: Global, table: &[LatencyDraft]) -> Result<Items<Entry>, AllocError>
     ensures { IfOk result (λ t. t ≡ map spec.entry table.now) }
 {
-    Ok(Items::from_vec(table.iter().map(|p| entry_of(*p)).collect(alloc)?))
+    let mut entries = Vec::with_capacity(alloc, table.len())?;
+    for pair in table {
+        entries.push(entry_of(*pair))?;
+    }
+    Ok(Items::from_vec(entries))
 }
 
 /// The latency of a table that was judged.

@@ -50,7 +50,11 @@ fn upper(b: u8) -> u8
 fn in_upper(alloc: Global, text: &[u8]) -> Result<Items<u8>, AllocError>
     ensures { IfOk result (λ t. t ≡ spec.in_upper text.now) }
 {
-    Ok(Items::from_vec(text.iter().map(|b| upper(*b)).collect(alloc)?))
+    let mut bytes = Vec::with_capacity(alloc, text.len())?;
+    for byte in text {
+        bytes.push(upper(*byte))?;
+    }
+    Ok(Items::from_vec(bytes))
 }
 
 /// The name that a text is, in upper case. A keyword is no name.

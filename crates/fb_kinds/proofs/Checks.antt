@@ -36,6 +36,12 @@ then_answer b p q e h = q ∙ sym (e ∙ ap (λ x. x && b) (sym p ∙ h))
 pub else_answer : {r a c : Bool} (b : Bool) → r ≡ a → c ≡ (a && b) → r ≡ false → r ≡ c
 else_answer b p e h = h ∙ sym (e ∙ ap (λ x. x && b) (sym p ∙ h))
 
+pub and_flip : (a b : Bool) → (a && b) ≡ (b && a)
+and_flip true true = refl
+and_flip true false = refl
+and_flip false true = refl
+and_flip false false = refl
+
 and_both : {a b c d : Bool} → a ≡ c → b ≡ d → (a && b) ≡ (c && d)
 and_both p q = λ k. p k && q k
 

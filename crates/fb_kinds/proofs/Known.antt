@@ -17,7 +17,7 @@ use Rattle.fb_types.specs.declared.text.Branch.{Branch, out-Branch}
 use Rattle.fb_types.specs.declared.text.Choice.{Choice, out-Choice}
 use Rattle.fb_kinds.specs.Checks.{all_known}
 use Rattle.fb_kinds.specs.Trees.{all_of, arguments_of, branch_of, branches_of, choice_of, choices_of}
-use Rattle.fb_kinds.proofs.Checks.{and_true}
+use Rattle.fb_kinds.proofs.Checks.{and_flip, and_true}
 use Rattle.fb_kinds.proofs.Says.{assign_says, binary_says, branch_says, call_says, choice_says, group_says, if_says, repeat_says, unary_says, variable_says, while_says}
 
 abbrev known_two : (t : BasicType) (a b : List Mention) → all_known t (a ++ b) ≡ (all_known t a && all_known t b)
@@ -88,12 +88,6 @@ pub if_known :
 if_known t s cs ds os ps is choices others =
     ap (known_in t) is ∙ ap (known_done t) (if_says ds ps) ∙ known_two t (mentions_choices (choices_of ds)) (mentions_body (all_of ps))
     ∙ (λ i. known_choices t (sym choices i) && known_body t (sym others i))
-
-and_flip : (a b : Bool) → (a && b) ≡ (b && a)
-and_flip true true = refl
-and_flip true false = refl
-and_flip false true = refl
-and_flip false false = refl
 
 -- a WHILE or a REPEAT, of which the condition is looked at first
 pub looped_known :

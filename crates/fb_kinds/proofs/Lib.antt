@@ -1,7 +1,8 @@
 pub mod Arguments
 pub mod Checks
 pub mod Roles
-mod Says
+mod Typed
+pub mod Says
 mod Sorted
 mod Tested
 mod Known

@@ -1,13 +1,16 @@
 -- Whether statements have the right kinds, by their parts (IEC 61131-3, 7.3.3).
-use Rattle.std.proofs.Common.{◌≡◌, Bool, ◌&&◌, List, ◌∷◌, refl, sym, ◌∙◌, ap}
-use Rattle.fb_types.specs.Kinds.{Place, body_right, choices_right, is_condition, is_right}
+use Rattle.std.proofs.Common.{◌≡◌, Bool, ◌&&◌, List, ◌∷◌, refl, sym, ◌∙◌, ap, inl, inr}
+use Rattle.std.specs.Prelude.{◌⊎◌}
+use Rattle.fb_types.specs.Kinds.{Place, body_right, choices_right, is_condition, is_right, looped}
 use Rattle.fb_types.specs.Syntax.{expr_of, stmt_of}
+use Rattle.fb_types.specs.declared.text.Expr.{Expr}
 use Rattle.fb_types.specs.declared.text.Stmt as read
 use Rattle.fb_types.specs.declared.text.Stmt.{Stmt}
 use Rattle.fb_types.specs.declared.text.Branch.{Branch, out-Branch}
 use Rattle.fb_types.specs.declared.text.Choice.{Choice, out-Choice}
 use Rattle.fb_kinds.specs.Trees.{all_of, branch_of, choice_of, choices_of}
-use Rattle.fb_kinds.proofs.Says.{branch_says, choice_says, if_says}
+use Rattle.fb_kinds.proofs.Checks.{and_flip}
+use Rattle.fb_kinds.proofs.Says.{branch_says, choice_says, if_says, repeat_says, while_says}
 
 abbrev pub right : Place → Stmt → Bool
 right p s = is_right p (stmt_of s)
@@ -21,6 +24,16 @@ pub if_right :
     → right p s ≡ (choices_right p (choices_of cs) && right_body p os)
 if_right p s cs ds os ps is choices others =
     ap (right p) is ∙ ap (is_right p) (if_says ds ps) ∙ (λ i. choices_right p (choices_of (sym choices i)) && right_body p (sym others i))
+
+-- a WHILE or a REPEAT, of which the condition is looked at first
+pub looped_right :
+    (p : Place) (s : Stmt) (c : Expr) (os ps : List Stmt) → (s ≡ read.While c ps) ⊎ (s ≡ read.Repeat ps c) → os ≡ ps
+    → right p s ≡ (is_condition p (expr_of c) && right_body (looped p) os)
+looped_right p s c os ps (inl is) body =
+    ap (right p) is ∙ ap (is_right p) (while_says c ps) ∙ ap (λ (ss : List Stmt). is_condition p (expr_of c) && right_body (looped p) ss) (sym body)
+looped_right p s c os ps (inr is) body =
+    ap (right p) is ∙ ap (is_right p) (repeat_says ps c) ∙ and_flip (right_body (looped p) ps) (is_condition p (expr_of c))
+    ∙ ap (λ (ss : List Stmt). is_condition p (expr_of c) && right_body (looped p) ss) (sym body)
 
 -- a condition and the statements behind it, and those behind labels
 abbrev pub right_choice : Place → Choice → Bool

@@ -1,39 +1,17 @@
 //! Kinds in statements (IEC 61131-3, 7.3.3).
 
 ghost use Rattle.std.specs.Prelude.{◌≡◌, false};
-ghost use Rattle.fb_types.specs.Kinds.{body_right, branches_right, choices_right, is_condition, is_right, is_whole, place_in};
-ghost use Rattle.fb_types.specs.Syntax.{body_of, expr_of, stmt_of, step_of};
+ghost use Rattle.fb_types.specs.Kinds.{body_right, branches_right, choices_right, is_right, place_in};
+ghost use Rattle.fb_types.specs.Syntax.{body_of, stmt_of};
 ghost use Rattle.fb_kinds.specs.Checks.{in_place};
 ghost use Rattle.fb_kinds.specs.Trees.{all_of, branches_of, choices_of};
 
 use crate::scope::Scope;
-use crate::sorts::{are_same, is_sort, sort_of_type};
+use crate::sorts::{
+    Typing, are_same, is_condition, is_sort, is_step_whole, is_whole, sort_of_type,
+};
 use fb_types::sort::Sort;
-use fb_types::text::{Body, Branch, Choice, Expr, Stmt};
-
-/// Whether an expression is a truth value.
-pub fn is_condition(expr: &Expr, scope: &Scope) -> bool
-    ensures { result ≡ is_condition (place_in scope.now) (expr_of expr.now) }
-{
-    is_sort(Sort::TruthValue, expr, scope)
-}
-
-/// Whether an expression is a whole number.
-fn is_whole(expr: &Expr, scope: &Scope) -> bool
-    ensures { result ≡ is_whole (place_in scope.now) (expr_of expr.now) }
-{
-    is_sort(Sort::WholeNumber, expr, scope)
-}
-
-/// The same of the step of FOR, if there is one.
-fn is_step_whole(step: &Option<Expr>, scope: &Scope) -> bool
-    ensures { result ≡ is_whole (place_in scope.now) (step_of step.now) }
-{
-    match step {
-        Some(step) => is_whole(step, scope),
-        None => true,
-    }
-}
+use fb_types::text::{Body, Branch, Choice, Stmt};
 
 /// Whether the statements of an algorithm have the right kinds, assign no input and leave no loop from outside.
 pub fn is_body_right(body: &Body, scope: &Scope) -> bool

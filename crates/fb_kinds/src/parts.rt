@@ -9,11 +9,12 @@ ghost use Rattle.fb_names.specs.Catalog.{IsBlock, IsCatalog};
 ghost use Rattle.fb_names.specs.Parts.{ArePartsKnown, PartWrong};
 ghost use Rattle.fb_kinds.specs.Checks.{AreBlocks, algorithm_right, all_known, body_known, chart_right, guard_known, is_guard_right, is_known_block, is_right_block};
 
-use crate::bodies::{is_body_right, is_condition};
+use crate::bodies::is_body_right;
 use crate::charts::{are_withs_known, is_chart_known};
 use crate::interface::Interface;
 use crate::mentions::{is_body_known, is_expression_known};
 use crate::scope::Scope;
+use crate::sorts::is_condition;
 use crate::values::are_declared_right;
 use fb_names::catalog::{BlockPlaces, Catalog};
 use fb_types::library::{Algorithm, BlockType, Library, Ports, Transition, Variable};

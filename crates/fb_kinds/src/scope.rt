@@ -1,12 +1,13 @@
 //! What the names in the chart and the bodies of a basic type stand for.
 
 ghost use Rattle.std.specs.Prelude.{◌≡◌, is_some};
-ghost use Rattle.fb_types.specs.Blocks.{among, is_input, types_of, variable_names, variables_of};
+ghost use Rattle.fb_types.specs.Blocks.{among, is_input, variable_names, variables_of};
 ghost use Rattle.fb_types.specs.Repeated.{algorithm_names, state_names};
 ghost use Rattle.fb_types.specs.declared.library.BlockType.TheVariants.{Basic};
 ghost use Rattle.fb_names.specs.Catalog.{IsBlock};
 
 use crate::interface::Interface;
+use crate::sorts::Typing;
 use fb_names::catalog::BlockPlaces;
 use fb_names::places::place_of;
 use fb_names::ports::PortSort;
@@ -85,11 +86,14 @@ impl<'a, 'n> Scope<'a, 'n> {
     {
         self.interface().type_of(name).is_some()
     }
+}
 
-    /// The type of a variable. What is no variable has the type BOOL here, and is refused elsewhere.
-    pub fn type_of(&self, name: &Name) -> Ty
-        ensures { result ≡ types_of self.now name.now }
-    {
+impl<'a, 'n> Typing for Scope<'a, 'n> {
+    ghost use Rattle.fb_types.specs.Blocks.{types_of};
+
+    ghost types = { types_of };
+
+    fn type_of(&self, name: &Name) -> Ty {
         self.interface().type_of(name).unwrap_or(Ty::Bool)
     }
 }

@@ -1,16 +1,27 @@
 //! Kinds of expressions (IEC 61131-3, 7.3.2).
 
 ghost use Rattle.std.specs.Prelude.{◌≡◌, [], ◌∷◌, option_and_then};
-ghost use Rattle.fb_types.specs.Blocks.{types_of};
 ghost use Rattle.fb_types.specs.Kinds.{are_truths, are_whole, binary_sort, function_sort, is_sort, same_sort, sort_of, sort_of_type, sorts_of, unary_sort};
-ghost use Rattle.fb_types.specs.Syntax.{expr_of};
+ghost use Rattle.fb_types.specs.Syntax.{expr_of, step_of};
+ghost use Rattle.fb_types.specs.declared.sort.Sort.TheVariants.{TruthValue, WholeNumber};
 ghost use Rattle.fb_kinds.specs.Trees.{arguments_of};
 
-use crate::scope::Scope;
 use fb_types::function::Function;
+use fb_types::name::Name;
 use fb_types::sort::Sort;
 use fb_types::text::{BinaryOperator, Expr, UnaryOperator};
 use fb_types::value::Ty;
+
+/// What has variables, each of a type.
+pub trait Typing {
+    ghost use Rattle.fb_types.specs.Values.{Types};
+
+    ghost types: { Self → Types };
+
+    /// The type of a variable. What is no variable has the type BOOL here, and is refused elsewhere.
+    fn type_of(&self, name: &Name) -> Ty
+        ensures { result ≡ types self.now name.now };
+}
 
 /// The kind of the values of a type.
 pub fn sort_of_type(ty: Ty) -> Sort
@@ -45,7 +56,7 @@ fn are_whole(left: Sort, right: Sort) -> bool
 }
 
 /// The kind of a unary operator's value, or none where the operand has another kind.
-pub fn unary_sort(operator: UnaryOperator, operand: Sort) -> Option<Sort>
+fn unary_sort(operator: UnaryOperator, operand: Sort) -> Option<Sort>
     ensures { result ≡ unary_sort operator operand }
 {
     match (operator, operand) {
@@ -56,7 +67,7 @@ pub fn unary_sort(operator: UnaryOperator, operand: Sort) -> Option<Sort>
 }
 
 /// The kind of a binary operator's value, or none where the operands have other kinds.
-pub fn binary_sort(operator: BinaryOperator, left: Sort, right: Sort) -> Option<Sort>
+fn binary_sort(operator: BinaryOperator, left: Sort, right: Sort) -> Option<Sort>
     ensures { result ≡ binary_sort operator left right }
 {
     let (are_right, sort) = match operator {
@@ -80,7 +91,7 @@ pub fn binary_sort(operator: BinaryOperator, left: Sort, right: Sort) -> Option<
 }
 
 /// The kind of a function's value at one argument, or none where it takes another number of arguments or another kind.
-pub fn sort_of_one(function: Function, argument: Sort) -> Option<Sort>
+fn sort_of_one(function: Function, argument: Sort) -> Option<Sort>
     ensures { result ≡ function_sort function (argument ∷ []) }
 {
     match (function, argument) {
@@ -90,7 +101,7 @@ pub fn sort_of_one(function: Function, argument: Sort) -> Option<Sort>
 }
 
 /// The same at two arguments.
-pub fn sort_of_two(function: Function, first: Sort, second: Sort) -> Option<Sort>
+fn sort_of_two(function: Function, first: Sort, second: Sort) -> Option<Sort>
     ensures { result ≡ function_sort function (first ∷ second ∷ []) }
 {
     match function {
@@ -100,7 +111,7 @@ pub fn sort_of_two(function: Function, first: Sort, second: Sort) -> Option<Sort
 }
 
 /// The same at three arguments.
-pub fn sort_of_three(function: Function, first: Sort, second: Sort, third: Sort) -> Option<Sort>
+fn sort_of_three(function: Function, first: Sort, second: Sort, third: Sort) -> Option<Sort>
     ensures { result ≡ function_sort function (first ∷ second ∷ third ∷ []) }
 {
     match (function, first) {
@@ -112,39 +123,39 @@ pub fn sort_of_three(function: Function, first: Sort, second: Sort, third: Sort)
 
 /// The kind of an expression, or none where an operand or the number of arguments is wrong.
 #[cycle(sort)]
-pub(crate) fn sort_of(expr: &Expr, scope: &Scope) -> Option<Sort>
-    ensures { result ≡ sort_of (types_of scope.now) (expr_of expr.now) }
+pub fn sort_of<T: Typing>(expr: &Expr, typing: &T) -> Option<Sort>
+    ensures { result ≡ sort_of (T.types typing.now) (expr_of expr.now) }
 {
     match expr {
         Expr::Whole(_) => Some(Sort::WholeNumber),
         Expr::Truth(_) => Some(Sort::TruthValue),
-        Expr::Variable(variable) => Some(sort_of_type(scope.type_of(variable.name()))),
-        Expr::Group(inner) => sort_of(inner.get(), scope),
-        Expr::Unary(operator, operand) => unary_sort(*operator, sort_of(operand.get(), scope)?),
+        Expr::Variable(variable) => Some(sort_of_type(typing.type_of(variable.name()))),
+        Expr::Group(inner) => sort_of(inner.get(), typing),
+        Expr::Unary(operator, operand) => unary_sort(*operator, sort_of(operand.get(), typing)?),
         Expr::Binary(operator, left, right) => {
-            let first = sort_of(left.get(), scope)?;
-            binary_sort(*operator, first, sort_of(right.get(), scope)?)
+            let first = sort_of(left.get(), typing)?;
+            binary_sort(*operator, first, sort_of(right.get(), typing)?)
         }
         Expr::Call(name, arguments) => {
-            sort_of_call(Function::named(name)?, arguments.as_slice(), scope)
+            sort_of_call(Function::named(name)?, arguments.as_slice(), typing)
         }
     }
 }
 
 #[cycle(sort)]
-fn sort_of_call(function: Function, arguments: &[Expr], scope: &Scope) -> Option<Sort>
-    ensures { result ≡ option_and_then (function_sort function) (sorts_of (types_of scope.now) (arguments_of arguments.now)) }
+fn sort_of_call<T: Typing>(function: Function, arguments: &[Expr], typing: &T) -> Option<Sort>
+    ensures { result ≡ option_and_then (function_sort function) (sorts_of (T.types typing.now) (arguments_of arguments.now)) }
 {
     match arguments {
-        [one] => sort_of_one(function, sort_of(one, scope)?),
+        [one] => sort_of_one(function, sort_of(one, typing)?),
         [one, two] => {
-            let first = sort_of(one, scope)?;
-            sort_of_two(function, first, sort_of(two, scope)?)
+            let first = sort_of(one, typing)?;
+            sort_of_two(function, first, sort_of(two, typing)?)
         }
         [one, two, three] => {
-            let first = sort_of(one, scope)?;
-            let second = sort_of(two, scope)?;
-            sort_of_three(function, first, second, sort_of(three, scope)?)
+            let first = sort_of(one, typing)?;
+            let second = sort_of(two, typing)?;
+            sort_of_three(function, first, second, sort_of(three, typing)?)
         }
         // no function has no argument, or more than three
         _ => None,
@@ -152,11 +163,35 @@ fn sort_of_call(function: Function, arguments: &[Expr], scope: &Scope) -> Option
 }
 
 /// Whether an expression has the kind.
-pub(crate) fn is_sort(sort: Sort, expr: &Expr, scope: &Scope) -> bool
-    ensures { result ≡ is_sort sort (sort_of (types_of scope.now) (expr_of expr.now)) }
+pub fn is_sort<T: Typing>(sort: Sort, expr: &Expr, typing: &T) -> bool
+    ensures { result ≡ is_sort sort (sort_of (T.types typing.now) (expr_of expr.now)) }
 {
-    match sort_of(expr, scope) {
+    match sort_of(expr, typing) {
         Some(other) => are_same(sort, other),
         None => false,
+    }
+}
+
+/// Whether an expression is a truth value.
+pub fn is_condition<T: Typing>(expr: &Expr, typing: &T) -> bool
+    ensures { result ≡ is_sort TruthValue (sort_of (T.types typing.now) (expr_of expr.now)) }
+{
+    is_sort(Sort::TruthValue, expr, typing)
+}
+
+/// Whether an expression is a whole number.
+pub fn is_whole<T: Typing>(expr: &Expr, typing: &T) -> bool
+    ensures { result ≡ is_sort WholeNumber (sort_of (T.types typing.now) (expr_of expr.now)) }
+{
+    is_sort(Sort::WholeNumber, expr, typing)
+}
+
+/// The same of the step of FOR, if there is one.
+pub fn is_step_whole<T: Typing>(step: &Option<Expr>, typing: &T) -> bool
+    ensures { result ≡ is_sort WholeNumber (sort_of (T.types typing.now) (step_of step.now)) }
+{
+    match step {
+        Some(step) => is_whole(step, typing),
+        None => true,
     }
 }

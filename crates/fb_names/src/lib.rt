@@ -15,7 +15,7 @@ mod both;
 pub mod catalog;
 mod deployment;
 mod ends;
-mod named;
+pub mod named;
 mod networks;
 pub mod numbers;
 pub mod places;

@@ -45,5 +45,9 @@ pub fn word_len(z: &[u8]) -> usize
 pub fn in_upper(alloc: Global, z: &[u8]) -> Result<Items<u8>, AllocError>
     ensures { IfOk result (λ t. t ≡ spec.in_upper z.now) }
 {
-    Ok(Items::from_vec(z.iter().map(|b| upper(*b)).collect(alloc)?))
+    let mut bytes = Vec::with_capacity(alloc, z.len())?;
+    for byte in z {
+        bytes.push(upper(*byte))?;
+    }
+    Ok(Items::from_vec(bytes))
 }

@@ -8,4 +8,5 @@ pub mod Once
 pub mod Places
 pub mod Ranges
 pub mod Runs
+pub mod Says
 pub mod Slots

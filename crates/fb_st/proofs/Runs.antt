@@ -18,8 +18,10 @@ use Rattle.fb_types.specs.declared.value.Value.{Value}
 use Rattle.fb_types.specs.declared.value.Reason.{Reason}
 use Rattle.fb_types.specs.declared.value.Reason.TheVariants as reason
 use Rattle.fb_types.proofs.NameLaws.{same_name-itself}
-use Rattle.fb_st.specs.Frames.{Declared, types_in}
-use Rattle.fb_st.specs.Flows.{end_of, all_of, choices_of, branches_of, choice_of, branch_of}
+use Rattle.fb_st.specs.Frames.{Declared, declared_in, types_in, values_of}
+use Rattle.fb_st.specs.Flows.{end_of, point, all_of, choices_of, branches_of, choice_of, branch_of}
+use Rattle.fb_st.specs.declared.frame.Slot.{Slot}
+use Rattle.fb_st.specs.declared.meter.StepMeter.{StepMeter}
 use Rattle.fb_st.specs.declared.meter.Flow.{Flow}
 use Rattle.fb_st.specs.Known.{AssignsKnown, AllKnown, ChoicesKnown, BranchesKnown}
 
@@ -206,6 +208,11 @@ told_by result a b is same = is ∙ ap (λ (v : Bool). Ok v) same
 pub ends_as : (R : Running) (p q : Point) (e f : End) → e ≡ f → R p f q → R p e q
 ends_as R p q e f same run = subst (λ (g : End). R p g q) (sym same) run
 
+pub runs_as : (a b : List Declared) (s : Stmt) (p m : Point) (e f : End) → a ≡ b → e ≡ f → Runs (types_in a) s p e m → Runs (types_in b) s p f m
+runs_as a b s p m e f declared same run =
+    subst (λ (ds : List Declared). Runs (types_in ds) s p f m) declared
+    (subst (λ (g : End). Runs (types_in a) s p g m) same run)
+
 pub turn_as : (a b : List Declared) (body : Stmts) (p m : Point) (e f : End) → a ≡ b → e ≡ f → Step (RunsAll (types_in a) body) p e m → Step (RunsAll (types_in b) body) p f m
 turn_as a b body p m e f declared same run =
     subst (λ (ds : List Declared). Step (RunsAll (types_in ds) body) p f m) declared
@@ -266,3 +273,37 @@ one_runs T [] s p q e one is run = absurd (omega arith)
 one_runs T (t ∷ []) s p q e one is run =
     subst (λ (u : read.Stmt). RunsAll T (all_of (u ∷ [])) p e q) is (e, q, run, ends_there T e q)
 one_runs T (t ∷ u ∷ ss) s p q e one is run = absurd (omega arith)
+
+-- ---- What is known of a loop's frame, said of the frame that it began with
+
+pub all_as : (f g : List Slot) (m n : StepMeter) (xs ys : List read.Stmt) (e : End) (q : Point) → f ≡ g → m ≡ n → xs ≡ ys
+    → RunsAll (types_in (declared_in f)) (all_of xs) (point f m) e q → RunsAll (types_in (declared_in g)) (all_of ys) (point g n) e q
+all_as f g m n xs ys e q same_frame same_meter same run =
+    subst (λ (l : List read.Stmt). RunsAll (types_in (declared_in g)) (all_of l) (point g n) e q) same
+    (subst (λ (k : StepMeter). RunsAll (types_in (declared_in g)) (all_of xs) (point g k) e q) same_meter
+    (subst (λ (h : List Slot). RunsAll (types_in (declared_in h)) (all_of xs) (point h m) e q) same_frame run))
+
+pub ends_at : (R : Running) (p : Point) (e : End) (f g : List Slot) (m n : StepMeter) → f ≡ g → m ≡ n → R p e (point g n) → R p e (point f m)
+ends_at R p e f g m n same_frame same_meter run =
+    subst (λ (h : List Slot). R p e (point h m)) (sym same_frame) (subst (λ (k : StepMeter). R p e (point g k)) (sym same_meter) run)
+
+pub choice_told : (c : Choice) (f g : List Slot) (r s : Result Bool Reason) → f ≡ g → r ≡ truth_of (expr_of (out-Choice c).condition) (values_of f) → r ≡ s
+    → truth_of (choice_of c).0 (values_of g) ≡ s
+choice_told c f g r s same is told =
+    ap (λ x. truth_of x.0 (values_of g)) (choice_says c) ∙ ap (λ h. truth_of (expr_of (out-Choice c).condition) (values_of h)) (sym same) ∙ sym is ∙ told
+
+pub choice_ran : (c : Choice) (f g : List Slot) (m n : StepMeter) (xs : List read.Stmt) (e : End) (q : Point) → f ≡ g → m ≡ n → xs ≡ (out-Choice c).body
+    → RunsAll (types_in (declared_in f)) (all_of xs) (point f m) e q → RunsAll (types_in (declared_in g)) (choice_of c).1 (point g n) e q
+choice_ran c f g m n xs e q same_frame same_meter same run =
+    subst (λ (x : Expr × Stmts). RunsAll (types_in (declared_in g)) x.1 (point g n) e q) (sym (choice_says c))
+    (all_as f g m n xs (out-Choice c).body e q same_frame same_meter same run)
+
+pub branch_told : (b : Branch) (labels : List Label) (z : ℤ) (r s : Bool) → labels ≡ (out-Branch b).labels → r ≡ label_fits labels z → r ≡ s → label_fits (branch_of b).0 z ≡ s
+branch_told b labels z r s same is told =
+    ap (λ x. label_fits x.0 z) (branch_says b) ∙ ap (λ l. label_fits l z) (sym same) ∙ sym is ∙ told
+
+pub branch_ran : (b : Branch) (f g : List Slot) (m n : StepMeter) (xs : List read.Stmt) (e : End) (q : Point) → f ≡ g → m ≡ n → xs ≡ (out-Branch b).body
+    → RunsAll (types_in (declared_in f)) (all_of xs) (point f m) e q → RunsAll (types_in (declared_in g)) (branch_of b).1 (point g n) e q
+branch_ran b f g m n xs e q same_frame same_meter same run =
+    subst (λ (x : List Label × Stmts). RunsAll (types_in (declared_in g)) x.1 (point g n) e q) (sym (branch_says b))
+    (all_as f g m n xs (out-Branch b).body e q same_frame same_meter same run)

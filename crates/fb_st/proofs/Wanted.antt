@@ -1,19 +1,15 @@
 -- A number handed on as a number, and a truth value as a truth value, say what the values would.
-use Rattle.std.proofs.Common.{◌≡◌, ℤ, pos, ◌+ℤ◌, ◌-ℤ◌, ◌*ℤ◌, neg_ℤ, Bool, true, false, Result, Ok, Err, ◌⊎◌, ⊎_elim, refl, sym, ap, ◌∙◌}
+use Rattle.std.proofs.Common.{◌≡◌, ℤ, pos, ◌+ℤ◌, ◌-ℤ◌, ◌*ℤ◌, Bool, true, false, Result, Ok, Err, ◌⊎◌, ⊎_elim, refl, sym, ap, ◌∙◌}
 use Rattle.std.specs.Prelude.{if◌then◌else◌, int_div, int_lt, int_le, not, ◌&&◌, ◌||◌}
-use Rattle.fb_types.specs.Values.{and_then, unary_value, binary_value, whole, truth, told, judged, quotient, modulus, same_whole, same_value, same_truth, within_signed}
+use Rattle.fb_types.specs.Values.{and_then, binary_value, whole, truth, told, judged, quotient, modulus, same_whole, same_value, same_truth, within_signed}
 use Rattle.fb_types.specs.declared.text.BinaryOperator.{BinaryOperator}
-use Rattle.fb_types.specs.declared.text.UnaryOperator.{UnaryOperator}
-use Rattle.fb_types.specs.declared.text.UnaryOperator.TheVariants as unary
 use Rattle.fb_types.specs.declared.text.BinaryOperator.TheVariants.{Or, Xor, And, Equal, NotEqual, Less, Greater, LessOrEqual, GreaterOrEqual, Add, Subtract, Multiply, Divide, Modulo}
 use Rattle.fb_types.specs.declared.value.Value.{Value}
 use Rattle.fb_types.specs.declared.value.Value.TheVariants as value
 use Rattle.fb_types.specs.declared.value.Reason.{Reason}
 use Rattle.fb_types.specs.declared.value.Reason.TheVariants as reason
 use Rattle.fb_types.specs.Values.{Values, value_of}
-use Rattle.fb_types.specs.Syntax.{Expr, Unary, Binary, expr_of}
-use Rattle.fb_types.specs.declared.text.Expr as read
-use Rattle.fb_types.specs.declared.text.Expr.TheVariants as variant
+use Rattle.fb_types.specs.Syntax.{Expr, Binary}
 use Rattle.fb_st.specs.Wanted.{wholes, truths, as_whole, as_bool, false_if_known, both_joined, told_joined, told_equal, gives_number, takes_numbers}
 
 -- an operator looks at its operands as numbers, where a number is asked of it
@@ -138,10 +134,6 @@ truth_known o (Ok v) (Ok w) x y g e f =
 truth_known o (Ok v) (Err s) x y g e f = absurd cc
 truth_known o (Err r) s x y g e f = absurd cc
 
--- what an operator at two expressions says that was read
-pub binary_is : (d : read.Expr) (o : BinaryOperator) (l r : read.Expr) → d ≡ variant.Binary o l r → expr_of d ≡ Binary o (expr_of l) (expr_of r)
-binary_is d o l r is = rw is (simp read.the_lemmas refl)
-
 -- ---- What is handed on as a number, or as a truth value, is the value again, where it is such a value.
 
 whole_again : (r : Result Value Reason) → ((z : ℤ) → wholes r ≡ Ok z → r ≡ Ok (value.Whole z)) → as_whole (wholes r) ≡ r
@@ -155,28 +147,6 @@ bool_again (Err e) h = refl
 false_again : (r : Result Value Reason) → ((z : ℤ) → wholes r ≡ Ok z → r ≡ Ok (value.Whole z)) → false_if_known (wholes r) ≡ truths r
 false_again (Ok v) h = ap truths (sym (h (whole v) refl))
 false_again (Err e) h = refl
-
-negated_number : (r : Result Value Reason) (z : ℤ) → wholes (and_then r (unary_value unary.Negate)) ≡ Ok z → and_then r (unary_value unary.Negate) ≡ Ok (value.Whole z)
-negated_number (Ok v) z e = judged_number (neg_ℤ (whole v)) z e
-negated_number (Err r) z e = absurd cc
-
-negated_truth : (r : Result Value Reason) (b : Bool) → truths (and_then r (unary_value unary.Not)) ≡ Ok b → and_then r (unary_value unary.Not) ≡ Ok (value.Bool b)
-negated_truth (Ok v) b e = told_is (not (truth v)) b e
-negated_truth (Err r) b e = absurd cc
-
--- what an operator at one expression says that was read
-pub unary_is : (d : read.Expr) (o : UnaryOperator) (l : read.Expr) → d ≡ variant.Unary o l → expr_of d ≡ Unary o (expr_of l)
-unary_is d o l is = rw is (simp read.the_lemmas refl)
-
-module _ (x e : Expr) (vars : Values) where
-  pub negated_again : x ≡ Unary unary.Negate e → as_whole (wholes (value_of x vars)) ≡ value_of x vars
-  negated_again is = rw is (whole_again (value_of (Unary unary.Negate e) vars) (negated_number (value_of e vars)))
-
-  pub negated_untrue : x ≡ Unary unary.Negate e → false_if_known (wholes (value_of x vars)) ≡ truths (value_of x vars)
-  negated_untrue is = rw is (false_again (value_of (Unary unary.Negate e) vars) (negated_number (value_of e vars)))
-
-  pub not_again : x ≡ Unary unary.Not e → as_bool (truths (value_of x vars)) ≡ value_of x vars
-  not_again is = rw is (bool_again (value_of (Unary unary.Not e) vars) (negated_truth (value_of e vars)))
 
 -- ---- Two truth values that are joined, and two values that are compared
 

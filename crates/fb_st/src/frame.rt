@@ -96,6 +96,7 @@ fn is_between(least: i64, number: i64, most: i64) -> bool
 }
 
 impl Slot {
+    /// A variable of this type that has this value.
     pub fn new(name: Name, ty: Ty, value: Value) -> Slot
         ensures { result ≡ record { name = name; ty = ty; value = value } }
     {

@@ -19,14 +19,24 @@ use std::alloc::{AllocError, Global};
 fn is_among(names: &[Name], name: &Name) -> bool
     ensures { result ≡ among names.now name.now }
 {
-    names.iter().any(|other| name.is(other))
+    for other in names {
+        if name.is(other) {
+            return true;
+        }
+    }
+    false
 }
 
 /// Whether a variable goes WITH an event.
 fn is_with(events: &[EventPort], event: &Name, variable: &Name) -> bool
     ensures { result ≡ list_any (λ p. same_name p.name event.now && among p.with variable.now) events.now }
 {
-    events.iter().any(|port| port.name.is(event) && is_among(port.with.as_slice(), variable))
+    for port in events {
+        if port.name.is(event) && is_among(port.with.as_slice(), variable) {
+            return true;
+        }
+    }
+    false
 }
 
 /// The places of the variables WITH an event. It goes through all of them, as suits the few of an event block.

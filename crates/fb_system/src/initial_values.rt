@@ -16,10 +16,11 @@ use std::alloc::{AllocError, Global};
 fn first_values(alloc: Global, variables: &[Variable]) -> Result<Vec<Value>, AllocError>
     ensures { IfOk result (λ vs. vs.items ≡ map initial_of variables.now) }
 {
-    variables
-        .iter()
-        .map(|variable| variable.first_value())
-        .collect(alloc)
+    let mut values = Vec::with_capacity(alloc, variables.len())?;
+    for variable in variables {
+        values.push(variable.first_value())?;
+    }
+    Ok(values)
 }
 
 /// What the data inputs of an instance begin with: the instance's parameter, else the declared initial value, else

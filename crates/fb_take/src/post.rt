@@ -103,10 +103,9 @@ fn post_out(
     ensures counted { OnOk result (length sent.new.items ≡ length sent.old.items) }
 {
     match out {
-        Out::Local(target) => post_local(agenda, locals, key, target)?,
-        Out::Send(sending) => post_message(mail, sent, system, key, sending)?,
+        Out::Local(target) => post_local(agenda, locals, key, target),
+        Out::Send(sending) => post_message(mail, sent, system, key, sending),
     }
-    Ok(())
 }
 
 /// Posts events that were put out, in their order. The room that they took is kept.

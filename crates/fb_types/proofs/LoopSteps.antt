@@ -21,6 +21,13 @@ pub more_of_part :
 more_of_part {A} {B} P f xs i x y h e g p =
     subst P (sym (map_take_more f xs i x h e)) (subst (λ (z : B). P (map f (take i xs) ++ z ∷ [])) g p)
 
+-- a list that has what the function makes of each element so far, and is given that of the one at hand
+pub mapped_next :
+    {A B : Type 0} (f : A → B) (xs : List A) (i : ℕ) (d : A) (so_far after : List B) (y : B) → i < length xs → y ≡ f (get_or xs i d)
+    → so_far ≡ map f (take i xs) → after ≡ so_far ++ y ∷ [] → after ≡ map f (take (i + 1) xs)
+mapped_next f xs i d so_far after y h is are grown =
+    grown ∙ (λ j. are j ++ is j ∷ []) ∙ sym (ap (map f) (take_more xs i d h) ∙ map-append f (take i xs) (get_or xs i d ∷ []))
+
 -- what stands twice up to an element stands twice in all
 pub twice_of_part :
     {A B : Type 0} (f : A → B) (xs : List A) (i : ℕ) (x : A) (y : B) → i < length xs → x ≡ get_or xs i x → y ≡ f x

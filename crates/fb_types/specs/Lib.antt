@@ -12,6 +12,7 @@ pub mod Blocks
 pub mod Charts
 pub mod EventBlocks
 pub mod EventPorts
+pub mod EventRows
 pub mod Keys
 pub mod Systems
 pub mod Flat

@@ -90,6 +90,8 @@ impl Model for Deploy {
 }
 
 impl Deploy {
+    /// The deployment of a plan that keeps the limits: 1 to 256 resources, one alone where that holds every instance, and at most
+    /// 1,024 links, whose latencies are tables as `Latency` has them.
     pub fn new(plan: Plan) -> Deploy
         requires { IsWithinLimits plan }
         ensures { result ≡ plan }
@@ -116,6 +118,7 @@ impl Deploy {
         Ok(Deploy { plan })
     }
 
+    /// What is deployed, which keeps the limits.
     pub fn plan(&self) -> &Plan
         ensures value { result.now ≡ self.now }
         ensures limits { IsWithinLimits self.now }

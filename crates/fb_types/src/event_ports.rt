@@ -1,11 +1,10 @@
 //! The type names and the interfaces of the event blocks.
 
-ghost use Rattle.std.specs.Prelude.{◌≡◌, [], ◌∷◌, ◌++◌, IfOk, OnOk, codes, option_map};
+ghost use Rattle.std.specs.Prelude.{◌≡◌, IfOk, map};
 ghost use Rattle.fb_types.specs.Blocks as spec;
 ghost use Rattle.fb_types.specs.EventPorts.{ArePortsOfKinds};
+ghost use Rattle.fb_types.specs.EventRows as row;
 ghost use Rattle.fb_types.specs.Names.{same_name};
-ghost use Rattle.fb_types.specs.declared.event_kind.EventKind.TheVariants.{Restart, Split, Merge, Rendezvous, Select, Switch, SetReset, DataLatch, CountUp};
-ghost use Rattle.fb_types.specs.declared.value.Ty.TheVariants.{Bool};
 
 use crate::event_kind::EventKind;
 use crate::items::Items;
@@ -14,284 +13,214 @@ use crate::name::Name;
 use crate::value::Ty;
 use std::alloc::{AllocError, Global};
 
+/// The type names of the event blocks.
+static EVENT_BLOCKS: [(&str, EventKind); 14] = [
+    ("E_RESTART", EventKind::Restart),
+    ("E_SPLIT", EventKind::Split),
+    ("E_MERGE", EventKind::Merge),
+    ("E_REND", EventKind::Rendezvous),
+    ("E_PERMIT", EventKind::Permit),
+    ("E_SELECT", EventKind::Select),
+    ("E_SWITCH", EventKind::Switch),
+    ("E_DELAY", EventKind::Delay),
+    ("E_CYCLE", EventKind::Cycle),
+    ("E_SR", EventKind::SetReset),
+    ("E_D_FF", EventKind::DataLatch),
+    ("E_R_TRIG", EventKind::RisingEdge),
+    ("E_F_TRIG", EventKind::FallingEdge),
+    ("E_CTU", EventKind::CountUp),
+];
+
+/// The name of an event, and those of the variables that go WITH it.
+type EventRow = (&'static str, &'static [&'static str]);
+
+/// The name of a variable, and its type.
+type VariableRow = (&'static str, Ty);
+
+/// The interface of an event block, as it is written down.
+struct Rows {
+    event_inputs: &'static [EventRow],
+    event_outputs: &'static [EventRow],
+    inputs: &'static [VariableRow],
+    outputs: &'static [VariableRow],
+}
+
+static RESTART: Rows = Rows {
+    event_inputs: &[],
+    event_outputs: &[("COLD", &[]), ("WARM", &[]), ("STOP", &[])],
+    inputs: &[],
+    outputs: &[],
+};
+
+static SPLIT: Rows = Rows {
+    event_inputs: &[("EI", &[])],
+    event_outputs: &[("EO1", &[]), ("EO2", &[])],
+    inputs: &[],
+    outputs: &[],
+};
+
+static MERGE: Rows = Rows {
+    event_inputs: &[("EI1", &[]), ("EI2", &[])],
+    event_outputs: &[("EO", &[])],
+    inputs: &[],
+    outputs: &[],
+};
+
+static RENDEZVOUS: Rows = Rows {
+    event_inputs: &[("EI1", &[]), ("EI2", &[]), ("R", &[])],
+    event_outputs: &[("EO", &[])],
+    inputs: &[],
+    outputs: &[],
+};
+
+static PERMIT: Rows = Rows {
+    event_inputs: &[("EI", &["PERMIT"])],
+    event_outputs: &[("EO", &[])],
+    inputs: &[("PERMIT", Ty::Bool)],
+    outputs: &[],
+};
+
+static SELECT: Rows = Rows {
+    event_inputs: &[("EI0", &["G"]), ("EI1", &["G"])],
+    event_outputs: &[("EO", &[])],
+    inputs: &[("G", Ty::Bool)],
+    outputs: &[],
+};
+
+static SWITCH: Rows = Rows {
+    event_inputs: &[("EI", &["G"])],
+    event_outputs: &[("EO0", &[]), ("EO1", &[])],
+    inputs: &[("G", Ty::Bool)],
+    outputs: &[],
+};
+
+static TIMER: Rows = Rows {
+    event_inputs: &[("START", &["DT"]), ("STOP", &[])],
+    event_outputs: &[("EO", &[])],
+    inputs: &[("DT", Ty::Time)],
+    outputs: &[],
+};
+
+static SET_RESET: Rows = Rows {
+    event_inputs: &[("S", &[]), ("R", &[])],
+    event_outputs: &[("EO", &["Q"])],
+    inputs: &[],
+    outputs: &[("Q", Ty::Bool)],
+};
+
+static DATA_LATCH: Rows = Rows {
+    event_inputs: &[("CLK", &["D"])],
+    event_outputs: &[("EO", &["Q"])],
+    inputs: &[("D", Ty::Bool)],
+    outputs: &[("Q", Ty::Bool)],
+};
+
+static EDGE: Rows = Rows {
+    event_inputs: &[("EI", &["QI"])],
+    event_outputs: &[("EO", &[])],
+    inputs: &[("QI", Ty::Bool)],
+    outputs: &[],
+};
+
+static COUNT_UP: Rows = Rows {
+    event_inputs: &[("CU", &["PV"]), ("R", &[])],
+    event_outputs: &[("CUO", &["Q", "CV"]), ("RO", &["Q", "CV"])],
+    inputs: &[("PV", Ty::Uint)],
+    outputs: &[("Q", Ty::Bool), ("CV", Ty::Uint)],
+};
+
 fn is(name: &[u8], text: &str) -> bool
     ensures { result ≡ same_name text.now name.now }
 {
     text.as_bytes() == name
 }
 
+/// The kind of the first entry that has the name.
+fn look_up(mut table: &[(&str, EventKind)], name: &[u8]) -> Option<EventKind>
+    ensures { result ≡ row.kind_among (map (λ e. (e.0.now, e.1)) table.entry.now) name.now }
+{
+    while let [entry, rest @ ..] = table {
+        if is(name, entry.0) {
+            return Some(entry.1);
+        }
+        table = rest;
+    }
+    None
+}
+
 /// The event block that a type name stands for. The name is in upper case.
 pub fn kind_named(name: &[u8]) -> Option<EventKind>
     ensures { result ≡ spec.event_block_named name.now }
 {
-    if is(name, "E_RESTART") {
-        Some(EventKind::Restart)
-    } else if is(name, "E_SPLIT") {
-        Some(EventKind::Split)
-    } else if is(name, "E_MERGE") {
-        Some(EventKind::Merge)
-    } else if is(name, "E_REND") {
-        Some(EventKind::Rendezvous)
-    } else if is(name, "E_PERMIT") {
-        Some(EventKind::Permit)
-    } else if is(name, "E_SELECT") {
-        Some(EventKind::Select)
-    } else if is(name, "E_SWITCH") {
-        Some(EventKind::Switch)
-    } else {
-        remembering_kind_named(name)
-    }
+    look_up(&EVENT_BLOCKS, name)
 }
 
-fn remembering_kind_named(name: &[u8]) -> Option<EventKind>
-    ensures { result ≡ option_map (λ e. e.1) (spec.named (λ e. e.0) name.now spec.remembering_blocks) }
-{
-    if is(name, "E_DELAY") {
-        Some(EventKind::Delay)
-    } else if is(name, "E_CYCLE") {
-        Some(EventKind::Cycle)
-    } else if is(name, "E_SR") {
-        Some(EventKind::SetReset)
-    } else if is(name, "E_D_FF") {
-        Some(EventKind::DataLatch)
-    } else if is(name, "E_R_TRIG") {
-        Some(EventKind::RisingEdge)
-    } else if is(name, "E_F_TRIG") {
-        Some(EventKind::FallingEdge)
-    } else if is(name, "E_CTU") {
-        Some(EventKind::CountUp)
-    } else {
-        None
-    }
-}
-
-fn one<T: Drop>(alloc: Global, first: T) -> Result<Items<T>, AllocError>
-    ensures { IfOk result (λ l. l ≡ first ∷ []) }
-{
-    let mut list = Items::new(alloc);
-    list.push(first)?;
-    Ok(list)
-}
-
-fn two<T: Drop>(alloc: Global, first: T, second: T) -> Result<Items<T>, AllocError>
-    ensures { IfOk result (λ l. l ≡ first ∷ second ∷ []) }
-{
-    let mut list = one(alloc, first)?;
-    list.push(second)?;
-    Ok(list)
-}
-
-/// Adds an event that goes WITH these variables.
-fn add_port(
-    alloc: Global,
-    events: &mut Items<EventPort>,
-    name: &str,
-    with: Items<Name>,
-) -> Result<(), AllocError>
-    ensures { OnOk result (events.new ≡ events.old ++ spec.event_with name.now with ∷ []) }
-{
-    let name = Name::from_text(alloc, name)?;
-    events.push(EventPort { name, with })
-}
-
-fn add_event(alloc: Global, events: &mut Items<EventPort>, name: &str) -> Result<(), AllocError>
-    ensures { OnOk result (events.new ≡ events.old ++ spec.event name.now ∷ []) }
-{
-    add_port(alloc, events, name, Items::new(alloc))
-}
-
-/// Adds an event that goes WITH one variable.
-fn add_event_with(
-    alloc: Global,
-    events: &mut Items<EventPort>,
-    name: &str,
-    first: &str,
-) -> Result<(), AllocError>
-    ensures { OnOk result (events.new ≡ events.old ++ spec.event_with name.now (first.now ∷ []) ∷ []) }
-{
-    let with = one(alloc, Name::from_text(alloc, first)?)?;
-    add_port(alloc, events, name, with)
-}
-
-/// Adds an event that goes WITH two variables.
-fn add_event_with_two(
-    alloc: Global,
-    events: &mut Items<EventPort>,
-    name: &str,
-    first: &str,
-    second: &str,
-) -> Result<(), AllocError>
-    ensures { OnOk result (events.new ≡ events.old ++ spec.event_with name.now (first.now ∷ second.now ∷ []) ∷ []) }
-{
-    let with = two(
-        alloc,
-        Name::from_text(alloc, first)?,
-        Name::from_text(alloc, second)?,
-    )?;
-    add_port(alloc, events, name, with)
-}
-
-fn add_variable(
-    alloc: Global,
-    variables: &mut Items<Variable>,
-    name: &str,
-    ty: Ty,
-) -> Result<(), AllocError>
-    ensures { OnOk result (variables.new ≡ variables.old ++ spec.variable name.now ty ∷ []) }
-{
-    let name = Name::from_text(alloc, name)?;
-    variables.push(Variable {
-        name,
-        ty,
-        initial: None,
-    })
-}
-
-// What follows adds the ports of one event block to none. The ports are lent, and not made and answered: so no exit has
-// lists to drop but that of `ports_of`.
-
-fn restart(alloc: Global, ports: &mut Ports) -> Result<(), AllocError>
-    requires { ports.old ≡ spec.ports [] [] [] [] }
-    ensures { OnOk result (ports.new ≡ spec.ports_of_event_block Restart) }
-{
-    add_event(alloc, &mut ports.event_outputs, "COLD")?;
-    add_event(alloc, &mut ports.event_outputs, "WARM")?;
-    add_event(alloc, &mut ports.event_outputs, "STOP")
-}
-
-fn split(alloc: Global, ports: &mut Ports) -> Result<(), AllocError>
-    requires { ports.old ≡ spec.ports [] [] [] [] }
-    ensures { OnOk result (ports.new ≡ spec.ports_of_event_block Split) }
-{
-    add_event(alloc, &mut ports.event_inputs, "EI")?;
-    add_event(alloc, &mut ports.event_outputs, "EO1")?;
-    add_event(alloc, &mut ports.event_outputs, "EO2")
-}
-
-fn merge(alloc: Global, ports: &mut Ports) -> Result<(), AllocError>
-    requires { ports.old ≡ spec.ports [] [] [] [] }
-    ensures { OnOk result (ports.new ≡ spec.ports_of_event_block Merge) }
-{
-    add_event(alloc, &mut ports.event_inputs, "EI1")?;
-    add_event(alloc, &mut ports.event_inputs, "EI2")?;
-    add_event(alloc, &mut ports.event_outputs, "EO")
-}
-
-fn rendezvous(alloc: Global, ports: &mut Ports) -> Result<(), AllocError>
-    requires { ports.old ≡ spec.ports [] [] [] [] }
-    ensures { OnOk result (ports.new ≡ spec.ports_of_event_block Rendezvous) }
-{
-    add_event(alloc, &mut ports.event_inputs, "EI1")?;
-    add_event(alloc, &mut ports.event_inputs, "EI2")?;
-    add_event(alloc, &mut ports.event_inputs, "R")?;
-    add_event(alloc, &mut ports.event_outputs, "EO")
-}
-
-/// The event input EI WITH one variable, and EO.
-fn sampling(alloc: Global, ports: &mut Ports, name: &str) -> Result<(), AllocError>
-    requires { ports.old ≡ spec.ports [] [] [] [] }
-    ensures { OnOk result (ports.new ≡ spec.ports (spec.event_with (codes "EI") (name.now ∷ []) ∷ []) (spec.event (codes "EO") ∷ []) (spec.variable name.now Bool ∷ []) []) }
-{
-    add_event_with(alloc, &mut ports.event_inputs, "EI", name)?;
-    add_event(alloc, &mut ports.event_outputs, "EO")?;
-    add_variable(alloc, &mut ports.inputs, name, Ty::Bool)
-}
-
-fn select(alloc: Global, ports: &mut Ports) -> Result<(), AllocError>
-    requires { ports.old ≡ spec.ports [] [] [] [] }
-    ensures { OnOk result (ports.new ≡ spec.ports_of_event_block Select) }
-{
-    add_event_with(alloc, &mut ports.event_inputs, "EI0", "G")?;
-    add_event_with(alloc, &mut ports.event_inputs, "EI1", "G")?;
-    add_event(alloc, &mut ports.event_outputs, "EO")?;
-    add_variable(alloc, &mut ports.inputs, "G", Ty::Bool)
-}
-
-fn switch(alloc: Global, ports: &mut Ports) -> Result<(), AllocError>
-    requires { ports.old ≡ spec.ports [] [] [] [] }
-    ensures { OnOk result (ports.new ≡ spec.ports_of_event_block Switch) }
-{
-    add_event_with(alloc, &mut ports.event_inputs, "EI", "G")?;
-    add_event(alloc, &mut ports.event_outputs, "EO0")?;
-    add_event(alloc, &mut ports.event_outputs, "EO1")?;
-    add_variable(alloc, &mut ports.inputs, "G", Ty::Bool)
-}
-
-fn timer(alloc: Global, ports: &mut Ports) -> Result<(), AllocError>
-    requires { ports.old ≡ spec.ports [] [] [] [] }
-    ensures { OnOk result (ports.new ≡ spec.timer_ports) }
-{
-    add_event_with(alloc, &mut ports.event_inputs, "START", "DT")?;
-    add_event(alloc, &mut ports.event_inputs, "STOP")?;
-    add_event(alloc, &mut ports.event_outputs, "EO")?;
-    add_variable(alloc, &mut ports.inputs, "DT", Ty::Time)
-}
-
-fn set_reset(alloc: Global, ports: &mut Ports) -> Result<(), AllocError>
-    requires { ports.old ≡ spec.ports [] [] [] [] }
-    ensures { OnOk result (ports.new ≡ spec.ports_of_event_block SetReset) }
-{
-    add_event(alloc, &mut ports.event_inputs, "S")?;
-    add_event(alloc, &mut ports.event_inputs, "R")?;
-    add_event_with(alloc, &mut ports.event_outputs, "EO", "Q")?;
-    add_variable(alloc, &mut ports.outputs, "Q", Ty::Bool)
-}
-
-fn data_latch(alloc: Global, ports: &mut Ports) -> Result<(), AllocError>
-    requires { ports.old ≡ spec.ports [] [] [] [] }
-    ensures { OnOk result (ports.new ≡ spec.ports_of_event_block DataLatch) }
-{
-    add_event_with(alloc, &mut ports.event_inputs, "CLK", "D")?;
-    add_event_with(alloc, &mut ports.event_outputs, "EO", "Q")?;
-    add_variable(alloc, &mut ports.inputs, "D", Ty::Bool)?;
-    add_variable(alloc, &mut ports.outputs, "Q", Ty::Bool)
-}
-
-fn count_up(alloc: Global, ports: &mut Ports) -> Result<(), AllocError>
-    requires { ports.old ≡ spec.ports [] [] [] [] }
-    ensures { OnOk result (ports.new ≡ spec.ports_of_event_block CountUp) }
-{
-    add_event_with(alloc, &mut ports.event_inputs, "CU", "PV")?;
-    add_event(alloc, &mut ports.event_inputs, "R")?;
-    add_event_with_two(alloc, &mut ports.event_outputs, "CUO", "Q", "CV")?;
-    add_event_with_two(alloc, &mut ports.event_outputs, "RO", "Q", "CV")?;
-    add_variable(alloc, &mut ports.inputs, "PV", Ty::Uint)?;
-    add_variable(alloc, &mut ports.outputs, "Q", Ty::Bool)?;
-    add_variable(alloc, &mut ports.outputs, "CV", Ty::Uint)
-}
-
-fn add_ports(alloc: Global, kind: EventKind, ports: &mut Ports) -> Result<(), AllocError>
-    requires { ports.old ≡ spec.ports [] [] [] [] }
-    ensures { OnOk result (ports.new ≡ spec.ports_of_event_block kind) }
+fn rows_of(kind: EventKind) -> &'static Rows
+    ensures { row.ports_of_rows result.now ≡ spec.ports_of_event_block kind }
 {
     match kind {
-        EventKind::Restart => restart(alloc, ports),
-        EventKind::Split => split(alloc, ports),
-        EventKind::Merge => merge(alloc, ports),
-        EventKind::Rendezvous => rendezvous(alloc, ports),
-        EventKind::Permit => sampling(alloc, ports, "PERMIT"),
-        EventKind::Select => select(alloc, ports),
-        EventKind::Switch => switch(alloc, ports),
-        EventKind::Delay | EventKind::Cycle => timer(alloc, ports),
-        EventKind::SetReset => set_reset(alloc, ports),
-        EventKind::DataLatch => data_latch(alloc, ports),
-        EventKind::RisingEdge | EventKind::FallingEdge => sampling(alloc, ports, "QI"),
-        EventKind::CountUp => count_up(alloc, ports),
+        EventKind::Restart => &RESTART,
+        EventKind::Split => &SPLIT,
+        EventKind::Merge => &MERGE,
+        EventKind::Rendezvous => &RENDEZVOUS,
+        EventKind::Permit => &PERMIT,
+        EventKind::Select => &SELECT,
+        EventKind::Switch => &SWITCH,
+        EventKind::Delay | EventKind::Cycle => &TIMER,
+        EventKind::SetReset => &SET_RESET,
+        EventKind::DataLatch => &DATA_LATCH,
+        EventKind::RisingEdge | EventKind::FallingEdge => &EDGE,
+        EventKind::CountUp => &COUNT_UP,
     }
+}
+
+fn event(alloc: Global, name: &str, with: &[&str]) -> Result<EventPort, AllocError>
+    ensures { IfOk result (λ e. e ≡ spec.event_with name.now (map (λ v. v.now) with.now)) }
+{
+    let mut names = Items::new(alloc);
+    for variable in with {
+        names.push(Name::from_text(alloc, variable)?)?;
+    }
+    let name = Name::from_text(alloc, name)?;
+    Ok(EventPort { name, with: names })
+}
+
+fn events(alloc: Global, rows: &[EventRow]) -> Result<Items<EventPort>, AllocError>
+    ensures { IfOk result (λ l. l ≡ map row.event_of rows.now) }
+{
+    let mut events = Items::new(alloc);
+    for (name, with) in rows {
+        events.push(event(alloc, name, with)?)?;
+    }
+    Ok(events)
+}
+
+fn variables(alloc: Global, rows: &[VariableRow]) -> Result<Items<Variable>, AllocError>
+    ensures { IfOk result (λ l. l ≡ map row.variable_of rows.now) }
+{
+    let mut variables = Items::new(alloc);
+    for (name, ty) in rows {
+        let name = Name::from_text(alloc, name)?;
+        variables.push(Variable {
+            name,
+            ty: *ty,
+            initial: None,
+        })?;
+    }
+    Ok(variables)
 }
 
 /// The interface of an event block.
 pub fn ports_of(alloc: Global, kind: EventKind) -> Result<Ports, AllocError>
     ensures { IfOk result (λ p. p ≡ spec.ports_of_event_block kind) }
 {
-    let mut ports = Ports {
-        event_inputs: Items::new(alloc),
-        event_outputs: Items::new(alloc),
-        inputs: Items::new(alloc),
-        outputs: Items::new(alloc),
-    };
-    add_ports(alloc, kind, &mut ports)?;
-    Ok(ports)
+    let rows = rows_of(kind);
+    Ok(Ports {
+        event_inputs: events(alloc, rows.event_inputs)?,
+        event_outputs: events(alloc, rows.event_outputs)?,
+        inputs: variables(alloc, rows.inputs)?,
+        outputs: variables(alloc, rows.outputs)?,
+    })
 }
 
 /// The interfaces of all event blocks, each at the place of its kind.

@@ -73,6 +73,7 @@ impl<T> Few<T> {
         held
     }
 
+    /// Whether there is no element.
     pub fn is_empty(&self) -> bool
         ensures { IsTrue result ↔ (self.now ≡ []) }
     {

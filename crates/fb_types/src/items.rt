@@ -63,24 +63,28 @@ impl<T> Items<T> {
         *self.all.allocator()
     }
 
+    /// The elements, as a slice.
     pub fn as_slice(&self) -> &[T]
         ensures { result.now ≡ self.now }
     {
         self.all.as_slice()
     }
 
+    /// How many elements there are.
     pub fn len(&self) -> usize
         ensures { result ≡ length self.now }
     {
         self.all.len()
     }
 
+    /// Whether there is no element.
     pub fn is_empty(&self) -> bool
         ensures { IsTrue result ↔ (self.now ≡ []) }
     {
         self.all.is_empty()
     }
 
+    /// The element at a place, counted from 0, or none behind the end.
     pub fn get(&self, index: usize) -> Option<&T>
         ensures value { option_copied result ≡ slice_get self.now index }
         ensures within { OnSome result (index < length self.now) }

@@ -41,6 +41,7 @@ impl Model for Latency {
 }
 
 impl Latency {
+    /// The latency of a table: 1 to 64 entries at rising ticks, the first at tick 0 and none past 10^12, each with 1 to 10^6 ticks.
     pub fn new(entries: Items<Entry>) -> Latency
         requires { IsLatencyTable entries }
         ensures { result ≡ entries }
@@ -58,6 +59,7 @@ impl Latency {
         Ok(Latency { entries })
     }
 
+    /// The table, whose entries each hold from their tick on.
     pub fn entries(&self) -> &[Entry]
         ensures value { result.now ≡ self.now }
         ensures table { IsLatencyTable self.now }

@@ -27,6 +27,7 @@ impl Drop for EventPort {
     }
 }
 
+/// A variable of a block type: an input, an output or an internal one. Without an initial value it begins with 0 or FALSE.
 pub struct Variable {
     pub name: Name,
     pub ty: Ty,
@@ -127,6 +128,8 @@ impl Drop for Condition {
     }
 }
 
+/// A transition of an execution control chart (IEC 61499-1, 5.2.1.2), by which a block goes from a state to a state where the
+/// condition holds.
 pub struct Transition {
     pub from: Name,
     pub to: Name,
@@ -143,6 +146,7 @@ impl Drop for Transition {
     }
 }
 
+/// An algorithm of a basic block type, with its statements in Structured Text.
 pub struct Algorithm {
     pub name: Name,
     pub body: Body,
@@ -192,6 +196,7 @@ impl Drop for PortName {
     }
 }
 
+/// An event or data connection of a network: the port from which events or values come, and the one to which they go.
 pub struct Connection {
     pub from: PortName,
     pub to: PortName,
@@ -203,6 +208,7 @@ impl Drop for Connection {
     }
 }
 
+/// A value that a data input of an instance is given, from the beginning on.
 pub struct Parameter {
     pub name: Name,
     pub value: Value,
@@ -214,6 +220,7 @@ impl Drop for Parameter {
     }
 }
 
+/// An instance of a block type in a network.
 pub struct Instance {
     pub name: Name,
     pub block_type: Name,
@@ -247,6 +254,7 @@ impl Drop for Network {
     }
 }
 
+/// A composite block type (IEC 61499-1, 5.3): its ports, and the network of instances behind them.
 pub struct CompositeType {
     pub name: Name,
     pub ports: Ports,
@@ -263,6 +271,7 @@ impl Drop for CompositeType {
     }
 }
 
+/// A block type that a library declares.
 pub enum BlockType {
     Basic(BasicType),
     Composite(CompositeType),

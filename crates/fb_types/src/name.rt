@@ -69,6 +69,7 @@ impl Name {
         Name::from_slice(alloc, text.as_bytes())
     }
 
+    /// The letters of the name, in upper case.
     pub fn as_bytes(&self) -> &[u8]
         ensures { result.now ≡ self.now }
     {
@@ -105,6 +106,7 @@ impl Name {
         self.as_bytes() == other.as_bytes()
     }
 
+    /// A copy of the name. A long one wants memory.
     #[inline(always)]
     pub fn try_clone(&self, alloc: Global) -> Result<Name, AllocError>
         ensures { IfOk result (λ n. n ≡ self.now) }

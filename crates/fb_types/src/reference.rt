@@ -32,6 +32,7 @@ impl Model for Reference {
 }
 
 impl Reference {
+    /// A reference by a name, expected at the first place.
     pub fn new(name: Name) -> Reference
         ensures { result ≡ name }
     {
@@ -41,6 +42,7 @@ impl Reference {
         }
     }
 
+    /// The name of the variable.
     pub fn name(&self) -> &Name
         ensures { result.now ≡ self.now }
     {

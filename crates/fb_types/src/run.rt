@@ -133,7 +133,7 @@ pub enum TimerAsk {
 }
 
 /// Why a reaction ends early.
-#[derive(Clone, Copy)]
+#[derive(Clone, Copy, Debug)]
 pub enum Halt {
     Stop(Reason),
     Memory,
@@ -158,13 +158,15 @@ impl From<Reason> for Halt {
 /// Where and why a simulation stops.
 #[derive(Clone, Copy, Debug, PartialEq, Eq)]
 pub struct StopMark {
+    /// In milliseconds.
     pub tick: u64,
+    /// The number of the resource, as the deployment lists them from 0 on.
     pub resource: u32,
     pub reason: Reason,
 }
 
 /// The form of a trace: with `Two`, each line but the last begins with the class and the parts of the key.
-#[derive(Clone, Copy, Debug, PartialEq, Eq)]
+#[derive(Clone, Copy)]
 pub enum Form {
     One,
     Two,

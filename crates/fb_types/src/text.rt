@@ -5,12 +5,14 @@ use crate::items::Items;
 use crate::name::Name;
 use crate::reference::Reference;
 
+/// An operator before one operand.
 #[derive(Clone, Copy)]
 pub enum UnaryOperator {
     Negate,
     Not,
 }
 
+/// An operator between two operands.
 #[derive(Clone, Copy)]
 pub enum BinaryOperator {
     Or,

@@ -42,7 +42,7 @@ impl Ty {
 }
 
 /// A truth value, or a whole number of any number type or of TIME.
-#[derive(Clone, Copy, Debug, PartialEq, Eq)]
+#[derive(Clone, Copy, PartialEq, Eq)]
 pub enum Value {
     Bool(bool),
     Whole(i128),

@@ -1,16 +1,18 @@
 -- Lines that are read and told one after another.
-use Rattle.std.proofs.Common.{◌≡◌, ℕ, ◌<◌, ◌≤◌, List, [], ◌∷◌, ◌++◌, Result, Ok, Err, map, refl, sym, ap, subst, ◌∙◌, append_assoc, append-nil}
-use Rattle.std.specs.Prelude.{IfErr, IfSome, Option, None, Some}
+use Rattle.std.proofs.Common.{◌≡◌, ℕ, ◌+◌, ◌<◌, ◌≤◌, List, [], ◌∷◌, ◌++◌, length, map, take, refl, sym, ap, subst, ◌∙◌, arith, append_assoc, append-nil, length-append}
+use Rattle.std.specs.Prelude.{IfSome, Option, None, Some}
 use Rattle.std.specs.Io.KnownBytes.{Appends, Consumes, IsAtEnd}
 use Rattle.std.proofs.lemmas.List.Elements.{All-nil, All-push}
 use Rattle.std.proofs.KnownBytes.{Appends-nil, Appends-trans, Consumes-trans}
-use Rattle.fb_types.specs.Simulation.{AtHorizon}
+use Rattle.std.proofs.Math.Seq.{take-append_seam}
+use Rattle.fb_types.specs.Simulation.{Ending, AtHorizon}
 use Rattle.fb_types.specs.Systems.{System}
 use Rattle.fb_types.specs.Numbers.{line_of}
 use Rattle.fb_types.specs.Text.{line_text, lines_text, trace_text}
 use Rattle.fb_types.specs.declared.run.Form.{Form}
 use Rattle.fb_types.specs.declared.run.Line.{Line}
 use Rattle.fb_trace.specs.End.{EndsIn, ending_of}
+use Rattle.fb_trace.specs.Progress.{bounded}
 use Rattle.fb_trace.specs.declared.last.RunEnd.{RunEnd}
 use Rattle.fb_trace.specs.declared.last.RunEnd.TheVariants.{Horizon, Stop}
 use Rattle.fb_wave.specs.Scopes.{head_text}
@@ -18,9 +20,12 @@ use Rattle.fb_wave.specs.Dumps.{dump_text, end_text, last_tick, ticks_text}
 use Rattle.fb_wave.specs.Writing.{HasTold, IsDump}
 use Rattle.fb_wave.specs.declared.dump.Dump.{Dump}
 use Rattle.fb_wave.specs.Lines.{IsLast, IsLineOf}
-use Rattle.fb_wave.specs.Copying.{IsAfter, IsCopied, IsFrontSent, IsFinished, IsFlushed, IsTaken, IsUnfinished}
-use Rattle.fb_wave.specs.Waves.{EndsAfter, IsBegun, IsWave, RiseFrom, WritesFront}
+use Rattle.fb_wave.specs.Copying.{IsAfter, IsCopied, IsCutShort, IsFinished, IsFlushed, IsNoWriteFault, IsTaken, IsUnfinished}
+use Rattle.fb_wave.specs.Waves.{AreLinesOf, EndsAfter, FailsWave, IsBegun, IsWave, RiseFrom, WritesFront, WritesPart}
 use Rattle.fb_wave.specs.declared.copy.Progress.{Progress}
+use Rattle.fb_wave.specs.declared.error.WaveError.{WaveError}
+use Rattle.fb_wave.specs.declared.error.WaveError.TheVariants.{Refused, Names, Memory, Read, Write}
+use Rattle.fb_wave.specs.declared.page.DumpPage.{DumpPage}
 
 -- ---- Lists of lines
 
@@ -40,12 +45,30 @@ text-one form sys (m ∷ ls) l =
     ap (λ (t : List ℕ). line_text form sys (line_of sys m) ++ t) (text-one form sys ls l)
     ∙ sym (append_assoc (line_text form sys (line_of sys m)) (lines_text form sys (map (line_of sys) ls)) (line_text form sys (line_of sys l)))
 
+-- ---- Counts, which stop at the greatest
+
+count_more : (w : ℕ) (s t : List ℕ) (n : ℕ) → bounded w ≡ bounded (length s) → n ≡ bounded (w + length t) → n ≡ bounded (length (s ++ t))
+count_more w s t n before more = rw length-append (omega arith)
+
+count_kept : (v w z : ℕ) (s t : List ℕ) → bounded w ≡ bounded (length s) → v ≡ w → bounded z ≡ bounded (v + length t) → bounded z ≡ bounded (length (s ++ t))
+count_kept v w z s t before kept more = rw length-append (omega arith)
+
 -- ---- Steps of the copy
+
+-- the lines with one more that was read
+are_one :
+    (sys : System) (form : Form) (x y : Progress) (line : List ℕ) (input left old new : Option (List ℕ)) (is : IsCopied sys form x line input left old new)
+    (taken : IsTaken sys form line x y) → AreLinesOf sys (is.lines ++ taken.line ∷ [])
+are_one sys form x y line input left old new is taken =
+    record {
+      each = All-push (IsLineOf sys) is.lines taken.line is.are.each taken.is.line;
+      rise = rise-one 0 is.lines taken.line is.are.rise (subst (λ (t : ℕ). t ≤ taken.line.key.tick) is.last taken.rises);
+    }
 
 -- one more line was read and told, some of the text was sent, and the next line was read
 pub copied_one :
     (sys : System) (form : Form) (x y z : Progress) (line next : List ℕ) (input left new old mid got : Option (List ℕ)) → IsCopied sys form x line input left old mid
-    → IsTaken sys form line x y → z.tick ≡ y.tick → z.dump ≡ y.dump → IsFlushed mid got y.page.text.items z.page.text.items → Consumes left new next
+    → IsTaken sys form line x y → z.tick ≡ y.tick → z.dump ≡ y.dump → IsFlushed mid got y.page z.page → Consumes left new next
     → IsCopied sys form z next input new old got
 copied_one sys form x y z line next input left new old mid got is taken tick dump flushed read =
     let l = taken.line in
@@ -60,15 +83,13 @@ copied_one sys form x y z line next input left new old mid got is taken tick dum
     record {
       lines = is.lines ++ l ∷ [];
       sent = is.sent ++ flushed.sent;
-      are = record {
-        each = All-push (IsLineOf sys) is.lines l is.are.each taken.is.line;
-        rise = rise-one 0 is.lines l is.are.rise (subst (λ (t : ℕ). t ≤ l.key.tick) is.last taken.rises);
-      };
+      are = are_one sys form x y line input left old mid is taken;
       last = tick ∙ taken.tick ∙ sym (last-one 0 is.lines l);
       numbers = subst (IsDump sys) (sym dump) taken.numbers;
       told = told_with sys (is.lines ++ l ∷ []) y z (is.sent ++ y.page.text.items) ((is.sent ++ flushed.sent) ++ z.page.text.items) dump sends told;
       read = subst (λ (t : List ℕ). Consumes input new (t ++ next)) grown (Consumes-trans input left new (more ++ line) next is.read read);
       got = Appends-trans old mid got is.sent flushed.sent is.got flushed.got;
+      counted = count_kept y.page.written x.page.written z.page.written is.sent flushed.sent is.counted taken.kept flushed.counted;
     }
   where
     told_with :
@@ -78,8 +99,8 @@ copied_one sys form x y z line next input left new old mid got is taken tick dum
 -- before the first line
 pub copied_none :
     (sys : System) (form : Form) (x : Progress) (next : List ℕ) (input left old : Option (List ℕ)) → x.tick ≡ 0 → IsDump sys x.dump
-    → HasTold sys [] x.page.text.items x.dump → Consumes input left next → IsCopied sys form x next input left old old
-copied_none sys form x next input left old tick numbers told read =
+    → HasTold sys [] x.page.text.items x.dump → x.page.written ≡ 0 → Consumes input left next → IsCopied sys form x next input left old old
+copied_none sys form x next input left old tick numbers told written read =
     record {
       lines = [];
       sent = [];
@@ -89,6 +110,7 @@ copied_none sys form x next input left old tick numbers told read =
       told = told;
       read = read;
       got = Appends-nil old;
+      counted = ap bounded written;
     }
 
 ends_after : (sys : System) (t u : ℕ) (end : RunEnd) → t ≡ u → IsAfter t end → EndsIn sys end → EndsAfter sys u (ending_of end)
@@ -137,16 +159,19 @@ glued head ticks ls end sent waits last is =
     sym (append_assoc sent waits (last ++ end)) ∙ sym (append_assoc (sent ++ waits) last end)
     ∙ ap (λ (t : List ℕ). t ++ end) (is ∙ ap (λ (m : List Line). head ++ ticks m) (append-nil ls))
 
--- what was sent begins the dump of the lines that were told, where a part of the text waits
-pub begun_of : (sys : System) (ls : List Line) (sent waits : List ℕ) (x : Dump) → HasTold sys ls (sent ++ waits) x → IsBegun sys ls sent
-begun_of sys ls sent waits x told =
+-- what was sent goes on to the dump of the lines that were told, by way of the text that waits
+goes_on :
+    (sys : System) (ls : List Line) (sent waits : List ℕ) (x : Dump) → HasTold sys ls (sent ++ waits) x
+    → (more : List ℕ) × (sent ++ (waits ++ more) ≡ dump_text sys ls (AtHorizon 0))
+goes_on sys ls sent waits x told =
     let last : List ℕ = ticks_text sys x.tick told.before told.now [] in
     let end : List ℕ = end_text sys (last_tick 0 ls) (AtHorizon 0) in
-    record {
-      end = AtHorizon 0;
-      rest = waits ++ (last ++ end);
-      parts = glued (head_text sys) (ticks_text sys 0 [] []) ls end sent waits last (told.text []);
-    }
+    (last ++ end, glued (head_text sys) (ticks_text sys 0 [] []) ls end sent waits last (told.text []))
+
+begun_of : (sys : System) (ls : List Line) (sent waits : List ℕ) (x : Dump) → HasTold sys ls (sent ++ waits) x → IsBegun sys ls sent
+begun_of sys ls sent waits x told =
+    let on : (more : List ℕ) × (sent ++ (waits ++ more) ≡ dump_text sys ls (AtHorizon 0)) = goes_on sys ls sent waits x told in
+    record { end = AtHorizon 0; rest = waits ++ on.0; parts = on.1 }
 
 -- before anything is sent
 pub front_none : (sys : System) (old : Option (List ℕ)) → WritesFront sys old old
@@ -165,79 +190,95 @@ pub front_copied :
 front_copied sys form x next input left old new is =
     record { bytes = is.sent; got = is.got; lines = is.lines; are = is.are; begun = begun_of sys is.lines is.sent x.page.text.items x.dump is.told }
 
--- a line more was told, and of what waited then no more than a front was sent
-pub front_taken :
-    (sys : System) (form : Form) (x y : Progress) (line : List ℕ) (input left old mid got : Option (List ℕ)) → IsCopied sys form x line input left old mid
-    → IsTaken sys form line x y → IsFrontSent mid got y.page.text.items → WritesFront sys old got
-front_taken sys form x y line input left old mid got is taken cut =
-    let l = taken.line in
-    let told : HasTold sys (is.lines ++ l ∷ []) (is.sent ++ y.page.text.items) y.dump = taken.told is.lines is.sent is.told in
-    let sends : is.sent ++ y.page.text.items ≡ (is.sent ++ cut.sent) ++ cut.rest =
-    ap (λ (t : List ℕ). is.sent ++ t) cut.parts ∙ sym (append_assoc is.sent cut.sent cut.rest)
-    in
-    record {
-      bytes = is.sent ++ cut.sent;
-      got = Appends-trans old mid got is.sent cut.sent is.got cut.got;
-      lines = is.lines ++ l ∷ [];
-      are = record {
-        each = All-push (IsLineOf sys) is.lines l is.are.each taken.is.line;
-        rise = rise-one 0 is.lines l is.are.rise (subst (λ (t : ℕ). t ≤ l.key.tick) is.last taken.rises);
-      };
-      begun = begun_of sys (is.lines ++ l ∷ []) (is.sent ++ cut.sent) cut.rest y.dump
-          (subst (λ (t : List ℕ). HasTold sys (is.lines ++ l ∷ []) t y.dump) sends told);
-    }
-
-cut_flushed : (old new : Option (List ℕ)) (before after : List ℕ) → IsFlushed old new before after → IsFrontSent old new before
-cut_flushed old new before after is = record { sent = is.sent; rest = after; got = is.got; parts = is.parts }
+-- a line more was told, and of what waited then a front was sent
+told_cut :
+    (sys : System) (form : Form) (x y : Progress) (line sent rest : List ℕ) (input left old new : Option (List ℕ)) (is : IsCopied sys form x line input left old new)
+    (taken : IsTaken sys form line x y) → y.page.text.items ≡ sent ++ rest → HasTold sys (is.lines ++ taken.line ∷ []) ((is.sent ++ sent) ++ rest) y.dump
+told_cut sys form x y line sent rest input left old new is taken parts =
+    subst (λ (t : List ℕ). HasTold sys (is.lines ++ taken.line ∷ []) t y.dump)
+    (ap (λ (t : List ℕ). is.sent ++ t) parts ∙ sym (append_assoc is.sent sent rest)) (taken.told is.lines is.sent is.told)
 
 -- a line more was told, some of the text was sent, and no line could be read
 pub front_flushed :
-    (sys : System) (form : Form) (x y : Progress) (line after : List ℕ) (input left old mid got : Option (List ℕ)) → IsCopied sys form x line input left old mid
-    → IsTaken sys form line x y → IsFlushed mid got y.page.text.items after → WritesFront sys old got
-front_flushed sys form x y line after input left old mid got is taken flushed =
-    front_taken sys form x y line input left old mid got is taken (cut_flushed mid got y.page.text.items after flushed)
+    (sys : System) (form : Form) (x y : Progress) (after : DumpPage) (line : List ℕ) (input left old mid got : Option (List ℕ)) → IsCopied sys form x line input left old mid
+    → IsTaken sys form line x y → IsFlushed mid got y.page after → WritesFront sys old got
+front_flushed sys form x y after line input left old mid got is taken flushed =
+    record {
+      bytes = is.sent ++ flushed.sent;
+      got = Appends-trans old mid got is.sent flushed.sent is.got flushed.got;
+      lines = is.lines ++ taken.line ∷ [];
+      are = are_one sys form x y line input left old mid is taken;
+      begun = begun_of sys (is.lines ++ taken.line ∷ []) (is.sent ++ flushed.sent) after.text.items y.dump
+          (told_cut sys form x y line flushed.sent after.text.items input left old mid is taken flushed.parts);
+    }
 
--- the end was not sent
-pub front_unfinished :
+-- ---- Failures
+
+-- the writer did not fail
+pub fails_front : (sys : System) (old new : Option (List ℕ)) (e : WaveError) → IsNoWriteFault e → WritesFront sys old new → FailsWave sys old new e
+fails_front sys old new (Write n) other front = absurd other
+fails_front sys old new (Refused line) other front = front
+fails_front sys old new Names other front = front
+fails_front sys old new Memory other front = front
+fails_front sys old new Read other front = front
+
+-- the writer failed when it had got the first bytes of a dump
+part_of :
+    (sys : System) (ls : List Line) (end : Ending) (old new : Option (List ℕ)) (sent rest : List ℕ) (n : ℕ) → AreLinesOf sys ls → Appends old new sent
+    → sent ++ rest ≡ dump_text sys ls end → 0 < length rest → n ≡ bounded (length sent) → WritesPart sys old new n
+part_of sys ls end old new sent rest n are got parts short counted =
+    record {
+      lines = ls;
+      end = end;
+      are = are;
+      got = record {
+        count = length sent;
+        short = subst (λ (t : List ℕ). length sent < length t) parts (rw length-append (omega arith));
+        got = subst (λ (t : List ℕ). Appends old new (take (length sent) t)) parts (subst (Appends old new) (sym (take-append_seam sent rest)) got);
+        counted = counted;
+      };
+    }
+
+-- a line more was told, and the writer failed before it got all that waited then
+pub fails_taken :
+    (sys : System) (form : Form) (x y : Progress) (line : List ℕ) (input left old mid got : Option (List ℕ)) → IsCopied sys form x line input left old mid
+    → IsTaken sys form line x y → (e : WaveError) → IsCutShort mid got y.page e → FailsWave sys old got e
+fails_taken sys form x y line input left old mid got is taken (Write n) cut =
+    let ls : List Line = is.lines ++ taken.line ∷ [] in
+    let sent : List ℕ = is.sent ++ cut.sent in
+    let on : (more : List ℕ) × (sent ++ (cut.missing ++ more) ≡ dump_text sys ls (AtHorizon 0)) =
+    goes_on sys ls sent cut.missing y.dump (told_cut sys form x y line cut.sent cut.missing input left old mid is taken cut.parts)
+    in
+    let some : 0 < length cut.missing = cut.short in
+    part_of sys ls (AtHorizon 0) old got sent (cut.missing ++ on.0) n (are_one sys form x y line input left old mid is taken)
+    (Appends-trans old mid got is.sent cut.sent is.got cut.got) on.1 (rw length-append (omega arith))
+    (count_more y.page.written is.sent cut.sent n (ap bounded taken.kept ∙ is.counted) cut.counted)
+fails_taken sys form x y line input left old mid got is taken e cut = absurd cut
+
+-- the end was not sent, or not all of it
+pub fails_unfinished :
     (sys : System) (form : Form) (x : Progress) (line : List ℕ) (input left old mid new : Option (List ℕ)) → IsCopied sys form x line input left old mid
-    → IsUnfinished sys x mid new → WritesFront sys old new
-front_unfinished sys form x line input left old mid new is cut =
-    record {
-      bytes = is.sent ++ cut.sent;
-      got = Appends-trans old mid new is.sent cut.sent is.got cut.got;
-      lines = is.lines;
-      are = is.are;
-      begun = cut.begins is.lines is.sent is.told;
-    }
-
--- nothing of the end is sent
-pub unfinished_none : (sys : System) (x : Progress) (old : Option (List ℕ)) → IsUnfinished sys x old old
-unfinished_none sys x old =
-    record {
-      sent = [];
-      got = Appends-nil old;
-      begins = λ ls front told.
-          subst (λ (t : List ℕ). IsBegun sys ls t) (sym (append-nil front)) (begun_of sys ls front x.page.text.items x.dump told);
-    }
+    → (e : WaveError) → IsUnfinished sys x mid new e → FailsWave sys old new e
+fails_unfinished sys form x line input left old mid new is (Write n) cut =
+    part_of sys is.lines cut.end old new (is.sent ++ cut.sent) cut.missing n is.are (Appends-trans old mid new is.sent cut.sent is.got cut.got)
+    (cut.parts is.lines is.sent is.told) cut.short (count_more x.page.written is.sent cut.sent n is.counted cut.counted)
+fails_unfinished sys form x line input left old mid new is e same =
+    fails_front sys old new e tt (subst (WritesFront sys old) (sym same) (front_copied sys form x line input left old mid is))
 
 -- a part of the end is sent
 pub unfinished_part :
-    (sys : System) (x : Progress) (end : RunEnd) (text : List ℕ) (old new : Option (List ℕ))
-    → ((ls : List Line) (front : List ℕ) → HasTold sys ls (front ++ x.page.text.items) x.dump → front ++ text ≡ dump_text sys ls (ending_of end))
-    → IsFrontSent old new text → IsUnfinished sys x old new
-unfinished_part sys x end text old new whole cut =
+    (sys : System) (x : Progress) (page : DumpPage) (end : RunEnd) (old new : Option (List ℕ)) → page.written ≡ x.page.written
+    → ((ls : List Line) (front : List ℕ) → HasTold sys ls (front ++ x.page.text.items) x.dump → front ++ page.text.items ≡ dump_text sys ls (ending_of end))
+    → (e : WaveError) → IsCutShort old new page e → IsUnfinished sys x old new e
+unfinished_part sys x page end old new kept whole (Write n) cut =
     record {
+      end = ending_of end;
       sent = cut.sent;
+      missing = cut.missing;
       got = cut.got;
-      begins = λ ls front told.
-          record {
-            end = ending_of end;
-            rest = cut.rest;
-            parts = append_assoc front cut.sent cut.rest ∙ ap (λ (t : List ℕ). front ++ t) (sym cut.parts) ∙ whole ls front told;
-          };
+      short = cut.short;
+      counted = cut.counted ∙ ap (λ (w : ℕ). bounded (w + length cut.sent)) kept;
+      parts = λ ls front told.
+          append_assoc front cut.sent cut.missing ∙ ap (λ (t : List ℕ). front ++ t) (sym cut.parts) ∙ whole ls front told;
     }
-
--- where a call fails, whatever it fails with
-pub if_err : {A E : Type 0} (r : Result A E) (P : Type 0) → P → IfErr r (λ _. P)
-if_err (Ok a) P p = tt
-if_err (Err e) P p = p
+unfinished_part sys x page end old new kept whole e cut = absurd cut

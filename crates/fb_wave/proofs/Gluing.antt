@@ -165,11 +165,11 @@ stop_parts : (n h b r l : List ℕ) → n ++ (h ++ (b ++ (r ++ l))) ≡ (((n ++ 
 stop_parts n h b r l = simp append_assoc
 
 pub stop_glued :
-    (sys : System) (t r : ℕ) (reason : Reason) (text rest name more last : List ℕ) → text ≡ number_text t ++ rest → rest ≡ name ++ more → more ≡ codes " " ++ last
-    → last ≡ reason_text reason ++ 10 ∷ [] → name ≡ get_or sys.resource_names r []
+    (sys : System) (t r : ℕ) (reason : Reason) (text rest name more : List ℕ) → text ≡ number_text t ++ rest → rest ≡ name ++ more
+    → more ≡ codes " " ++ reason_text reason ++ 10 ∷ [] → name ≡ get_or sys.resource_names r []
     → text ≡ place_text sys t r ++ codes " " ++ reason_text reason ++ 10 ∷ []
-stop_glued sys t r reason text rest name more last tick word blank end named =
+stop_glued sys t r reason text rest name more tick word end named =
     tick
-    ∙ ap (λ (u : List ℕ). number_text t ++ u) (word ∙ ap (λ (u : List ℕ). name ++ u) (blank ∙ ap (λ (u : List ℕ). codes " " ++ u) end))
+    ∙ ap (λ (u : List ℕ). number_text t ++ u) (word ∙ ap (λ (u : List ℕ). name ++ u) end)
     ∙ stop_parts (number_text t) name (codes " ") (reason_text reason) (10 ∷ [])
     ∙ ap (λ (n : Name). (((number_text t ++ n) ++ codes " ") ++ reason_text reason) ++ 10 ∷ []) (named ∙ sym (unwrap_or-slice_get sys.resource_names r []))

@@ -1,5 +1,6 @@
 -- What holds of the last call of a function, whose answer is the function's.
-use Rattle.std.proofs.Common.{◌≡◌, ℕ, List, Result, Ok, Err}
+use Rattle.std.proofs.Common.{◌≡◌, ℕ, List, Result, Ok, Err, sym, subst}
+use Rattle.std.specs.Result.{IsErrAnd}
 use Rattle.std.specs.Prelude.{IfErr, OnOk, if◌then◌else◌, is_ok}
 
 -- where the call goes well, something more holds
@@ -7,19 +8,24 @@ pub on_ok : {A E : Type 0} (r : Result A E) (P Q : Type 0) → OnOk r P → (P �
 on_ok (Ok x) P Q h f = f h
 on_ok (Err e) P Q h f = tt
 
-pub on_both : {A E : Type 0} (r : Result A E) (P Q R : Type 0) → OnOk r P → OnOk r Q → (P → Q → R) → OnOk r R
-on_both (Ok x) P Q R h k f = f h k
-on_both (Err e) P Q R h k f = tt
+pub on_three : {A E : Type 0} (r : Result A E) (P Q R S : Type 0) → OnOk r P → OnOk r Q → OnOk r R → (P → Q → R → S) → OnOk r S
+on_three (Ok x) P Q R S h k l f = f h k l
+on_three (Err e) P Q R S h k l f = tt
 
 -- whatever the call answers
 pub on_any : {A E : Type 0} (r : Result A E) (P : Type 0) → P → OnOk r P
 on_any (Ok x) P p = p
 on_any (Err e) P p = tt
 
--- where the call fails, something more holds
-pub on_err : {A E : Type 0} (r : Result A E) (P Q : Type 0) → IfErr r (λ _. P) → (P → Q) → IfErr r (λ _. Q)
-on_err (Ok a) P Q h f = tt
-on_err (Err e) P Q h f = f h
+-- where the call fails, something more holds of the error
+pub on_fault : {A E : Type 0} (r : Result A E) (P Q : E → Type 0) → IfErr r P → ((e : E) → P e → Q e) → IfErr r Q
+on_fault (Ok a) P Q h f = tt
+on_fault (Err e) P Q h f = f e h
+
+-- a failure that is passed on
+pub on_passed : {A E : Type 0} (r : Result A E) (e : E) (P : E → Type 0) → IsErrAnd r (λ g. g ≡ e) → P e → IfErr r P
+on_passed (Ok a) e P is p = tt
+on_passed (Err g) e P is p = subst P (sym is) p
 
 -- bytes were put behind a text where the call goes well
 pub on_put :

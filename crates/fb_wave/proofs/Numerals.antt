@@ -1,5 +1,5 @@
 -- Numbers that are read digit by digit.
-use Rattle.std.proofs.Common.{◌≡◌, ℕ, ◌+◌, ◌-◌, ◌*◌, ◌/◌, ◌%◌, ◌^◌, ◌<◌, ◌≤◌, true, false, List, [], ◌∷◌, ◌++◌, length, take, drop, get_or, decimal, refl, sym, ap, subst, ◌∙◌, arith, inl, inr, length-append, take-append-drop, append_assoc}
+use Rattle.std.proofs.Common.{◌≡◌, ℕ, ◌+◌, ◌-◌, ◌*◌, ◌/◌, ◌%◌, ◌^◌, ◌<◌, ◌≤◌, true, false, List, [], ◌∷◌, ◌++◌, length, take, drop, get_or, codes, decimal, refl, sym, ap, subst, ◌∙◌, arith, inl, inr, length-append, take-append-drop, append_assoc}
 use Rattle.std.specs.Prelude.{not, All, MatchOption, Option, Some, None}
 use Rattle.std.proofs.lemmas.Bool.{cases_lt, and_from, or_from, not_from_false, ne_eqb}
 use Rattle.std.proofs.lemmas.Fmt.{decimal_digit, decimal_step_wide, decimal_by_steps_wide}
@@ -173,6 +173,10 @@ number_once m n rest more low high e =
     in
     let behind : 32 ∷ rest ≡ 32 ∷ more = once.1 in
     (decimal_once m n low high once.0, (cc))
+
+pub numbered : (text w r rest : List ℕ) (n : ℕ) → IsCut text w r → w ≡ decimal n → r ≡ codes " " ++ rest → text ≡ number_text n ++ rest
+numbered text w r rest n cut is blank =
+    cut.parts ∙ ap (λ (u : List ℕ). u ++ r) is ∙ ap (λ (u : List ℕ). decimal n ++ u) blank ∙ sym (append_assoc (decimal n) (codes " ") rest)
 
 pub unnumbered : (text w r : List ℕ) → IsCut text w r → IsNoNumber (2 ^ 128) w → HasNoNumber (2 ^ 128) text
 unnumbered text w r cut none n rest small e =

@@ -1,37 +1,52 @@
 -- How a dump is copied from a trace, line by line (this project's profile).
-use Rattle.std.specs.Prelude.{◌≡◌, ◌<◌, ◌≤◌, ℕ, List, [], ◌∷◌, ◌++◌, map, Option}
+use Rattle.std.specs.Prelude.{◌≡◌, ◌<◌, ◌≤◌, ℕ, ◌+◌, List, [], ◌∷◌, ◌++◌, length, map, Option}
 use Rattle.std.specs.Io.KnownBytes.{Appends, Consumes, IsAtEnd}
 use Rattle.fb_types.specs.Systems.{System}
+use Rattle.fb_types.specs.Simulation.{Ending}
 use Rattle.fb_types.specs.Numbers.{line_of}
 use Rattle.fb_types.specs.Text.{lines_text}
 use Rattle.fb_types.specs.declared.run.Form.{Form}
 use Rattle.fb_types.specs.declared.run.Line.{Line}
 use Rattle.fb_trace.specs.End.{ending_of}
+use Rattle.fb_trace.specs.Progress.{Fails, bounded}
 use Rattle.fb_trace.specs.declared.last.RunEnd.{RunEnd}
 use Rattle.fb_trace.specs.declared.last.RunEnd.TheVariants.{Horizon, Stop}
 use Rattle.fb_wave.specs.Dumps.{dump_text, last_tick}
 use Rattle.fb_wave.specs.Writing.{HasTold, IsDump}
 use Rattle.fb_wave.specs.Lines.{IsTextOf}
-use Rattle.fb_wave.specs.Waves.{AreLinesOf, IsBegun}
+use Rattle.fb_wave.specs.Waves.{AreLinesOf}
 use Rattle.fb_wave.specs.declared.copy.Progress.{Progress}
+use Rattle.fb_wave.specs.declared.error.WaveError.{WaveError}
+use Rattle.fb_wave.specs.declared.error.WaveError.TheVariants.{Refused, Names, Memory, Read, Write}
+use Rattle.fb_wave.specs.declared.page.DumpPage.{DumpPage}
 
 -- what may come behind a last line of that tick: a horizon after it, or a stop in it or after it
 abbrev pub IsAfter : ℕ → RunEnd → Type 0
 IsAfter t (Horizon h) = t < h
 IsAfter t (Stop m) = t ≤ m.tick
 
--- Of the text that waited a front was sent to the writer, and the rest waits.
-pub record IsFlushed (old new : Option (List ℕ)) (before after : List ℕ) : Type 0 where
-  pub sent : List ℕ
-  pub got : Appends old new sent
-  pub parts : before ≡ sent ++ after
+-- the writer did not fail
+abbrev pub IsNoWriteFault : WaveError → Type 0
+IsNoWriteFault (Refused line) = Unit {0}
+IsNoWriteFault Names = Unit {0}
+IsNoWriteFault Memory = Unit {0}
+IsNoWriteFault Read = Unit {0}
+IsNoWriteFault (Write n) = ⊥
 
--- Of the text that waited no more than a front was sent to the writer.
-pub record IsFrontSent (old new : Option (List ℕ)) (before : List ℕ) : Type 0 where
+-- Of the text that waited a front was sent to the writer, and counted, and the rest waits.
+pub record IsFlushed (old new : Option (List ℕ)) (before after : DumpPage) : Type 0 where
   pub sent : List ℕ
-  pub rest : List ℕ
   pub got : Appends old new sent
-  pub parts : before ≡ sent ++ rest
+  pub parts : before.text.items ≡ sent ++ after.text.items
+  pub counted : bounded after.written ≡ bounded (before.written + length sent)
+
+-- the writer failed before it got all that waited, and the error counts what it got then and before
+abbrev pub IsCutShort : (old new : Option (List ℕ)) → DumpPage → WaveError → Type 0
+IsCutShort old new before (Refused line) = ⊥
+IsCutShort old new before Names = ⊥
+IsCutShort old new before Memory = ⊥
+IsCutShort old new before Read = ⊥
+IsCutShort old new before (Write n) = Fails old new (record { waiting = []; written = before.written }) before.text.items n
 
 -- The text is that of a line with which a trace can go on, and the line was told.
 pub record IsTaken (sys : System) (form : Form) (text : List ℕ) (old new : Progress) : Type 0 where
@@ -40,6 +55,7 @@ pub record IsTaken (sys : System) (form : Form) (text : List ℕ) (old new : Pro
   pub rises : old.tick ≤ line.key.tick
   pub tick : new.tick ≡ line.key.tick
   pub numbers : IsDump sys new.dump
+  pub kept : new.page.written ≡ old.page.written
   pub told :
       (ls : List Line) (sent : List ℕ) → HasTold sys ls (sent ++ old.page.text.items) old.dump
       → HasTold sys (ls ++ line ∷ []) (sent ++ new.page.text.items) new.dump
@@ -54,13 +70,27 @@ pub record IsFinished (sys : System) (end : RunEnd) (before : Progress) (left ol
       (ls : List Line) (front : List ℕ) → HasTold sys ls (front ++ before.page.text.items) before.dump
       → front ++ sent ≡ dump_text sys ls (ending_of end)
 
--- The end was not sent, or not all of it, and what was sent begins a dump.
-pub record IsUnfinished (sys : System) (before : Progress) (old new : Option (List ℕ)) : Type 0 where
+-- The end was told, and the writer failed before it got all of the dump.
+pub record IsCutOff (sys : System) (before : Progress) (old new : Option (List ℕ)) (written : ℕ) : Type 0 where
+  pub end : Ending
   pub sent : List ℕ
+  pub missing : List ℕ
   pub got : Appends old new sent
-  pub begins : (ls : List Line) (front : List ℕ) → HasTold sys ls (front ++ before.page.text.items) before.dump → IsBegun sys ls (front ++ sent)
+  pub short : 0 < length missing
+  pub counted : written ≡ bounded (before.page.written + length sent)
+  pub parts :
+      (ls : List Line) (front : List ℕ) → HasTold sys ls (front ++ before.page.text.items) before.dump
+      → (front ++ sent) ++ missing ≡ dump_text sys ls end
 
--- Lines of a trace were read and told, and the next was read. A part of the dump was sent, and a part waits.
+-- the end was not sent, or not all of it
+abbrev pub IsUnfinished : System → Progress → (old new : Option (List ℕ)) → WaveError → Type 0
+IsUnfinished sys before old new (Refused line) = new ≡ old
+IsUnfinished sys before old new Names = new ≡ old
+IsUnfinished sys before old new Memory = new ≡ old
+IsUnfinished sys before old new Read = new ≡ old
+IsUnfinished sys before old new (Write n) = IsCutOff sys before old new n
+
+-- Lines of a trace were read and told, and the next was read. A part of the dump was sent, and counted, and a part waits.
 pub record IsCopied (sys : System) (form : Form) (x : Progress) (next : List ℕ) (input left old new : Option (List ℕ)) : Type 0 where
   pub lines : List Line
   pub sent : List ℕ
@@ -70,3 +100,4 @@ pub record IsCopied (sys : System) (form : Form) (x : Progress) (next : List ℕ
   pub told : HasTold sys lines (sent ++ x.page.text.items) x.dump
   pub read : Consumes input left (lines_text form sys (map (line_of sys) lines) ++ next)
   pub got : Appends old new sent
+  pub counted : bounded x.page.written ≡ bounded (length sent)

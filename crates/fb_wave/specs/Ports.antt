@@ -5,7 +5,12 @@ use Rattle.fb_types.specs.Systems.{System}
 use Rattle.fb_types.specs.Numbers.{event_at, path_at, ports_at}
 use Rattle.fb_types.specs.Text.{path_text}
 use Rattle.fb_types.specs.declared.library.EventPort.{EventPort}
+use Rattle.fb_types.specs.declared.library.Ports.{Ports}
 use Rattle.fb_wave.specs.declared.ports.Port.{Port}
+
+-- the event inputs of an interface, or its event outputs
+abbrev pub events : Ports → (taken : Bool) → List EventPort
+events its taken = if taken then its.event_inputs else its.event_outputs
 
 -- the event inputs of an instance, or its event outputs
 abbrev pub side : System → (instance : ℕ) → (taken : Bool) → List EventPort

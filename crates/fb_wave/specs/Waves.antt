@@ -7,8 +7,11 @@ use Rattle.fb_types.specs.Numbers.{line_of}
 use Rattle.fb_types.specs.Text.{trace_text}
 use Rattle.fb_types.specs.declared.run.Form.{Form}
 use Rattle.fb_types.specs.declared.run.Line.{Line}
+use Rattle.fb_trace.specs.Progress.{IsPartWritten}
 use Rattle.fb_wave.specs.Dumps.{dump_text, last_tick}
 use Rattle.fb_wave.specs.Lines.{IsLineOf}
+use Rattle.fb_wave.specs.declared.error.WaveError.{WaveError}
+use Rattle.fb_wave.specs.declared.error.WaveError.TheVariants.{Refused, Names, Memory, Read, Write}
 
 -- ---- Traces
 
@@ -58,3 +61,18 @@ pub record WritesFront (sys : System) (old new : Option (List ℕ)) : Type 0 whe
   pub lines : List Line
   pub are : AreLinesOf sys lines
   pub begun : IsBegun sys lines bytes
+
+-- A writer got the first bytes of such a dump, but not all, and `written` is how many.
+pub record WritesPart (sys : System) (old new : Option (List ℕ)) (written : ℕ) : Type 0 where
+  pub lines : List Line
+  pub end : Ending
+  pub are : AreLinesOf sys lines
+  pub got : IsPartWritten old new (dump_text sys lines end) written
+
+-- what the writer got where there is no dump, or no whole one
+abbrev pub FailsWave : System → (old new : Option (List ℕ)) → WaveError → Type 0
+FailsWave sys old new (Refused line) = WritesFront sys old new
+FailsWave sys old new Names = WritesFront sys old new
+FailsWave sys old new Memory = WritesFront sys old new
+FailsWave sys old new Read = WritesFront sys old new
+FailsWave sys old new (Write n) = WritesPart sys old new n

@@ -4,7 +4,7 @@ ghost use Rattle.std.specs.Prelude.{◌≡◌, ◌<◌, ℕ, List, [], ◌++◌,
 ghost use Rattle.fb_wave.specs.Changes.{changed, changes, event_changed, in_bits, number_changed, time_text, value_changed};
 ghost use Rattle.fb_wave.specs.Levels.{AreLevels};
 
-use crate::digits::{put_binary, put_decimal};
+use crate::digits::{put_binary, put_line};
 use crate::levels::{Level, Levels};
 use fb_types::value::Value;
 use std::alloc::AllocError;
@@ -27,9 +27,7 @@ fn put_bits(text: &mut Vec<u8>, bits: u64, letter: &[u8], signal: usize) -> Resu
     text.extend_from_slice(b"b")?;
     put_binary(text, bits)?;
     text.extend_from_slice(b" ")?;
-    text.extend_from_slice(letter)?;
-    put_decimal(text, signal as u64)?;
-    text.extend_from_slice(b"\n")
+    put_line(text, letter, signal as u64)
 }
 
 fn put_value(text: &mut Vec<u8>, signal: usize, value: Value) -> Result<(), AllocError>
@@ -37,9 +35,8 @@ fn put_value(text: &mut Vec<u8>, signal: usize, value: Value) -> Result<(), Allo
 {
     match value {
         Value::Bool(truth) => {
-            text.extend_from_slice(if truth { b"1v" } else { b"0v" })?;
-            put_decimal(text, signal as u64)?;
-            text.extend_from_slice(b"\n")
+            let front: &[u8] = if truth { b"1v" } else { b"0v" };
+            put_line(text, front, signal as u64)
         }
         Value::Whole(number) => put_bits(text, in_bits(number), b"v", signal),
     }
@@ -48,9 +45,7 @@ fn put_value(text: &mut Vec<u8>, signal: usize, value: Value) -> Result<(), Allo
 fn put_event(text: &mut Vec<u8>, signal: usize, count: u64) -> Result<(), AllocError>
     ensures { OnOk result (text.new.items ≡ text.old.items ++ event_changed signal count) }
 {
-    text.extend_from_slice(b"1e")?;
-    put_decimal(text, signal as u64)?;
-    text.extend_from_slice(b"\n")?;
+    put_line(text, b"1e", signal as u64)?;
     put_bits(text, count, b"n", signal)
 }
 
@@ -71,9 +66,7 @@ pub(crate) fn put_time(text: &mut Vec<u8>, told: u64, tick: u64) -> Result<(), A
     if tick == told {
         return Ok(());
     }
-    text.extend_from_slice(b"#")?;
-    put_decimal(text, tick)?;
-    text.extend_from_slice(b"\n")
+    put_line(text, b"#", tick)
 }
 
 /// Puts the changes of a tick behind a text, and goes on to the next tick.

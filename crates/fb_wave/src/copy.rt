@@ -6,8 +6,8 @@ ghost use Rattle.fb_types.specs.Headline.{system_of};
 ghost use Rattle.fb_wave.specs.Lines.{IsLast};
 ghost use Rattle.fb_wave.specs.Tables.{IsTable};
 ghost use Rattle.fb_wave.specs.Writing.{HasTold, IsDump};
-ghost use Rattle.fb_wave.specs.Copying.{IsAfter, IsFinished, IsTaken, IsUnfinished};
-ghost use Rattle.fb_wave.specs.Waves.{IsWave, WritesFront};
+ghost use Rattle.fb_wave.specs.Copying.{IsAfter, IsFinished, IsNoWriteFault, IsTaken, IsUnfinished};
+ghost use Rattle.fb_wave.specs.Waves.{FailsWave, IsWave};
 
 use crate::dump::Dump;
 use crate::error::WaveError;
@@ -56,7 +56,8 @@ fn can_end(tick: u64, end: RunEnd) -> bool
 
 /// Whether nothing is left to read.
 fn is_over<R: BufRead>(input: &mut R, line: &mut Vec<u8>) -> Result<bool, WaveError>
-    ensures { IfOk result (λ over. IsTrue over → IsAtEnd (R.remaining input.old)) }
+    ensures over { IfOk result (λ over. IsTrue over → IsAtEnd (R.remaining input.old)) }
+    ensures fault { IfErr result (λ e. e ≡ WaveError.Read) }
 {
     next_line(input, line)?;
     Ok(line.is_empty())
@@ -84,7 +85,8 @@ impl Progress {
     ) -> Result<(), WaveError>
         requires table { IsTable table.now }
         requires dump { IsDump (system_of table.now.system.now) self.old.dump }
-        ensures { OnOk result (IsTaken (system_of table.now.system.now) form line.now self.old self.new) }
+        ensures taken { OnOk result (IsTaken (system_of table.now.system.now) form line.now self.old self.new) }
+        ensures fault { IfErr result IsNoWriteFault }
     {
         let Some(line) = read_line(alloc, table, &mut self.guess, form, line)? else {
             return Err(WaveError::Refused(number));
@@ -110,7 +112,7 @@ impl Progress {
         requires dump { IsDump (system_of system.now) self.old.dump }
         requires end { IsLast (system_of system.now) line.old.items end }
         ensures whole { OnOk result (IsFinished (system_of system.now) end self.old (R.remaining input.old) (W.contents out.old) (W.contents out.new)) }
-        ensures part { IfErr result (λ _. IsUnfinished (system_of system.now) self.old (W.contents out.old) (W.contents out.new)) }
+        ensures part { IfErr result (IsUnfinished (system_of system.now) self.old (W.contents out.old) (W.contents out.new)) }
     {
         if !can_end(self.tick, end) {
             return Err(WaveError::Refused(number));
@@ -136,8 +138,9 @@ impl Progress {
         requires dump { IsDump (system_of table.now.system.now) self.old.dump }
         requires tick { self.old.tick ≡ 0 }
         requires told { HasTold (system_of table.now.system.now) [] self.old.page.text.items self.old.dump }
+        requires written { self.old.page.written ≡ 0 }
         ensures whole { OnOk result (IfSome (R.remaining input.old) (λ text. IsWave (system_of table.now.system.now) text (W.contents out.old) (W.contents out.new))) }
-        ensures part { IfErr result (λ _. WritesFront (system_of table.now.system.now) (W.contents out.old) (W.contents out.new)) }
+        ensures part { IfErr result (FailsWave (system_of table.now.system.now) (W.contents out.old) (W.contents out.new)) }
     {
         next_line(input, line)?;
         let form = form_of(line.as_slice());

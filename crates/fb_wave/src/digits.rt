@@ -2,7 +2,7 @@
 
 ghost use Rattle.std.specs.Prelude.{◌≡◌, ◌≤◌, ◌++◌, false, drop, decimal, length, OnOk};
 ghost use Rattle.std.specs.Fmt.{digits};
-ghost use Rattle.fb_wave.specs.Changes.{binary};
+ghost use Rattle.fb_wave.specs.Changes.{binary, line};
 
 use std::alloc::AllocError;
 
@@ -46,4 +46,13 @@ pub(crate) fn put_binary(text: &mut Vec<u8>, number: u64) -> Result<(), AllocErr
     let mut places = [0; MOST_DIGITS];
     let start = write_digits(2, number, &mut places);
     text.extend_from_slice(&places[start..])
+}
+
+/// Puts a line behind a text: a front, and the decimal digits of a number.
+pub(crate) fn put_line(text: &mut Vec<u8>, front: &[u8], number: u64) -> Result<(), AllocError>
+    ensures { OnOk result (text.new.items ≡ text.old.items ++ line (front.now ++ decimal number)) }
+{
+    text.extend_from_slice(front)?;
+    put_decimal(text, number)?;
+    text.extend_from_slice(b"\n")
 }

@@ -133,8 +133,8 @@ fn tell_all(
         → OnOk result (let more = pairs (map (λ k. first + k) places.now) values.now in
         AreLevels n fires (tells ++ more) (touches ++ map (λ t. t.0) more) levels.new) }
 {
-    for (place, value) in places.iter().zip(values) {
-        levels.tell(first + *place as usize, *value)?;
+    for index in 0..places.len().min(values.len()) {
+        levels.tell(first + places[index] as usize, values[index])?;
     }
     Ok(())
 }

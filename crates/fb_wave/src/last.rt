@@ -1,12 +1,12 @@
 //! The last line of a trace.
 
-ghost use Rattle.std.specs.Prelude.{◌≡◌, ◌<◌, ◌++◌, [], ◌∷◌, IfSome, length, slice_index_or, decimal};
+ghost use Rattle.std.specs.Prelude.{◌≡◌, ◌<◌, ◌++◌, [], ◌∷◌, IfSome, length, slice_index_or, codes, decimal};
 ghost use Rattle.fb_types.specs.Headline.{system_of};
 ghost use Rattle.fb_types.specs.Simulation.{AtStop};
 ghost use Rattle.fb_types.specs.Text.{last_line, place_text, reason_text};
 ghost use Rattle.fb_wave.specs.Lines.{IsLast, IsStop};
 
-use crate::number::{narrow, natural, tick};
+use crate::number::{magnitude, tick};
 use crate::words::{behind, cut};
 use fb_system::system::System;
 use fb_trace::last::RunEnd;
@@ -29,17 +29,17 @@ fn resource_of(system: &System, name: &[u8]) -> Option<u32>
     None
 }
 
-/// The reason that a text tells, with its line feed.
+/// The reason that a text tells behind a blank, with its line feed.
 fn reason_of(text: &[u8]) -> Option<Reason>
-    ensures { IfSome result (λ r. text.now ≡ reason_text r ++ 10 ∷ []) }
+    ensures { IfSome result (λ r. text.now ≡ codes " " ++ reason_text r ++ 10 ∷ []) }
 {
-    if text == b"steps\n".as_slice() {
+    if text == b" steps\n".as_slice() {
         return Some(Reason::Steps);
     }
-    if text == b"divide\n".as_slice() {
+    if text == b" divide\n".as_slice() {
         return Some(Reason::Divide);
     }
-    if text == b"range\n".as_slice() {
+    if text == b" range\n".as_slice() {
         return Some(Reason::Range);
     }
     None
@@ -53,7 +53,7 @@ fn horizon_of(text: &[u8]) -> Option<u64>
     if parts.1 != b"\n".as_slice() {
         return None;
     }
-    narrow(natural(parts.0)?)
+    magnitude(parts.0)
 }
 
 /// The stop of a resource that a text tells, with its line feed.
@@ -63,7 +63,7 @@ fn stop_of(system: &System, text: &[u8]) -> Option<StopMark>
     let tick = tick(text)?;
     let name = cut(tick.1)?;
     let resource = resource_of(system, name.0)?;
-    let reason = reason_of(behind(name.1, b" ")?)?;
+    let reason = reason_of(name.1)?;
     Some(StopMark {
         tick: tick.0,
         resource,

@@ -40,6 +40,13 @@ pub(crate) fn narrow(number: u128) -> Option<u64>
     }
 }
 
+/// The number below 2^64 that a text is.
+pub(crate) fn magnitude(text: &[u8]) -> Option<u64>
+    ensures { MatchOption result (IsNoNumber (2 ^ 64) text.now) (λ n. text.now ≡ decimal n) }
+{
+    narrow(natural(text)?)
+}
+
 /// A number before a blank, and what stands behind the blank.
 pub(crate) fn number(text: &[u8]) -> Option<(u128, &[u8])>
     ensures { MatchOption result (HasNoNumber (2 ^ 128) text.now) (λ p. text.now ≡ number_text p.0 ++ p.1.now) }

@@ -1,8 +1,9 @@
 //! Text that waits to be written.
 
-ghost use Rattle.std.specs.Prelude.{◌≡◌, ◌≤◌, [], IfErr, OnOk, take, length};
+ghost use Rattle.std.specs.Prelude.{◌≡◌, ◌≤◌, ◌+◌, [], IfErr, OnOk, take, length};
 ghost use Rattle.std.specs.Io.KnownBytes.{Appends};
-ghost use Rattle.fb_wave.specs.Copying.{IsFrontSent, IsFlushed};
+ghost use Rattle.fb_trace.specs.Progress.{bounded};
+ghost use Rattle.fb_wave.specs.Copying.{IsCutShort, IsFlushed};
 
 use crate::error::WaveError;
 use fb_trace::front::write_front;
@@ -12,7 +13,7 @@ use std::io::Write;
 /// So many bytes wait before some are written, to make few writes of many.
 const MANY: usize = 65_536;
 
-/// Whole lines that wait to be written, and how many bytes were written before them.
+/// Whole lines that wait to be written, and how many bytes were written before them, up to the greatest `u128`.
 #[derive(Drop)]
 pub(crate) struct DumpPage {
     pub(crate) text: Vec<u8>,
@@ -22,7 +23,8 @@ pub(crate) struct DumpPage {
 impl DumpPage {
     /// An empty page, before which nothing was written.
     pub(crate) fn new(alloc: Global) -> DumpPage
-        ensures { result.text.items ≡ [] }
+        ensures empty { result.text.items ≡ [] }
+        ensures none { result.written ≡ 0 }
     {
         DumpPage {
             text: Vec::new(alloc),
@@ -34,7 +36,8 @@ impl DumpPage {
     pub(crate) fn flush<W: Write>(&mut self, out: &mut W) -> Result<(), WaveError>
         ensures whole { OnOk result (Appends (W.contents out.old) (W.contents out.new) self.old.text.items) }
         ensures empty { OnOk result (self.new.text.items ≡ []) }
-        ensures part { IfErr result (λ _. IsFrontSent (W.contents out.old) (W.contents out.new) self.old.text.items) }
+        ensures counted { OnOk result (self.new.written ≡ bounded (self.old.written + length self.old.text.items)) }
+        ensures part { IfErr result (IsCutShort (W.contents out.old) (W.contents out.new) self.old) }
     {
         let taken = write_front(out, self.text.as_slice());
         self.written = self.written.saturating_add(taken as u128);
@@ -47,8 +50,8 @@ impl DumpPage {
 
     /// Writes all that waits, where it is much.
     pub(crate) fn flush_much<W: Write>(&mut self, out: &mut W) -> Result<(), WaveError>
-        ensures whole { OnOk result (IsFlushed (W.contents out.old) (W.contents out.new) self.old.text.items self.new.text.items) }
-        ensures part { IfErr result (λ _. IsFrontSent (W.contents out.old) (W.contents out.new) self.old.text.items) }
+        ensures whole { OnOk result (IsFlushed (W.contents out.old) (W.contents out.new) self.old self.new) }
+        ensures part { IfErr result (IsCutShort (W.contents out.old) (W.contents out.new) self.old) }
     {
         if self.text.len() < MANY {
             return Ok(());

@@ -8,7 +8,7 @@ ghost use Rattle.fb_wave.specs.Ports as spec;
 ghost use Rattle.fb_wave.specs.Ports.{IsPortOf};
 
 use fb_system::system::System;
-use fb_types::library::EventPort;
+use fb_types::library::{EventPort, Ports};
 use fb_types::name::Name;
 use std::alloc::{AllocError, Global};
 
@@ -67,25 +67,23 @@ pub(crate) fn ports_of(alloc: Global, system: &System) -> Result<Vec<Port>, Allo
     Ok(all)
 }
 
-/// The events among which a port is.
-fn events_of(system: &System, port: Port) -> &[EventPort]
-    requires { IsPortOf (system_of system.now) port }
-    ensures { result.now ≡ spec.side (system_of system.now) port.instance port.taken }
+/// The event inputs of an interface, or its event outputs.
+fn events_of(ports: &Ports, taken: bool) -> &[EventPort]
+    ensures { result.now ≡ spec.events ports.now taken }
 {
-    let ports = system.ports(port.instance);
-    if port.taken {
+    if taken {
         ports.event_inputs.as_slice()
     } else {
         ports.event_outputs.as_slice()
     }
 }
 
-/// The name of a port's event.
-fn event_name(system: &System, port: Port) -> &[u8]
-    requires { IsPortOf (system_of system.now) port }
-    ensures { result.now ≡ event_at (spec.side (system_of system.now) port.instance port.taken) port.event }
+/// The name of one of these.
+fn event_name(ports: &Ports, taken: bool, event: u32) -> &[u8]
+    requires { event < length (spec.events ports.now taken) }
+    ensures { result.now ≡ event_at (spec.events ports.now taken) event }
 {
-    events_of(system, port)[port.event as usize].name.as_bytes()
+    events_of(ports, taken)[event as usize].name.as_bytes()
 }
 
 /// The number of the resource that holds a port.
@@ -111,11 +109,12 @@ pub(crate) fn port_text(alloc: Global, system: &System, port: Port) -> Result<Na
     ensures { IfOk result (λ n. n ≡ spec.port_text (system_of system.now) port) }
 {
     let holder = holder_of(system, port);
+    let ports = system.ports(port.instance);
     let mut text = Vec::new(alloc);
     text.extend_from_slice(system.resource_name(holder as usize))?;
     text.extend_from_slice(sign(port.taken))?;
     text.extend_from_slice(system.path(port.instance))?;
     text.extend_from_slice(b".")?;
-    text.extend_from_slice(event_name(system, port))?;
+    text.extend_from_slice(event_name(ports, port.taken, port.event))?;
     Name::from_slice(alloc, text.as_slice())
 }

@@ -3,21 +3,14 @@
 ghost use Rattle.std.specs.Prelude.{◌≡◌, ◌<◌, ◌^◌, ◌++◌, true, All, MatchOption, IfOk, length, decimal, codes};
 ghost use Rattle.fb_types.specs.Text.{value_text};
 ghost use Rattle.fb_types.specs.Values.{fits};
-ghost use Rattle.fb_wave.specs.Reading.{AreRead, AreUnread, HasNoDigits, IsBound, IsNoNumber, IsNoTruth, IsNoValue, IsNoWhole, IsNone, IsTextOfValue, IsTextOfWhole, IsUnbound};
+ghost use Rattle.fb_wave.specs.Reading.{AreRead, AreUnread, HasNoDigits, IsBound, IsNoTruth, IsNoValue, IsNoWhole, IsNone, IsTextOfValue, IsTextOfWhole, IsUnbound};
 
-use crate::number::{narrow, natural};
+use crate::number::magnitude;
 use crate::words::{behind, cut};
 use fb_types::library::Variable;
 use fb_types::run::Values;
 use fb_types::value::{Ty, Value};
 use std::alloc::{AllocError, Global};
-
-/// The number below 2^64 that a text is.
-fn magnitude(text: &[u8]) -> Option<u64>
-    ensures { MatchOption result (IsNoNumber (2 ^ 64) text.now) (λ n. text.now ≡ decimal n) }
-{
-    narrow(natural(text)?)
-}
 
 /// The number below 0 of which a text has the digits behind the sign.
 fn below_zero(digits: &[u8]) -> Option<i128>

@@ -2,7 +2,7 @@
 
 ghost use Rattle.std.specs.Prelude.{IfErr, IfSome, OnOk};
 ghost use Rattle.fb_types.specs.Headline.{system_of};
-ghost use Rattle.fb_wave.specs.Waves.{IsWave, WritesFront};
+ghost use Rattle.fb_wave.specs.Waves.{FailsWave, IsWave};
 
 use crate::copy::Progress;
 use crate::dump::Dump;
@@ -23,7 +23,7 @@ use std::io::{BufRead, Write};
 /// # Errors
 /// `Refused` with the first line at which it shows that the text is no trace of the system. What was written then is a
 /// beginning of a dump that ends at a line, as it is where the reader fails or memory wants. Where the writer fails it has
-/// as many bytes as the error says.
+/// as many bytes as the error says, but not all.
 pub fn write_wave<R: BufRead, W: Write>(
     alloc: Global,
     system: &System,
@@ -31,7 +31,7 @@ pub fn write_wave<R: BufRead, W: Write>(
     out: &mut W,
 ) -> Result<(), WaveError>
     ensures whole { OnOk result (IfSome (R.remaining input.old) (λ text. IsWave (system_of system.now) text (W.contents out.old) (W.contents out.new))) }
-    ensures part { IfErr result (λ _. WritesFront (system_of system.now) (W.contents out.old) (W.contents out.new)) }
+    ensures part { IfErr result (FailsWave (system_of system.now) (W.contents out.old) (W.contents out.new)) }
 {
     let ports = ports_of(alloc, system)?;
     let texts = texts_of(alloc, system, ports.as_slice())?;

@@ -1,4 +1,5 @@
 mod Reading
+mod Flaws
 mod Verdicts
 mod Parts
 mod Tables

@@ -1,5 +1,5 @@
 -- From what holds of a library and a plan to what holds of the bytes that they were read from.
-use Rattle.std.proofs.Common.{◌≡◌, ℕ, inl, sym, subst, List, Option, Some, None, Result, Ok, Err}
+use Rattle.std.proofs.Common.{◌≡◌, ℕ, inl, List, Option, Some, None, Result, Ok, Err}
 use Rattle.std.specs.Prelude.{IfOk, MatchOption}
 use Rattle.fb_types.specs.declared.deploy.Plan.{Plan}
 use Rattle.fb_types.specs.declared.deploy.Stimulus.{Stimulus}
@@ -42,16 +42,8 @@ unread_told (Ok (Some r)) F N T said so = absurd (let other : Some r ≡ None = 
 -- and by the number
 pub numbered :
     {E : Type 0} (cause : Cause) (n : ℕ) (text : List ℕ) (bytes given : Option (List ℕ)) (made : Result (Option Finding) E) → IsCause n cause
-    → IfOk made (λ o. MatchOption o (IsSilentOf cause text bytes given) (λ r. TellsOf cause text bytes given r.place))
+    → IfOk made (λ o. MatchOption o (IsSilentOf cause n text bytes given) (λ r. TellsOf cause n text bytes given r.place))
     → IfOk made (λ o. MatchOption o (IsSilent text bytes given n) (λ r. Tells text bytes given n r.place))
 numbered cause n text bytes given (Err e) is holds = tt
 numbered cause n text bytes given (Ok None) is holds = (cause, is, holds)
 numbered cause n text bytes given (Ok (Some r)) is holds = (cause, is, holds)
-
--- where it is known what is refused
-pub by_flaw :
-    {E : Type 0} (made : Result (Option Finding) E) (f g : Flaw) (library : Library) (plan : Plan) → f ≡ g
-    → IfOk made (λ o. MatchOption o (AppliesNowhere g library plan) (λ r. AppliesAt g library plan r.place))
-    → IfOk made (λ o. MatchOption o (AppliesNowhere f library plan) (λ r. AppliesAt f library plan r.place))
-by_flaw made f g library plan is holds =
-    subst (λ (x : Flaw). IfOk made (λ o. MatchOption o (AppliesNowhere x library plan) (λ r. AppliesAt x library plan r.place))) (sym is) holds

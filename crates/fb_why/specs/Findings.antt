@@ -1,5 +1,5 @@
 -- Where a refusal applies, of the bytes that were given (this project's own).
-use Rattle.std.specs.Prelude.{◌≡◌, ◌⊎◌, ℕ, List, Option, Some, None, Ok, Err, [], IfSome, MatchOption}
+use Rattle.std.specs.Prelude.{◌≡◌, ◌≢◌, ◌⊎◌, ℕ, List, Option, Some, None, Ok, Err, [], IfSome, MatchOption}
 use Rattle.fb_inputs.specs.Deployments.{deploy_of}
 use Rattle.fb_inputs.specs.Stimuli as inputs
 use Rattle.fb_read.specs.Whole.{IsLibraryText}
@@ -18,7 +18,7 @@ use Rattle.fb_types.specs.Unknown.{NameUnknown}
 use Rattle.fb_types.specs.declared.deploy.Plan.{Plan}
 use Rattle.fb_types.specs.declared.deploy.Stimulus.{Stimulus}
 use Rattle.fb_types.specs.declared.library.Library.{Library}
-use Rattle.fb_why.specs.Causes.{IsCause, excess_number}
+use Rattle.fb_why.specs.Causes.{IsCause, excess_number, text_number}
 use Rattle.fb_why_kinds.specs.Unknown.{IsUnknownAt}
 use Rattle.fb_why.specs.declared.cause.Cause.TheVariants as cause
 use Rattle.fb_why.specs.declared.cause.Cause.{Cause}
@@ -41,6 +41,8 @@ use Rattle.fb_why_bytes.specs.Tables as tables
 use Rattle.fb_why_bytes.specs.Tables.{IsShaped}
 use Rattle.fb_why.specs.Stimuli.{IsBadAt, IsOver}
 use Rattle.fb_why_bytes.specs.Faults.{TellsFault}
+use Rattle.fb_why_bytes.specs.declared.place.DeployPlace.{DeployPlace}
+use Rattle.fb_why_bytes.specs.declared.place.StimuliPlace.{StimuliPlace}
 use Rattle.fb_why_kinds.specs.Misfits.{IsMisfitAt}
 use Rattle.fb_why_kinds.specs.Misjoins.{IsMisjoinedAt}
 
@@ -115,35 +117,57 @@ HasNoFlaw flaw declaration deploy = IsFlawless flaw declaration deploy ⊎ IsNoT
 
 -- ---- The text of the declaration
 
--- What the text is refused for applies at this place.
-abbrev pub TellsText : (declaration : List ℕ) → Spot → Type 0
-TellsText declaration (spot.Text p) = (fault : ReadError) × TellsFault declaration fault p
-TellsText declaration _ = ⊥
+-- A fault of the text has this number, and applies at this place.
+abbrev pub TellsText : (number : ℕ) → (declaration : List ℕ) → Spot → Type 0
+TellsText number declaration (spot.Text p) = (fault : ReadError) × (text_number fault ≡ Some number) × TellsFault declaration fault p
+TellsText number declaration _ = ⊥
 
 -- ---- The bytes of the deployment and of the stimuli
 
-abbrev pub IsDeploymentSpot : (bytes : List ℕ) → Spot → Type 0
-IsDeploymentSpot bytes (spot.Deployment p) = tables.IsFaultAt bytes p
-IsDeploymentSpot bytes _ = ⊥
+-- What is told has this number, and is wrong at the place.
+abbrev pub IsDeploymentSpot : (number : ℕ) → (bytes : List ℕ) → Spot → Type 0
+IsDeploymentSpot number bytes (spot.Deployment p) = (tables.number_of p ≡ number) × tables.IsFaultAt bytes p
+IsDeploymentSpot number bytes _ = ⊥
 
-abbrev pub IsStimuliSpot : (bytes : List ℕ) → Spot → Type 0
-IsStimuliSpot bytes (spot.Stimuli p) = rows.IsRefusedAt bytes p
-IsStimuliSpot bytes _ = ⊥
+-- The stimuli are refused by this number, for what is told of the place.
+abbrev pub IsStimuliSpot : (number : ℕ) → (bytes : List ℕ) → Spot → Type 0
+IsStimuliSpot number bytes (spot.Stimuli p) = (rows.number_of p ≡ number) × rows.IsRefusedAt bytes p
+IsStimuliSpot number bytes _ = ⊥
 
--- The deployment is there, and what is told is wrong at the place.
-abbrev pub TellsDeployment : Option (List ℕ) → Spot → Type 0
-TellsDeployment deploy place = (bytes : List ℕ) × (deploy ≡ Some bytes) × IsDeploymentSpot bytes place
+-- The deployment is there, and what has this number is wrong at the place.
+abbrev pub TellsDeployment : (number : ℕ) → Option (List ℕ) → Spot → Type 0
+TellsDeployment number deploy place = (bytes : List ℕ) × (deploy ≡ Some bytes) × IsDeploymentSpot number bytes place
 
--- The stimuli are there, and refused for what is told of the place.
-abbrev pub TellsStimuli : Option (List ℕ) → Spot → Type 0
-TellsStimuli stimuli place = (bytes : List ℕ) × (stimuli ≡ Some bytes) × IsStimuliSpot bytes place
+-- The stimuli are there, and refused by this number for what is told of the place.
+abbrev pub TellsStimuli : (number : ℕ) → Option (List ℕ) → Spot → Type 0
+TellsStimuli number stimuli place = (bytes : List ℕ) × (stimuli ≡ Some bytes) × IsStimuliSpot number bytes place
 
-abbrev pub TellsBytes : (deploy stimuli : Option (List ℕ)) → Spot → Type 0
-TellsBytes deploy stimuli place = TellsDeployment deploy place ⊎ TellsStimuli stimuli place
+abbrev pub TellsBytes : (number : ℕ) → (deploy stimuli : Option (List ℕ)) → Spot → Type 0
+TellsBytes number deploy stimuli place = TellsDeployment number deploy place ⊎ TellsStimuli number stimuli place
 
--- The deployment has the right shape, where there is one, and the stimuli are taken.
-abbrev pub AreTakenBoth : (deploy stimuli : Option (List ℕ)) → Type 0
-AreTakenBoth deploy stimuli = IfSome deploy IsShaped × IfSome stimuli AreTaken
+-- Something is wrong with the deployment at a place, and has another number.
+pub record HasOtherFault (number : ℕ) (bytes : List ℕ) : Type 0 where
+  pub place : DeployPlace
+  pub differs : tables.number_of place ≢ number
+  pub fault : tables.IsFaultAt bytes place
+
+-- The stimuli are refused by another number, for what is wrong at a place.
+pub record AreRefusedOtherwise (number : ℕ) (bytes : List ℕ) : Type 0 where
+  pub place : StimuliPlace
+  pub differs : rows.number_of place ≢ number
+  pub refused : rows.IsRefusedAt bytes place
+
+-- The deployment has the right shape, or a fault of another number.
+abbrev pub IsSilentOfDeployment : (number : ℕ) → (bytes : List ℕ) → Type 0
+IsSilentOfDeployment number bytes = IsShaped bytes ⊎ HasOtherFault number bytes
+
+-- The stimuli are taken, or refused by another number.
+abbrev pub IsSilentOfStimuli : (number : ℕ) → (bytes : List ℕ) → Type 0
+IsSilentOfStimuli number bytes = AreTaken bytes ⊎ AreRefusedOtherwise number bytes
+
+-- It is so of the deployment and of the stimuli, of each where it is there.
+abbrev pub IsSilentOfBytes : (number : ℕ) → (deploy stimuli : Option (List ℕ)) → Type 0
+IsSilentOfBytes number deploy stimuli = IfSome deploy (IsSilentOfDeployment number) × IfSome stimuli (IsSilentOfStimuli number)
 
 -- ---- With the stimuli
 
@@ -192,26 +216,27 @@ HasNoExcess excess declaration deploy stimuli =
 
 -- ---- By the number
 
--- What is refused applies at this place.
-abbrev pub TellsOf : Cause → (declaration : List ℕ) → (deploy stimuli : Option (List ℕ)) → Spot → Type 0
-TellsOf cause.Text declaration deploy stimuli place = TellsText declaration place
-TellsOf cause.Bytes declaration deploy stimuli place = TellsBytes deploy stimuli place
-TellsOf (cause.Flaw flaw) declaration deploy stimuli place = TellsFlaw flaw declaration deploy place
-TellsOf (cause.Excess excess) declaration deploy stimuli place = TellsExcess excess declaration deploy stimuli place
-TellsOf cause.Other declaration deploy stimuli place = ⊥
+-- What is refused by this number applies at this place.
+abbrev pub TellsOf : Cause → (number : ℕ) → (declaration : List ℕ) → (deploy stimuli : Option (List ℕ)) → Spot → Type 0
+TellsOf cause.Text number declaration deploy stimuli place = TellsText number declaration place
+TellsOf cause.Bytes number declaration deploy stimuli place = TellsBytes number deploy stimuli place
+TellsOf (cause.Flaw flaw) number declaration deploy stimuli place = TellsFlaw flaw declaration deploy place
+TellsOf (cause.Excess excess) number declaration deploy stimuli place = TellsExcess excess declaration deploy stimuli place
+TellsOf cause.Other number declaration deploy stimuli place = ⊥
 
--- Nothing is told where that does not apply, or where something can't be read. Of a text it may be so wherever the place is hard to find.
-abbrev pub IsSilentOf : Cause → (declaration : List ℕ) → (deploy stimuli : Option (List ℕ)) → Type 0
-IsSilentOf cause.Text declaration deploy stimuli = Unit {0}
-IsSilentOf cause.Bytes declaration deploy stimuli = AreTakenBoth deploy stimuli
-IsSilentOf (cause.Flaw flaw) declaration deploy stimuli = HasNoFlaw flaw declaration deploy
-IsSilentOf (cause.Excess excess) declaration deploy stimuli = HasNoExcess excess declaration deploy stimuli
-IsSilentOf cause.Other declaration deploy stimuli = Unit {0}
+-- Nothing is told where that does not apply, or where something can't be read or is refused by another number. Of a text it may be so
+-- wherever the place is hard to find.
+abbrev pub IsSilentOf : Cause → (number : ℕ) → (declaration : List ℕ) → (deploy stimuli : Option (List ℕ)) → Type 0
+IsSilentOf cause.Text number declaration deploy stimuli = Unit {0}
+IsSilentOf cause.Bytes number declaration deploy stimuli = IsSilentOfBytes number deploy stimuli
+IsSilentOf (cause.Flaw flaw) number declaration deploy stimuli = HasNoFlaw flaw declaration deploy
+IsSilentOf (cause.Excess excess) number declaration deploy stimuli = HasNoExcess excess declaration deploy stimuli
+IsSilentOf cause.Other number declaration deploy stimuli = Unit {0}
 
 -- The refusal of this number applies at this place.
 abbrev pub Tells : (declaration : List ℕ) → (deploy stimuli : Option (List ℕ)) → (number : ℕ) → Spot → Type 0
-Tells declaration deploy stimuli number place = (cause : Cause) × IsCause number cause × TellsOf cause declaration deploy stimuli place
+Tells declaration deploy stimuli number place = (cause : Cause) × IsCause number cause × TellsOf cause number declaration deploy stimuli place
 
 -- No place is told.
 abbrev pub IsSilent : (declaration : List ℕ) → (deploy stimuli : Option (List ℕ)) → (number : ℕ) → Type 0
-IsSilent declaration deploy stimuli number = (cause : Cause) × IsCause number cause × IsSilentOf cause declaration deploy stimuli
+IsSilent declaration deploy stimuli number = (cause : Cause) × IsCause number cause × IsSilentOf cause number declaration deploy stimuli

@@ -1,6 +1,9 @@
 //! What a refusal is about, by its number.
 
-ghost use Rattle.fb_why.specs.Causes.{IsCause};
+ghost use Rattle.std.specs.Prelude.{◌≡◌};
+ghost use Rattle.fb_why.specs.Causes.{IsCause, text_number};
+
+use fb_read::error::ReadError;
 
 /// What is refused of a declaration and a deployment that are read.
 #[derive(Clone, Copy)]
@@ -68,5 +71,19 @@ pub(crate) fn cause_of(number: u8) -> Cause
         29 => Cause::Excess(Excess::Stimulus),
         30 => Cause::Excess(Excess::Limit),
         _ => Cause::Other,
+    }
+}
+
+/// The number of what a text is refused for, from 1 to 5. Want of memory has none.
+pub(crate) fn text_number(fault: &ReadError) -> Option<u8>
+    ensures { result ≡ text_number fault.now }
+{
+    match fault {
+        ReadError::Memory => None,
+        ReadError::Byte => Some(1),
+        ReadError::Token => Some(2),
+        ReadError::Syntax { .. } => Some(3),
+        ReadError::TooLong => Some(4),
+        ReadError::Nesting => Some(5),
     }
 }

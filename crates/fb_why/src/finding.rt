@@ -148,20 +148,21 @@ fn excess_finding(
     }
 }
 
-/// Where the refusal applies.
+/// Where the refusal of this number applies, which is about the cause.
 fn finding_by(
     alloc: Global,
     cause: Cause,
+    number: u8,
     declaration: &[u8],
     deploy: Option<&[u8]>,
     stimuli: Option<&[u8]>,
 ) -> Result<Option<Finding>, AllocError>
     ensures { let plan = option_map (λ b. b.now) deploy.entry in let rows = option_map (λ b. b.now) stimuli.entry in
-        IfOk result (λ o. MatchOption o (IsSilentOf cause declaration.now plan rows) (λ r. TellsOf cause declaration.now plan rows r.place)) }
+        IfOk result (λ o. MatchOption o (IsSilentOf cause number declaration.now plan rows) (λ r. TellsOf cause number declaration.now plan rows r.place)) }
 {
     match cause {
-        Cause::Text => text_finding(alloc, declaration),
-        Cause::Bytes => bytes_finding(alloc, deploy, stimuli),
+        Cause::Text => text_finding(alloc, number, declaration),
+        Cause::Bytes => bytes_finding(alloc, number, deploy, stimuli),
         Cause::Flaw(flaw) => flaw_finding(alloc, flaw, declaration, deploy),
         Cause::Excess(excess) => excess_finding(alloc, excess, declaration, deploy, stimuli),
         Cause::Other => Ok(None),
@@ -180,5 +181,12 @@ pub fn finding_of(
     ensures { let plan = option_map (λ b. b.now) deploy.entry in let rows = option_map (λ b. b.now) stimuli.entry in
         IfOk result (λ o. MatchOption o (IsSilent declaration.now plan rows number) (λ r. Tells declaration.now plan rows number r.place)) }
 {
-    finding_by(alloc, cause_of(number), declaration, deploy, stimuli)
+    finding_by(
+        alloc,
+        cause_of(number),
+        number,
+        declaration,
+        deploy,
+        stimuli,
+    )
 }

@@ -37,6 +37,7 @@ pub mod spot;
 mod stimulus;
 pub mod table;
 mod tell;
+mod tell_flaw;
 mod tell_heights;
 mod tell_joined;
 mod tell_twice;

@@ -1,44 +1,28 @@
 //! The first thing of a list that stood in it before.
 
-ghost use Rattle.std.specs.Prelude.{◌≡◌, ◌++◌, [], map, IfOk};
+ghost use Rattle.std.specs.Prelude.{◌≡◌, map, IfOk};
 ghost use Rattle.fb_names.specs.Ends.{link_ends};
 ghost use Rattle.fb_names.specs.Places.{names_in};
 ghost use Rattle.fb_why.specs.Pairs.{Paired, compared, key_ports};
 ghost use Rattle.fb_why.specs.Sources.{targets};
 
 use crate::unlinked::place_of_link;
+use fb_names::named::{Named, push_names};
 use fb_names::repeats::end_names;
 use fb_types::deploy::Link;
 use fb_types::library::Connection;
 use fb_types::name::Name;
-use fb_why_kinds::called::Called;
 use std::alloc::{AllocError, Global};
 use std::collections::BTreeMap;
 
 /// The places in a list, from 0, of two that are the same, the earlier one first.
 pub type Repeat = (usize, usize);
 
-/// Adds the names of a list, in its order.
-pub(crate) fn push_names<'a, T: Called>(
-    names: &mut Vec<&'a Name>,
-    items: &'a [T],
-) -> Result<(), AllocError>
-    ensures { IfOk result (λ _. names_in names.new.items ≡ names_in names.old.items ++ map T.called items.now) }
-{
-    for item in items {
-        names.push(item.name())?;
-    }
-    Ok(())
-}
-
-/// Names with the places where they stand.
-type Names<'a> = BTreeMap<&'a [u8], usize, Global>;
-
-/// Notes names in a table, up to one that is noted there.
-fn note_names<'a>(seen: &mut Names<'a>, names: &[&'a Name]) -> Result<Option<Repeat>, AllocError>
-    requires { seen.old.entries ≡ [] }
+/// The first name that stood before, with the place where it did.
+pub(crate) fn name_pair(alloc: Global, names: &[&Name]) -> Result<Option<Repeat>, AllocError>
     ensures { IfOk result (Paired (names_in names.now)) }
 {
+    let mut seen = BTreeMap::new(alloc);
     for (second, name) in names.iter().enumerate() {
         if let Some(first) = seen.insert(name.as_bytes(), second)? {
             return Ok(Some((first, second)));
@@ -47,16 +31,8 @@ fn note_names<'a>(seen: &mut Names<'a>, names: &[&'a Name]) -> Result<Option<Rep
     Ok(None)
 }
 
-/// The first name that stood before, with the place where it did.
-pub(crate) fn name_pair(alloc: Global, names: &[&Name]) -> Result<Option<Repeat>, AllocError>
-    ensures { IfOk result (Paired (names_in names.now)) }
-{
-    let mut seen = BTreeMap::new(alloc);
-    note_names(&mut seen, names)
-}
-
 /// The same of the names of a list.
-pub(crate) fn called_pair<T: Called>(
+pub(crate) fn called_pair<T: Named>(
     alloc: Global,
     items: &[T],
 ) -> Result<Option<Repeat>, AllocError>
@@ -65,13 +41,6 @@ pub(crate) fn called_pair<T: Called>(
     let mut names = Vec::new(alloc);
     push_names(&mut names, items)?;
     name_pair(alloc, names.as_slice())
-}
-
-/// The same of a list of names.
-pub(crate) fn listed_pair(alloc: Global, names: &[Name]) -> Result<Option<Repeat>, AllocError>
-    ensures { IfOk result (Paired names.now) }
-{
-    called_pair(alloc, names)
 }
 
 /// The names at both ends of a connection: where it begins the component, if there is one, and the port, and so where it leads.
@@ -89,26 +58,6 @@ fn names_of(connection: &Connection, both: bool) -> ConnectionNames<'_>
     (None, &[], component, port)
 }
 
-/// Connections with the places where they stand.
-type Connections<'a> = BTreeMap<ConnectionNames<'a>, usize, Global>;
-
-/// Notes connections in a table, up to one that is noted there.
-fn note_connections<'a>(
-    seen: &mut Connections<'a>,
-    connections: &'a [Connection],
-    both: bool,
-) -> Result<Option<Repeat>, AllocError>
-    requires { seen.old.entries ≡ [] }
-    ensures { IfOk result (Paired (map (compared both) connections.now)) }
-{
-    for (second, connection) in connections.iter().enumerate() {
-        if let Some(first) = seen.insert(names_of(connection, both), second)? {
-            return Ok(Some((first, second)));
-        }
-    }
-    Ok(None)
-}
-
 /// The first connection that is the same as one before, by both ends or by where they lead alone, with the place of that one.
 pub(crate) fn connection_pair(
     alloc: Global,
@@ -118,7 +67,12 @@ pub(crate) fn connection_pair(
     ensures { IfOk result (Paired (map (compared both) connections.now)) }
 {
     let mut seen = BTreeMap::new(alloc);
-    note_connections(&mut seen, connections, both)
+    for (second, connection) in connections.iter().enumerate() {
+        if let Some(first) = seen.insert(names_of(connection, both), second)? {
+            return Ok(Some((first, second)));
+        }
+    }
+    Ok(None)
 }
 
 /// The first connection that leads to the port of one before, with the place of that one.

@@ -1,10 +1,9 @@
 //! Where the bytes of a declaration, of a deployment or of stimuli are refused.
 
 ghost use Rattle.std.specs.Prelude.{IfOk, IfSome, MatchOption, option_map};
-ghost use Rattle.fb_why_bytes.specs.Rows.{AreTaken};
-ghost use Rattle.fb_why_bytes.specs.Tables.{IsShaped};
-ghost use Rattle.fb_why.specs.Findings.{AreTakenBoth, IsDeploymentSpot, IsStimuliSpot, TellsBytes, TellsDeployment, TellsStimuli, TellsText};
+ghost use Rattle.fb_why.specs.Findings.{IsDeploymentSpot, IsSilentOfBytes, IsSilentOfDeployment, IsSilentOfStimuli, IsStimuliSpot, TellsBytes, TellsDeployment, TellsStimuli, TellsText};
 
+use crate::cause::text_number;
 use crate::spot::{Finding, Spot, found};
 use fb_read::read::read_library;
 use fb_why_bytes::deployment::deployment_place;
@@ -16,9 +15,13 @@ use fb_why_bytes::tell_stimuli::tell_stimuli;
 use fb_why_bytes::tell_text::tell_text;
 use std::alloc::{AllocError, Global};
 
-/// Where the text of a declaration is refused.
-pub fn text_finding(alloc: Global, declaration: &[u8]) -> Result<Option<Finding>, AllocError>
-    ensures { IfOk result (λ o. IfSome o (λ r. TellsText declaration.now r.place)) }
+/// Where the text of a declaration is refused, if that is by this number.
+pub fn text_finding(
+    alloc: Global,
+    number: u8,
+    declaration: &[u8],
+) -> Result<Option<Finding>, AllocError>
+    ensures { IfOk result (λ o. IfSome o (λ r. TellsText number declaration.now r.place)) }
 {
     let fault = match read_library(alloc, declaration) {
         Ok(library) => {
@@ -27,6 +30,9 @@ pub fn text_finding(alloc: Global, declaration: &[u8]) -> Result<Option<Finding>
         }
         Err(fault) => fault,
     };
+    if text_number(&fault) != Some(number) {
+        return Ok(None);
+    }
     match text_place(alloc, declaration, &fault)? {
         Some(place) => found(
             Spot::Text(place),
@@ -36,63 +42,81 @@ pub fn text_finding(alloc: Global, declaration: &[u8]) -> Result<Option<Finding>
     }
 }
 
-/// Where the bytes of a deployment are refused.
-fn deployment_finding(alloc: Global, bytes: &[u8]) -> Result<Option<Finding>, AllocError>
-    ensures { IfOk result (λ o. MatchOption o (IsShaped bytes.now) (λ r. IsDeploymentSpot bytes.now r.place)) }
+/// Where the bytes of a deployment are refused, if that is by this number.
+fn deployment_finding(
+    alloc: Global,
+    number: u8,
+    bytes: &[u8],
+) -> Result<Option<Finding>, AllocError>
+    ensures { IfOk result (λ o. MatchOption o (IsSilentOfDeployment number bytes.now) (λ r. IsDeploymentSpot number bytes.now r.place)) }
 {
-    match deployment_place(alloc, bytes)? {
-        Some(place) => found(
-            Spot::Deployment(place),
-            tell_deployment(alloc, bytes, place),
-        ),
-        None => Ok(None),
+    let Some(place) = deployment_place(alloc, bytes)? else {
+        return Ok(None);
+    };
+    if place.number() != number {
+        return Ok(None);
     }
+    found(
+        Spot::Deployment(place),
+        tell_deployment(alloc, bytes, place),
+    )
 }
 
-/// Where the bytes of stimuli are refused.
-fn stimuli_finding(alloc: Global, bytes: &[u8]) -> Result<Option<Finding>, AllocError>
-    ensures { IfOk result (λ o. MatchOption o (AreTaken bytes.now) (λ r. IsStimuliSpot bytes.now r.place)) }
+/// Where the bytes of stimuli are refused, if that is by this number.
+fn stimuli_finding(alloc: Global, number: u8, bytes: &[u8]) -> Result<Option<Finding>, AllocError>
+    ensures { IfOk result (λ o. MatchOption o (IsSilentOfStimuli number bytes.now) (λ r. IsStimuliSpot number bytes.now r.place)) }
 {
-    match stimuli_place(alloc, bytes)? {
-        Some(place) => found(Spot::Stimuli(place), tell_stimuli(alloc, bytes, place)),
-        None => Ok(None),
+    let Some(place) = stimuli_place(alloc, bytes)? else {
+        return Ok(None);
+    };
+    if place.number() != number {
+        return Ok(None);
     }
+    found(Spot::Stimuli(place), tell_stimuli(alloc, bytes, place))
 }
 
-/// Where the bytes of a deployment that may be given are refused.
+/// Where the bytes of a deployment that may be given are refused, if that is by this number.
 fn deployment_finding_if(
     alloc: Global,
+    number: u8,
     deploy: Option<&[u8]>,
 ) -> Result<Option<Finding>, AllocError>
-    ensures { let plan = option_map (λ b. b.now) deploy.entry in IfOk result (λ o. MatchOption o (IfSome plan IsShaped) (λ r. TellsDeployment plan r.place)) }
+    ensures { let plan = option_map (λ b. b.now) deploy.entry in
+        IfOk result (λ o. MatchOption o (IfSome plan (IsSilentOfDeployment number)) (λ r. TellsDeployment number plan r.place)) }
 {
     match deploy {
-        Some(bytes) => deployment_finding(alloc, bytes),
+        Some(bytes) => deployment_finding(alloc, number, bytes),
         None => Ok(None),
     }
 }
 
-/// Where the bytes of stimuli that may be given are refused.
-fn stimuli_finding_if(alloc: Global, stimuli: Option<&[u8]>) -> Result<Option<Finding>, AllocError>
-    ensures { let rows = option_map (λ b. b.now) stimuli.entry in IfOk result (λ o. MatchOption o (IfSome rows AreTaken) (λ r. TellsStimuli rows r.place)) }
+/// Where the bytes of stimuli that may be given are refused, if that is by this number.
+fn stimuli_finding_if(
+    alloc: Global,
+    number: u8,
+    stimuli: Option<&[u8]>,
+) -> Result<Option<Finding>, AllocError>
+    ensures { let rows = option_map (λ b. b.now) stimuli.entry in
+        IfOk result (λ o. MatchOption o (IfSome rows (IsSilentOfStimuli number)) (λ r. TellsStimuli number rows r.place)) }
 {
     match stimuli {
-        Some(bytes) => stimuli_finding(alloc, bytes),
+        Some(bytes) => stimuli_finding(alloc, number, bytes),
         None => Ok(None),
     }
 }
 
-/// Where the bytes of a deployment are refused, or those of stimuli.
+/// Where the bytes of a deployment are refused by this number, or those of stimuli.
 pub fn bytes_finding(
     alloc: Global,
+    number: u8,
     deploy: Option<&[u8]>,
     stimuli: Option<&[u8]>,
 ) -> Result<Option<Finding>, AllocError>
     ensures { let plan = option_map (λ b. b.now) deploy.entry in let rows = option_map (λ b. b.now) stimuli.entry in
-        IfOk result (λ o. MatchOption o (AreTakenBoth plan rows) (λ r. TellsBytes plan rows r.place)) }
+        IfOk result (λ o. MatchOption o (IsSilentOfBytes number plan rows) (λ r. TellsBytes number plan rows r.place)) }
 {
-    match deployment_finding_if(alloc, deploy)? {
+    match deployment_finding_if(alloc, number, deploy)? {
         Some(finding) => Ok(Some(finding)),
-        None => stimuli_finding_if(alloc, stimuli),
+        None => stimuli_finding_if(alloc, number, stimuli),
     }
 }

@@ -10,27 +10,12 @@ use crate::trial::{is_bare_refused, is_one_refused, is_refused};
 use crate::verdict::{has_number, least_fault};
 use fb_check::stimuli::has_bad_stimulus;
 use fb_names::catalog::{Catalog, catalog_of};
-use fb_types::deploy::{Plan, Setting, Stimulus};
+use fb_types::deploy::{Plan, Stimulus};
 use fb_types::library::Library;
 use std::alloc::{AllocError, Global};
 
 /// So many halvings leave one stimulus of as many as there may be.
 const HALVINGS: usize = 20;
-
-/// Whether a setting can't be made alone, of a stimulus whose event is there.
-fn is_unfit(
-    alloc: Global,
-    library: &Library,
-    catalog: &Catalog,
-    stimulus: &Stimulus,
-    setting: &Setting,
-) -> Result<bool, AllocError>
-    requires known { spec.IsKnown library.now catalog.now }
-    requires named { ¬ (BadStimulus library.now (spec.with_settings stimulus.now [] ∷ [])) }
-    ensures { IfOk result (spec.Unfits library.now stimulus.now setting.now) }
-{
-    is_one_refused(alloc, library, catalog, stimulus, setting)
-}
 
 /// The first setting that can't be made alone, of a stimulus whose event is there.
 fn unfit_setting(
@@ -45,7 +30,7 @@ fn unfit_setting(
 {
     let settings = stimulus.settings.as_slice();
     for (place, setting) in settings.iter().enumerate() {
-        let unfit = is_unfit(alloc, library, catalog, stimulus, setting)?;
+        let unfit = is_one_refused(alloc, library, catalog, stimulus, setting)?;
         if unfit {
             return Ok(Some(place));
         }

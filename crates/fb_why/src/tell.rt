@@ -41,18 +41,14 @@ pub fn tell_limit(alloc: Global, limit: Limit) -> Result<String, AllocError> {
 }
 
 fn push_stimulus(text: &mut Text, library: &Library, stimuli: &[Stimulus], place: StimulusPlace) {
-    push_place(text, "stimuli: ", place.row);
+    // Places are counted from 0, and told as 1st for 0.
+    let counted = place.row.saturating_add(1);
+    text.numbered("stimuli: ", counted as i128);
+    text.words(ending(counted));
     text.words(" row behind the heading: ");
     if let Some(stimulus) = stimuli.get(place.row) {
         push_fault(text, library, stimulus, place.fault);
     }
-}
-
-/// Words, and behind them a place that is counted from 0, as in 1st for 0.
-fn push_place(text: &mut Text, words: &str, place: usize) {
-    let counted = place.saturating_add(1);
-    text.numbered(words, counted as i128);
-    text.words(ending(counted));
 }
 
 fn push_fault(text: &mut Text, library: &Library, stimulus: &Stimulus, fault: StimulusFault) {

@@ -4,20 +4,9 @@ use crate::heights::Descent;
 use fb_types::library::{BlockType, CompositeType, Library};
 use fb_why_kinds::tell_sites::push_instance;
 use fb_why_kinds::words::Text;
-use std::alloc::{AllocError, Global};
 
-/// The line that tells which composite type leads too far down, and through which of its instances.
-pub fn tell_too_high(
-    alloc: Global,
-    library: &Library,
-    place: Descent,
-) -> Result<String, AllocError> {
-    let mut text = Text::new(alloc);
-    push_descent(&mut text, library, place);
-    text.into_string()
-}
-
-fn push_descent(text: &mut Text, library: &Library, place: Descent) {
+/// Adds which composite type leads too far down, and through which of its instances.
+pub fn push_descent(text: &mut Text, library: &Library, place: Descent) {
     let (block, instance) = match place {
         Descent::Circle(block, instance) => (block, instance),
         Descent::Height(block, instance) => (block, instance),

@@ -4,16 +4,9 @@ use crate::pair::Repeat;
 use crate::sources::Joined;
 use fb_types::library::{BlockType, Library, Network};
 use fb_why_kinds::words::Text;
-use std::alloc::{AllocError, Global};
 
-/// The line that tells which two data connections lead to one port.
-pub fn tell_joined(alloc: Global, library: &Library, place: Joined) -> Result<String, AllocError> {
-    let mut text = Text::new(alloc);
-    push_joined(&mut text, library, place);
-    text.into_string()
-}
-
-fn push_joined(text: &mut Text, library: &Library, place: Joined) {
+/// Adds which two data connections lead to one port.
+pub fn push_joined(text: &mut Text, library: &Library, place: Joined) {
     match place {
         Joined::Application(pair) => {
             text.named("application ", &library.application.name);

@@ -2,33 +2,22 @@
 
 use crate::pair::Repeat;
 use crate::twice::{GivenTwice, InBlock, InNetwork};
+use fb_names::named::Named;
 use fb_types::deploy::Plan;
-use fb_types::library::{BlockType, EventPort, Instance, Library, Network};
+use fb_types::library::{BlockType, EventPort, Library, Network};
 use fb_types::name::Name;
-use fb_why_kinds::called::Called;
 use fb_why_kinds::tell_sites::push_instance;
 use fb_why_kinds::words::Text;
-use std::alloc::{AllocError, Global};
 
 const AGAIN: &str = " is given twice";
 
-/// The line that tells what is given twice.
-pub fn tell_twice(
-    alloc: Global,
-    library: &Library,
-    plan: &Plan,
-    given: GivenTwice,
-) -> Result<String, AllocError> {
-    let mut text = Text::new(alloc);
-    push_given(&mut text, library, plan, given);
-    text.into_string()
-}
-
-fn push_given(text: &mut Text, library: &Library, plan: &Plan, given: GivenTwice) {
+/// Adds what is given twice.
+pub fn push_given(text: &mut Text, library: &Library, plan: &Plan, given: GivenTwice) {
+    let blocks = library.blocks.as_slice();
     match given {
-        GivenTwice::EventBlock(place) => push_event_block(text, library, place),
-        GivenTwice::Type(pair) => push_again(text, "block type ", library.blocks.as_slice(), pair),
-        GivenTwice::Block(place, found) => push_block(text, library, place, found),
+        GivenTwice::EventBlock(place) => push_block(text, blocks, place, None),
+        GivenTwice::Type(pair) => push_again(text, "block type ", blocks, pair),
+        GivenTwice::Block(place, found) => push_block(text, blocks, place, Some(found)),
         GivenTwice::Application(found) => {
             text.named("application ", &library.application.name);
             push_in_network(text, &library.application.network, found);
@@ -43,17 +32,14 @@ fn push_given(text: &mut Text, library: &Library, plan: &Plan, given: GivenTwice
     }
 }
 
-fn push_event_block(text: &mut Text, library: &Library, place: usize) {
-    if let Some(block) = library.blocks.get(place) {
+/// What a block type gives twice, or that its own name is that of an event block.
+fn push_block(text: &mut Text, blocks: &[BlockType], place: usize, found: Option<InBlock>) {
+    if let Some(block) = blocks.get(place) {
         text.named("block type ", block.name());
-        text.words(": an event block has this name");
-    }
-}
-
-fn push_block(text: &mut Text, library: &Library, place: usize, found: InBlock) {
-    if let Some(block) = library.blocks.get(place) {
-        text.named("block type ", block.name());
-        push_in_block(text, block, found);
+        match found {
+            Some(found) => push_in_block(text, block, found),
+            None => text.words(": an event block has this name"),
+        }
     }
 }
 
@@ -66,7 +52,7 @@ fn push_link(text: &mut Text, plan: &Plan, (_, place): Repeat) {
 }
 
 /// What stands at the second of two places has the name of the first.
-fn push_again<T: Called>(text: &mut Text, words: &str, items: &[T], (_, place): Repeat) {
+fn push_again<T: Named>(text: &mut Text, words: &str, items: &[T], (_, place): Repeat) {
     if let Some(item) = items.get(place) {
         text.named(words, item.name());
         text.words(AGAIN);
@@ -80,7 +66,8 @@ fn push_in_network(text: &mut Text, network: &Network, found: InNetwork) {
         }
         InNetwork::Parameter(place, pair) => {
             if let Some(instance) = network.instances.get(place) {
-                push_parameter(text, instance, pair);
+                push_instance(text, instance);
+                push_again(text, ", parameter ", instance.parameters.as_slice(), pair);
             }
         }
         InNetwork::Connection((_, place)) => {
@@ -92,35 +79,28 @@ fn push_in_network(text: &mut Text, network: &Network, found: InNetwork) {
     }
 }
 
-fn push_parameter(text: &mut Text, instance: &Instance, pair: Repeat) {
-    push_instance(text, instance);
-    push_again(text, ", parameter ", instance.parameters.as_slice(), pair);
-}
-
 fn push_in_block(text: &mut Text, block: &BlockType, found: InBlock) {
-    match found {
-        InBlock::Port(pair) => push_ports(text, block, pair),
-        InBlock::WithInput(place, pair) => {
-            let events = block.ports().event_inputs.as_slice();
-            push_with(text, ": event input ", events.get(place), pair);
-        }
-        InBlock::WithOutput(place, pair) => {
-            let events = block.ports().event_outputs.as_slice();
-            push_with(text, ": event output ", events.get(place), pair);
-        }
-        _ => push_inside(text, block, found),
-    }
-}
-
-fn push_with(text: &mut Text, words: &str, event: Option<&EventPort>, pair: Repeat) {
-    if let Some(event) = event {
-        text.named(words, &event.name);
-        push_again(text, " WITH ", event.with.as_slice(), pair);
-    }
-}
-
-fn push_inside(text: &mut Text, block: &BlockType, found: InBlock) {
+    let ports = block.ports();
     match (block, found) {
+        (_, InBlock::Port(pair)) => push_ports(text, block, pair),
+        (_, InBlock::WithInput(place, pair)) => {
+            push_with(
+                text,
+                ": event input ",
+                ports.event_inputs.as_slice(),
+                place,
+                pair,
+            );
+        }
+        (_, InBlock::WithOutput(place, pair)) => {
+            push_with(
+                text,
+                ": event output ",
+                ports.event_outputs.as_slice(),
+                place,
+                pair,
+            );
+        }
         (BlockType::Basic(basic), InBlock::State(pair)) => {
             push_again(text, ": state ", basic.states.as_slice(), pair);
         }
@@ -134,11 +114,18 @@ fn push_inside(text: &mut Text, block: &BlockType, found: InBlock) {
     }
 }
 
+fn push_with(text: &mut Text, words: &str, events: &[EventPort], place: usize, pair: Repeat) {
+    if let Some(event) = events.get(place) {
+        text.named(words, &event.name);
+        push_again(text, " WITH ", event.with.as_slice(), pair);
+    }
+}
+
 /// The sort and the name of what stands at a place of lists behind each other, or how far on the place is behind their ends.
 type Found<'a> = Result<(&'static str, &'a Name), usize>;
 
 /// What is found with one more list behind.
-fn or_in<'a, T: Called>(found: Found<'a>, sort: &'static str, items: &'a [T]) -> Found<'a> {
+fn or_in<'a, T: Named>(found: Found<'a>, sort: &'static str, items: &'a [T]) -> Found<'a> {
     let place = match found {
         Ok(_) => return found,
         Err(place) => place,

@@ -2,24 +2,11 @@
 
 use crate::unlinked::{Unlinked, resource_of};
 use fb_types::deploy::Plan;
-use fb_types::library::{Connection, Library};
+use fb_types::library::{Application, Connection, PortName};
 use fb_why_kinds::words::Text;
-use std::alloc::{AllocError, Global};
 
-/// The line that tells which connection has no link, and which link it would need.
-pub fn tell_unlinked(
-    alloc: Global,
-    library: &Library,
-    plan: &Plan,
-    place: Unlinked,
-) -> Result<String, AllocError> {
-    let mut text = Text::new(alloc);
-    push_unlinked(&mut text, library, plan, place);
-    text.into_string()
-}
-
-fn push_unlinked(text: &mut Text, library: &Library, plan: &Plan, place: Unlinked) {
-    let application = &library.application;
+/// Adds which connection has no link, and which link it would need.
+pub fn push_unlinked(text: &mut Text, application: &Application, plan: &Plan, place: Unlinked) {
     text.named("application ", &application.name);
     let (words, connection) = match place {
         Unlinked::Event(place) => (
@@ -39,10 +26,13 @@ fn push_unlinked(text: &mut Text, library: &Library, plan: &Plan, place: Unlinke
 fn push_connection(text: &mut Text, plan: &Plan, words: &str, connection: &Connection) {
     text.connection(words, connection);
     text.words(": there is no link");
-    if let Some(resource) = plan.resources.get(resource_of(plan, &connection.from)) {
-        text.named(" from resource ", &resource.name);
-    }
-    if let Some(resource) = plan.resources.get(resource_of(plan, &connection.to)) {
-        text.named(" to resource ", &resource.name);
+    push_resource(text, " from resource ", plan, &connection.from);
+    push_resource(text, " to resource ", plan, &connection.to);
+}
+
+/// Adds the resource in which an end of a connection of the application lies, behind words.
+pub fn push_resource(text: &mut Text, words: &str, plan: &Plan, end: &PortName) {
+    if let Some(resource) = plan.resources.get(resource_of(plan, end)) {
+        text.named(words, &resource.name);
     }
 }

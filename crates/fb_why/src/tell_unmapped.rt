@@ -3,28 +3,16 @@
 use crate::pair::Repeat;
 use crate::unmapped::Unmapped;
 use fb_types::deploy::{Plan, ResourceEntry};
-use fb_types::library::Library;
+use fb_types::library::Application;
 use fb_types::name::Name;
 use fb_why_kinds::words::Text;
-use std::alloc::{AllocError, Global};
 
-/// The line that tells where an instance is not mapped to one resource.
-pub fn tell_unmapped(
-    alloc: Global,
-    library: &Library,
-    plan: &Plan,
-    place: Unmapped,
-) -> Result<String, AllocError> {
-    let mut text = Text::new(alloc);
-    push_unmapped(&mut text, library, plan, place);
-    text.into_string()
-}
-
-fn push_unmapped(text: &mut Text, library: &Library, plan: &Plan, place: Unmapped) {
-    text.named("application ", &library.application.name);
+/// Adds where an instance is not mapped to one resource.
+pub fn push_unmapped(text: &mut Text, application: &Application, plan: &Plan, place: Unmapped) {
+    text.named("application ", &application.name);
     match place {
         Unmapped::Unlisted(place) => {
-            if let Some(instance) = library.application.network.instances.get(place) {
+            if let Some(instance) = application.network.instances.get(place) {
                 text.named(": instance ", &instance.name);
                 text.words(": no resource lists it");
             }

@@ -12,16 +12,14 @@ ghost use Rattle.fb_names.specs.GivenTwice.{BlockTwice, NetworkTwice, PortTwice,
 ghost use Rattle.fb_why.specs.Pairs.{IsPair, Paired};
 ghost use Rattle.fb_why.specs.Twice.{IsEventBlock, IsParameterTwice, IsTwiceAt, IsTwiceInBlock, IsTwiceInNetwork, IsTwiceInPorts, IsTwiceInSome, IsWithTwice, is_own_name, parameter_names};
 
-use crate::pair::{
-    Repeat, called_pair, connection_pair, link_pair, listed_pair, name_pair, push_names,
-};
+use crate::pair::{Repeat, called_pair, connection_pair, link_pair, name_pair};
+use fb_names::named::{Named, push_names};
 use fb_types::deploy::Plan;
 use fb_types::event_ports::kind_named;
 use fb_types::library::{
     BasicType, BlockType, CompositeType, EventPort, Instance, Library, Network, Ports, Variable,
 };
 use fb_types::name::Name;
-use fb_why_kinds::called::Called;
 use std::alloc::{AllocError, Global};
 
 /// What a network gives twice.
@@ -75,7 +73,7 @@ fn with_pair(alloc: Global, events: &[EventPort]) -> Result<Option<(usize, Repea
     ensures { IfOk result (λ o. MatchOption o (All (λ e. ¬ (Twice e.with)) events.now) (λ r. IsWithTwice events.now r.0 r.1)) }
 {
     for (place, event) in events.iter().enumerate() {
-        if let Some(pair) = listed_pair(alloc, event.with.as_slice())? {
+        if let Some(pair) = called_pair(alloc, event.with.as_slice())? {
             return Ok(Some((place, pair)));
         }
     }

@@ -8,7 +8,8 @@ ghost use Rattle.fb_types.specs.declared.library.Instance.{Instance};
 ghost use Rattle.fb_names.specs.Places.{names_in};
 ghost use Rattle.fb_why.specs.Unmapped.{AllListed, IsUnmappedAmong, IsUnmappedAt, is_listed};
 
-use crate::pair::{Repeat, name_pair, push_names};
+use crate::pair::{Repeat, name_pair};
+use fb_names::named::push_names;
 use fb_types::deploy::{Plan, ResourceEntry};
 use fb_types::library::{Instance, Library};
 use fb_types::name::Name;

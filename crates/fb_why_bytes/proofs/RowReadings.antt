@@ -12,23 +12,10 @@ use Rattle.fb_inputs.specs.Words.{Text}
 use Rattle.fb_inputs.specs.Stimuli.{is_head, most_rows, stimuli_from, stimuli_of, stimulus}
 use Rattle.fb_inputs.specs.Readers.{IsAt, rows_from}
 use Rattle.fb_inputs.proofs.Rows.{all_behind, next_found, none_left}
-use Rattle.fb_why_bytes.specs.Rows.{AreTaken, IsRowAt}
+use Rattle.fb_why_bytes.specs.Rows.{AreTaken, IsRowAt, Stands}
 use Rattle.fb_why_bytes.specs.RowVerdicts.{IsFine, IsJudged, IsRefusedFor}
 use Rattle.fb_why_bytes.specs.declared.place.RowFault.{RowFault}
 use Rattle.fb_why_bytes.proofs.RowJudgements.{few_before}
-
--- Behind a heading this many rows were read, and each was taken; the reader stands behind them.
-pub record Stands (bytes : Text) (k : ℕ) (it : ByteRecordsIntoIter (Bor (List ℕ))) : Type 0 where
-  pub left : Text
-  pub here : IsAt it left
-  pub head : Row
-  pub headed : is_head head ≡ true
-  pub past : List Row
-  pub counted : length past ≡ k
-  pub read : records default_config (strip_bom bytes) ≡ head ∷ (past ++ rows_from it.rdr.state left)
-  pub found : List Stimulus
-  pub taken : length found ≡ k
-  pub so_far : stimuli_of bytes ≡ all_behind found (stimuli_from (length found) (rows_from it.rdr.state left))
 
 -- ---- The places of records
 

@@ -1,5 +1,5 @@
 -- The parts of a row, and which of them are what they are to be (this project's profile).
-use Rattle.std.specs.Prelude.{◌≡◌, ℕ, Bool, false, List, [], ◌∷◌, Option, Some, None, is_some, slice_get}
+use Rattle.std.specs.Prelude.{◌≡◌, ℕ, Bool, true, false, List, [], ◌∷◌, Option, Some, None, is_some, slice_get}
 use Rattle.std.specs.Borrow.{Bor}
 use Rattle.fb_inputs.specs.declared.row.Word.{Word}
 use Rattle.fb_inputs.specs.Words.{Text}
@@ -22,6 +22,11 @@ has_value (Some x) = is_some x.value
 -- a word with a value
 abbrev pub is_valued : Text → Bool
 is_valued z = has_value (word z)
+
+-- a word, and where that is asked one with a value
+abbrev pub is_right : (valued : Bool) → Text → Bool
+is_right true z = is_valued z
+is_right false z = is_word z
 
 -- It is one word by itself.
 abbrev pub IsSingle : Text → Type 0

@@ -1,13 +1,16 @@
 -- Where stimuli are refused (E13 to E15): the place, and what is wrong there (this project's profile).
-use Rattle.std.specs.Prelude.{◌≡◌, ◌≤◌, ◌<◌, ◌^◌, ℕ, List, ◌∷◌, length, true, false, Some, None, Ok, Err, slice_get}
+use Rattle.std.specs.Prelude.{◌≡◌, ◌≤◌, ◌<◌, ◌^◌, ℕ, List, ◌∷◌, ◌++◌, length, true, false, Some, None, Ok, Err, slice_get}
+use Rattle.std.specs.Borrow.{Bor}
 use Rattle.csv.specs.Reading.{records, default_config, strip_bom}
+use Rattle.csv.specs.declared.iter.ByteRecordsIntoIter.{ByteRecordsIntoIter}
 use Rattle.fb_types.specs.declared.deploy.Stimulus.{Stimulus}
 use Rattle.fb_inputs.specs.declared.row.Word.{Word}
 use Rattle.fb_inputs.specs.Refusals.{bad_row, bad_number, over_limit}
 use Rattle.fb_inputs.specs.Words.{Text}
 use Rattle.fb_inputs.specs.Numbers.{natural}
 use Rattle.fb_inputs.specs.Rows.{Row, event, words, word}
-use Rattle.fb_inputs.specs.Stimuli.{three, is_head, stimuli_of, most_bytes, most_rows}
+use Rattle.fb_inputs.specs.Readers.{IsAt, rows_from}
+use Rattle.fb_inputs.specs.Stimuli.{all_behind, three, is_head, stimuli_from, stimuli_of, most_bytes, most_rows}
 use Rattle.fb_why_bytes.specs.declared.place.RowFault.{RowFault}
 use Rattle.fb_why_bytes.specs.declared.place.RowFault.TheVariants as fault
 use Rattle.fb_why_bytes.specs.declared.place.StimuliPlace.{StimuliPlace}
@@ -78,3 +81,16 @@ IsRefusedAt bytes p = (stimuli_of bytes ≡ Err (number_of p)) × IsFaultAt byte
 -- The bytes are stimuli.
 abbrev pub AreTaken : Text → Type 0
 AreTaken bytes = (stimuli : List Stimulus) × (stimuli_of bytes ≡ Ok stimuli)
+
+-- Behind a heading this many rows were read, and each was taken; the reader stands behind them.
+pub record Stands (bytes : Text) (k : ℕ) (it : ByteRecordsIntoIter (Bor (List ℕ))) : Type 0 where
+  pub left : Text
+  pub here : IsAt it left
+  pub head : Row
+  pub headed : is_head head ≡ true
+  pub past : List Row
+  pub counted : length past ≡ k
+  pub read : records default_config (strip_bom bytes) ≡ head ∷ (past ++ rows_from it.rdr.state left)
+  pub found : List Stimulus
+  pub taken : length found ≡ k
+  pub so_far : stimuli_of bytes ≡ all_behind found (stimuli_from (length found) (rows_from it.rdr.state left))

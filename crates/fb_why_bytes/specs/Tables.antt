@@ -5,7 +5,7 @@ use Rattle.toml.specs.View.{view}
 use Rattle.toml.specs.declared.value.Value.{Value}
 use Rattle.fb_inputs.specs.Refusals.{no_document, bad_shape, bad_latency, bad_table, over_limit}
 use Rattle.fb_inputs.specs.Words.{Text}
-use Rattle.fb_inputs.specs.Documents.{count_of, draft, known_keys, list_of, name_of, pair, read_at}
+use Rattle.fb_inputs.specs.Documents.{count_of, draft, known_keys, link, list_of, name_of, pair, read_at, resource}
 use Rattle.fb_inputs.specs.Deployments.{document, most_bytes}
 use Rattle.fb_why_bytes.specs.Keys.{elements_at, has_key, is_either, is_element, is_of_kind, value_at}
 use Rattle.fb_why_bytes.specs.Names.{alike_names}
@@ -78,6 +78,17 @@ IsLinkFault keys fault.Both = (has_key keys key.Latency ≡ true) × (has_key ke
 IsLinkFault keys fault.Itself = is_loop keys ≡ true
 IsLinkFault keys fault.Further = (has_key keys key.From ≡ true) × (has_key keys key.To ≡ true) × (has_latency keys ≡ true) × ((count_of keys == 3) ≡ false)
 IsLinkFault keys _ = ⊥
+
+-- ---- Both
+
+-- what the one array of a document holds, and the other
+abbrev pub is_entry : (is_link : Bool) → Data → Bool
+is_entry true d = is_some (link d)
+is_entry false d = is_some (resource d)
+
+abbrev pub IsEntryFault : (is_link : Bool) → Members → TableFault → Type 0
+IsEntryFault true = IsLinkFault
+IsEntryFault false = IsResourceFault
 
 -- ---- Documents
 

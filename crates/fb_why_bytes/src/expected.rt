@@ -123,7 +123,11 @@ fn add_expected(alloc: Global, all: &mut String, before: &[u8]) -> Result<(), Al
     if !named {
         add_words(alloc, all, before, &["IN", "ST"])?;
     }
-    add_words(alloc, all, before, &WORDS)
+    add_words(alloc, all, before, known_words())
+}
+
+fn known_words() -> &'static [&'static str] {
+    &WORDS
 }
 
 /// Adds those of some words with which the text may go on.

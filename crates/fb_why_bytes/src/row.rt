@@ -34,44 +34,26 @@ fn is_tick(alloc: Global, text: &[u8]) -> Result<bool, AllocError>
     Ok(has_numbers(verdict))
 }
 
-/// Whether a text without spaces is `NAME=VALUE`.
-fn is_word(alloc: Global, text: &[u8]) -> Result<bool, AllocError>
+/// Whether a text without spaces is `NAME=VALUE`, and its value is one too where that is asked.
+fn is_right(alloc: Global, text: &[u8], valued: bool) -> Result<bool, AllocError>
     requires { spec.IsSingle text.now }
-    ensures { IfOk result (λ b. b ≡ spec.is_word text.now) }
+    ensures { IfOk result (λ b. b ≡ spec.is_right valued text.now) }
 {
     let verdict = judge_row(alloc, TICK, EVENT, text)?;
-    Ok(has_shape(verdict))
-}
-
-/// Whether a text without spaces is `NAME=VALUE` with a value that is one.
-fn is_valued(alloc: Global, text: &[u8]) -> Result<bool, AllocError>
-    requires { spec.IsSingle text.now }
-    ensures { IfOk result (λ b. b ≡ spec.is_valued text.now) }
-{
-    let verdict = judge_row(alloc, TICK, EVENT, text)?;
-    Ok(is_taken(verdict))
-}
-
-/// The first word that is not `NAME=VALUE`.
-fn wrong_word(alloc: Global, words: &[&[u8]]) -> Result<Option<usize>, AllocError>
-    requires { All (λ w. spec.IsSingle w.now) words.now }
-    ensures { IfOk result (λ o. MatchOption o (list_all (λ w. spec.is_word w.now) words.now ≡ true) (spec.FailsAt spec.is_word words.now)) }
-{
-    for (place, word) in words.iter().enumerate() {
-        if !is_word(alloc, word)? {
-            return Ok(Some(place));
-        }
+    if valued {
+        Ok(is_taken(verdict))
+    } else {
+        Ok(has_shape(verdict))
     }
-    Ok(None)
 }
 
-/// The first word whose value is none.
-fn wrong_value(alloc: Global, words: &[&[u8]]) -> Result<Option<usize>, AllocError>
+/// The first word that is not `NAME=VALUE`, or whose value is none where that is asked.
+fn wrong_word(alloc: Global, words: &[&[u8]], valued: bool) -> Result<Option<usize>, AllocError>
     requires { All (λ w. spec.IsSingle w.now) words.now }
-    ensures { IfOk result (λ o. MatchOption o (list_all (λ w. spec.is_valued w.now) words.now ≡ true) (spec.FailsAt spec.is_valued words.now)) }
+    ensures { IfOk result (λ o. MatchOption o (list_all (λ w. spec.is_right valued w.now) words.now ≡ true) (spec.FailsAt (spec.is_right valued) words.now)) }
 {
     for (place, word) in words.iter().enumerate() {
-        if !is_valued(alloc, word)? {
+        if !is_right(alloc, word, valued)? {
             return Ok(Some(place));
         }
     }
@@ -87,7 +69,7 @@ fn shape_fault(alloc: Global, event: &[u8], values: &[u8]) -> Result<Option<RowF
         return Ok(Some(RowFault::Event));
     }
     let words = words_of(alloc, values)?;
-    let found = wrong_word(alloc, words.as_slice())?;
+    let found = wrong_word(alloc, words.as_slice(), false)?;
     match found {
         Some(place) => Ok(Some(RowFault::Word(place))),
         None => Ok(None),
@@ -103,7 +85,7 @@ fn number_fault(alloc: Global, tick: &[u8], values: &[u8]) -> Result<Option<RowF
         return Ok(Some(RowFault::Tick));
     }
     let words = words_of(alloc, values)?;
-    let found = wrong_value(alloc, words.as_slice())?;
+    let found = wrong_word(alloc, words.as_slice(), true)?;
     match found {
         Some(place) => Ok(Some(RowFault::Value(place))),
         None => Ok(None),

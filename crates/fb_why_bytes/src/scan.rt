@@ -84,7 +84,7 @@ fn is_time_word(word: &[u8]) -> bool {
 }
 
 fn is_base(word: &[u8]) -> bool {
-    word == b"2".as_slice() || word == b"8".as_slice() || word == b"16".as_slice()
+    matches!(word, [b'2'] | [b'8'] | [b'1', b'6'])
 }
 
 /// The length of the token at the front of a text that is not empty.

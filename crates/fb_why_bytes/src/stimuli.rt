@@ -3,12 +3,13 @@
 ghost use Rattle.std.specs.Prelude.{IfOk, MatchOption};
 ghost use Rattle.csv.specs.Reading.{error_kind};
 ghost use Rattle.csv.specs.Records.{fields_of};
-ghost use Rattle.fb_why_bytes.specs.Rows.{AreTaken, IsRefusedAt};
+ghost use Rattle.fb_inputs.specs.Words.{Text};
+ghost use Rattle.fb_why_bytes.specs.Rows.{AreTaken, IsRefusedAt, Stands};
 ghost use Rattle.fb_why_bytes.specs.RowVerdicts.{IsFine, IsJudged, IsRefusedFor};
 
 use crate::place::{RowFault, StimuliPlace};
 use crate::row::row_fault;
-use csv::{ByteRecord, Error};
+use csv::{ByteRecord, ByteRecordsIntoIter, Error};
 use fb_inputs::error::InputError;
 use fb_inputs::stimuli::{MOST_BYTES, columns, rows_of};
 use std::alloc::{AllocError, Global};
@@ -42,6 +43,24 @@ fn fault_of(
     }
 }
 
+/// The first of the records behind the heading with which something is wrong, and what.
+fn row_place(
+    alloc: Global,
+    rows: &mut ByteRecordsIntoIter<&[u8]>,
+) -> Result<Option<StimuliPlace>, AllocError>
+    requires { (bytes : Text) × Stands bytes 0 rows.old }
+    ensures { (bytes : Text) → Stands bytes 0 rows.old → IfOk result (λ o. MatchOption o (AreTaken bytes) (IsRefusedAt bytes)) }
+{
+    let mut row = 0;
+    for next in rows {
+        if let Some(fault) = fault_of(alloc, row, next)? {
+            return Ok(Some(StimuliPlace::Row { row, fault }));
+        }
+        row += 1;
+    }
+    Ok(None)
+}
+
 /// Where the stimuli that bytes of CSV are meant to be are refused, or `None` where they are taken.
 pub fn stimuli_place(alloc: Global, bytes: &[u8]) -> Result<Option<StimuliPlace>, AllocError>
     ensures { IfOk result (λ o. MatchOption o (AreTaken bytes.now) (IsRefusedAt bytes.now)) }
@@ -54,15 +73,11 @@ pub fn stimuli_place(alloc: Global, bytes: &[u8]) -> Result<Option<StimuliPlace>
         Err(InputError::Row) => return Ok(Some(StimuliPlace::Heading)),
         Err(_) => return Err(AllocError),
     };
-    let Some(rows) = opened else {
+    let Some(mut rows) = opened else {
         return Ok(None);
     };
-    let mut row = 0;
-    for next in rows {
-        if let Some(fault) = fault_of(alloc, row, next)? {
-            return Ok(Some(StimuliPlace::Row { row, fault }));
-        }
-        row += 1;
-    }
-    Ok(None)
+    let place = row_place(alloc, &mut rows);
+    // One call, where the way out would drop each part of the reader.
+    drop(rows);
+    place
 }

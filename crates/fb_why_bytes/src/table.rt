@@ -210,47 +210,34 @@ fn link_keys_fault(alloc: Global, keys: &Table) -> Result<Option<TableFault>, Al
     Ok(None)
 }
 
-/// What is wrong with a value that is to be a resource.
-fn resource_fault(alloc: Global, value: &Value) -> Result<Option<TableFault>, AllocError>
-    ensures { IfOk result (λ o. MatchOption o (is_some (inputs.resource (view value.now)) ≡ true) (spec.IsTableFault spec.IsResourceFault (view value.now))) }
+/// What is wrong with a value that is to be a link, or else a resource.
+fn table_fault(
+    alloc: Global,
+    value: &Value,
+    is_link: bool,
+) -> Result<Option<TableFault>, AllocError>
+    ensures { IfOk result (λ o. MatchOption o (spec.is_entry is_link (view value.now) ≡ true) (spec.IsTableFault (spec.IsEntryFault is_link) (view value.now))) }
 {
-    match value.as_table() {
-        Some(keys) => resource_keys_fault(alloc, keys),
-        None => Ok(Some(TableFault::NoTable)),
+    let Some(keys) = value.as_table() else {
+        return Ok(Some(TableFault::NoTable));
+    };
+    if is_link {
+        link_keys_fault(alloc, keys)
+    } else {
+        resource_keys_fault(alloc, keys)
     }
 }
 
-/// What is wrong with a value that is to be a link.
-fn link_fault(alloc: Global, value: &Value) -> Result<Option<TableFault>, AllocError>
-    ensures { IfOk result (λ o. MatchOption o (is_some (inputs.link (view value.now)) ≡ true) (spec.IsTableFault spec.IsLinkFault (view value.now))) }
-{
-    match value.as_table() {
-        Some(keys) => link_keys_fault(alloc, keys),
-        None => Ok(Some(TableFault::NoTable)),
-    }
-}
-
-/// The first of the resources with which something is wrong, and what.
-fn resources_fault(
+/// The first of the links, or else of the resources, with which something is wrong, and what.
+fn tables_fault(
     alloc: Global,
     values: &[Value],
+    are_links: bool,
 ) -> Result<Option<(usize, TableFault)>, AllocError>
-    ensures { IfOk result (λ o. MatchOption o (list_all (λ v. is_some (inputs.resource (view v))) values.now ≡ true) (spec.IsFaultAmong spec.IsResourceFault values.now)) }
+    ensures { IfOk result (λ o. MatchOption o (list_all (λ v. spec.is_entry are_links (view v)) values.now ≡ true) (spec.IsFaultAmong (spec.IsEntryFault are_links) values.now)) }
 {
     for (place, value) in values.iter().enumerate() {
-        if let Some(fault) = resource_fault(alloc, value)? {
-            return Ok(Some((place, fault)));
-        }
-    }
-    Ok(None)
-}
-
-/// The first of the links with which something is wrong, and what.
-fn links_fault(alloc: Global, values: &[Value]) -> Result<Option<(usize, TableFault)>, AllocError>
-    ensures { IfOk result (λ o. MatchOption o (list_all (λ v. is_some (inputs.link (view v))) values.now ≡ true) (spec.IsFaultAmong spec.IsLinkFault values.now)) }
-{
-    for (place, value) in values.iter().enumerate() {
-        if let Some(fault) = link_fault(alloc, value)? {
+        if let Some(fault) = table_fault(alloc, value, are_links)? {
             return Ok(Some((place, fault)));
         }
     }
@@ -267,7 +254,7 @@ fn resources_at(alloc: Global, keys: &Table) -> Result<Option<(TablePlace, Table
     let Some(values) = value.as_array() else {
         return Ok(Some((TablePlace::Top, TableFault::Wrong(DeployKey::Resource))));
     };
-    let found = resources_fault(alloc, values.as_slice())?;
+    let found = tables_fault(alloc, values.as_slice(), false)?;
     match found {
         Some((place, fault)) => Ok(Some((TablePlace::Resource(place), fault))),
         None => Ok(None),
@@ -284,7 +271,7 @@ fn links_at(alloc: Global, keys: &Table) -> Result<Option<(TablePlace, TableFaul
     let Some(values) = value.as_array() else {
         return Ok(Some((TablePlace::Top, TableFault::Wrong(DeployKey::Link))));
     };
-    let found = links_fault(alloc, values.as_slice())?;
+    let found = tables_fault(alloc, values.as_slice(), true)?;
     match found {
         Some((place, fault)) => Ok(Some((TablePlace::Link(place), fault))),
         None => Ok(None),

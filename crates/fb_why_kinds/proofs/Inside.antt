@@ -1,5 +1,7 @@
 -- The statements inside of statements, each by its parts.
-use Rattle.std.proofs.Common.{◌≡◌, Bool, List, ◌++◌, sym, ◌∙◌, ap}
+use Rattle.std.proofs.Common.{◌≡◌, Bool, true, List, Option, ◌++◌, sym, ◌∙◌, ap, inl, inr}
+use Rattle.std.specs.Prelude.{◌⊎◌}
+use Rattle.fb_types.specs.Names.{Name}
 use Rattle.fb_types.specs.Syntax.{stmt_of}
 use Rattle.fb_types.specs.declared.text.Expr.{Expr}
 use Rattle.fb_types.specs.declared.text.Stmt as read
@@ -8,7 +10,7 @@ use Rattle.fb_types.specs.declared.text.Branch.{Branch, out-Branch}
 use Rattle.fb_types.specs.declared.text.Choice.{Choice, out-Choice}
 use Rattle.fb_kinds.specs.Trees.{all_of, branch_of, branches_of, choice_of, choices_of}
 use Rattle.fb_why_kinds.specs.Statements.{Standing, each_in_body, each_in_branches, each_in_choices, each_inside}
-use Rattle.fb_why_kinds.proofs.Says.{branch_says, case_says, choice_says, if_says}
+use Rattle.fb_kinds.proofs.Says.{branch_says, case_says, choice_says, for_says, if_says, repeat_says, while_says}
 
 abbrev inside : Bool → Stmt → List Standing
 inside l s = each_inside l (stmt_of s)
@@ -28,6 +30,15 @@ pub inside_case :
     → inside l s ≡ each_in_branches l (branches_of bs) ++ each_in l os
 inside_case l s e bs ds os ps is branches others =
     ap (inside l) is ∙ ap (each_inside l) (case_says e ds ps) ∙ (λ i. each_in_branches l (branches_of (sym branches i)) ++ each_in l (sym others i))
+
+-- a loop, whichever it is
+pub inside_loop :
+    (l : Bool) (s : Stmt) (os ps : List Stmt)
+    → ((n : Name) × (a : Expr) × (b : Expr) × (c : Option Expr) × (s ≡ read.For n a b c ps)) ⊎ (((c : Expr) × (s ≡ read.While c ps)) ⊎ ((c : Expr) × (s ≡ read.Repeat ps c)))
+    → os ≡ ps → inside l s ≡ each_in true os
+inside_loop l s os ps (inl (n, a, b, c, is)) body = ap (inside l) is ∙ ap (each_inside l) (for_says n a b c ps) ∙ ap (each_in true) (sym body)
+inside_loop l s os ps (inr (inl (c, is))) body = ap (inside l) is ∙ ap (each_inside l) (while_says c ps) ∙ ap (each_in true) (sym body)
+inside_loop l s os ps (inr (inr (c, is))) body = ap (inside l) is ∙ ap (each_inside l) (repeat_says ps c) ∙ ap (each_in true) (sym body)
 
 -- behind a condition and behind labels
 pub inside_choice : (l : Bool) (c : Choice) (os : List Stmt) → os ≡ (out-Choice c).body → each_in_body l (choice_of c).1 ≡ each_in l os

@@ -11,8 +11,6 @@ mod Placed
 mod Parts
 mod Applying
 mod Searches
-mod Says
 mod Added
 mod Mentioned
 mod Inside
-mod Sorted

@@ -1,5 +1,5 @@
 -- Where a name stands for nothing of the wanted sort (E21): the place, and what is wanted there (IEC 61499-1, 5 to 7).
-use Rattle.std.specs.Prelude.{◌≡◌, ℕ, List, Bool, true, false, ◌&&◌, Option, Some, None, Contains, slice_get, option_map, option_and_then}
+use Rattle.std.specs.Prelude.{◌≡◌, ℕ, List, Bool, true, false, ◌&&◌, Option, Some, Contains, slice_get, option_map, option_and_then}
 use Rattle.std.specs.List.{list_all, list_any}
 use Rattle.fb_types.specs.Names.{Name, same_name}
 use Rattle.fb_types.specs.Flat.{resource_names_of}

@@ -13,8 +13,7 @@ ghost use Rattle.fb_kinds.specs.Checks.{action_met, actions_met, transition_met}
 ghost use Rattle.fb_names.specs.Sorts.{names_of_sort};
 ghost use Rattle.fb_why_kinds.specs.Unknown.{Unmet, action_wanted, transition_wanted};
 
-use crate::called::is_called;
-use crate::lookup::has_port;
+use crate::lookup::{has_port, is_called};
 use crate::place::{ActionPart, TransitionPart};
 use fb_names::ports::PortSort;
 use fb_types::library::{Action, BasicType, EventPort, Ports, State, Transition};

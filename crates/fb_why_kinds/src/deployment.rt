@@ -8,7 +8,7 @@ ghost use Rattle.fb_types.specs.declared.deploy.ResourceEntry.{ResourceEntry};
 ghost use Rattle.fb_names.specs.Unknown.{DeploymentUnknown};
 ghost use Rattle.fb_why_kinds.specs.Unknown.{IsUnknownAt, are_sides_met, are_mapped, is_instance, is_resource, side_of};
 
-use crate::called::is_called;
+use crate::lookup::is_called;
 use crate::place::{Side, UnknownName};
 use fb_types::deploy::{Link, Plan, ResourceEntry};
 use fb_types::library::{Instance, Library};

@@ -7,14 +7,13 @@
 //! where there is no such place. By `laws::places_apply` the number applies where a place of the last two is told. Of the texts
 //! nothing is promised.
 //!
-//! To be read in this order: `place`; `called`, `lookup`, `networks`, `blocks`, `charts`, `mentions` and `deployment`, where names are looked
-//! for; `unknown`. Then `types`, what names stand for; `misjoins`; `sorts`, kinds of expressions; `statements`, `parameters` and
-//! `misfits`; `laws`. Last `words`, `tell_sites`, `tell_unknown` and `tell_kinds`, a place as a text. What has a name (`called`) and a
-//! text that grows (`words`) serve `fb_why` too.
+//! To be read in this order: `place`; `lookup`, `networks`, `blocks`, `charts`, `mentions` and `deployment`, where names are looked
+//! for; `unknown`. Then `types`, what names stand for; `misjoins`; `statements`, `parameters` and
+//! `misfits`; `laws`. Last `words`, `tell_sites`, `tell_unknown` and `tell_kinds`, a place as a text. A text that grows
+//! (`words`) serves `fb_why` too.
 #![tactic(auto)]
 
 mod blocks;
-pub mod called;
 mod charts;
 mod deployment;
 pub mod laws;
@@ -25,7 +24,6 @@ pub mod misjoins;
 mod networks;
 mod parameters;
 pub mod place;
-mod sorts;
 mod statements;
 pub mod tell_kinds;
 pub mod tell_sites;

@@ -1,14 +1,16 @@
 //! What names stand for in a declaration, looked for from name to name.
 
 ghost use Rattle.std.specs.Prelude.{◌≡◌, IfOk, option_map};
+ghost use Rattle.std.specs.List.{list_any};
 ghost use Rattle.std.specs.Option.{option_copied};
 ghost use Rattle.fb_types.specs.Blocks.{among, ports_of};
 ghost use Rattle.fb_names.specs.Sorts.{names_of_sort};
+ghost use Rattle.fb_types.specs.Names.{same_name};
 ghost use Rattle.fb_types.specs.EventPorts.{ArePortsOfKinds};
 ghost use Rattle.fb_types.specs.Flat as spec;
 ghost use Rattle.fb_types.specs.Repeated.{block_type_names};
 
-use crate::called::is_called;
+use fb_names::named::Named;
 use fb_names::ports::PortSort;
 use fb_types::event_ports::{all_ports, kind_named};
 use fb_types::items::Items;
@@ -22,6 +24,18 @@ pub struct BlockTypes<'a> {
     pub library: &'a Library,
     event_ports: Items<Ports>,
     ghost of_kinds: { ArePortsOfKinds event_ports },
+}
+
+/// Whether one of some has the name.
+pub(crate) fn is_called<T: Named>(items: &[T], name: &Name) -> bool
+    ensures { result ≡ list_any (λ x. same_name name.now (T.called x)) items.now }
+{
+    for item in items {
+        if name.is(item.name()) {
+            return true;
+        }
+    }
+    false
 }
 
 /// Whether an interface has a port of the sort by the name.

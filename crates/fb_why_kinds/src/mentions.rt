@@ -7,7 +7,7 @@ ghost use Rattle.fb_types.specs.Unknown.{is_known, mentions, mentions_all, menti
 ghost use Rattle.fb_kinds.specs.Trees.{all_of, arguments_of, branches_of, choices_of};
 ghost use Rattle.fb_why_kinds.specs.Mentions.{meant, meant_all, mentions_of_control, mentions_of_step};
 
-use crate::types::type_among;
+use fb_kinds::variables::type_among;
 use fb_types::function::Function;
 use fb_types::library::BasicType;
 use fb_types::name::Name;

@@ -16,7 +16,8 @@ ghost use Rattle.fb_why_kinds.specs.Statements.{WrongAmong, each_in_body};
 
 use crate::parameters::misfit_in_network;
 use crate::place::{Misfit, Site, StatementPart, Variables};
-use crate::statements::{is_condition, wrong_statement};
+use crate::statements::wrong_statement;
+use fb_kinds::sorts::is_condition;
 use fb_types::library::{Algorithm, BasicType, BlockType, Library, Transition, Variable};
 use std::alloc::{AllocError, Global};
 
@@ -62,7 +63,7 @@ fn is_guard_right(basic: &BasicType, transition: &Transition) -> bool
     ensures { result ≡ is_guard_right basic.now transition.now }
 {
     match &transition.condition.guard {
-        Some(guard) => is_condition(basic, guard),
+        Some(guard) => is_condition(guard, basic),
         None => true,
     }
 }

@@ -11,8 +11,9 @@ ghost use Rattle.fb_why_kinds.specs.Misjoins.{IsMisjoinedAt, IsMisjoinedInside, 
 
 use crate::networks::PlacedNetwork;
 use crate::place::{Misjoin, Site};
-use crate::types::{port_type, type_named};
+use crate::types::type_named;
 use fb_joins::values::is_within;
+use fb_kinds::variables::port_type;
 use fb_types::library::{BlockType, Connection, Library, PortName, instance_named};
 use fb_types::value::Ty;
 

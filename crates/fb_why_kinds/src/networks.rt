@@ -99,7 +99,7 @@ fn is_end(
 }
 
 /// The sort of the ports of components from which a connection leads.
-fn output_of(flow: FlowKind) -> PortSort
+pub(crate) fn output_of(flow: FlowKind) -> PortSort
     ensures { names_of_sort result ≡ outputs_of flow }
 {
     match flow {
@@ -109,7 +109,7 @@ fn output_of(flow: FlowKind) -> PortSort
 }
 
 /// The sort of the ports of components to which a connection leads.
-fn input_of(flow: FlowKind) -> PortSort
+pub(crate) fn input_of(flow: FlowKind) -> PortSort
     ensures { names_of_sort result ≡ inputs_of flow }
 {
     match flow {

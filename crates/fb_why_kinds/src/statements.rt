@@ -2,16 +2,17 @@
 
 ghost use Rattle.std.specs.Prelude.{◌≡◌, ◌∷◌, ◌++◌, [], IfOk, MatchOption, true, false};
 ghost use Rattle.std.specs.List.{list_all};
-ghost use Rattle.fb_types.specs.Kinds.{is_condition, is_whole, place_in};
+ghost use Rattle.fb_types.specs.Kinds.{place_in};
 ghost use Rattle.fb_types.specs.Syntax.{Assign, For, body_of, expr_of, no_stmt, stmt_of, step_of};
 ghost use Rattle.fb_kinds.specs.Checks.{algorithm_right, in_place};
 ghost use Rattle.fb_kinds.specs.Trees.{all_of, branches_of, choices_of};
 ghost use Rattle.fb_why_kinds.specs.Statements.{WrongAmong, all_standing, choice_right, conditions_right, each_in_body, each_in_branches, each_in_choices, each_inside, own_right, part_right, stands_right, standing_of};
 
 use crate::place::StatementPart;
-use crate::sorts::is_sort;
-use crate::types::{is_input, type_of};
-use fb_kinds::sorts::{are_same, sort_of_type};
+use crate::types::is_input;
+use fb_kinds::sorts::{
+    Typing, are_same, is_condition, is_sort, is_step_whole, is_whole, sort_of_type,
+};
 use fb_types::library::{Algorithm, BasicType};
 use fb_types::reference::Reference;
 use fb_types::sort::Sort;
@@ -115,36 +116,12 @@ pub fn all_statements(alloc: Global, body: &Body) -> Result<Vec<Standing>, Alloc
     Ok(all)
 }
 
-/// Whether an expression is a truth value.
-pub fn is_condition(basic: &BasicType, expr: &Expr) -> bool
-    ensures { result ≡ is_condition (place_in basic.now) (expr_of expr.now) }
-{
-    is_sort(Sort::TruthValue, expr, basic)
-}
-
-/// Whether an expression is a whole number.
-fn is_whole(basic: &BasicType, expr: &Expr) -> bool
-    ensures { result ≡ is_whole (place_in basic.now) (expr_of expr.now) }
-{
-    is_sort(Sort::WholeNumber, expr, basic)
-}
-
-/// The same of the step of FOR, if there is one.
-fn is_step_whole(basic: &BasicType, step: &Option<Expr>) -> bool
-    ensures { result ≡ is_whole (place_in basic.now) (step_of step.now) }
-{
-    match step {
-        Some(step) => is_whole(basic, step),
-        None => true,
-    }
-}
-
 /// The first condition of IF and its ELSIFs that is no truth value.
 fn wrong_choice(basic: &BasicType, choices: &[Choice]) -> Option<usize>
     ensures { MatchOption result (conditions_right (place_in basic.now) (choices_of choices.now) ≡ true) (λ k. choice_right (place_in basic.now) (choices_of choices.now) k ≡ false) }
 {
     for (place, choice) in choices.iter().enumerate() {
-        if !is_condition(basic, &choice.condition) {
+        if !is_condition(&choice.condition, basic) {
             return Some(place);
         }
     }
@@ -162,7 +139,7 @@ fn wrong_in_assignment(
     if is_input(basic, variable.name()) {
         return Some(StatementPart::Assigned);
     }
-    let sort = sort_of_type(type_of(basic, variable.name()));
+    let sort = sort_of_type(basic.type_of(variable.name()));
     if !is_sort(sort, expr, basic) {
         return Some(StatementPart::Value);
     }
@@ -182,17 +159,17 @@ fn wrong_in_for(
     if is_input(basic, variable.name()) {
         return Some(StatementPart::Assigned);
     }
-    let sort = sort_of_type(type_of(basic, variable.name()));
+    let sort = sort_of_type(basic.type_of(variable.name()));
     if !are_same(Sort::WholeNumber, sort) {
         return Some(StatementPart::Control);
     }
-    if !is_whole(basic, start) {
+    if !is_whole(start, basic) {
         return Some(StatementPart::Start);
     }
-    if !is_whole(basic, end) {
+    if !is_whole(end, basic) {
         return Some(StatementPart::End);
     }
-    if !is_step_whole(basic, step) {
+    if !is_step_whole(step, basic) {
         return Some(StatementPart::Step);
     }
     None
@@ -217,7 +194,7 @@ fn wrong_part(basic: &BasicType, standing: &Standing) -> Option<StatementPart>
             choices.as_slice(),
         )?)),
         Stmt::Case(selector, _, _) => {
-            if is_whole(basic, selector) {
+            if is_whole(selector, basic) {
                 None
             } else {
                 Some(StatementPart::Selector)
@@ -225,7 +202,7 @@ fn wrong_part(basic: &BasicType, standing: &Standing) -> Option<StatementPart>
         }
         Stmt::For(variable, start, end, step, _) => wrong_in_for(basic, variable, start, end, step),
         Stmt::While(condition, _) | Stmt::Repeat(_, condition) => {
-            if is_condition(basic, condition) {
+            if is_condition(condition, basic) {
                 None
             } else {
                 Some(StatementPart::Condition)

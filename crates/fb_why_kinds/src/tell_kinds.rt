@@ -2,15 +2,15 @@
 
 use crate::misfits::internals_of;
 use crate::misjoins::type_at_end;
-use crate::networks::PlacedNetwork;
 use crate::place::{Misfit, Misjoin, Site, StatementPart, Variables};
-use crate::sorts::sort_of;
 use crate::statements::{Standing, all_statements};
-use crate::tell_sites::{push_basic, push_block, push_instance, push_site, scope_of};
-use crate::types::{type_named, type_of};
+use crate::tell_sites::{
+    instance_of, push_basic, push_block, push_instance, push_site, push_transition, scope_of,
+};
+use crate::types::type_named;
 use crate::words::{Text, type_words};
-use fb_kinds::sorts::sort_of_type;
-use fb_types::library::{BasicType, BlockType, Connection, Instance, Library, Variable};
+use fb_kinds::sorts::{Typing, sort_of, sort_of_type};
+use fb_types::library::{BasicType, BlockType, Library, Variable};
 use fb_types::reference::Reference;
 use fb_types::sort::Sort;
 use fb_types::text::{Choice, Expr, Stmt};
@@ -108,15 +108,9 @@ fn push_parameter(
     site: Site,
     (instance, parameter): (usize, usize),
 ) {
-    let Some(scope) = scope_of(library, site) else {
+    let Some(instance) = instance_of(library, site, instance) else {
         return;
     };
-    if let Some(instance) = scope.network.instances.get(instance) {
-        push_set(text, library, instance, parameter);
-    }
-}
-
-fn push_set(text: &mut Text, library: &Library, instance: &Instance, parameter: usize) {
     push_instance(text, instance);
     let Some(parameter) = instance.parameters.get(parameter) else {
         return;
@@ -139,33 +133,28 @@ fn push_guard(text: &mut Text, library: &Library, block: usize, transition: usiz
     let Some(transition) = basic.transitions.get(transition) else {
         return;
     };
-    text.named(": transition ", &transition.from);
-    text.named(" TO ", &transition.to);
+    push_transition(text, transition);
     if let Some(guard) = &transition.condition.guard {
         push_kind(text, basic, ": guard", (Sort::TruthValue, guard));
     }
 }
 
-fn words_for(sort: Sort) -> &'static str {
+fn words_for_wanted(sort: Sort) -> &'static str {
     match sort {
-        Sort::TruthValue => "a truth value",
-        Sort::WholeNumber => "a number",
+        Sort::TruthValue => ": a truth value is wanted, and ",
+        Sort::WholeNumber => ": a number is wanted, and ",
     }
 }
 
 /// Words for an expression, which kind of it is wanted, and what it has.
 fn push_kind(text: &mut Text, basic: &BasicType, words: &str, (wanted, expr): (Sort, &Expr)) {
     text.words(words);
-    text.words(": ");
-    text.words(words_for(wanted));
-    text.words(" is wanted, and ");
-    match sort_of(expr, basic) {
-        Some(sort) => {
-            text.words("it is ");
-            text.words(words_for(sort));
-        }
-        None => text.words("an operand or an argument in it is wrong"),
-    }
+    text.words(words_for_wanted(wanted));
+    text.words(match sort_of(expr, basic) {
+        Some(Sort::TruthValue) => "it is a truth value",
+        Some(Sort::WholeNumber) => "it is a number",
+        None => "an operand or an argument in it is wrong",
+    });
 }
 
 fn push_statement(
@@ -243,7 +232,7 @@ fn push_assignment(
         return;
     }
     text.name(variable.name());
-    let wanted = sort_of_type(type_of(basic, variable.name()));
+    let wanted = sort_of_type(basic.type_of(variable.name()));
     push_kind(text, basic, " := ..", (wanted, expr));
 }
 
@@ -292,20 +281,12 @@ fn push_misjoin(text: &mut Text, library: &Library, place: Misjoin) {
     let Some(scope) = scope_of(library, place.site) else {
         return;
     };
-    if let Some(connection) = scope.network.data_connections.get(place.connection) {
-        push_connection(text, library, &scope, connection);
-    }
-}
-
-fn push_connection(
-    text: &mut Text,
-    library: &Library,
-    scope: &PlacedNetwork,
-    connection: &Connection,
-) {
+    let Some(connection) = scope.network.data_connections.get(place.connection) else {
+        return;
+    };
     text.connection(": data connection ", connection);
-    let from = type_at_end(library, scope, &connection.from);
-    let to = type_at_end(library, scope, &connection.to);
+    let from = type_at_end(library, &scope, &connection.from);
+    let to = type_at_end(library, &scope, &connection.to);
     match (from, to) {
         (Some(from), Some(to)) => {
             text.words(": ");

@@ -3,7 +3,7 @@
 use crate::networks::PlacedNetwork;
 use crate::place::Site;
 use crate::words::Text;
-use fb_types::library::{BasicType, BlockType, Instance, Library};
+use fb_types::library::{BasicType, BlockType, Instance, Library, Transition};
 
 /// Words for a block type.
 pub(crate) fn push_block(text: &mut Text, library: &Library, block: usize) {
@@ -48,6 +48,17 @@ pub(crate) fn scope_of(library: &Library, site: Site) -> Option<PlacedNetwork> {
             }),
         },
     }
+}
+
+/// An instance of the network of a site.
+pub(crate) fn instance_of(library: &Library, site: Site, instance: usize) -> Option<&Instance> {
+    scope_of(library, site)?.network.instances.get(instance)
+}
+
+/// Words for a transition.
+pub(crate) fn push_transition(text: &mut Text, transition: &Transition) {
+    text.named(": transition ", &transition.from);
+    text.named(" TO ", &transition.to);
 }
 
 /// Words for an instance and its type.

@@ -2,25 +2,17 @@
 
 use crate::lookup::BlockTypes;
 use crate::mentions::{Mention, push_body, push_expression};
-use crate::networks::PlacedNetwork;
+use crate::networks::{PlacedNetwork, input_of, output_of};
 use crate::place::{ActionPart, Direction, FlowKind, Side, Site, TransitionPart, UnknownName};
-use crate::tell_sites::{push_basic, push_block, push_instance, push_site, scope_of};
+use crate::tell_sites::{
+    instance_of, push_basic, push_block, push_instance, push_site, push_transition, scope_of,
+};
 use crate::words::Text;
 use fb_names::ports::PortSort;
 use fb_types::deploy::Plan;
-use fb_types::library::{
-    Action, BasicType, CompositeType, Instance, Library, Transition, instance_named,
-};
+use fb_types::library::{Action, BasicType, CompositeType, Instance, Library, instance_named};
 use fb_types::name::Name;
 use std::alloc::{AllocError, Global};
-
-/// The inputs of which something is told.
-#[derive(Clone, Copy)]
-struct Documents<'a> {
-    library: &'a Library,
-    plan: &'a Plan,
-    types: &'a BlockTypes<'a>,
-}
 
 /// The line that tells the place: where it is, what stands there, and what was wanted.
 pub fn tell_unknown(
@@ -30,54 +22,54 @@ pub fn tell_unknown(
     place: UnknownName,
 ) -> Result<String, AllocError> {
     let types = BlockTypes::new(alloc, library)?;
-    let inputs = Documents {
-        library,
-        plan,
-        types: &types,
-    };
-    told(alloc, &inputs, place)
+    told(alloc, &types, plan, place)
 }
 
 /// The text of the place. What it reads it borrows, and what it writes to has one owner above all that may fail.
-fn told(alloc: Global, inputs: &Documents, place: UnknownName) -> Result<String, AllocError> {
+fn told(
+    alloc: Global,
+    types: &BlockTypes,
+    plan: &Plan,
+    place: UnknownName,
+) -> Result<String, AllocError> {
     let mut text = Text::new(alloc);
-    tell_place(alloc, &mut text, inputs, place)?;
+    tell_place(alloc, &mut text, types, plan, place)?;
     text.into_string()
 }
 
 fn tell_place(
     alloc: Global,
     text: &mut Text,
-    inputs: &Documents,
+    types: &BlockTypes,
+    plan: &Plan,
     place: UnknownName,
 ) -> Result<(), AllocError> {
+    let library = types.library;
     match place {
-        UnknownName::InstanceType { site, instance } => tell_type(text, inputs, site, instance),
+        UnknownName::InstanceType { site, instance } => tell_type(text, library, site, instance),
         UnknownName::Parameter {
             site,
             instance,
             parameter,
-        } => tell_parameter(text, inputs, site, (instance, parameter)),
+        } => tell_parameter(text, types, site, (instance, parameter)),
         UnknownName::End {
             site,
             flow,
             connection,
             side,
-        } => tell_end(text, inputs, site, (flow, connection, side)),
-        UnknownName::Mapped { resource, instance } => tell_mapped(text, inputs, resource, instance),
-        UnknownName::LinkEnd { link, side } => tell_link(text, inputs, link, side),
-        _ => return tell_in_block(alloc, text, inputs.library, place),
+        } => tell_end(text, types, site, (flow, connection, side)),
+        UnknownName::Mapped { resource, instance } => {
+            tell_mapped(text, library, plan, resource, instance);
+        }
+        UnknownName::LinkEnd { link, side } => tell_link(text, plan, link, side),
+        _ => return tell_in_block(alloc, text, library, place),
     }
     Ok(())
 }
 
-fn instance_of(library: &Library, site: Site, instance: usize) -> Option<&Instance> {
-    scope_of(library, site)?.network.instances.get(instance)
-}
-
-fn tell_type(text: &mut Text, inputs: &Documents, site: Site, instance: usize) {
-    push_site(text, inputs.library, site);
-    let Some(instance) = instance_of(inputs.library, site, instance) else {
+fn tell_type(text: &mut Text, library: &Library, site: Site, instance: usize) {
+    push_site(text, library, site);
+    let Some(instance) = instance_of(library, site, instance) else {
         return;
     };
     push_instance(text, instance);
@@ -86,12 +78,12 @@ fn tell_type(text: &mut Text, inputs: &Documents, site: Site, instance: usize) {
 
 fn tell_parameter(
     text: &mut Text,
-    inputs: &Documents,
+    types: &BlockTypes,
     site: Site,
     (instance, parameter): (usize, usize),
 ) {
-    push_site(text, inputs.library, site);
-    let Some(instance) = instance_of(inputs.library, site, instance) else {
+    push_site(text, types.library, site);
+    let Some(instance) = instance_of(types.library, site, instance) else {
         return;
     };
     push_instance(text, instance);
@@ -99,34 +91,17 @@ fn tell_parameter(
         return;
     };
     text.named(", parameter ", &parameter.name);
-    if let Some(ports) = inputs.types.ports_named(&instance.block_type) {
-        text.lacks(
-            &instance.block_type,
-            PortSort::Input,
-            &parameter.name,
-            ports,
-        );
-    }
-}
-
-/// The sorts of ports that an end may be: at a component, and at the boundary.
-fn sorts_of(flow: FlowKind, side: Side) -> (PortSort, PortSort) {
-    match (flow, side) {
-        (FlowKind::Events, Side::From) => (PortSort::EventOutput, PortSort::EventInput),
-        (FlowKind::Events, Side::To) => (PortSort::EventInput, PortSort::EventOutput),
-        (FlowKind::Data, Side::From) => (PortSort::Output, PortSort::Input),
-        (FlowKind::Data, Side::To) => (PortSort::Input, PortSort::Output),
-    }
+    tell_port(text, types, instance, (PortSort::Input, &parameter.name));
 }
 
 fn tell_end(
     text: &mut Text,
-    inputs: &Documents,
+    types: &BlockTypes,
     site: Site,
     (flow, connection, side): (FlowKind, usize, Side),
 ) {
-    push_site(text, inputs.library, site);
-    let Some(PlacedNetwork { composite, network }) = scope_of(inputs.library, site) else {
+    push_site(text, types.library, site);
+    let Some(PlacedNetwork { composite, network }) = scope_of(types.library, site) else {
         return;
     };
     let (words, connections) = match flow {
@@ -137,16 +112,16 @@ fn tell_end(
         return;
     };
     text.connection(words, connection);
-    let end = match side {
-        Side::From => &connection.from,
-        Side::To => &connection.to,
+    let (output, input) = (output_of(flow), input_of(flow));
+    let (end, sort, boundary) = match side {
+        Side::From => (&connection.from, output, input),
+        Side::To => (&connection.to, input, output),
     };
-    let (sort, boundary) = sorts_of(flow, side);
     match &end.component {
         Some(component) => {
             let instances = network.instances.as_slice();
             match instance_named(instances, component) {
-                Some(instance) => tell_port(text, inputs, instance, (sort, &end.port)),
+                Some(instance) => tell_port(text, types, instance, (sort, &end.port)),
                 None => text.named(": there is no instance ", component),
             }
         }
@@ -173,18 +148,18 @@ fn tell_boundary(
 /// What the type of an instance lacks.
 fn tell_port(
     text: &mut Text,
-    inputs: &Documents,
+    types: &BlockTypes,
     instance: &Instance,
     (sort, wanted): (PortSort, &Name),
 ) {
-    match inputs.types.ports_named(&instance.block_type) {
+    match types.ports_named(&instance.block_type) {
         Some(ports) => { text.lacks(&instance.block_type, sort, wanted, ports) }
         None => text.named(": there is no block type ", &instance.block_type),
     }
 }
 
-fn tell_mapped(text: &mut Text, inputs: &Documents, resource: usize, instance: usize) {
-    let Some(resource) = inputs.plan.resources.get(resource) else {
+fn tell_mapped(text: &mut Text, library: &Library, plan: &Plan, resource: usize, instance: usize) {
+    let Some(resource) = plan.resources.get(resource) else {
         return;
     };
     text.named("resource ", &resource.name);
@@ -192,12 +167,12 @@ fn tell_mapped(text: &mut Text, inputs: &Documents, resource: usize, instance: u
         return;
     };
     text.named(": instance ", instance);
-    text.named(": application ", &inputs.library.application.name);
+    text.named(": application ", &library.application.name);
     text.named(" has no instance ", instance);
 }
 
-fn tell_link(text: &mut Text, inputs: &Documents, link: usize, side: Side) {
-    let Some(link) = inputs.plan.links.get(link) else {
+fn tell_link(text: &mut Text, plan: &Plan, link: usize, side: Side) {
+    let Some(link) = plan.links.get(link) else {
         return;
     };
     text.named("link from ", &link.from);
@@ -294,11 +269,6 @@ fn tell_body(
     push_body(&mut mentions, &algorithm.body)?;
     tell_mention(text, basic, mentions.as_slice(), mention);
     Ok(())
-}
-
-fn push_transition(text: &mut Text, transition: &Transition) {
-    text.named(": transition ", &transition.from);
-    text.named(" TO ", &transition.to);
 }
 
 fn tell_transition(

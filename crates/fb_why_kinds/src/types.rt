@@ -1,14 +1,15 @@
-//! What the names of block types, instances and variables stand for, looked for from name to name.
+//! What the names of block types and of their ports stand for, looked for from name to name.
 
-ghost use Rattle.std.specs.Prelude.{◌≡◌, [], ◌∷◌, ◌++◌, option_map};
+ghost use Rattle.std.specs.Prelude.{◌≡◌, [], ◌∷◌, option_map};
 ghost use Rattle.fb_types.specs.Blocks as blocks;
 ghost use Rattle.fb_types.specs.Flat as flat;
 ghost use Rattle.fb_kinds.specs.Roles as roles;
 ghost use Rattle.fb_why_kinds.specs.Types.{joinable, meant};
 
+use fb_kinds::variables::{port_type, variable_type};
 use fb_types::event_kind::EventKind;
 use fb_types::event_ports::kind_named;
-use fb_types::library::{BasicType, BlockType, Library, Ports, Variable, block_named};
+use fb_types::library::{BasicType, BlockType, Library, block_named};
 use fb_types::name::Name;
 use fb_types::value::Ty;
 
@@ -30,45 +31,6 @@ pub fn type_named<'a>(library: &'a Library, name: &Name) -> Option<Kind<'a>>
             Some(Kind::Declared(block))
         }
     }
-}
-
-/// The type of the variable that has the name.
-pub fn variable_type(variables: &[Variable], name: &Name) -> Option<Ty>
-    ensures { result ≡ roles.type_named variables.now name.now }
-{
-    for variable in variables {
-        if variable.name.is(name) {
-            return Some(variable.ty);
-        }
-    }
-    None
-}
-
-/// The type of the data input or output that has the name.
-pub fn port_type(ports: &Ports, name: &Name) -> Option<Ty>
-    ensures { result ≡ roles.type_named (joinable ports.now) name.now }
-{
-    match variable_type(ports.inputs.as_slice(), name) {
-        Some(ty) => Some(ty),
-        None => variable_type(ports.outputs.as_slice(), name),
-    }
-}
-
-/// The same of all variables of a basic type.
-pub fn type_among(ports: &Ports, internals: &[Variable], name: &Name) -> Option<Ty>
-    ensures { result ≡ roles.type_named (joinable ports.now ++ internals.now) name.now }
-{
-    match port_type(ports, name) {
-        Some(ty) => Some(ty),
-        None => variable_type(internals, name),
-    }
-}
-
-/// The type of a variable of a basic type. What is no variable has the type BOOL here, and is refused elsewhere.
-pub fn type_of(basic: &BasicType, name: &Name) -> Ty
-    ensures { result ≡ blocks.types_of basic.now name.now }
-{
-    type_among(&basic.ports, basic.internals.as_slice(), name).unwrap_or(Ty::Bool)
 }
 
 /// Whether a name is that of a data input of the basic type.

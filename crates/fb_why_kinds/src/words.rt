@@ -1,6 +1,6 @@
 //! Texts that are put together of words, names and numbers.
 
-use crate::called::Called;
+use fb_names::named::Named;
 use fb_names::ports::PortSort;
 use fb_types::library::{Connection, PortName, Ports};
 use fb_types::name::Name;
@@ -93,12 +93,17 @@ impl Text {
     }
 
     /// What there is in place of what was wanted.
-    pub(crate) fn names<T: Called>(&mut self, items: &[T]) {
-        self.words(" (it has ");
-        for (place, item) in items.iter().enumerate() {
-            self.named(if place == 0 { "" } else { ", " }, item.name());
+    pub(crate) fn names<T: Named>(&mut self, items: &[T]) {
+        let mut before = " (it has ";
+        for item in items {
+            self.named(before, item.name());
+            before = ", ";
         }
-        self.words(if items.is_empty() { "none)" } else { ")" });
+        self.words(if items.is_empty() {
+            " (it has none)"
+        } else {
+            ")"
+        });
     }
 
     /// What has no port of the sort by the name, and which ports it has.

@@ -21,7 +21,8 @@ use fb_take::arrivals::earliest;
 impl Core {
     /// How far each resource may run: to the greatest bound at which no message can reach it later from below, as far
     /// as that is over neither the horizon, nor the tick after the least stop, nor `cap` ticks past the least event;
-    /// or to its clock, where that is greater. Ticks are milliseconds.
+    /// or to its clock, where that is greater. Ticks are milliseconds. Of a resource that has stopped, which gets no job, the
+    /// bound means nothing.
     pub fn bounds(&self, horizon: u64, cap: u64) -> Bounds
         requires resources { AreOf self.now.system self.now.steps self.now.resources.items }
         requires early { horizon ≤ 10 ^ 12 }

@@ -1,9 +1,9 @@
 //! The simulator's program.
 #![tactic(auto)]
 
+use fb_call::files::Files;
 use fb_command::command::command;
 use fb_command::failure::Failure;
-use fb_command::files::Files;
 use std::process::ExitCode;
 use std::sync::Wait;
 use std::thread::Threads;

@@ -1,23 +1,30 @@
-use Rattle.std.proofs.Common.{rules, ◌≡◌, sym, ◌∙◌, codes, Some, None}
-use Rattle.clap.specs.Words.{found_of, first_value, rows_of}
-use Rattle.clap.proofs.WalkLemmas.{first_value-rows}
-use Rattle.fb_call.proofs.LineLaws.{if_none, no_name, no_wave}
+use Rattle.std.proofs.Common.{rules, ◌≡◌, sym, subst, codes}
+use Rattle.std.specs.Prelude.{IfSome}
+use Rattle.clap.specs.Words.{Text, found_of, rows_of}
+use Rattle.fb_call.specs.Line.{request_name}
+use Rattle.fb_call.proofs.LineLaws.{no_name, no_request, no_wave, when_none}
 use Rattle.fb_call.proofs.line.request_of.Goals as goal
 
-pub returns-in_err-get_str-clause-none : goal.returns-in_err-get_str-clause-none
-returns-in_err-get_str-clause-none c =
-    let m = found_of c.args.found.now in
-    let none : first_value m (codes "NAME") ≡ None = search rules in
+pub returns-in-explain-clause-name : goal.returns-in-explain-clause-name
+returns-in-explain-clause-name c =
     let named : c.args.name.now ≡ codes "explain" = search rules in
-    if_none _ _ (no_name (rows_of m) c.args.name.now named (sym (first_value-rows m (codes "NAME")) ∙ none))
+    subst (λ (t : Text). IfSome c.explain_of.result (λ r. t ≡ request_name r)) (sym named) c.explain_of.ensures.name
 
-pub returns-then-eq-clause-rows : goal.returns-then-eq-clause-rows
-returns-then-eq-clause-rows c =
-    let m = found_of c.args.found.now in
-    let given : first_value m (codes "NAME") ≡ Some c.in_ok-get_str.field-0.now = search rules in
-    sym (first_value-rows m (codes "NAME")) ∙ given
+pub returns-in-explain-clause-none : goal.returns-in-explain-clause-none
+returns-in-explain-clause-none c =
+    let named : c.args.name.now ≡ codes "explain" = search rules in
+    when_none c.explain_of.result _ _ (no_name (rows_of (found_of c.args.found.now)) c.args.name.now named) c.explain_of.ensures.none
 
-pub returns-in_err-wave_of-clause-none : goal.returns-in_err-wave_of-clause-none
-returns-in_err-wave_of-clause-none c =
+pub returns-in-wave-clause-name : goal.returns-in-wave-clause-name
+returns-in-wave-clause-name c =
     let named : c.args.name.now ≡ codes "wave" = search rules in
-    if_none _ _ (no_wave (rows_of (found_of c.args.found.now)) c.args.name.now named c.in_err-wave_of.ensures.none)
+    subst (λ (t : Text). IfSome c.wave_of.result (λ r. t ≡ request_name r)) (sym named) c.wave_of.ensures.name
+
+pub returns-in-wave-clause-none : goal.returns-in-wave-clause-none
+returns-in-wave-clause-none c =
+    let named : c.args.name.now ≡ codes "wave" = search rules in
+    when_none c.wave_of.result _ _ (no_wave (rows_of (found_of c.args.found.now)) c.args.name.now named) c.wave_of.ensures.none
+
+pub returns-in_default-clause-none : goal.returns-in_default-clause-none
+returns-in_default-clause-none c =
+    when_none c.call_of.result _ _ (no_request (rows_of (found_of c.args.found.now)) c.args.name.now c.in_default.not-explain c.in_default.not-wave) c.call_of.ensures.none

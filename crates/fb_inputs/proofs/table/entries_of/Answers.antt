@@ -1,9 +1,21 @@
-use Rattle.std.proofs.Common.{◌∙◌, rules, tests}
-use Rattle.std.proofs.lemmas.Iterator.{YieldsList-from_slice, YieldsList-from_map, items_from_collect}
+use Rattle.std.proofs.Common.{List, ◌++◌, [], ◌∷◌, map, take, sym, ap, ◌∙◌, arith}
+use Rattle.std.proofs.lemmas.Grind.{take_at_read}
+use Rattle.std.proofs.lemmas.List.{map-append, take_all}
+use Rattle.fb_types.specs.declared.latency.Entry.{Entry}
 use Rattle.fb_inputs.specs.Deployments.{entry}
 use Rattle.fb_inputs.proofs.table.entries_of.Goals as goal
 
+pub loop-pair-preserved : goal.loop-pair-preserved
+loop-pair-preserved c =
+    let table = c.args.table.now in
+    let i = c.loop-pair.pair-index in
+    c.in_ok-push.ensures.items
+    ∙ ap (λ (es : List Entry). es ++ c.entry_of.result ∷ []) c.loop-pair.invariant
+    ∙ ap (λ (e : Entry). map entry (take i table) ++ e ∷ []) c.entry_of.ensures
+    ∙ sym (map-append entry (take i table) (_ ∷ []))
+    ∙ ap (map entry) (sym (take_at_read table i _ c.loop-pair-test.true).1)
+
 pub returns : goal.returns
 returns c =
-    let all = items_from_collect _ c.collect.ensures.ran (YieldsList-from_map _ entry (YieldsList-from_slice c.args.table.now cc) c.map.ensures.closure (λ x r q k. search (rules, tests))) in
-    c.from_vec.ensures ∙ (rw c.in_ok-collect.was at all)
+    let i = c.loop-pair.pair-index in
+    c.from_vec.ensures ∙ c.loop-pair.invariant ∙ ap (map entry) (take_all i c.args.table.now (omega (arith, c.loop-pair-test.false)))

@@ -1,11 +1,11 @@
 use Rattle.std.proofs.Common.{◌&&◌, List, refl, sym, ◌∙◌, ap}
-use Rattle.fb_types.specs.Kinds.{branches_right, choices_right}
+use Rattle.fb_types.specs.Kinds.{branches_right, choices_right, looped}
 use Rattle.fb_types.specs.declared.text.Branch.{Branch}
 use Rattle.fb_types.specs.declared.text.Choice.{Choice, out-Choice}
 use Rattle.fb_kinds.specs.Checks.{in_place}
 use Rattle.fb_kinds.specs.Trees.{branches_of, choices_of}
 use Rattle.fb_kinds.proofs.Checks.{else_answer, then_answer}
-use Rattle.fb_kinds.proofs.Right.{branch_right, choice_right, choices_parted, if_right, right, right_body, right_branch, right_choice}
+use Rattle.fb_kinds.proofs.Right.{branch_right, choice_right, choices_parted, if_right, looped_right, right, right_body, right_branch, right_choice}
 use Rattle.fb_kinds.proofs.Tested.{all_done, all_off, all_on}
 use Rattle.fb_kinds.proofs.bodies.+right.Goals as goal
 
@@ -87,3 +87,17 @@ is_statement_right-returns-else-are_choices_right t c =
     else_answer (right_body p c.in-If.others) c.are_choices_right.ensures
     (if_right p c.args.statement.now c.as_slice.result.now c.in-If.choices c.in-If.others c.in-If.others c.in-If.is c.as_slice.ensures refl)
     c.if-are_choices_right.false
+
+pub is_statement_right-returns-then-is_condition : goal.is_statement_right-returns-then-is_condition
+is_statement_right-returns-then-is_condition t c =
+    let p = in_place c.args.scope.now c.args.in_loop in
+    then_answer (right_body (looped p) c.as_slice-then-is_condition.result.now) c.is_condition.ensures
+    c.are_statements_right-then-is_condition.ensures
+    (looped_right p c.args.statement.now c.in-While.condition c.as_slice-then-is_condition.result.now c.in-While.body c.in-While.is
+    c.as_slice-then-is_condition.ensures) c.if-is_condition.true
+
+pub is_statement_right-returns-else-is_condition : goal.is_statement_right-returns-else-is_condition
+is_statement_right-returns-else-is_condition t c =
+    let p = in_place c.args.scope.now c.args.in_loop in
+    else_answer (right_body (looped p) c.in-While.body) c.is_condition.ensures
+    (looped_right p c.args.statement.now c.in-While.condition c.in-While.body c.in-While.body c.in-While.is refl) c.if-is_condition.false

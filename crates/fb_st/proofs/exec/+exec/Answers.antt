@@ -1,9 +1,9 @@
-use Rattle.std.proofs.Common.{List, length, subst, ◌≡◌, sym, ◌∙◌, ap, not, Bool, ℤ, refl, Result, Ok, false, true, arith}
+use Rattle.std.proofs.Common.{List, length, subst, ◌≡◌, sym, ◌∙◌, ap, not, Bool, ℤ, refl, Result, Ok, Err, false, true, arith}
 use Rattle.std.proofs.lemmas.Result.{err_from_is_err_and}
 use Rattle.fb_types.specs.Names.{Name}
 use Rattle.fb_types.specs.Syntax.{Stmt, Stmts, Assign, If, Case, For, While, Repeat, expr_of, stmt_of, step_of}
 use Rattle.fb_types.specs.Values.{Types, Values, truth_of, whole}
-use Rattle.fb_types.specs.Bodies.{Point, End, Running, Went, Left, Returned, Stopped, Step, Then, RunsAll, Runs, Advances, passed}
+use Rattle.fb_types.specs.Bodies.{Point, End, Running, Went, Left, Returned, Stopped, Step, Then, RunsAll, RunsChoice, RunsBranch, Runs, Advances, passed}
 use Rattle.fb_types.specs.declared.text.Branch.{Branch}
 use Rattle.fb_types.specs.declared.text.Choice.{Choice}
 use Rattle.fb_types.specs.declared.text.Stmt as read
@@ -13,7 +13,7 @@ use Rattle.fb_st.specs.declared.frame.Slot.{Slot}
 use Rattle.fb_st.specs.declared.meter.Flow.TheVariants as flow
 use Rattle.fb_st.specs.Frames.{declared_in, types_in, values_of}
 use Rattle.fb_st.specs.Flows.{end_of, point, before_step, all_of, branches_of, choices_of}
-use Rattle.fb_st.proofs.Runs.{one_runs, assign_says, if_says, case_says, for_says, while_says, case_runs, began, for_counts, for_not_begun, stopped_by, ended_by, told_by, turn_as, counted_as, counts_as, loop_over, loop_left, loop_returned, loop_stopped, loop_goes_on, repeat_says, repeat_goes_on, repeat_over, repeat_stops, repeat_left, repeat_returned, repeat_stopped}
+use Rattle.fb_st.proofs.Runs.{one_runs, assign_says, if_says, case_says, for_says, while_says, case_runs, began, for_counts, for_not_begun, stopped_by, ended_by, told_by, turn_as, counted_as, counts_as, all_goes_on, all_ends, all_known, all_as, nothing_left, runs_as, ends_at, choice_told, choice_ran, choice_taken, choice_passed, choice_stops, choices_known, branch_told, branch_ran, branch_taken, branch_passed, branches_known, loop_over, loop_stops, loop_left, loop_returned, loop_stopped, loop_goes_on, repeat_says, repeat_goes_on, repeat_over, repeat_stops, repeat_left, repeat_returned, repeat_stopped}
 use Rattle.fb_st.proofs.exec.+exec.Goals as goal
 
 -- ---- FOR
@@ -202,6 +202,61 @@ run_while-loop-frame-preserved t c =
       fewer = let a = c.turn.ensures.fewer in let b = c.loop-frame.invariant.fewer in omega arith;
     }
 
+pub run_while-returns-in_err-holds-clause-run : goal.run_while-returns-in_err-holds-clause-run
+run_while-returns-in_err-holds-clause-run t c =
+    let turn : Running = Step (RunsAll (types_in (declared_in c.args.frame.now)) (all_of c.args.body.now)) in
+    let test : Values → Result Bool Reason = truth_of (expr_of c.args.condition.now) in
+    let p : Point = point c.loop-frame.frame c.loop-frame.meter in
+    let r : Reason = c.in_err-holds.field-0.0 in
+    let x = err_from_is_err_and c.from_residual.result c.from_residual.ensures.1 in
+    rw (x.1, x.2) (c.loop-frame.invariant.run (Stopped r) p (loop_stops test turn p r (sym c.holds.ensures ∙ c.in_err-holds.was)))
+
+pub run_while-returns-in_err-turn-clause-run : goal.run_while-returns-in_err-turn-clause-run
+run_while-returns-in_err-turn-clause-run t c =
+    let body : Stmts = all_of c.args.body.now in
+    let turn : Running = Step (RunsAll (types_in (declared_in c.args.frame.now)) body) in
+    let test : Values → Result Bool Reason = truth_of (expr_of c.args.condition.now) in
+    let p : Point = point c.loop-frame.frame c.loop-frame.meter in
+    let m : Point = point c.turn.new.frame c.turn.new.meter in
+    let r : Reason = c.in_err-turn.field-0.0 in
+    let ran = turn_as (declared_in c.loop-frame.frame) (declared_in c.args.frame.now) body p m (end_of c.turn.result) (Stopped r) c.loop-frame.invariant.declared
+    (stopped_by c.turn.result r c.in_err-turn.was) c.turn.ensures.run in
+    let holds = sym c.holds.ensures ∙ told_by c.holds.result c.in_ok-holds.field-0 true c.in_ok-holds.was c.if-branch.true in
+    let x = err_from_is_err_and c.from_residual-in_err-turn.result c.from_residual-in_err-turn.ensures.1 in
+    rw (x.1, x.2) (c.loop-frame.invariant.run (Stopped r) m (loop_stopped test turn p m r holds ran))
+
+pub run_while-returns-in-Left-clause-run : goal.run_while-returns-in-Left-clause-run
+run_while-returns-in-Left-clause-run t c =
+    let body : Stmts = all_of c.args.body.now in
+    let turn : Running = Step (RunsAll (types_in (declared_in c.args.frame.now)) body) in
+    let test : Values → Result Bool Reason = truth_of (expr_of c.args.condition.now) in
+    let p : Point = point c.loop-frame.frame c.loop-frame.meter in
+    let m : Point = point c.turn.new.frame c.turn.new.meter in
+    let ran = turn_as (declared_in c.loop-frame.frame) (declared_in c.args.frame.now) body p m (end_of c.turn.result) Left c.loop-frame.invariant.declared
+    (ended_by c.turn.result c.in_ok-turn.field-0 flow.Left c.in_ok-turn.was c.in-Left.is) c.turn.ensures.run in
+    let holds = sym c.holds.ensures ∙ told_by c.holds.result c.in_ok-holds.field-0 true c.in_ok-holds.was c.if-branch.true in
+    c.loop-frame.invariant.run Went m (loop_left test turn p m holds ran)
+
+pub run_while-returns-in-Returned-clause-run : goal.run_while-returns-in-Returned-clause-run
+run_while-returns-in-Returned-clause-run t c =
+    let body : Stmts = all_of c.args.body.now in
+    let turn : Running = Step (RunsAll (types_in (declared_in c.args.frame.now)) body) in
+    let test : Values → Result Bool Reason = truth_of (expr_of c.args.condition.now) in
+    let p : Point = point c.loop-frame.frame c.loop-frame.meter in
+    let m : Point = point c.turn.new.frame c.turn.new.meter in
+    let ran = turn_as (declared_in c.loop-frame.frame) (declared_in c.args.frame.now) body p m (end_of c.turn.result) Returned c.loop-frame.invariant.declared
+    (ended_by c.turn.result c.in_ok-turn.field-0 flow.Returned c.in_ok-turn.was c.in-Returned.is) c.turn.ensures.run in
+    let holds = sym c.holds.ensures ∙ told_by c.holds.result c.in_ok-holds.field-0 true c.in_ok-holds.was c.if-branch.true in
+    c.loop-frame.invariant.run Returned m (loop_returned test turn p m holds ran)
+
+pub run_while-returns-clause-run : goal.run_while-returns-clause-run
+run_while-returns-clause-run t c =
+    let turn : Running = Step (RunsAll (types_in (declared_in c.args.frame.now)) (all_of c.args.body.now)) in
+    let test : Values → Result Bool Reason = truth_of (expr_of c.args.condition.now) in
+    let p : Point = point c.loop-frame.frame c.loop-frame.meter in
+    let fails = sym c.holds.ensures ∙ told_by c.holds.result c.in_ok-holds.field-0 false c.in_ok-holds.was c.if-branch.false in
+    c.loop-frame.invariant.run Went p (loop_over test turn p fails)
+
 -- ---- The turns of FOR
 
 pub run_counts-returns-then-has_passed-clause-run : goal.run_counts-returns-then-has_passed-clause-run
@@ -311,3 +366,173 @@ run_all-returns-in-Assign-clause-run t c =
     let said : stmt_of s ≡ Assign c.in-Assign.variable (expr_of c.in-Assign.expr) = ap stmt_of c.in-Assign.is ∙ assign_says c.in-Assign.variable c.in-Assign.expr in
     one_runs T c.args.statements.now s p q e one c.statement-item.is
     (subst (λ (u : Stmt). Runs T u p e q) (sym said) c.assign.ensures.run)
+
+-- ---- Statements, one after the other
+
+pub run_each-loop-statement-preserved : goal.run_each-loop-statement-preserved
+run_each-loop-statement-preserved t c =
+    let T : Types = types_in (declared_in c.args.frame.now) in
+    let s : read.Stmt = c.statement-item.result in
+    let p : Point = point c.loop-statement.frame c.loop-statement.meter in
+    let m : Point = point c.run.new.frame c.run.new.meter in
+    let ran = runs_as (declared_in c.loop-statement.frame) (declared_in c.args.frame.now) (stmt_of s) p m (end_of c.run.result) Went c.loop-statement.invariant.declared
+    (ended_by c.run.result c.in_ok-run.field-0 flow.Went c.in_ok-run.was c.in-Went.is) c.run.ensures.run in
+    record {
+      run = λ e q rest. c.loop-statement.invariant.run e q
+          (all_goes_on T c.args.statements.now c.loop-statement.statement-index s p m c.loop-statement-test.true c.statement-item.is ran e q rest);
+      known = (all_known (declared_in c.args.frame.now) c.args.statements.now c.loop-statement.statement-index s c.loop-statement-test.true c.statement-item.is c.loop-statement.invariant.known).1;
+      declared = c.run.ensures.declared ∙ c.loop-statement.invariant.declared;
+      fewer = let a = c.run.ensures.fewer in let b = c.loop-statement.invariant.fewer in omega arith;
+    }
+
+pub run_each-returns-in_err-run-clause-run : goal.run_each-returns-in_err-run-clause-run
+run_each-returns-in_err-run-clause-run t c =
+    let T : Types = types_in (declared_in c.args.frame.now) in
+    let s : read.Stmt = c.statement-item.result in
+    let p : Point = point c.loop-statement.frame c.loop-statement.meter in
+    let m : Point = point c.run.new.frame c.run.new.meter in
+    let r : Reason = c.in_err-run.field-0.0 in
+    let ran = runs_as (declared_in c.loop-statement.frame) (declared_in c.args.frame.now) (stmt_of s) p m (end_of c.run.result) (Stopped r) c.loop-statement.invariant.declared
+    (stopped_by c.run.result r c.in_err-run.was) c.run.ensures.run in
+    let x = err_from_is_err_and c.from_residual.result c.from_residual.ensures.1 in
+    rw (x.1, x.2) (c.loop-statement.invariant.run (Stopped r) m
+    (all_ends T c.args.statements.now c.loop-statement.statement-index s p m (Stopped r) c.loop-statement-test.true c.statement-item.is ran (refl, refl)))
+
+pub run_each-returns-in-Left-clause-run : goal.run_each-returns-in-Left-clause-run
+run_each-returns-in-Left-clause-run t c =
+    let T : Types = types_in (declared_in c.args.frame.now) in
+    let s : read.Stmt = c.statement-item.result in
+    let p : Point = point c.loop-statement.frame c.loop-statement.meter in
+    let m : Point = point c.run.new.frame c.run.new.meter in
+    let ran = runs_as (declared_in c.loop-statement.frame) (declared_in c.args.frame.now) (stmt_of s) p m (end_of c.run.result) Left c.loop-statement.invariant.declared
+    (ended_by c.run.result c.in_ok-run.field-0 flow.Left c.in_ok-run.was c.in-Left.is) c.run.ensures.run in
+    c.loop-statement.invariant.run Left m
+    (all_ends T c.args.statements.now c.loop-statement.statement-index s p m Left c.loop-statement-test.true c.statement-item.is ran (refl, refl))
+
+pub run_each-returns-in-Returned-clause-run : goal.run_each-returns-in-Returned-clause-run
+run_each-returns-in-Returned-clause-run t c =
+    let T : Types = types_in (declared_in c.args.frame.now) in
+    let s : read.Stmt = c.statement-item.result in
+    let p : Point = point c.loop-statement.frame c.loop-statement.meter in
+    let m : Point = point c.run.new.frame c.run.new.meter in
+    let ran = runs_as (declared_in c.loop-statement.frame) (declared_in c.args.frame.now) (stmt_of s) p m (end_of c.run.result) Returned c.loop-statement.invariant.declared
+    (ended_by c.run.result c.in_ok-run.field-0 flow.Returned c.in_ok-run.was c.in-Returned.is) c.run.ensures.run in
+    c.loop-statement.invariant.run Returned m
+    (all_ends T c.args.statements.now c.loop-statement.statement-index s p m Returned c.loop-statement-test.true c.statement-item.is ran (refl, refl))
+
+pub run_each-returns-clause-run : goal.run_each-returns-clause-run
+run_each-returns-clause-run t c =
+    let T : Types = types_in (declared_in c.args.frame.now) in
+    let p : Point = point c.loop-statement.frame c.loop-statement.meter in
+    c.loop-statement.invariant.run Went p
+    (subst (λ (l : List read.Stmt). RunsAll T (all_of l) p Went p) (sym (nothing_left c.args.statements.now c.loop-statement.statement-index c.loop-statement-test.false)) (refl, refl))
+
+-- ---- IF
+
+pub run_choice-loop-choice-preserved : goal.run_choice-loop-choice-preserved
+run_choice-loop-choice-preserved t c =
+    let T : Types = types_in (declared_in c.args.frame.now) in
+    let cs : List Choice = c.args.choices.now in
+    let i = c.loop-choice.choice-index in
+    let one : Choice = c.choice-item.result in
+    let others : Running = RunsAll T (all_of c.args.others.now) in
+    let p : Point = point c.args.frame.now c.args.meter.now in
+    let fails = choice_told one c.loop-choice.frame c.args.frame.now c.holds.result (Ok false) c.loop-choice.invariant.same_frame c.holds.ensures
+    (told_by c.holds.result c.in_ok-holds.field-0 false c.in_ok-holds.was c.if-branch.false) in
+    record {
+      run = λ e q rest. c.loop-choice.invariant.run e q (choice_passed T cs i one others p c.loop-choice-test.true c.choice-item.is fails e q rest);
+      known = (choices_known (declared_in c.args.frame.now) cs i one c.loop-choice-test.true c.choice-item.is c.loop-choice.invariant.known).1;
+      same_frame = c.loop-choice.invariant.same_frame;
+      same_meter = c.loop-choice.invariant.same_meter;
+    }
+
+pub run_choice-returns-in_err-holds-clause-run : goal.run_choice-returns-in_err-holds-clause-run
+run_choice-returns-in_err-holds-clause-run t c =
+    let T : Types = types_in (declared_in c.args.frame.now) in
+    let cs : List Choice = c.args.choices.now in
+    let i = c.loop-choice.choice-index in
+    let one : Choice = c.choice-item.result in
+    let others : Running = RunsAll T (all_of c.args.others.now) in
+    let p : Point = point c.args.frame.now c.args.meter.now in
+    let r : Reason = c.in_err-holds.field-0.0 in
+    let stops = choice_told one c.loop-choice.frame c.args.frame.now c.holds.result (Err r) c.loop-choice.invariant.same_frame c.holds.ensures c.in_err-holds.was in
+    let x = err_from_is_err_and c.from_residual.result c.from_residual.ensures.1 in
+    rw (x.1, x.2)
+    (ends_at (Runs T (If (choices_of cs) (all_of c.args.others.now))) (before_step c.args.frame.now c.args.meter.now) (Stopped r)
+    c.loop-choice.frame c.args.frame.now c.loop-choice.meter c.args.meter.now c.loop-choice.invariant.same_frame c.loop-choice.invariant.same_meter
+    (c.loop-choice.invariant.run (Stopped r) p (choice_stops T cs i one others p r c.loop-choice-test.true c.choice-item.is stops)))
+
+pub run_choice-returns-then-branch-clause-run : goal.run_choice-returns-then-branch-clause-run
+run_choice-returns-then-branch-clause-run t c =
+    let T : Types = types_in (declared_in c.args.frame.now) in
+    let cs : List Choice = c.args.choices.now in
+    let i = c.loop-choice.choice-index in
+    let one : Choice = c.choice-item.result in
+    let others : Running = RunsAll T (all_of c.args.others.now) in
+    let p : Point = point c.args.frame.now c.args.meter.now in
+    let q : Point = point c.run_all.new.frame c.run_all.new.meter in
+    let holds = choice_told one c.loop-choice.frame c.args.frame.now c.holds.result (Ok true) c.loop-choice.invariant.same_frame c.holds.ensures
+    (told_by c.holds.result c.in_ok-holds.field-0 true c.in_ok-holds.was c.if-branch.true) in
+    let ran = choice_ran one c.loop-choice.frame c.args.frame.now c.loop-choice.meter c.args.meter.now c.as_slice.result.now (end_of c.run_all.result) q
+    c.loop-choice.invariant.same_frame c.loop-choice.invariant.same_meter c.as_slice.ensures c.run_all.ensures.run in
+    c.loop-choice.invariant.run (end_of c.run_all.result) q (choice_taken T cs i one others p c.loop-choice-test.true c.choice-item.is holds (end_of c.run_all.result) q ran)
+
+pub run_choice-returns-clause-run : goal.run_choice-returns-clause-run
+run_choice-returns-clause-run t c =
+    let T : Types = types_in (declared_in c.args.frame.now) in
+    let cs : List Choice = c.args.choices.now in
+    let others : Running = RunsAll T (all_of c.args.others.now) in
+    let p : Point = point c.args.frame.now c.args.meter.now in
+    let q : Point = point c.run_all-2.new.frame c.run_all-2.new.meter in
+    let e : End = end_of c.run_all-2.result in
+    let ran = all_as c.loop-choice.frame c.args.frame.now c.loop-choice.meter c.args.meter.now c.args.others.now c.args.others.now e q
+    c.loop-choice.invariant.same_frame c.loop-choice.invariant.same_meter refl c.run_all-2.ensures.run in
+    c.loop-choice.invariant.run e q
+    (subst (λ (l : List Choice). RunsChoice T (choices_of l) others p e q) (sym (nothing_left cs c.loop-choice.choice-index c.loop-choice-test.false)) ran)
+
+-- ---- CASE
+
+pub run_branch-loop-branch-preserved : goal.run_branch-loop-branch-preserved
+run_branch-loop-branch-preserved t c =
+    let T : Types = types_in (declared_in c.args.frame.now) in
+    let bs : List Branch = c.args.branches.now in
+    let z : ℤ = whole c.args.value in
+    let one : Branch = c.branch-item.result in
+    let others : Running = RunsAll T (all_of c.args.others.now) in
+    let p : Point = point c.args.frame.now c.args.meter.now in
+    let fails = branch_told one c.as_slice.result.now z c.has_label.result false c.as_slice.ensures c.has_label.ensures c.if-has_label.false in
+    record {
+      run = λ e q rest. c.loop-branch.invariant.run e q
+          (branch_passed T bs c.loop-branch.branch-index one z others p c.loop-branch-test.true c.branch-item.is fails e q rest);
+      known = (branches_known (declared_in c.args.frame.now) bs c.loop-branch.branch-index one c.loop-branch-test.true c.branch-item.is c.loop-branch.invariant.known).1;
+      same_frame = c.loop-branch.invariant.same_frame;
+      same_meter = c.loop-branch.invariant.same_meter;
+    }
+
+pub run_branch-returns-then-has_label-clause-run : goal.run_branch-returns-then-has_label-clause-run
+run_branch-returns-then-has_label-clause-run t c =
+    let T : Types = types_in (declared_in c.args.frame.now) in
+    let bs : List Branch = c.args.branches.now in
+    let z : ℤ = whole c.args.value in
+    let one : Branch = c.branch-item.result in
+    let others : Running = RunsAll T (all_of c.args.others.now) in
+    let p : Point = point c.args.frame.now c.args.meter.now in
+    let q : Point = point c.run_all.new.frame c.run_all.new.meter in
+    let fits = branch_told one c.as_slice.result.now z c.has_label.result true c.as_slice.ensures c.has_label.ensures c.if-has_label.true in
+    let ran = branch_ran one c.loop-branch.frame c.args.frame.now c.loop-branch.meter c.args.meter.now c.as_slice-then-has_label.result.now (end_of c.run_all.result) q
+    c.loop-branch.invariant.same_frame c.loop-branch.invariant.same_meter c.as_slice-then-has_label.ensures c.run_all.ensures.run in
+    c.loop-branch.invariant.run (end_of c.run_all.result) q
+    (branch_taken T bs c.loop-branch.branch-index one z others p c.loop-branch-test.true c.branch-item.is fits (end_of c.run_all.result) q ran)
+
+pub run_branch-returns-clause-run : goal.run_branch-returns-clause-run
+run_branch-returns-clause-run t c =
+    let T : Types = types_in (declared_in c.args.frame.now) in
+    let bs : List Branch = c.args.branches.now in
+    let others : Running = RunsAll T (all_of c.args.others.now) in
+    let p : Point = point c.args.frame.now c.args.meter.now in
+    let q : Point = point c.run_all-2.new.frame c.run_all-2.new.meter in
+    let e : End = end_of c.run_all-2.result in
+    let ran = all_as c.loop-branch.frame c.args.frame.now c.loop-branch.meter c.args.meter.now c.args.others.now c.args.others.now e q
+    c.loop-branch.invariant.same_frame c.loop-branch.invariant.same_meter refl c.run_all-2.ensures.run in
+    c.loop-branch.invariant.run e q
+    (subst (λ (l : List Branch). RunsBranch T (branches_of l) (whole c.args.value) others p e q) (sym (nothing_left bs c.loop-branch.branch-index c.loop-branch-test.false)) ran)

@@ -1,11 +1,11 @@
-use Rattle.std.proofs.Common.{◌++◌, [], All, length, map, option_to_list, sym, ap, subst, ◌∙◌, arith}
+use Rattle.std.proofs.Common.{rules, ◌≡◌, ◌++◌, [], All, length, map, option_to_list, sym, ap, subst, ◌∙◌, arith}
 use Rattle.std.proofs.lemmas.List.{length_push}
 use Rattle.std.proofs.lemmas.Result.{on_ok_weaker}
 use Rattle.fb_types.specs.Headline.{system_of}
 use Rattle.fb_types.specs.Takes.{Posts, post_all}
 use Rattle.fb_net.specs.Outs.{out_of}
 use Rattle.fb_take.specs.Posts.{ArePosted, IsPostable}
-use Rattle.fb_take.proofs.PostLaws.{all_before, next_of, posted_more}
+use Rattle.fb_take.proofs.PostLaws.{all_before, next_of, posted_more, posted_none}
 use Rattle.fb_take.proofs.post.post_all.Goals as goal
 
 pub post_each-requires-clause-outs : goal.post_each-requires-clause-outs
@@ -56,3 +56,22 @@ returns-clause-posted c =
 
 pub returns-clause-later : goal.returns-clause-later
 returns-clause-later c = on_ok_weaker c.post_out.result (λ more all. more (c.in_ok-post_each.ensures.later all)) c.post_out.ensures.later
+
+pub returns-in_default-clause-posted : goal.returns-in_default-clause-posted
+returns-in_default-clause-posted c counts are =
+    let i = c.args.system.now in
+    let sys = system_of i in
+    let agenda = c.args.agenda.now in
+    let mail = c.args.mail.now.items in
+    let sent = c.args.sent.now.items in
+    let locals = c.args.locals.now in
+    let none : c.args.outs.now.items ≡ [] = search rules in
+    subst (λ os. ArePosted i (post_all sys c.args.key.now (map (out_of sys) os) (record { locals = locals; sent = counts; raised = []; messages = [] })) agenda agenda mail mail locals sent)
+    (sym none) (posted_none i agenda mail locals sent counts are)
+
+pub returns-clause-few : goal.returns-clause-few
+returns-clause-few c =
+    let first = c.pop.new.self.items in
+    let items = c.pop.ensures.items ∙ ap (λ o. first ++ option_to_list o) c.in-Some.is in
+    let count = ap length items in
+    on_ok_weaker c.post_out.result (λ more. omega (arith, more, c.in_ok-post_each.ensures.few, count, length_push first c.in-Some.last)) c.post_out.ensures.few

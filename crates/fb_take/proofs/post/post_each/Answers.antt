@@ -1,13 +1,13 @@
-use Rattle.std.proofs.Common.{◌≡◌, ◌++◌, ◌∷◌, [], map, vec_len, sym, ap, subst, ◌∙◌, append_assoc, append-nil, arith}
+use Rattle.std.proofs.Common.{◌≡◌, ◌++◌, ◌∷◌, [], All, length, length-append, map, refl, vec_len, sym, ap, subst, ◌∙◌, append_assoc, append-nil, arith}
 use Rattle.std.proofs.lemmas.Bool.{eqb-true}
 use Rattle.std.proofs.lemmas.List.{length_push, nil_from_length}
 use Rattle.std.specs.Vec.Iter.{drain_items}
 use Rattle.fb_types.specs.Headline.{system_of}
 use Rattle.fb_types.specs.Takes.{Posts, post_all}
 use Rattle.fb_net.specs.Outs.{out_of}
-use Rattle.fb_take.specs.Posts.{ArePosted}
+use Rattle.fb_take.specs.Posts.{ArePosted, IsPostable}
 use Rattle.fb_take.proofs.Lists.{slice_all}
-use Rattle.fb_take.proofs.PostLaws.{posted_more, posted_none}
+use Rattle.fb_take.proofs.PostLaws.{next_of, posted_more, posted_none}
 use Rattle.fb_take.proofs.post.post_each.Goals as goal
 
 pub returns-then-is_empty-clause-posted : goal.returns-then-is_empty-clause-posted
@@ -27,6 +27,43 @@ pub returns-then-is_empty-clause-none : goal.returns-then-is_empty-clause-none
 returns-then-is_empty-clause-none c =
     let outs = c.args.outs.now in
     nil_from_length outs.items (sym outs.ok.0 ∙ eqb-true (vec_len outs) 0 (sym c.is_empty.ensures ∙ c.if-is_empty.true))
+
+pub returns-then-is_empty-clause-order : goal.returns-then-is_empty-clause-order
+returns-then-is_empty-clause-order c = c.requires.order
+
+pub returns-then-is_empty-clause-mail : goal.returns-then-is_empty-clause-mail
+returns-then-is_empty-clause-mail c = c.requires.mail
+
+pub loop-out-init : goal.loop-out-init
+loop-out-init c = record {
+  posted = posted_none c.args.system.now c.args.agenda.now c.args.mail.now.items c.args.locals.now c.args.sent.now.items;
+  few = omega arith;
+  order = c.requires.order;
+  mail = c.requires.mail;
+  later = λ all. all;
+  due = refl;
+  counted = refl;
+  rest = refl;
+  keeps = (refl, refl, refl);
+}
+
+pub post_out-requires-clause-out : goal.post_out-requires-clause-out
+post_out-requires-clause-out c =
+    let postable = IsPostable (system_of c.args.system.now) c.args.key.now.resource in
+    let ys = c.loop-out.yielded in
+    let drained : drain_items c.into_iter-out-iterator.result ≡ c.args.outs.now.items =
+    rw c.into_iter-out-iterator.ensures.into_iter_gives (c.drain-out-items.ensures.rest ∙ slice_all c.args.outs.now.items c.args.outs.now.len c.args.outs.now.ok.0) in
+    let whole = ap (λ z. ys ++ z) (sym c.in-Some.ensures.steps.0) ∙ c.loop-out.invariant.rest ∙ drained in
+    next_of postable ys (drain_items c.next.new.self) c.in-Some.out (subst (All postable) (sym whole) c.requires.outs)
+
+pub post_out-requires-clause-room : goal.post_out-requires-clause-room
+post_out-requires-clause-room c =
+    let ys = c.loop-out.yielded in
+    let later = drain_items c.next.new.self in
+    let drained : drain_items c.into_iter-out-iterator.result ≡ c.args.outs.now.items =
+    rw c.into_iter-out-iterator.ensures.into_iter_gives (c.drain-out-items.ensures.rest ∙ slice_all c.args.outs.now.items c.args.outs.now.len c.args.outs.now.ok.0) in
+    let count = sym (length-append ys (c.in-Some.out ∷ later)) ∙ ap length (ap (λ z. ys ++ z) (sym c.in-Some.ensures.steps.0) ∙ c.loop-out.invariant.rest ∙ drained) in
+    omega (arith, c.loop-out.invariant.few, c.requires.room, count)
 
 pub loop-out-preserved : goal.loop-out-preserved
 loop-out-preserved c =
@@ -65,3 +102,12 @@ returns-clause-posted c counts are =
     rw c.into_iter-out-iterator.ensures.into_iter_gives (c.drain-out-items.ensures.rest ∙ slice_all c.args.outs.now.items c.args.outs.now.len c.args.outs.now.ok.0) in
     let all = sym (append-nil c.loop-out.yielded) ∙ ap (λ z. c.loop-out.yielded ++ z) (sym none) ∙ inv.rest ∙ whole in
     subst (λ os. ArePosted i (post_all sys c.args.key.now (map (out_of sys) os) (record { locals = c.args.locals.now; sent = counts; raised = []; messages = [] })) c.args.agenda.now c.loop-out.agenda c.args.mail.now.items c.loop-out.mail.items c.loop-out.locals c.loop-out.sent.items) all (inv.posted counts are)
+
+pub returns-clause-order : goal.returns-clause-order
+returns-clause-order c = c.loop-out.invariant.order
+
+pub returns-clause-mail : goal.returns-clause-mail
+returns-clause-mail c = c.loop-out.invariant.mail
+
+pub returns-clause-later : goal.returns-clause-later
+returns-clause-later c = c.loop-out.invariant.later

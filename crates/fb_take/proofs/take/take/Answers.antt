@@ -1,11 +1,12 @@
 use Rattle.std.proofs.Common.{Some, All, refl, sym, ap, subst, ◌∙◌, arith}
 use Rattle.fb_types.specs.Headline.{system_of}
+use Rattle.fb_system.specs.Lines.{BelongsTo}
 use Rattle.fb_types.specs.Takes.{begun, world_of}
 use Rattle.fb_net.specs.Outs.{IsOut}
 use Rattle.fb_net.specs.Events.{IsEventIn, event_of}
 use Rattle.fb_laws.proofs.Accepted.{accepted_typed}
 use Rattle.fb_types.specs.declared.value.Reason.TheVariants.{Steps}
-use Rattle.fb_take.specs.Counts.{before_step, meter_of}
+use Rattle.fb_take.specs.Counts.{IsMetered, before_step, meter_of}
 use Rattle.fb_take.specs.Takings.{IsTakenHere}
 use Rattle.fb_take.specs.declared.meter.Meter.{Meter}
 use Rattle.fb_take.proofs.ReadyIs.{came_good, metered_after}
@@ -20,6 +21,12 @@ returns-then-not-step-clause-taken c s here counts =
     let none = taken_none i c.args.limit s k e (begun c.args.limit k.tick (meter_of c.args.meter.now)) c.args.tree.now c.args.meter.now c.args.queues.now
     (ap (begun c.args.limit k.tick) here.meter) c.if-not-step.ensures.none here counts in
     subst (λ (m : Meter). IsTakenHere i c.args.limit s k e (Some Steps) c.args.tree.now m c.args.queues.now c.args.queues.now) (sym c.if-not-step.ensures.kept) none
+
+pub returns-then-not-step-clause-queues : goal.returns-then-not-step-clause-queues
+returns-then-not-step-clause-queues c = c.requires.queues
+
+pub returns-then-not-step-clause-meter : goal.returns-then-not-step-clause-meter
+returns-then-not-step-clause-meter c = subst (IsMetered c.args.limit) (sym c.if-not-step.ensures.kept) c.requires.meter
 
 pub take_in-requires-clause-event : goal.take_in-requires-clause-event
 take_in-requires-clause-event c = subst (λ n. IsEventIn c.args.system.now n c.args.event.now) (sym c.requires.tree) c.requires.event
@@ -57,6 +64,23 @@ returns-clause-taken c s here counts =
     (accepted_typed i c.facts.ensures.accepted).system c.requires.typed
     here counts (ap (begun c.args.limit k.tick) here.meter ∙ sym c.if-not-step.ensures.used) refl
     (c.in_ok-stop.ensures.came (world_of s k.resource) here.blocks) refl c.in_ok-settle.ensures.settled c.if-not-step.ensures.tick c.in_ok-settle.ensures.lines
+
+pub returns-clause-queues : goal.returns-clause-queues
+returns-clause-queues c =
+    let ok = c.in_ok-settle.ensures in
+    let had = c.requires.queues in
+    record {
+      order = ok.order;
+      due = ok.due ∙ had.due;
+      counted = ok.counted ∙ had.counted;
+      mail = ok.mail;
+      lines = subst (All (BelongsTo (system_of c.args.system.now))) (sym ok.lines) c.in_ok-stop.ensures.outs.lines;
+      none = ok.none;
+      keeps = ok.keeps;
+    }
+
+pub returns-clause-later : goal.returns-clause-later
+returns-clause-later c = c.in_ok-settle.ensures.later
 
 pub returns-clause-meter : goal.returns-clause-meter
 returns-clause-meter c =

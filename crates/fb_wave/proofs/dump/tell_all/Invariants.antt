@@ -4,9 +4,9 @@ use Rattle.fb_wave.specs.Told.{pairs}
 use Rattle.fb_wave.proofs.Pairing.{AreTold}
 use Rattle.fb_wave.proofs.dump.tell_all.Given as goal
 
-abbrev pub invariant-loop-place : goal.invariant-loop-place
-invariant-loop-place l = record {
+abbrev pub invariant-loop-index : goal.invariant-loop-index
+invariant-loop-index l = record {
   counted : length l.levels.cells.items ≡ length l.initial.levels.cells.items;
   within : All (λ s. s < length l.levels.cells.items) l.levels.noted.items;
-  told : AreTold l.initial.levels l.levels (take (length l.yielded) (pairs (map (λ k. l.first + k) l.places) l.values));
+  told : AreTold l.initial.levels l.levels (take l.index (pairs (map (λ k. l.first + k) l.places) l.values));
 }

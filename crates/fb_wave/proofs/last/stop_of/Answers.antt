@@ -6,5 +6,5 @@ pub returns : goal.returns
 returns c =
     record {
       within = c.in_ok-resource.ensures.within;
-      is = stop_glued (system_of c.args.system.now) _ _ _ c.args.text.now _ _ _ _ c.in_ok-tick.ensures c.in_ok-name.ensures.parts c.in_ok-behind.ensures c.in_ok-reason.ensures c.in_ok-resource.ensures.named;
+      is = stop_glued (system_of c.args.system.now) _ _ _ c.args.text.now _ _ _ c.in_ok-tick.ensures c.in_ok-name.ensures.parts c.in_ok-reason.ensures c.in_ok-resource.ensures.named;
     }

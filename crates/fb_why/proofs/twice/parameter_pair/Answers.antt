@@ -1,10 +1,12 @@
 use Rattle.std.proofs.Common.{List, map, subst}
-use Rattle.std.proofs.lemmas.Option.{MatchOption-at_none}
+use Rattle.std.proofs.lemmas.Option.{MatchOption-at_none, MatchOption-at_some}
 use Rattle.fb_types.specs.Names.{Name}
 use Rattle.fb_types.specs.Repeated.{Twice}
+use Rattle.fb_types.specs.declared.library.Instance.{Instance}
 use Rattle.fb_types.specs.declared.library.Parameter.{Parameter}
 use Rattle.fb_why.specs.Pairs.{IsPair}
 use Rattle.fb_types.proofs.LoopSteps.{all_next, all_of_taken}
+use Rattle.fb_why.proofs.Firsts.{at_hand}
 use Rattle.fb_why.proofs.Once.{IsInstanceOnce}
 use Rattle.fb_why.proofs.twice.parameter_pair.Goals as goal
 
@@ -18,3 +20,14 @@ loop-place-preserved c =
 
 pub returns : goal.returns
 returns c = all_of_taken IsInstanceOnce c.args.instances.now c.loop-place.place c.loop-place-test.false c.loop-place.invariant
+
+pub returns-in-Some : goal.returns-in-Some
+returns-in-Some c =
+    let i : Instance = c.index-instances-place.result in
+    let names : List Parameter → List Name = λ xs. map (λ (x : Parameter). x.name) xs in
+    let xs : List Parameter = c.as_slice.result.now in (
+      i,
+      at_hand c.args.instances.now c.loop-place.place i c.loop-place-test.true c.index-instances-place.is,
+      subst (λ (xs : List Parameter). IsPair (map (λ (x : Parameter). x.name) xs) c.in-Some.pair) c.as_slice.ensures
+          (MatchOption-at_some (¬ (Twice (names xs))) (IsPair (names xs)) c.in-Some.pair c.in-Some.is c.in_ok-pair.ensures),
+    )

@@ -9,8 +9,8 @@ use Rattle.fb_why_bytes.proofs.row.number_fault.Goals as goal
 pub returns-then-not-counted : goal.returns-then-not-counted
 returns-then-not-counted c = let none : is_tick c.args.tick.now ≡ false = search rules in no_tick c.args.tick.now none
 
-pub wrong_value-requires : goal.wrong_value-requires
-wrong_value-requires c = all_single c.as_slice.result.now c.args.values.now (ap shown c.as_slice.ensures.value ∙ c.in_ok-words.ensures)
+pub wrong_word-requires : goal.wrong_word-requires
+wrong_word-requires c = all_single c.as_slice.result.now c.args.values.now (ap shown c.as_slice.ensures.value ∙ c.in_ok-words.ensures)
 
 pub returns-in-Some : goal.returns-in-Some
 returns-in-Some c =

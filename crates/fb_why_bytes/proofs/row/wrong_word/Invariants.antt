@@ -1,7 +1,7 @@
 use Rattle.std.proofs.Common.{◌≡◌, Bor, List, ℕ, drop}
 use Rattle.std.specs.List.{list_all}
-use Rattle.fb_why_bytes.specs.RowParts.{is_word}
+use Rattle.fb_why_bytes.specs.RowParts.{is_right}
 use Rattle.fb_why_bytes.proofs.row.wrong_word.Given as goal
 
 abbrev pub invariant-loop-place : goal.invariant-loop-place
-invariant-loop-place l = list_all (λ (w : Bor (List ℕ)). is_word w.now) l.words ≡ list_all (λ (w : Bor (List ℕ)). is_word w.now) (drop l.place l.words)
+invariant-loop-place l = list_all (λ (w : Bor (List ℕ)). is_right l.valued w.now) l.words ≡ list_all (λ (w : Bor (List ℕ)). is_right l.valued w.now) (drop l.place l.words)

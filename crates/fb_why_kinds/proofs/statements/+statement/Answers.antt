@@ -5,8 +5,8 @@ use Rattle.fb_types.specs.declared.text.Choice.{Choice}
 use Rattle.fb_types.specs.declared.text.Stmt.{Stmt}
 use Rattle.fb_kinds.specs.Trees.{all_of, branch_of, branches_of, choice_of, choices_of}
 use Rattle.fb_why_kinds.specs.Statements.{all_standing, each_in_body, each_in_branches, each_in_choices, each_inside}
-use Rattle.fb_why_kinds.proofs.Added.{both_added, list_added, one_added, then_added}
-use Rattle.fb_why_kinds.proofs.Inside.{inside_branch, inside_case, inside_choice, inside_if}
+use Rattle.fb_why_kinds.proofs.Added.{all_added, both_added, list_added, one_added, then_added}
+use Rattle.fb_why_kinds.proofs.Inside.{inside_branch, inside_case, inside_choice, inside_if, inside_loop}
 use Rattle.fb_why_kinds.proofs.statements.+statement.Goals as goal
 
 pub push_branches-loop-branch-preserved : goal.push_branches-loop-branch-preserved
@@ -66,3 +66,9 @@ pub push_statements-returns : goal.push_statements-returns
 push_statements-returns t c =
     list_added (λ (ss : List Stmt). each_in_body c.args.in_loop (all_of ss)) c.args.statements.now c.loop-statement.statement-index
     (all_standing c.loop-statement.all.items) _ refl c.loop-statement-test.false c.loop-statement.invariant
+
+pub push_inside-returns-in-For : goal.push_inside-returns-in-For
+push_inside-returns-in-For t c =
+    all_added c.push_statements-in-For.result (all_standing c.args.all.now.items) (all_standing c.push_statements-in-For.new.all.items) _ _
+    (inside_loop c.args.in_loop c.args.statement.now c.as_slice-in-For.result.now c.in-For.body c.in-For.is c.as_slice-in-For.ensures)
+    c.push_statements-in-For.ensures

@@ -1,7 +1,8 @@
-use Rattle.std.proofs.Common.{refl}
+use Rattle.std.proofs.Common.{refl, subst, sym}
 use Rattle.fb_types.specs.Headline.{system_of}
-use Rattle.fb_wave.proofs.Copied.{if_err, unfinished_none, unfinished_part}
-use Rattle.fb_wave.proofs.Handing.{on_err, on_ok}
+use Rattle.fb_wave.specs.Copying.{IsUnfinished}
+use Rattle.fb_wave.proofs.Copied.{unfinished_part}
+use Rattle.fb_wave.proofs.Handing.{on_fault, on_ok, on_passed}
 use Rattle.fb_wave.proofs.copy.Progress.finish.Goals as goal
 
 pub returns-clause-whole : goal.returns-clause-whole
@@ -10,25 +11,22 @@ returns-clause-whole g c =
     (λ got.
     record {
       after = c.if-not-can_end.ensures refl;
-      over = c.in_ok-is_over.ensures c.if-not-branch.false;
+      over = c.in_ok-is_over.ensures.over c.if-not-branch.false;
       sent = c.end.new.text.items;
       got = got;
       whole = c.in_ok-end.ensures;
     })
 
-pub returns-then-not-can_end-clause-part : goal.returns-then-not-can_end-clause-part
-returns-then-not-can_end-clause-part g c = unfinished_none (system_of c.args.system.now) c.args.self.now _
-
 pub returns-in_err-end-clause-part : goal.returns-in_err-end-clause-part
-returns-in_err-end-clause-part g c = if_err _ _ (unfinished_none (system_of c.args.system.now) c.args.self.now _)
+returns-in_err-end-clause-part g c = on_passed _ _ _ c.from_residual.ensures.1 refl
 
 pub returns-in_err-is_over-clause-part : goal.returns-in_err-is_over-clause-part
-returns-in_err-is_over-clause-part g c = if_err _ _ (unfinished_none (system_of c.args.system.now) c.args.self.now _)
-
-pub returns-then-not-branch-clause-part : goal.returns-then-not-branch-clause-part
-returns-then-not-branch-clause-part g c = unfinished_none (system_of c.args.system.now) c.args.self.now _
+returns-in_err-is_over-clause-part g c =
+    let old = g.W.Write.contents c.args.out.now in
+    on_passed _ _ _ c.from_residual-in_err-is_over.ensures.1 (subst (IsUnfinished (system_of c.args.system.now) c.args.self.now old old) (sym c.in_err-is_over.ensures.fault) refl)
 
 pub returns-clause-part : goal.returns-clause-part
 returns-clause-part g c =
-    on_err c.flush.result _ _ c.flush.ensures.part
-    (unfinished_part (system_of c.args.system.now) c.args.self.now c.args.end c.end.new.text.items _ _ c.in_ok-end.ensures)
+    on_fault c.flush.result _ _ c.flush.ensures.part
+    (unfinished_part (system_of c.args.system.now) c.args.self.now (record c.args.self.now.page { text = c.end.new.text }) c.args.end _ _ refl
+    c.in_ok-end.ensures)

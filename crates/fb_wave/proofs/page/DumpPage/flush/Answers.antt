@@ -1,13 +1,12 @@
-use Rattle.std.proofs.Common.{take, drop, sym, ◌∙◌, take-append-drop}
+use Rattle.std.proofs.Common.{ℕ, List, [], subst, arith}
+use Rattle.fb_trace.specs.Progress.{Fails}
+use Rattle.fb_trace.proofs.Steps.{Fails-direct}
 use Rattle.fb_wave.proofs.page.DumpPage.flush.Goals as goal
 
 pub returns-then-taken-len-clause-part : goal.returns-then-taken-len-clause-part
 returns-then-taken-len-clause-part g c =
-    let bytes = c.as_slice.result.now in
-    let taken = c.write_front-taken.result in
-    record {
-      sent = take taken bytes;
-      rest = drop taken bytes;
-      got = c.write_front-taken.ensures.got;
-      parts = sym c.as_slice.ensures.value ∙ sym (take-append-drop taken bytes);
-    }
+    let before = c.args.self.now.written in
+    subst
+    (λ (t : List ℕ). Fails (g.W.Write.contents c.args.out.now) (g.W.Write.contents c.write_front-taken.new.out) (record { waiting = []; written = before }) t c.saturating_add-self.result)
+    c.as_slice.ensures.value
+    (Fails-direct c.as_slice.result.now c.write_front-taken.result before _ (omega arith) c.write_front-taken.ensures.got c.saturating_add-self.ensures)

@@ -1,7 +1,0 @@
-use Rattle.std.proofs.Common.{◌≡◌, Bor, List, ℕ, drop}
-use Rattle.std.specs.List.{list_all}
-use Rattle.fb_why_bytes.specs.RowParts.{is_valued}
-use Rattle.fb_why_bytes.proofs.row.wrong_value.Given as goal
-
-abbrev pub invariant-loop-place : goal.invariant-loop-place
-invariant-loop-place l = list_all (λ (w : Bor (List ℕ)). is_valued w.now) l.words ≡ list_all (λ (w : Bor (List ℕ)). is_valued w.now) (drop l.place l.words)
