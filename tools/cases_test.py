@@ -6,7 +6,6 @@ does this."""
 
 import contextlib
 import io
-import os
 import sys
 import tempfile
 

@@ -1,20 +1,26 @@
 #!/usr/bin/env python3
-"""tools/explained.py [--write]: says whether docs/FORMATS.md shows the explanations of the refusals that the program has.
+"""tools/explained.py [--write]: says whether docs/FORMATS.md shows the explanations of the refusals that the program has, and
+lines of --why that it tells.
 
-They stand in the tables of crates/fb_why/src/table.rt. With --write this writes them into the page, between the two marks there.
+The explanations stand in the tables of crates/fb_why/src/table.rt. With --write this writes them into the page, between the two
+marks there. Each line of --why that the page shows has to be one that a stored case or a call of tools/calls.py wants told.
 Where the page shows others, this says so and ends with status 1. ./gate does it."""
 
 import ast
 import re
 import sys
+import tomllib
 
+import calls
 from kit import TOP
 
+CASES = f"{TOP}/cases/why.toml"
 TABLE = f"{TOP}/crates/fb_why/src/table.rt"
 PAGE = f"{TOP}/docs/FORMATS.md"
 FIRST = "<!-- The explanations of crates/fb_why/src/table.rt, by tools/explained.py --write -->\n"
 LAST = "<!-- The end of the explanations -->\n"
 HEADING = "| name | means | for example | look at |\n|---|---|---|---|\n"
+TOLD = "| refusal | a line that `--why` tells |\n|---|---|\n"
 TEXT = r'("(?:[^"\\]|\\.)*")'
 ENTRY = re.compile(
     r"Explanation \{\s*name: TEXT,\s*meaning:\s*TEXT,\s*examples: \[\s*TEXT,\s*TEXT,?\s*\],\s*look:\s*TEXT,\s*\}".replace("TEXT", TEXT)
@@ -31,6 +37,24 @@ def rows(table):
     if any("|" in cell for row in cells for cell in row):
         sys.exit(f"{TABLE}: a stroke would end a cell of the page")
     return "".join(f"| {' | '.join(row)} |\n" for row in cells)
+
+
+def wanted_lines():
+    """Returns the lines that a stored case or a call wants told."""
+    with open(CASES, "rb") as it:
+        groups = tomllib.load(it)["group"]
+    texts = [text for group in groups for row in group["rows"] for text in row]
+    texts += [call.err.decode() for call in calls.CALLS if call.err]
+    return {line for text in texts for line in text.splitlines()}
+
+
+def untried(page):
+    """Returns the rows of the page's table of lines of --why that no case and no call wants told."""
+    if page.count(TOLD) != 1:
+        sys.exit(f"{PAGE}: the table of lines that --why tells does not stand there once")
+    shown = page.split(TOLD)[1].split("\n\n")[0].splitlines()
+    wanted = wanted_lines()
+    return [row for row in shown if row.split(" | ", 1)[1].removesuffix(" |").strip("`") not in wanted]
 
 
 def main(words):
@@ -51,7 +75,10 @@ def main(words):
     elif shown != wanted:
         print(f"{PAGE}: shows other explanations than {TABLE} has: tools/explained.py --write", file=sys.stderr)
         return 1
-    print("explained: the page shows the explanations of the program")
+    if rows_untried := untried(page):
+        print(f"{PAGE}: neither {CASES} nor tools/calls.py wants this told:", *rows_untried, sep="\n", file=sys.stderr)
+        return 1
+    print("explained: the page shows the explanations of the program, and lines that it tells")
     return 0
 
 

@@ -7,8 +7,8 @@ from wrong ones (tools/cases_test.py, tools/wrong_bodies_test.py); then, from no
 proved, every wrong body in crates/*/must-fail is shown to be refused, tests and programs are run, and the program is
 called at least once for each status (tools/calls.py), as docs/FIRST_APPLICATION.md has it (tools/first_application.py),
 for the waveforms of the examples, which are compared with their traces (tools/waves.py), and of what is no trace
-(tools/traces.py), on the stored cases of cases/ (tools/cases.py), on rings of resources (tools/rings.py) and on systems that
-are drawn by lot (tools/drawn.py), with outputs that take little and readers that fail (tools/narrow.py), on texts that are cut or changed in one byte (tools/hostile.py), and with each
+(tools/traces.py), on the stored cases of cases/ (tools/cases.py), on rings of resources (tools/rings.py), on systems that
+are drawn by lot (tools/drawn.py) and on types with more events than 16 bits can number (tools/wide.py), with outputs that take little and readers that fail (tools/narrow.py), on texts that are cut or changed in one byte (tools/hostile.py), and with each
 of its requests for memory refused (tools/refuse.py). Then it tells the processor seconds and the memory of each crate. The last
 line is 'N passed, M failed', and the status 0 where none failed.
 
@@ -17,9 +17,9 @@ With crates it does the same for these and those below them alone, on a copy of 
 
 It runs the kit's own `rt ci`, so it proves and judges as that does. Some kits keep on the machine what passed, by the checksums
 of all that it stands on: with such a one a later run here, in a clone too, proves and tries only what changed and what stands
-on that. With others each run is from nothing. Two things are done another way: all wrong bodies of a crate stand in one check, each in
-a function of its own (tools/wrong_bodies.py), and the processors are shared so that a check has a second job only where all else waits for it
-(tools/lanes.py)."""
+on that. With others each run is from nothing. Four things are done another way: a crate that is nothing but tests is proved with them
+alone; all wrong bodies of a crate stand in one check, each in a function of its own (tools/wrong_bodies.py); the processors are shared so
+that a check has a second job only where all else waits for it (tools/lanes.py); and both compilers make the program side by side."""
 
 import os
 import re
@@ -44,6 +44,7 @@ import refuse
 import rings
 import traces
 import waves
+import wide
 from kit import KEEPS, TOP, rt, rtlib
 from lanes import in_lanes
 from wrong_bodies import add_edits, try_all
@@ -175,6 +176,7 @@ def call_after_each_run():
         yield cases.run_all(made)
         yield rings.try_all(made)
         yield drawn.try_all(made)
+        yield wide.main([made]) == 0
         yield narrow.try_all(made)
         yield hostile.try_all(made)
         yield refuse.try_all(made)

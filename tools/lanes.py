@@ -7,7 +7,6 @@ chain of all has a second job, since everything waits for that chain, even where
 that begins when fewer tasks are left than there are processors, since those that run beside it end soon. (Two processors are busy for longer
 than any chain takes.) And where fewer tasks are ready than processors are free, the proofs among them share the rest. A check of few lines has one job always: most of its time is the loading of libraries, which each job does."""
 
-import os
 from concurrent.futures import FIRST_COMPLETED, ThreadPoolExecutor, wait
 
 from kit import rt

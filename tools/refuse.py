@@ -42,7 +42,7 @@ STOPPED = re.compile(rb"\ntest stopped at \S+\n")
 # The tests that are written for this, by their crates: each looks, where a call wanted memory, at what the calls behind it do.
 TESTS = {
     "fb_parts_tests": ["tests::messages::messages_come_after_a_want_of_memory"],
-    "fb_sim_tests": ["tests::advances::after_a_want_of_memory_nothing_is_written"],
+    "fb_sim_tests": ["tests::advances::after_a_want_of_memory_nothing_is_written", "tests::rounds::rounds_write_what_has_become_final"],
 }
 # How many requests are refused side by side before it is looked at whether there were so many.
 AT_ONCE = 64

@@ -2,7 +2,8 @@
 """Runs declarations in which one type has 70,000 events and 70,000 variables, more than 16 bits can number, and compares their
 traces, which follow from the rules: tools/wide.py [PROGRAM]
 
-It takes two minutes: a block of such a type is opened in time that grows with the square of their number."""
+./gate does it each time that it has run the program."""
+
 import os
 import string
 import subprocess
@@ -71,9 +72,15 @@ def fails(name, text, stimuli, trace, program, words):
     return True
 
 
-program = sys.argv[1] if len(sys.argv) > 1 else PROGRAM
-failed = fails("inputs", *inputs(), program, ["--serial"])
-failed |= fails("outputs", *outputs(), program, ["--workers", "2"])
-if failed:
-    sys.exit(1)
-print("wide: all as they should be")
+def main(words):
+    """Tries both, and returns the status."""
+    program = words[0] if words else PROGRAM
+    failed = fails("inputs", *inputs(), program, ["--serial"])
+    failed |= fails("outputs", *outputs(), program, ["--workers", "2"])
+    if not failed:
+        print("wide: all as they should be")
+    return int(failed)
+
+
+if __name__ == "__main__":
+    sys.exit(main(sys.argv[1:]))

@@ -18,7 +18,7 @@ import re
 import shutil
 import tempfile
 
-from functions import CYCLE, Sources, without_body
+from functions import Sources, without_body
 from kit import KEEPS, rt, rtlib
 
 # A proof that antt takes by its statement.

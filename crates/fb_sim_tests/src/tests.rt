@@ -1,4 +1,4 @@
-//! What the program does not show of a run: pieces, gates, what follows a failure; and of what it stands on, a board and a phase. Its
+//! What the program does not show of a run: pieces, rounds, gates, what follows a failure; and of what it stands on, a board and a phase. Its
 //! traces stand in cases/, where the program is called for them. Each test ends the process where a call fails that is not to, so that
 //! little is dropped on the way.
 
@@ -8,6 +8,7 @@ mod gates;
 mod later_rounds;
 mod options;
 mod phase;
+mod rounds;
 mod texts;
 mod writers;
 
