@@ -26,6 +26,7 @@ fn push_deployment(alloc: Global, text: &mut Text, bytes: &[u8], place: DeployPl
             push_table(text, table);
             push_fault(alloc, text, bytes, table, fault);
         }
+        DeployPlace::Latency { link, entry } => push_latency(alloc, text, bytes, link, entry),
         _ => push_numbers(text, place),
     }
 }
@@ -159,17 +160,36 @@ fn table_at(keys: &Table, table: TablePlace) -> Option<&Table> {
     value_at(keys, key)?.as_array()?.get(place)?.as_table()
 }
 
-/// What is wrong with the numbers of a deployment.
+/// Tells the latency of an entry of a link.
+fn push_latency(alloc: Global, text: &mut Text, bytes: &[u8], link: usize, entry: usize) {
+    push_link(text, link);
+    match toml::table_from_slice(alloc, bytes) {
+        Ok(keys) => push_latency_of(text, &keys, link, entry),
+        Err(_) => text.give_up(),
+    }
+    text.words(" is not within 1 to 1,000,000");
+}
+
+/// Names the latency of an entry, or the one that the link has in place of a table.
+fn push_latency_of(text: &mut Text, keys: &Table, link: usize, entry: usize) {
+    if has_one_latency(keys, link) {
+        text.words("latency");
+    } else {
+        text.placed("the latency of the ", entry, " entry");
+    }
+}
+
+/// Whether a link has one latency, and no table of them.
+fn has_one_latency(keys: &Table, link: usize) -> bool {
+    match table_at(keys, TablePlace::Link(link)) {
+        Some(keys) => value_at(keys, DeployKey::Latency).is_some(),
+        None => false,
+    }
+}
+
+/// What is wrong with the other numbers of a deployment.
 fn push_numbers(text: &mut Text, place: DeployPlace) {
     match place {
-        DeployPlace::Latency { link, entry } => {
-            push_link(text, link);
-            text.placed(
-                "the latency of the ",
-                entry,
-                " entry is not within 1 to 1,000,000",
-            );
-        }
         DeployPlace::NoEntry { link } => {
             push_link(text, link);
             text.words("latencies has no entry");

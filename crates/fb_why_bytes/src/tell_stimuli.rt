@@ -47,7 +47,7 @@ fn push_row(alloc: Global, text: &mut Text, bytes: &[u8], place: usize, fault: R
 
 fn push_fault(alloc: Global, text: &mut Text, row: &ByteRecord, fault: RowFault) {
     match fault {
-        RowFault::Fields => text.numbered("", row.len(), " fields, and not 3"),
+        RowFault::Fields => text.numbered("", row.len(), " in place of 3 fields"),
         RowFault::Event => push_field(text, "the event ", row.get(1), " is not INSTANCE.EVENT"),
         RowFault::Word(place) => push_word(alloc, text, row, place, " is not NAME=VALUE"),
         RowFault::Tick => push_field(text, "the tick ", row.get(0), " is not a number"),
