@@ -1,7 +1,7 @@
 //! Keys of events.
 
-ghost use Rattle.std.specs.Prelude.{◌≡◌};
-ghost use Rattle.fb_types.specs.Keys.{key_cmp};
+ghost use Rattle.std.specs.Prelude.{◌≡◌, ◌↔◌, IsTrue};
+ghost use Rattle.fb_types.specs.Keys.{key_cmp, local_key, message_key, stimulus_key, timer_key};
 
 use std::cmp::Ordering;
 
@@ -23,6 +23,84 @@ pub struct Key {
     pub class: u8,
     pub a: u128,
     pub b: u128,
+}
+
+/// The class of stimuli.
+const STIMULUS: u8 = 0;
+
+/// The class of timers.
+const TIMER: u8 = 1;
+
+/// The class of arrivals over a link.
+const ARRIVAL: u8 = 2;
+
+/// The class of local events.
+const LOCAL: u8 = 3;
+
+impl Key {
+    /// The key of the stimulus in this row, from 0.
+    #[inline(always)]
+    pub fn stimulus(tick: u64, resource: u32, row: u32) -> Key
+        ensures { result ≡ stimulus_key tick resource row }
+    {
+        Key {
+            tick,
+            resource,
+            class: STIMULUS,
+            a: u128::from(row),
+            b: 0,
+        }
+    }
+
+    /// The key under which the timer of an instance goes off.
+    #[inline(always)]
+    pub fn timer(tick: u64, resource: u32, instance: u32) -> Key
+        ensures { result ≡ timer_key tick resource instance }
+    {
+        Key {
+            tick,
+            resource,
+            class: TIMER,
+            a: u128::from(instance),
+            b: 0,
+        }
+    }
+
+    /// The key under which a message arrives at a resource, by its link and its number on that link, from 0.
+    #[inline(always)]
+    pub fn arrival(tick: u64, resource: u32, link: u32, number: u128) -> Key
+        ensures { result ≡ message_key tick resource link number }
+    {
+        Key {
+            tick,
+            resource,
+            class: ARRIVAL,
+            a: u128::from(link),
+            b: number,
+        }
+    }
+
+    /// The key of a local event, by its number within the tick and the resource, from 0.
+    #[inline(always)]
+    pub fn local(tick: u64, resource: u32, number: u128) -> Key
+        ensures { result ≡ local_key tick resource number }
+    {
+        Key {
+            tick,
+            resource,
+            class: LOCAL,
+            a: number,
+            b: 0,
+        }
+    }
+
+    /// Whether it is the key of a local event.
+    #[inline(always)]
+    pub fn is_local(&self) -> bool
+        ensures local { IsTrue result ↔ (self.now.class ≡ 3) }
+    {
+        self.class == LOCAL
+    }
 }
 
 /// The order in which the events of two keys are taken.
