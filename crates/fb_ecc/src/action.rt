@@ -13,7 +13,7 @@ ghost use Rattle.fb_ecc.specs.Sound.{Each, IsSound, declared_by};
 use crate::chart::Act;
 use fb_st::exec::exec;
 use fb_st::frame::Frame;
-use fb_st::meter::StepMeter;
+use fb_st::meter::Meter;
 use fb_types::items::Items;
 use fb_types::library::BasicType;
 use fb_types::reference::Reference;
@@ -103,7 +103,7 @@ fn run(
     block: &BasicType,
     algorithm: Option<usize>,
     frame: &mut Frame,
-    meter: &mut StepMeter,
+    meter: &mut Meter,
 ) -> Result<(), Reason>
     requires sound { IsSound block.now }
     requires declared { declared_in frame.old ≡ declared_by block.now }
@@ -126,7 +126,7 @@ fn perform(
     act: Act,
     shown: &[Items<Reference>],
     frame: &mut Frame,
-    meter: &mut StepMeter,
+    meter: &mut Meter,
     emits: &mut Emits,
 ) -> Result<(), Halt>
     requires sound { IsSound block.now }
@@ -152,7 +152,7 @@ pub(crate) fn perform_all(
     acts: &[Act],
     shown: &[Items<Reference>],
     frame: &mut Frame,
-    meter: &mut StepMeter,
+    meter: &mut Meter,
     emits: &mut Emits,
 ) -> Result<(), Halt>
     requires sound { IsSound block.now }

@@ -13,7 +13,7 @@ use crate::action::perform_all;
 use crate::state::BasicState;
 use crate::trial::cleared;
 use fb_st::frame::Frame;
-use fb_st::meter::StepMeter;
+use fb_st::meter::Meter;
 use fb_types::library::BasicType;
 use fb_types::reference::Reference;
 use fb_types::run::{Emits, Halt};
@@ -38,7 +38,7 @@ fn enter(
     state: &mut BasicState,
     block: &BasicType,
     target: usize,
-    meter: &mut StepMeter,
+    meter: &mut Meter,
     emits: &mut Emits,
 ) -> Result<(), Halt>
     requires sound { IsSound block.now }
@@ -63,7 +63,7 @@ fn link(
     state: &mut BasicState,
     block: &BasicType,
     present: Option<usize>,
-    meter: &mut StepMeter,
+    meter: &mut Meter,
     emits: &mut Emits,
 ) -> Result<bool, Halt>
     requires sound { IsSound block.now }
@@ -100,7 +100,7 @@ pub fn react(
     block: &BasicType,
     event: u32,
     values: &[Value],
-    meter: &mut StepMeter,
+    meter: &mut Meter,
     emits: &mut Emits,
 ) -> Result<(), Halt>
     requires sound { IsSound block.now }

@@ -10,7 +10,7 @@ ghost use Rattle.fb_ecc.specs.Trials.{IsExit, transition_at, transitions_at, is_
 use crate::chart::Exit;
 use fb_st::eval::holds;
 use fb_st::frame::Frame;
-use fb_st::meter::StepMeter;
+use fb_st::meter::Meter;
 use fb_types::library::BasicType;
 use fb_types::value::Reason;
 
@@ -68,7 +68,7 @@ pub(crate) fn cleared(
     exits: &[Exit],
     present: Option<usize>,
     frame: &Frame,
-    meter: &mut StepMeter,
+    meter: &mut Meter,
 ) -> Result<Option<usize>, Reason>
     requires sound { IsSound block.now }
     requires exits { Each (IsExit block.now) exits.now }

@@ -11,7 +11,7 @@ use Rattle.fb_take.specs.Counts.{IsMetered}
 use Rattle.fb_take.specs.Openings.{IsOpened}
 use Rattle.fb_take.specs.Posts.{CountsAre}
 use Rattle.fb_take.specs.Takings.{AreReady, IsHere}
-use Rattle.fb_take.specs.declared.meter.Meter.{Meter}
+use Rattle.fb_take.specs.declared.tick_counts.TickCounts.{TickCounts}
 use Rattle.fb_take.proofs.Begins.{here_opened, metered_opened}
 use Rattle.fb_types.proofs.ByPlace.{slice_get-push}
 use Rattle.fb_take.proofs.Lists.{of_replicate}
@@ -20,7 +20,7 @@ use Rattle.fb_machine.specs.Openings.{AreOpened}
 use Rattle.fb_machine.specs.declared.machine.Machine.{Machine}
 
 -- a meter of a resource that took nothing yet
-abbrev fresh : Meter
+abbrev fresh : TickCounts
 fresh = record { tick = None; left = 0; locals = 0 }
 
 pub at_opened : (i : Inputs) (m : Machine) (n : ℕ) → AreAccepted i → AreOpened i n m.trees.items → m.meters.items ≡ replicate n fresh
@@ -42,12 +42,12 @@ ready_opened i limit m trees meters queues delivered = record {
   trees = λ r t is. (trees.each r t is).1;
   meters_counted = ap length meters ∙ length-replicate (length (system_of i).resource_names) fresh;
   meters = λ r x is. subst (IsMetered limit) (its r x is) (metered_opened limit);
-  past = λ r x is. subst (λ (z : Meter). unwrap_or z.tick 0 ≤ 0) (its r x is) (omega arith);
+  past = λ r x is. subst (λ (z : TickCounts). unwrap_or z.tick 0 ≤ 0) (its r x is) (omega arith);
   queues = queues;
   delivered = delivered;
 }
   where
-    its : (r : ℕ) (x : Meter) → slice_get m.meters.items r ≡ Some x → fresh ≡ x
+    its : (r : ℕ) (x : TickCounts) → slice_get m.meters.items r ≡ Some x → fresh ≡ x
     its r x is = of_replicate (length (system_of i).resource_names) r fresh x (ap (λ xs. slice_get xs r) (sym meters) ∙ is)
 
 -- the blocks of one resource more

@@ -7,12 +7,12 @@ use Rattle.fb_types.specs.declared.key.Key.{Key}
 use Rattle.fb_tree.specs.declared.resource.Forest.{Forest}
 use Rattle.fb_take.specs.Counts.{IsMetered}
 use Rattle.fb_take.specs.Takings.{AreReady}
-use Rattle.fb_take.specs.declared.meter.Meter.{Meter}
+use Rattle.fb_take.specs.declared.tick_counts.TickCounts.{TickCounts}
 use Rattle.fb_take.proofs.Lists.{set_each}
 use Rattle.fb_machine.specs.Machines.{IsReady}
 use Rattle.fb_machine.specs.declared.machine.Machine.{Machine}
 
-pub ready_after : (i : Inputs) (limit : ℕ) (k : Key) (old new : Machine) (tree : Forest) (before meter : Meter) → IsReady i limit k.tick old
+pub ready_after : (i : Inputs) (limit : ℕ) (k : Key) (old new : Machine) (tree : Forest) (before meter : TickCounts) → IsReady i limit k.tick old
     → k.resource < length old.trees.items → k.resource < length old.meters.items → slice_get old.meters.items k.resource ≡ Some before
     → IsMetered limit meter → unwrap_or meter.tick 0 ≤ max (unwrap_or before.tick 0) k.tick → tree.resource ≡ k.resource
     → new.trees.items ≡ slice_set old.trees.items k.resource tree → new.meters.items ≡ slice_set old.meters.items k.resource meter
@@ -23,9 +23,9 @@ ready_after i limit k old new tree before meter ready has_tree has_meter was met
   trees = λ r x h. set_each (λ q t. t.resource ≡ q) old.trees.items k.resource tree has_tree here (λ q t n had. ready.trees q t had) r x (subst (λ (ts : List Forest). slice_get ts r ≡ Some x) trees h);
   meters_counted = ap length meters ∙ length-set old.meters.items k.resource meter ∙ ready.meters_counted;
   meters = λ r x h. set_each (λ q z. IsMetered limit z) old.meters.items k.resource meter has_meter metered (λ q z n had. ready.meters q z had)
-      r x (subst (λ (ms : List Meter). slice_get ms r ≡ Some x) meters h);
+      r x (subst (λ (ms : List TickCounts). slice_get ms r ≡ Some x) meters h);
   past = λ r x h. set_each (λ q z. unwrap_or z.tick 0 ≤ k.tick) old.meters.items k.resource meter has_meter past (λ q z n had. ready.past q z had)
-      r x (subst (λ (ms : List Meter). slice_get ms r ≡ Some x) meters h);
+      r x (subst (λ (ms : List TickCounts). slice_get ms r ≡ Some x) meters h);
   queues = queues;
   delivered = delivered;
 }

@@ -15,7 +15,7 @@ use Rattle.fb_types.specs.declared.run.Event.{Event}
 use Rattle.fb_net.specs.Events.{event_of}
 use Rattle.fb_take.specs.Counts.{fuel}
 use Rattle.fb_take.specs.Waiting.{meaning}
-use Rattle.fb_take.specs.declared.meter.Meter.{Meter}
+use Rattle.fb_take.specs.declared.tick_counts.TickCounts.{TickCounts}
 use Rattle.fb_take.proofs.Fuel.{fuel_falls}
 use Rattle.fb_take.proofs.Leaving.{Left, meaning_left, ready_left}
 use Rattle.fb_machine.specs.Counts.{fuel_of_all}
@@ -88,7 +88,7 @@ completes_rest i horizon limit c old lines is none = record {
 
 -- ---- The run comes to an end
 
-sum_falls : (horizon limit : ℕ) (ms : List Meter) (r : ℕ) (old new : Meter) → slice_get ms r ≡ Some old → fuel horizon limit new < fuel horizon limit old
+sum_falls : (horizon limit : ℕ) (ms : List TickCounts) (r : ℕ) (old new : TickCounts) → slice_get ms r ≡ Some old → fuel horizon limit new < fuel horizon limit old
     → fuel_of_all horizon limit (slice_set ms r new) < fuel_of_all horizon limit ms
 sum_falls horizon limit [] r old new was less = absurd cc
 sum_falls horizon limit (m ∷ ms) zero old new was less =
@@ -100,7 +100,7 @@ sum_falls horizon limit (m ∷ ms) (suc r) old new was less =
     let rest = sum_falls horizon limit ms r old new was less in
     omega (arith, rest)
 
-pub all_falls : (horizon limit : ℕ) (k : Key) (old new : List Meter) → (spent : IsSpent limit k old new) → unwrap_or spent.before.tick 0 ≤ k.tick → k.tick < horizon
+pub all_falls : (horizon limit : ℕ) (k : Key) (old new : List TickCounts) → (spent : IsSpent limit k old new) → unwrap_or spent.before.tick 0 ≤ k.tick → k.tick < horizon
     → fuel_of_all horizon limit new < fuel_of_all horizon limit old
 all_falls horizon limit k old new spent later below =
     subst (λ ms. fuel_of_all horizon limit ms < fuel_of_all horizon limit old) (sym spent.now)

@@ -20,7 +20,7 @@ use Rattle.fb_tree.specs.declared.resource.Forest.{Forest}
 use Rattle.fb_take.specs.Posts.{arriving}
 use Rattle.fb_take.specs.Takings.{IsHere, IsTakenHere}
 use Rattle.fb_take.specs.Waiting.{meaning}
-use Rattle.fb_take.specs.declared.meter.Meter as counted
+use Rattle.fb_take.specs.declared.tick_counts.TickCounts as counted
 use Rattle.fb_take.specs.declared.queues.Queues.{Queues}
 use Rattle.fb_take.proofs.Lists.{set_apart, set_here}
 use Rattle.fb_machine.specs.Machines.{IsAt, IsTaken}
@@ -73,7 +73,7 @@ elsewhere sys limit s k e x q other h = let m = begun limit k.tick (s.meters k.r
 -- ---- The machine
 
 -- An event was taken in its resource, and the messages were delivered: so the machine took it.
-pub taken_at : (i : Inputs) (limit : ℕ) (s : State) (a : Agenda) (k : Key) (e : AnEvent) (stop : Option Reason) (old new : Machine) (mid : Queues) (tree : Forest) (meter : counted.Meter)
+pub taken_at : (i : Inputs) (limit : ℕ) (s : State) (a : Agenda) (k : Key) (e : AnEvent) (stop : Option Reason) (old new : Machine) (mid : Queues) (tree : Forest) (meter : counted.TickCounts)
     → ((q : ℕ) (t : Forest) → slice_get old.trees.items q ≡ Some t → t.resource ≡ q)
     → k.resource < length old.trees.items → k.resource < length old.meters.items → (system_of i).resource (path_of e) ≡ k.resource
     → IsAt i s (without k a) old → old.queues.mail.items ≡ []
@@ -107,7 +107,7 @@ taken_at i limit s a k e stop old new mid tree meter ours has_tree has_meter hom
     mail : map (arriving i) mid.mail.items ≡ effect.sent
     mail = taken.mail ∙ ap (λ ms. map (arriving i) ms ++ effect.sent) none
 
-    same : (q : ℕ) (t : Forest) (x : counted.Meter) → slice_get new.trees.items q ≡ Some t → slice_get new.meters.items q ≡ Some x → q ≡ k.resource → IsHere i effect.state q t x
+    same : (q : ℕ) (t : Forest) (x : counted.TickCounts) → slice_get new.trees.items q ≡ Some t → slice_get new.meters.items q ≡ Some x → q ≡ k.resource → IsHere i effect.state q t x
     same q t x its_tree its_meter is =
         let t_at : slice_get (slice_set old.trees.items k.resource tree) k.resource ≡ Some t = sym (ap (λ ts. slice_get ts k.resource) trees) ∙ ap (slice_get new.trees.items) (sym is) ∙ its_tree in
         let x_at : slice_get (slice_set old.meters.items k.resource meter) k.resource ≡ Some x = sym (ap (λ ms. slice_get ms k.resource) meters) ∙ ap (slice_get new.meters.items) (sym is) ∙ its_meter in
@@ -115,7 +115,7 @@ taken_at i limit s a k e stop old new mid tree meter ours has_tree has_meter hom
         (subst (λ z. IsHere i effect.state k.resource z x) (set_here old.trees.items k.resource tree t has_tree t_at)
         (subst (λ z. IsHere i effect.state k.resource tree z) (set_here old.meters.items k.resource meter x has_meter x_at) taken.here))
 
-    apart : (q : ℕ) (t : Forest) (x : counted.Meter) → slice_get new.trees.items q ≡ Some t → slice_get new.meters.items q ≡ Some x → q ≢ k.resource → IsHere i effect.state q t x
+    apart : (q : ℕ) (t : Forest) (x : counted.TickCounts) → slice_get new.trees.items q ≡ Some t → slice_get new.meters.items q ≡ Some x → q ≢ k.resource → IsHere i effect.state q t x
     apart q t x its_tree its_meter other =
         let had : slice_get old.trees.items q ≡ Some t = set_apart old.trees.items k.resource q tree t other (sym (ap (λ ts. slice_get ts q) trees) ∙ its_tree) in
         let had_meter : slice_get old.meters.items q ≡ Some x = set_apart old.meters.items k.resource q meter x other (sym (ap (λ ms. slice_get ms q) meters) ∙ its_meter) in

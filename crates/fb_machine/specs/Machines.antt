@@ -12,7 +12,7 @@ use Rattle.fb_take.specs.Counts.{IsMetered}
 use Rattle.fb_take.specs.Posts.{CountsAre}
 use Rattle.fb_take.specs.Takings.{AreReady, IsHere}
 use Rattle.fb_take.specs.Waiting.{meaning}
-use Rattle.fb_take.specs.declared.meter.Meter.{Meter}
+use Rattle.fb_take.specs.declared.tick_counts.TickCounts.{TickCounts}
 use Rattle.fb_machine.specs.declared.machine.Machine.{Machine}
 
 -- The machine is one of the system: blocks and counts for each resource, and all messages are delivered.
@@ -20,14 +20,14 @@ pub record IsReady (i : Inputs) (limit tick : ℕ) (m : Machine) : Type 0 where
   pub trees_counted : length m.trees.items ≡ length (system_of i).resource_names
   pub trees : (r : ℕ) (t : Forest) → slice_get m.trees.items r ≡ Some t → t.resource ≡ r
   pub meters_counted : length m.meters.items ≡ length (system_of i).resource_names
-  pub meters : (r : ℕ) (x : Meter) → slice_get m.meters.items r ≡ Some x → IsMetered limit x
-  pub past : (r : ℕ) (x : Meter) → slice_get m.meters.items r ≡ Some x → unwrap_or x.tick 0 ≤ tick
+  pub meters : (r : ℕ) (x : TickCounts) → slice_get m.meters.items r ≡ Some x → IsMetered limit x
+  pub past : (r : ℕ) (x : TickCounts) → slice_get m.meters.items r ≡ Some x → unwrap_or x.tick 0 ≤ tick
   pub queues : AreReady i tick m.queues
   pub delivered : m.queues.mail.items ≡ []
 
 -- What the machine has is what a state and an agenda of the model have.
 pub record IsAt (i : Inputs) (s : State) (a : model.Agenda) (m : Machine) : Type 0 where
-  pub here : (r : ℕ) (t : Forest) (x : Meter) → slice_get m.trees.items r ≡ Some t → slice_get m.meters.items r ≡ Some x → IsHere i s r t x
+  pub here : (r : ℕ) (t : Forest) (x : TickCounts) → slice_get m.trees.items r ≡ Some t → slice_get m.meters.items r ≡ Some x → IsHere i s r t x
   pub sent : CountsAre m.queues.sent.items s.sent
   pub agenda : (j : Key) → a j ≡ meaning i m.queues.agenda j
 

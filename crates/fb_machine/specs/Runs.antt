@@ -3,13 +3,13 @@ use Rattle.std.specs.Prelude.{◌≡◌, ◌≤◌, ℕ, suc, List, Some, slice_
 use Rattle.fb_types.specs.Takes.{begun}
 use Rattle.fb_types.specs.declared.key.Key.{Key}
 use Rattle.fb_take.specs.Counts.{meter_of}
-use Rattle.fb_take.specs.declared.meter.Meter.{Meter}
+use Rattle.fb_take.specs.declared.tick_counts.TickCounts.{TickCounts}
 
 -- One step more of the tick was used in the key's resource, and the others have what they had.
-pub record IsSpent (limit : ℕ) (k : Key) (old new : List Meter) : Type 0 where
-  pub before : Meter
+pub record IsSpent (limit : ℕ) (k : Key) (old new : List TickCounts) : Type 0 where
+  pub before : TickCounts
   pub was : slice_get old k.resource ≡ Some before
-  pub after : Meter
+  pub after : TickCounts
   pub now : new ≡ slice_set old k.resource after
   pub tick : after.tick ≡ Some k.tick
   pub left : suc after.left ≤ (begun limit k.tick (meter_of before)).left

@@ -18,7 +18,7 @@ use crate::pause::Pause;
 use fb_agenda::least::Least;
 use fb_net::tree::Tree;
 use fb_system::system::System;
-use fb_take::meter::Meter;
+use fb_take::tick_counts::TickCounts;
 use fb_take::queues::Queues;
 use fb_take::take::take;
 use fb_types::key::Key;
@@ -30,7 +30,7 @@ use std::alloc::AllocError;
 pub struct Machine {
     pub(crate) queues: Queues,
     pub(crate) trees: Vec<Tree>,
-    pub(crate) meters: Vec<Meter>,
+    pub(crate) meters: Vec<TickCounts>,
 }
 
 // Written out, and not derived: so it is proved here alone what is let go with a machine, and not in each crate that lets

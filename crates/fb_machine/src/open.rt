@@ -9,7 +9,7 @@ ghost use Rattle.fb_machine.specs.Openings.{AreOpened};
 use crate::machine::Machine;
 use fb_net::tree::Tree;
 use fb_system::system::System;
-use fb_take::meter::Meter;
+use fb_take::tick_counts::TickCounts;
 use fb_take::open::open_agenda;
 use fb_take::queues::Queues;
 use std::alloc::{AllocError, Global};
@@ -41,7 +41,7 @@ impl Machine {
         let agenda = open_agenda(alloc, system, None)?;
         let queues = Queues::open(alloc, system, agenda)?;
         let trees = open_trees(alloc, system)?;
-        let meters = vec![in alloc; Meter::new(); system.resources()]?;
+        let meters = vec![in alloc; TickCounts::new(); system.resources()]?;
         Ok(Machine {
             queues,
             trees,

@@ -22,7 +22,7 @@ use crate::event_blocks::react_event;
 use crate::samples::{sampled_values, shown_values};
 use crate::taking::Taking;
 use fb_names::numbers::TypeNumber;
-use fb_st::meter::StepMeter;
+use fb_st::meter::Meter;
 use fb_types::event_kind::EventKind;
 use fb_types::library::{BasicType, BlockType};
 use fb_types::run::{Emission, Emits, Halt, Place, Target, Values};
@@ -190,7 +190,7 @@ impl Taking<'_> {
         &mut self,
         block: &BasicType,
         at: Target,
-        meter: &mut StepMeter,
+        meter: &mut Meter,
     ) -> Result<(), Halt>
         requires place { MayArrive self.old at }
         requires input { at.is_output ≡ false }
@@ -225,7 +225,7 @@ impl Taking<'_> {
     ///
     /// # Errors
     /// `Halt::Stop` where a reason ends the reaction: what was put out before it stands.
-    pub fn arrive(&mut self, at: Target, meter: &mut StepMeter) -> Result<(), Halt>
+    pub fn arrive(&mut self, at: Target, meter: &mut Meter) -> Result<(), Halt>
         requires target { IsTarget (system_in self.old) at }
         requires here { InForest self.old.system.now self.old.forest.now at.instance }
         requires ready { MayBegin self.old }

@@ -13,7 +13,7 @@ ghost use Rattle.fb_tree.specs.Worlds.{IsForest};
 ghost use Rattle.fb_net.specs.Leaves.{ChartEnded, Changed, HasCharted, IsOne, IsReadyAt};
 
 use fb_ecc::reaction::react;
-use fb_st::meter::StepMeter;
+use fb_st::meter::Meter;
 use fb_system::system::System;
 use fb_tree::block::Block;
 use fb_tree::resource::Forest;
@@ -34,7 +34,7 @@ pub fn react_basic(
     block: &BasicType,
     at: Target,
     values: &[Value],
-    meter: &mut StepMeter,
+    meter: &mut Meter,
     emits: &mut Emits,
 ) -> Result<(), Halt>
     requires port { IsPort (system_of system.now) at }
@@ -67,7 +67,7 @@ fn react_at(
     block: &BasicType,
     event: u32,
     values: &[Value],
-    meter: &mut StepMeter,
+    meter: &mut Meter,
     emits: &mut Emits,
 ) -> Result<(), Halt>
     requires sound { IsSound block.now }

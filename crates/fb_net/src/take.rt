@@ -13,7 +13,7 @@ use crate::bring::{hold_carried, set_slots};
 use crate::event_blocks::expire_event;
 use crate::taking::Taking;
 use fb_names::numbers::TypeNumber;
-use fb_st::meter::StepMeter;
+use fb_st::meter::Meter;
 use fb_types::event_kind::EventKind;
 use fb_types::run::{Event, Halt, Message};
 use std::alloc::AllocError;
@@ -23,7 +23,7 @@ impl Taking<'_> {
     ///
     /// # Errors
     /// As `arrive`.
-    fn take_stimulus(&mut self, row: u32, meter: &mut StepMeter) -> Result<(), Halt>
+    fn take_stimulus(&mut self, row: u32, meter: &mut Meter) -> Result<(), Halt>
         requires { MayTake self.old (Event.Stimulus row) }
         ensures taken { WasTaken self.old (Event.Stimulus row) meter.old.left result self.new meter.new.left }
         ensures same { IsSame self.old self.new }
@@ -38,7 +38,7 @@ impl Taking<'_> {
     ///
     /// # Errors
     /// As `arrive`.
-    fn take_arrival(&mut self, message: &Message, meter: &mut StepMeter) -> Result<(), Halt>
+    fn take_arrival(&mut self, message: &Message, meter: &mut Meter) -> Result<(), Halt>
         requires { MayTake self.old (Event.Arrival message.now) }
         ensures taken { WasTaken self.old (Event.Arrival message.now) meter.old.left result self.new meter.new.left }
         ensures same { IsSame self.old self.new }
@@ -86,7 +86,7 @@ impl Taking<'_> {
     ///
     /// # Errors
     /// As `arrive`.
-    pub fn take_event(&mut self, event: &Event, meter: &mut StepMeter) -> Result<(), Halt>
+    pub fn take_event(&mut self, event: &Event, meter: &mut Meter) -> Result<(), Halt>
         requires { MayTake self.old event.now }
         ensures taken { WasTaken self.old event.now meter.old.left result self.new meter.new.left }
         ensures same { IsSame self.old self.new }

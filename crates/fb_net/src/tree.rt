@@ -13,7 +13,7 @@ ghost use Rattle.fb_net.specs.Events.{HasTaken, IsEventIn, Remembered, event_of}
 
 use crate::outbox::Outbox;
 use crate::taking::Taking;
-use fb_st::meter::StepMeter;
+use fb_st::meter::Meter;
 use fb_system::system::System;
 use fb_tree::resource::Forest;
 use fb_types::key::Key;
@@ -70,7 +70,7 @@ impl Tree {
         system: &System,
         event: &Event,
         key: &Key,
-        meter: &mut StepMeter,
+        meter: &mut Meter,
         outbox: &mut Outbox,
     ) -> Result<(), Halt>
         requires event { IsEventIn system.now self.old.resource event.now }

@@ -16,7 +16,7 @@ use Rattle.fb_take.specs.Openings.{IsOpened}
 use Rattle.fb_take.specs.Posts.{CountsAre}
 use Rattle.fb_take.specs.Takings.{AreReady, IsHere}
 use Rattle.fb_take.specs.Waiting.{meaning}
-use Rattle.fb_take.specs.declared.meter.Meter.{Meter}
+use Rattle.fb_take.specs.declared.tick_counts.TickCounts.{TickCounts}
 use Rattle.fb_take.specs.declared.queues.Queues.{Queues}
 use Rattle.fb_take.proofs.Begins.{here_opened, metered_opened}
 use Rattle.fb_types.proofs.ByPlace.{slice_get-push}
@@ -62,9 +62,9 @@ module _ (i : Inputs) (n : ℕ) (t : Forest) (q : Queues) (at : t.resource ≡ n
     }
 
     pub fresh : (limit : ℕ) → n < length (system_of i).resource_names → AreReady i 0 q → q.mail.items ≡ [] → q.outbox.lines.items ≡ []
-        → (m : Meter) → m ≡ record { tick = None; left = 0; locals = 0 }
+        → (m : TickCounts) → m ≡ record { tick = None; left = 0; locals = 0 }
         → IsFresh i limit n (record { number = n; tree = t; clock = 0; meter = m; queues = q; stopped = None })
-    fresh limit named ready mail lines m is = subst (λ (z : Meter). IsFresh i limit n (record { number = n; tree = t; clock = 0; meter = z; queues = q; stopped = None })) (sym is) (record {
+    fresh limit named ready mail lines m is = subst (λ (z : TickCounts). IsFresh i limit n (record { number = n; tree = t; clock = 0; meter = z; queues = q; stopped = None })) (sym is) (record {
       numbered = at;
       clock = refl;
       live = refl;

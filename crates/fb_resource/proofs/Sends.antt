@@ -30,7 +30,7 @@ use Rattle.fb_system.proofs.rows.StimulusRow.TheSendSync as row
 use Rattle.fb_tree.proofs.block.BasicBlock.TheSendSync as basic
 use Rattle.fb_tree.proofs.block.CompositeBlock.TheSendSync as composite
 use Rattle.fb_tree.proofs.block.EventBlock.TheSendSync as event
-use Rattle.fb_take.proofs.meter.Meter.TheSendSync as meter
+use Rattle.fb_take.proofs.tick_counts.TickCounts.TheSendSync as meter
 use Rattle.fb_take.proofs.queues.Queues.TheSendSync as queues
 use Rattle.fb_types.specs.contracts.text.Expr as Expr
 use Rattle.fb_types.specs.contracts.text.Stmt as Stmt

@@ -11,7 +11,7 @@ use crate::resource::{Inner, Resource};
 use fb_agenda::agenda::Agenda;
 use fb_net::tree::Tree;
 use fb_system::system::System;
-use fb_take::meter::Meter;
+use fb_take::tick_counts::TickCounts;
 use fb_take::open::{open_agenda, open_agendas};
 use fb_take::queues::Queues;
 use std::alloc::{AllocError, Global};
@@ -35,7 +35,7 @@ impl Resource {
             number,
             tree,
             clock: 0,
-            meter: Meter::new(),
+            meter: TickCounts::new(),
             queues,
             stopped: None,
         };

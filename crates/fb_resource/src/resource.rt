@@ -7,7 +7,7 @@ ghost use Rattle.fb_agenda.specs.Agendas.{IsNext, waiting};
 ghost use Rattle.fb_resource.specs.Resources.{IsBusy};
 
 use fb_net::tree::Tree;
-use fb_take::meter::Meter;
+use fb_take::tick_counts::TickCounts;
 use fb_take::queues::Queues;
 use fb_types::run::{Line, Message, StopMark};
 use fb_types::value::Reason;
@@ -24,7 +24,7 @@ pub struct Inner {
     /// All below this tick is taken; where it stopped, the tick of its stop.
     pub clock: u64,
     /// The counts of the tick of its last event.
-    pub meter: Meter,
+    pub meter: TickCounts,
     /// Its agenda, the counts of its messages, and room for what its takings give.
     pub queues: Queues,
     /// Why it stopped, if it has.

@@ -21,7 +21,7 @@ use Rattle.fb_types.proofs.NameLaws.{same_name-itself}
 use Rattle.fb_st.specs.Frames.{Declared, declared_in, types_in, values_of}
 use Rattle.fb_st.specs.Flows.{end_of, point, all_of, choices_of, branches_of, choice_of, branch_of}
 use Rattle.fb_st.specs.declared.frame.Slot.{Slot}
-use Rattle.fb_st.specs.declared.meter.StepMeter.{StepMeter}
+use Rattle.fb_st.specs.declared.meter.Meter.{Meter}
 use Rattle.fb_st.specs.declared.meter.Flow.{Flow}
 use Rattle.fb_st.specs.Known.{AssignsKnown, AllKnown, ChoicesKnown, BranchesKnown}
 
@@ -276,23 +276,23 @@ one_runs T (t ∷ u ∷ ss) s p q e one is run = absurd (omega arith)
 
 -- ---- What is known of a loop's frame, said of the frame that it began with
 
-pub all_as : (f g : List Slot) (m n : StepMeter) (xs ys : List read.Stmt) (e : End) (q : Point) → f ≡ g → m ≡ n → xs ≡ ys
+pub all_as : (f g : List Slot) (m n : Meter) (xs ys : List read.Stmt) (e : End) (q : Point) → f ≡ g → m ≡ n → xs ≡ ys
     → RunsAll (types_in (declared_in f)) (all_of xs) (point f m) e q → RunsAll (types_in (declared_in g)) (all_of ys) (point g n) e q
 all_as f g m n xs ys e q same_frame same_meter same run =
     subst (λ (l : List read.Stmt). RunsAll (types_in (declared_in g)) (all_of l) (point g n) e q) same
-    (subst (λ (k : StepMeter). RunsAll (types_in (declared_in g)) (all_of xs) (point g k) e q) same_meter
+    (subst (λ (k : Meter). RunsAll (types_in (declared_in g)) (all_of xs) (point g k) e q) same_meter
     (subst (λ (h : List Slot). RunsAll (types_in (declared_in h)) (all_of xs) (point h m) e q) same_frame run))
 
-pub ends_at : (R : Running) (p : Point) (e : End) (f g : List Slot) (m n : StepMeter) → f ≡ g → m ≡ n → R p e (point g n) → R p e (point f m)
+pub ends_at : (R : Running) (p : Point) (e : End) (f g : List Slot) (m n : Meter) → f ≡ g → m ≡ n → R p e (point g n) → R p e (point f m)
 ends_at R p e f g m n same_frame same_meter run =
-    subst (λ (h : List Slot). R p e (point h m)) (sym same_frame) (subst (λ (k : StepMeter). R p e (point g k)) (sym same_meter) run)
+    subst (λ (h : List Slot). R p e (point h m)) (sym same_frame) (subst (λ (k : Meter). R p e (point g k)) (sym same_meter) run)
 
 pub choice_told : (c : Choice) (f g : List Slot) (r s : Result Bool Reason) → f ≡ g → r ≡ truth_of (expr_of (out-Choice c).condition) (values_of f) → r ≡ s
     → truth_of (choice_of c).0 (values_of g) ≡ s
 choice_told c f g r s same is told =
     ap (λ x. truth_of x.0 (values_of g)) (choice_says c) ∙ ap (λ h. truth_of (expr_of (out-Choice c).condition) (values_of h)) (sym same) ∙ sym is ∙ told
 
-pub choice_ran : (c : Choice) (f g : List Slot) (m n : StepMeter) (xs : List read.Stmt) (e : End) (q : Point) → f ≡ g → m ≡ n → xs ≡ (out-Choice c).body
+pub choice_ran : (c : Choice) (f g : List Slot) (m n : Meter) (xs : List read.Stmt) (e : End) (q : Point) → f ≡ g → m ≡ n → xs ≡ (out-Choice c).body
     → RunsAll (types_in (declared_in f)) (all_of xs) (point f m) e q → RunsAll (types_in (declared_in g)) (choice_of c).1 (point g n) e q
 choice_ran c f g m n xs e q same_frame same_meter same run =
     subst (λ (x : Expr × Stmts). RunsAll (types_in (declared_in g)) x.1 (point g n) e q) (sym (choice_says c))
@@ -302,7 +302,7 @@ pub branch_told : (b : Branch) (labels : List Label) (z : ℤ) (r s : Bool) → 
 branch_told b labels z r s same is told =
     ap (λ x. label_fits x.0 z) (branch_says b) ∙ ap (λ l. label_fits l z) (sym same) ∙ sym is ∙ told
 
-pub branch_ran : (b : Branch) (f g : List Slot) (m n : StepMeter) (xs : List read.Stmt) (e : End) (q : Point) → f ≡ g → m ≡ n → xs ≡ (out-Branch b).body
+pub branch_ran : (b : Branch) (f g : List Slot) (m n : Meter) (xs : List read.Stmt) (e : End) (q : Point) → f ≡ g → m ≡ n → xs ≡ (out-Branch b).body
     → RunsAll (types_in (declared_in f)) (all_of xs) (point f m) e q → RunsAll (types_in (declared_in g)) (branch_of b).1 (point g n) e q
 branch_ran b f g m n xs e q same_frame same_meter same run =
     subst (λ (x : List Label × Stmts). RunsAll (types_in (declared_in g)) x.1 (point g n) e q) (sym (branch_says b))

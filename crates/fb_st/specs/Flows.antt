@@ -10,7 +10,7 @@ use Rattle.fb_types.specs.declared.text.Branch.{Branch, fold-Branch}
 use Rattle.fb_types.specs.declared.value.Reason.{Reason}
 use Rattle.fb_st.specs.Frames.{values_of}
 use Rattle.fb_st.specs.declared.frame.Slot.{Slot}
-use Rattle.fb_st.specs.declared.meter.StepMeter.{StepMeter}
+use Rattle.fb_st.specs.declared.meter.Meter.{Meter}
 use Rattle.fb_st.specs.declared.meter.Flow.{Flow}
 use Rattle.fb_st.specs.declared.meter.Flow.TheVariants as flow
 
@@ -21,11 +21,11 @@ end_of (Ok flow.Returned) = Returned
 end_of (Err r) = Stopped r
 
 -- where a run is
-abbrev pub point : List Slot → StepMeter → Point
+abbrev pub point : List Slot → Meter → Point
 point slots m = record { vars = values_of slots; left = m.left }
 
 -- where the run was before the step that began the statement
-abbrev pub before_step : List Slot → StepMeter → Point
+abbrev pub before_step : List Slot → Meter → Point
 before_step slots m = record { vars = values_of slots; left = suc m.left }
 
 -- what IF or ELSIF says, and what the labels and statements of a CASE say

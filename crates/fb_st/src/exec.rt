@@ -11,7 +11,7 @@ ghost use Rattle.fb_st.specs.Known.{AssignsKnown, AllKnown, ChoicesKnown, Branch
 use crate::assign::{Count, advance, has_label, has_passed, run_assignment, step_value};
 use crate::eval::{eval, holds};
 use crate::frame::Frame;
-use crate::meter::{Flow, StepMeter};
+use crate::meter::{Flow, Meter};
 use fb_types::reference::Reference;
 use fb_types::text::{Body, Branch, Choice, Expr, Stmt};
 use fb_types::value::{Reason, Value};
@@ -20,7 +20,7 @@ use fb_types::value::{Reason, Value};
 /// statement does. EXIT outside of loops, as no accepted text has it, gives `Left`. After a reason the frame
 /// holds what the statements before it left. A caller without an accepted text asks `knows` first.
 #[inline(always)]
-pub fn exec(body: &Body, frame: &mut Frame, meter: &mut StepMeter) -> Result<Flow, Reason>
+pub fn exec(body: &Body, frame: &mut Frame, meter: &mut Meter) -> Result<Flow, Reason>
     requires known { AllKnown (declared_in frame.old) (body_of body.now) }
     ensures run { RunsAll (types_in (declared_in frame.old)) (body_of body.now) (point frame.old meter.old) (end_of result) (point frame.new meter.new) }
     ensures declared { declared_in frame.new ≡ declared_in frame.old }
@@ -42,7 +42,7 @@ fn choose(
     choices: &[Choice],
     others: &[Stmt],
     frame: &mut Frame,
-    meter: &mut StepMeter,
+    meter: &mut Meter,
 ) -> Result<Flow, Reason>
     requires known { ChoicesKnown (declared_in frame.old) (choices_of choices.now) }
     requires others_known { AllKnown (declared_in frame.old) (all_of others.now) }
@@ -57,7 +57,7 @@ fn choose(
 /// A run of one statement.
 #[cycle(exec)]
 #[inline(always)]
-fn run(statement: &Stmt, frame: &mut Frame, meter: &mut StepMeter) -> Result<Flow, Reason>
+fn run(statement: &Stmt, frame: &mut Frame, meter: &mut Meter) -> Result<Flow, Reason>
     requires known { AssignsKnown (declared_in frame.old) (stmt_of statement.now) }
     ensures run { Runs (types_in (declared_in frame.old)) (stmt_of statement.now) (point frame.old meter.old) (end_of result) (point frame.new meter.new) }
     ensures declared { declared_in frame.new ≡ declared_in frame.old }
@@ -87,7 +87,7 @@ fn run(statement: &Stmt, frame: &mut Frame, meter: &mut StepMeter) -> Result<Flo
 /// A run of statements. One assignment alone, as many bodies are, needs no loop over statements.
 #[cycle(exec)]
 #[inline(always)]
-fn run_all(statements: &[Stmt], frame: &mut Frame, meter: &mut StepMeter) -> Result<Flow, Reason>
+fn run_all(statements: &[Stmt], frame: &mut Frame, meter: &mut Meter) -> Result<Flow, Reason>
     requires known { AllKnown (declared_in frame.old) (all_of statements.now) }
     ensures run { RunsAll (types_in (declared_in frame.old)) (all_of statements.now) (point frame.old meter.old) (end_of result) (point frame.new meter.new) }
     ensures declared { declared_in frame.new ≡ declared_in frame.old }
@@ -107,7 +107,7 @@ fn assign(
     variable: &Reference,
     expr: &Expr,
     frame: &mut Frame,
-    meter: &mut StepMeter,
+    meter: &mut Meter,
 ) -> Result<Flow, Reason>
     requires known { is_declared (declared_in frame.old) variable.now ≡ true }
     ensures run { Runs (types_in (declared_in frame.old)) (Assign variable.now (expr_of expr.now)) (point frame.old meter.old) (end_of result) (point frame.new meter.new) }
@@ -120,7 +120,7 @@ fn assign(
 
 /// A run of statements, one after the other.
 #[cycle(exec)]
-fn run_each(statements: &[Stmt], frame: &mut Frame, meter: &mut StepMeter) -> Result<Flow, Reason>
+fn run_each(statements: &[Stmt], frame: &mut Frame, meter: &mut Meter) -> Result<Flow, Reason>
     requires known { AllKnown (declared_in frame.old) (all_of statements.now) }
     ensures run { RunsAll (types_in (declared_in frame.old)) (all_of statements.now) (point frame.old meter.old) (end_of result) (point frame.new meter.new) }
     ensures declared { declared_in frame.new ≡ declared_in frame.old }
@@ -143,7 +143,7 @@ fn run_choice(
     choices: &[Choice],
     others: &[Stmt],
     frame: &mut Frame,
-    meter: &mut StepMeter,
+    meter: &mut Meter,
 ) -> Result<Flow, Reason>
     requires known { ChoicesKnown (declared_in frame.old) (choices_of choices.now) }
     requires others_known { AllKnown (declared_in frame.old) (all_of others.now) }
@@ -166,7 +166,7 @@ fn run_branch(
     others: &[Stmt],
     value: Value,
     frame: &mut Frame,
-    meter: &mut StepMeter,
+    meter: &mut Meter,
 ) -> Result<Flow, Reason>
     requires known { BranchesKnown (declared_in frame.old) (branches_of branches.now) }
     requires others_known { AllKnown (declared_in frame.old) (all_of others.now) }
@@ -185,7 +185,7 @@ fn run_branch(
 /// A turn of WHILE or REPEAT, which costs a step before its body.
 #[cycle(exec)]
 #[inline(always)]
-fn turn(body: &[Stmt], frame: &mut Frame, meter: &mut StepMeter) -> Result<Flow, Reason>
+fn turn(body: &[Stmt], frame: &mut Frame, meter: &mut Meter) -> Result<Flow, Reason>
     requires known { AllKnown (declared_in frame.old) (all_of body.now) }
     ensures run { Step (RunsAll (types_in (declared_in frame.old)) (all_of body.now)) (point frame.old meter.old) (end_of result) (point frame.new meter.new) }
     ensures declared { declared_in frame.new ≡ declared_in frame.old }
@@ -202,7 +202,7 @@ fn run_while(
     body: &[Stmt],
     condition: &Expr,
     frame: &mut Frame,
-    meter: &mut StepMeter,
+    meter: &mut Meter,
 ) -> Result<Flow, Reason>
     requires known { AllKnown (declared_in frame.old) (all_of body.now) }
     ensures run { Runs (types_in (declared_in frame.old)) (While (expr_of condition.now) (all_of body.now)) (before_step frame.old meter.old) (end_of result) (point frame.new meter.new) }
@@ -225,7 +225,7 @@ fn run_repeat(
     body: &[Stmt],
     condition: &Expr,
     frame: &mut Frame,
-    meter: &mut StepMeter,
+    meter: &mut Meter,
 ) -> Result<Flow, Reason>
     requires known { AllKnown (declared_in frame.old) (all_of body.now) }
     ensures run { Runs (types_in (declared_in frame.old)) (Repeat (all_of body.now) (expr_of condition.now)) (before_step frame.old meter.old) (end_of result) (point frame.new meter.new) }
@@ -255,7 +255,7 @@ fn run_for(
     end: &Expr,
     step: &Option<Expr>,
     frame: &mut Frame,
-    meter: &mut StepMeter,
+    meter: &mut Meter,
 ) -> Result<Flow, Reason>
     requires known { AllKnown (declared_in frame.old) (all_of body.now) }
     requires variable_known { is_declared (declared_in frame.old) variable.now ≡ true }
@@ -281,7 +281,7 @@ fn counted_turn(
     variable: &Reference,
     count: Count,
     frame: &mut Frame,
-    meter: &mut StepMeter,
+    meter: &mut Meter,
 ) -> Result<Flow, Reason>
     requires known { AllKnown (declared_in frame.old) (all_of body.now) }
     requires variable_known { is_declared (declared_in frame.old) variable.now ≡ true }
@@ -306,7 +306,7 @@ fn run_counts(
     variable: &Reference,
     count: Count,
     frame: &mut Frame,
-    meter: &mut StepMeter,
+    meter: &mut Meter,
 ) -> Result<Flow, Reason>
     requires known { AllKnown (declared_in frame.old) (all_of body.now) }
     requires variable_known { is_declared (declared_in frame.old) variable.now ≡ true }

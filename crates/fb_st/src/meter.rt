@@ -17,11 +17,11 @@ pub enum Flow {
 
 /// The steps that a resource has left in the current tick.
 #[derive(Clone, Copy)]
-pub struct StepMeter {
+pub struct Meter {
     pub left: u64,
 }
 
-impl StepMeter {
+impl Meter {
     /// Begins a step. With none left the run stops.
     #[inline(always)]
     pub fn step(&mut self) -> Result<(), Reason>

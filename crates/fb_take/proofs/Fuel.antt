@@ -6,14 +6,14 @@ use Rattle.std.proofs.lemmas.Bool.Decides.{eqb_tells}
 use Rattle.fb_types.specs.States as States
 use Rattle.fb_types.specs.Takes.{begun}
 use Rattle.fb_take.specs.Counts.{fuel, meter_of}
-use Rattle.fb_take.specs.declared.meter.Meter.{Meter}
+use Rattle.fb_take.specs.declared.tick_counts.TickCounts.{TickCounts}
 
 less_ticks : (a b l x y : ℕ) → a < b → x < l → a * l + x < b * l + y
 less_ticks a b l x y lt small =
     let least : suc a * l ≤ b * l = mul-le-mul_right l lt in
     omega (arith, least, suc-mul a l, small)
 
-pub fuel_falls : (horizon limit t : ℕ) (old new : Meter) → new.tick ≡ Some t → suc new.left ≤ (begun limit t (meter_of old)).left → unwrap_or old.tick 0 ≤ t → t < horizon
+pub fuel_falls : (horizon limit t : ℕ) (old new : TickCounts) → new.tick ≡ Some t → suc new.left ≤ (begun limit t (meter_of old)).left → unwrap_or old.tick 0 ≤ t → t < horizon
     → fuel horizon limit new < fuel horizon limit old
 fuel_falls horizon limit t old new tick left later below =
     subst (λ z. elim z [ None ↦ (horizon + 1) * (limit + 1) | Some u ↦ (horizon - u) * (limit + 1) + new.left ] < fuel horizon limit old) (sym tick) (go old.tick old.left old.locals later left)

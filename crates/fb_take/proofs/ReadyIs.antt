@@ -36,7 +36,7 @@ use Rattle.fb_take.specs.Counts.{IsMetered}
 use Rattle.fb_take.specs.Posts.{IsPostable}
 use Rattle.fb_take.specs.Takings.{IsLater}
 use Rattle.fb_take.specs.Waiting.{IsInOrder, MayWait}
-use Rattle.fb_take.specs.declared.meter.Meter.{Meter}
+use Rattle.fb_take.specs.declared.tick_counts.TickCounts.{TickCounts}
 use Rattle.fb_take.proofs.PostLaws.{port_path, timer_class, timer_instance, timer_resource}
 
 -- ---- Timers
@@ -151,7 +151,7 @@ came_good i k e left after stop tree x before w accepted limits home typed_world
 
 -- ---- Counts
 
-pub metered_after : (limit : ℕ) (m after : Meter) (left : ℕ) → IsMetered limit m → m.left ≡ suc left → after.left ≤ left → after.locals ≤ m.locals + 2 ^ 64
+pub metered_after : (limit : ℕ) (m after : TickCounts) (left : ℕ) → IsMetered limit m → m.left ≡ suc left → after.left ≤ left → after.locals ≤ m.locals + 2 ^ 64
     → IsMetered limit after
 metered_after limit m after left is one fewer more = record {
   left = let most = is.left in omega (arith, most, one, fewer);

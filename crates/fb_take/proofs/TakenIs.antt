@@ -30,7 +30,7 @@ use Rattle.fb_take.specs.Counts.{meter_of}
 use Rattle.fb_take.specs.Posts.{CountsAre, arriving}
 use Rattle.fb_take.specs.Takings.{IsHere, IsSettled, IsTakenHere}
 use Rattle.fb_take.specs.Waiting.{meaning}
-use Rattle.fb_take.specs.declared.meter.Meter as counted
+use Rattle.fb_take.specs.declared.tick_counts.TickCounts as counted
 use Rattle.fb_take.specs.declared.queues.Queues.{Queues}
 
 -- ---- No step is left
@@ -42,7 +42,7 @@ takes_none sys limit s k e m is none =
     subst (λ (n : Meter). TakesWith sys s k e n n.left (out_of_steps s)) (sym is)
     (subst (λ (l : ℕ). TakesWith sys s k e m l (out_of_steps s)) (sym none) refl)
 
-pub taken_none : (i : Inputs) (limit : ℕ) (s : State) (k : Key) (e : AnEvent) (m : Meter) (t : Forest) (x : counted.Meter) (q : Queues)
+pub taken_none : (i : Inputs) (limit : ℕ) (s : State) (k : Key) (e : AnEvent) (m : Meter) (t : Forest) (x : counted.TickCounts) (q : Queues)
     → begun limit k.tick (s.meters k.resource) ≡ m → m.left ≡ 0 → IsHere i s k.resource t x → CountsAre q.sent.items s.sent
     → IsTakenHere i limit s k e (Some reason.Steps) t x q q
 taken_none i limit s k e m t x q is none here counts = record {
@@ -100,7 +100,7 @@ with_at_here n x f = ap (λ b. cond b x (f n)) (eq-eqb n n refl)
 -- ---- The taking
 
 -- What an event came to in its tree was settled: it is taken, whether or not its reaction stops.
-pub taken_one : (i : Inputs) (limit : ℕ) (s : State) (k : Key) (e : Event) (m meter : counted.Meter) (l : ℕ) (stop : Option Reason) (old mid new : Queues) (before : Forest) (was : counted.Meter) (tree : Forest) (x : Outbox)
+pub taken_one : (i : Inputs) (limit : ℕ) (s : State) (k : Key) (e : Event) (m meter : counted.TickCounts) (l : ℕ) (stop : Option Reason) (old mid new : Queues) (before : Forest) (was : counted.TickCounts) (tree : Forest) (x : Outbox)
     → IsTypedSystem (system_of i) → IsTypedEvent (system_of i) (event_of i e)
     → IsHere i s k.resource before was → CountsAre old.sent.items s.sent
     → begun limit k.tick (s.meters k.resource) ≡ meter_of m → m.left ≡ suc l

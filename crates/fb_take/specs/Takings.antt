@@ -19,13 +19,13 @@ use Rattle.fb_laws.specs.Typed.{AreTyped}
 use Rattle.fb_take.specs.Counts.{meter_of}
 use Rattle.fb_take.specs.Posts.{ArePosted, CountsAre, IsMessage, arriving}
 use Rattle.fb_take.specs.Waiting.{IsInOrder, meaning}
-use Rattle.fb_take.specs.declared.meter.Meter.{Meter}
+use Rattle.fb_take.specs.declared.tick_counts.TickCounts.{TickCounts}
 use Rattle.fb_take.specs.declared.queues.Queues.{Queues}
 
 -- ---- Before and after
 
 -- The blocks and the counts of a resource are those of a state, all of whose values are of their types.
-pub record IsHere (i : Inputs) (s : State) (r : ℕ) (t : Forest) (x : Meter) : Type 0 where
+pub record IsHere (i : Inputs) (s : State) (r : ℕ) (t : Forest) (x : TickCounts) : Type 0 where
   pub blocks : IsForest i t (world_of s r)
   pub meter : s.meters r ≡ meter_of x
   pub typed : (q : ℕ) → AreTyped (system_of i) (world_of s q)
@@ -41,7 +41,7 @@ pub record AreReady (i : Inputs) (tick : ℕ) (q : Queues) : Type 0 where
   pub keeps : q.outbox.timer ≡ Keep
 
 -- The event of a key, which had left the agenda, was taken as the model takes it, whether or not its resource stops.
-pub record IsTakenHere (i : Inputs) (limit : ℕ) (s : State) (k : Key) (e : model.Event) (stop : Option Reason) (t : Forest) (x : Meter) (old new : Queues) : Type 0 where
+pub record IsTakenHere (i : Inputs) (limit : ℕ) (s : State) (k : Key) (e : model.Event) (stop : Option Reason) (t : Forest) (x : TickCounts) (old new : Queues) : Type 0 where
   pub effect : Effect
   pub takes : Takes (system_of i) limit s k e effect
   pub stops : effect.stop ≡ stop

@@ -11,14 +11,14 @@
 //! tick of its arrival, and the least tick at which one can arrive that is sent from a tick on; messages may overtake
 //! each other. `exchange` has the messages of all outboxes by receiver, in the order of their keys.
 //!
-//! To be read in this order: `meter`, what is counted in a tick; `queues`, where events come from and go to; `take`, the
+//! To be read in this order: `tick_counts`, what is counted in a tick; `queues`, where events come from and go to; `take`, the
 //! taking; `arrivals`; `post`, what a taking puts out; `open`, the beginning; `exchange`.
 #![tactic(auto)]
 
 pub mod arrivals;
 pub mod exchange;
-pub mod meter;
 pub mod open;
 mod post;
 pub mod queues;
 pub mod take;
+pub mod tick_counts;

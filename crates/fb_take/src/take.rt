@@ -19,13 +19,13 @@ ghost use Rattle.fb_take.specs.Posts.{CountsAre, IsMessage, IsPostable};
 ghost use Rattle.fb_take.specs.Takings.{AreReady, IsHere, IsLater, IsSettled, IsTakenHere};
 ghost use Rattle.fb_take.specs.Waiting.{IsInOrder, meaning};
 
-use crate::meter::Meter;
+use crate::tick_counts::TickCounts;
 use crate::post::post_all;
 use crate::queues::Queues;
 use fb_agenda::agenda::Agenda;
 use fb_net::outbox::Outbox;
 use fb_net::tree::Tree;
-use fb_st::meter::StepMeter;
+use fb_st::meter::Meter;
 use fb_system::system::System;
 use fb_types::key::Key;
 use fb_types::run::{Event, Halt, TimerAsk};
@@ -70,7 +70,7 @@ fn take_in(
     ensures fewer { left.new ≤ left.old }
     ensures resource { tree.new.resource ≡ tree.old.resource }
 {
-    let mut steps = StepMeter { left: *left };
+    let mut steps = Meter { left: *left };
     let taken = tree.take(system, event, key, &mut steps, outbox);
     *left = steps.left;
     match taken {
@@ -161,7 +161,7 @@ fn settle(
 /// When memory runs out, or a link has carried 2^128 messages. Nothing is said of the resource then.
 pub fn take(
     tree: &mut Tree,
-    meter: &mut Meter,
+    meter: &mut TickCounts,
     queues: &mut Queues,
     system: &System,
     limit: u64,

@@ -4,7 +4,7 @@ use fb_read::read_library;
 use fb_st::exec::exec;
 use fb_st::frame::Frame;
 use fb_st::known::knows;
-use fb_st::meter::{Flow, StepMeter};
+use fb_st::meter::{Flow, Meter};
 use fb_types::library::{Algorithm, BlockType};
 use fb_types::name::Name;
 use fb_types::reference::Reference;
@@ -67,7 +67,7 @@ fn frame(rt: &impl Abort, alloc: Global) -> Frame {
 fn expect_row(rt: &impl Abort, alloc: Global, algorithm: &Algorithm, row: &Row) {
     let (left, answer, after, x) = *row;
     let mut frame = frame(rt, alloc);
-    let mut meter = StepMeter { left };
+    let mut meter = Meter { left };
     assert!(rt; knows(&algorithm.body, &frame));
     let found = exec(&algorithm.body, &mut frame, &mut meter);
     let variable = Reference::new(named(rt, alloc, "X"));

@@ -8,7 +8,7 @@ use Rattle.fb_laws.proofs.Accepted.{accepted_typed}
 use Rattle.fb_types.specs.declared.value.Reason.TheVariants.{Steps}
 use Rattle.fb_take.specs.Counts.{IsMetered, before_step, meter_of}
 use Rattle.fb_take.specs.Takings.{IsTakenHere}
-use Rattle.fb_take.specs.declared.meter.Meter.{Meter}
+use Rattle.fb_take.specs.declared.tick_counts.TickCounts.{TickCounts}
 use Rattle.fb_take.proofs.ReadyIs.{came_good, metered_after}
 use Rattle.fb_take.proofs.TakenIs.{taken_none, taken_one}
 use Rattle.fb_take.proofs.take.take.Goals as goal
@@ -20,7 +20,7 @@ returns-then-not-step-clause-taken c s here counts =
     let e = event_of i c.args.event.now in
     let none = taken_none i c.args.limit s k e (begun c.args.limit k.tick (meter_of c.args.meter.now)) c.args.tree.now c.args.meter.now c.args.queues.now
     (ap (begun c.args.limit k.tick) here.meter) c.if-not-step.ensures.none here counts in
-    subst (λ (m : Meter). IsTakenHere i c.args.limit s k e (Some Steps) c.args.tree.now m c.args.queues.now c.args.queues.now) (sym c.if-not-step.ensures.kept) none
+    subst (λ (m : TickCounts). IsTakenHere i c.args.limit s k e (Some Steps) c.args.tree.now m c.args.queues.now c.args.queues.now) (sym c.if-not-step.ensures.kept) none
 
 pub returns-then-not-step-clause-queues : goal.returns-then-not-step-clause-queues
 returns-then-not-step-clause-queues c = c.requires.queues

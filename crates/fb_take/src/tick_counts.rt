@@ -8,18 +8,18 @@ ghost use Rattle.fb_take.specs.Counts.{HasNoSteps, IsMetered, before_step, meter
 /// The steps that are left in the tick of the last event that was taken, and how many local events were
 /// raised in it.
 #[derive(Clone, Copy)]
-pub struct Meter {
+pub struct TickCounts {
     pub tick: Option<u64>,
     pub left: u64,
     pub locals: u128,
 }
 
-impl Meter {
+impl TickCounts {
     /// Nothing was taken yet.
-    pub fn new() -> Meter
+    pub fn new() -> TickCounts
         ensures { result ≡ record { tick = None; left = 0; locals = 0 } }
     {
-        Meter {
+        TickCounts {
             tick: None,
             left: 0,
             locals: 0,
@@ -41,7 +41,7 @@ impl Meter {
             if limit == 0 {
                 return false;
             }
-            *self = Meter {
+            *self = TickCounts {
                 tick: Some(tick),
                 left: limit - 1,
                 locals: 0,
