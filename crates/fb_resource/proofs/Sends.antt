@@ -43,7 +43,6 @@ use Rattle.fb_types.specs.contracts.library.BlockType as BlockType
 use Rattle.fb_types.specs.contracts.library.Library as Library
 use Rattle.fb_fabric.specs.contracts.tables.Tables as Tables
 use Rattle.fb_fabric.specs.contracts.fabric.Fabric as Fabric
-use Rattle.fb_system.specs.contracts.kept.Kept as Kept
 use Rattle.fb_system.specs.contracts.whole.Whole as Whole
 use Rattle.fb_system.specs.contracts.system.System as System
 use Rattle.fb_system.specs.contracts.system.System.TheInside as I
@@ -123,20 +122,18 @@ pub fabric_sync : IsSync Fabric.the_row
 fabric_sync = search (sendable, crosses, tables_sync) depth 40
 
 pub whole_send : IsSend (Whole.the_field).row
-whole_send = search (sendable, crosses, deploy.the_send, stimulus.the_field_send, fabric_send, links.the_send, ports.the_field_send, interfaces.the_field_send, row.the_field_send, items.the_send) depth 40
+whole_send = search (sendable, crosses, deploy.the_send, stimulus.the_field_send, fabric_send, links.the_send, ports.the_field_send, interfaces.the_field_send, row.the_field_send, kept.the_field_send, items.the_send) depth 40
 
 pub whole_sync : IsSync (Whole.the_field).row
-whole_sync = search (sendable, crosses, deploy.the_sync, stimulus.the_field_sync, fabric_sync, links.the_sync, ports.the_field_sync, interfaces.the_field_sync, row.the_field_sync, items.the_sync) depth 40
+whole_sync = search (sendable, crosses, deploy.the_sync, stimulus.the_field_sync, fabric_sync, links.the_sync, ports.the_field_sync, interfaces.the_field_sync, row.the_field_sync, kept.the_field_sync, items.the_sync) depth 40
 
--- `search` finds no allocator's ghost members in a row, so the way to each `Arc` is written out
+-- `search` finds no allocator's ghost members in a row, so the way to the `Arc` is written out
 pub system_send : IsSend System.the_row
 system_send =
     let whole = recorded_send (Whole.the_field).row _ _ (Whole.the_type).to_one whole_send in
     let whole_seen = recorded_sync (Whole.the_field).row _ _ (Whole.the_type).to_one whole_sync in
-    let rows = recorded_send (Kept.the_field).row _ _ (Kept.the_type).to_one kept.the_field_send in
-    let rows_seen = recorded_sync (Kept.the_field).row _ _ (Kept.the_type).to_one kept.the_field_sync in
     view_send I.the_row _ _ _ _
-    (recorded_send (I.the_field).row _ _ (I.the_type).to_one (struct_send (shape I.the_type) (Arc-send Whole.the_row whole whole_seen, (Arc-send Kept.the_row rows rows_seen, tt))))
+    (recorded_send (I.the_field).row _ _ (I.the_type).to_one (struct_send (shape I.the_type) (Arc-send Whole.the_row whole whole_seen, tt)))
 
 pub block_send : IsSend (Block.the_field).row
 block_send = search (sendable, crosses, basic.the_field_send, event.the_field_send, composite.the_field_send) depth 40

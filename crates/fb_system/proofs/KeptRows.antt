@@ -4,7 +4,7 @@ use Rattle.std.proofs.lemmas.List.Elements.{All-nil}
 use Rattle.fb_types.specs.Headline.{Inputs, system_of}
 use Rattle.fb_system.specs.Ends.{AreSources, AreTargets, ComesFrom, LeadsTo}
 use Rattle.fb_system.specs.Heads.{AreHeads, IsRowOfHead}
-use Rattle.fb_system.specs.Systems.{HaveRows, inputs_of, IsKept, StandFor}
+use Rattle.fb_system.specs.Systems.{HaveRows, inputs_of, IsBare, IsKept, StandFor}
 use Rattle.fb_system.specs.declared.ends.SourceRow.{SourceRow}
 use Rattle.fb_system.specs.declared.ends.TargetRow.{TargetRow}
 use Rattle.fb_system.specs.declared.heads.Head.{Head}
@@ -13,41 +13,42 @@ use Rattle.fb_system.specs.declared.whole.Whole.{Whole}
 
 -- ---- The rows of the inputs as which a system is seen
 
-pub rows_seen : (h k : Kept) (w : Whole) (i : Inputs) → h ≡ k → inputs_of w ≡ i → HaveRows w k → IsKept i h
-rows_seen h k w i e s is =
+pub rows_kept : (h : Kept) (v w : Whole) (i : Inputs) → h ≡ v.kept → v ≡ w → inputs_of w ≡ i → HaveRows w → IsKept i h
+rows_kept h v w i e f s is =
     subst (λ (i : Inputs). IsKept i h) s
-    (subst (λ (h : Kept). IsKept (inputs_of w) h) (sym e) (record { heads = is.heads; targets = is.targets; sources = is.sources }))
+    (subst (λ (h : Kept). IsKept (inputs_of w) h) (sym (e ∙ ap (λ (w : Whole). w.kept) f)) (record { heads = is.heads; targets = is.targets; sources = is.sources }))
 
-pub heads_seen : (h k : Kept) (w : Whole) (i : Inputs) → h ≡ k → inputs_of w ≡ i → HaveRows w k → AreHeads (system_of i) h.heads.rows
-heads_seen h k w i e s is = (rows_seen h k w i e s is).heads
+pub heads_seen : (v w : Whole) (i : Inputs) → v ≡ w → inputs_of w ≡ i → HaveRows w → AreHeads (system_of i) v.kept.heads.rows
+heads_seen v w i e s is = (rows_kept v.kept v w i refl e s is).heads
 
-pub targets_seen : (h k : Kept) (w : Whole) (i : Inputs) → h ≡ k → inputs_of w ≡ i → HaveRows w k → AreTargets (system_of i) h.ends.targets
-targets_seen h k w i e s is = (rows_seen h k w i e s is).targets
+pub targets_seen : (v w : Whole) (i : Inputs) → v ≡ w → inputs_of w ≡ i → HaveRows w → AreTargets (system_of i) v.kept.ends.targets
+targets_seen v w i e s is = (rows_kept v.kept v w i refl e s is).targets
 
-pub sources_seen : (h k : Kept) (w : Whole) (i : Inputs) → h ≡ k → inputs_of w ≡ i → HaveRows w k → AreSources (system_of i) h.ends.sources
-sources_seen h k w i e s is = (rows_seen h k w i e s is).sources
+pub sources_seen : (v w : Whole) (i : Inputs) → v ≡ w → inputs_of w ≡ i → HaveRows w → AreSources (system_of i) v.kept.ends.sources
+sources_seen v w i e s is = (rows_kept v.kept v w i refl e s is).sources
 
 -- ---- Making
 
-pub have_rows : (v w : Whole) (h k : Kept) (i : Inputs) → v ≡ w → h ≡ k → inputs_of w ≡ i → StandFor w → IsKept i k → HaveRows v h
-have_rows v w h k i e f s is rows =
-    let all : IsKept (inputs_of v) h =
-    subst (λ (h : Kept). IsKept (inputs_of v) h) (sym f) (subst (λ (i : Inputs). IsKept i k) (sym (ap inputs_of e ∙ s)) rows) in
+-- Tables with these rows stand for what they stood for, with rows of the inputs as which they were seen.
+pub with_rows : (u v w : Whole) (h : Kept) (i : Inputs) → u ≡ record v { kept = h } → v ≡ w → inputs_of w ≡ i → StandFor w → IsKept i h → HaveRows u
+with_rows u v w h i e f s is rows =
+    subst (λ (x : Whole). HaveRows x) (sym (e ∙ ap (λ (w : Whole). record w { kept = h }) f))
+    (let all : IsKept (inputs_of w) h = subst (λ (i : Inputs). IsKept i h) (sym s) rows in
     record {
-      tables = subst (λ (w : Whole). StandFor w) (sym e) is;
+      tables = record { accepted = is.accepted; links = is.links; event_blocks = is.event_blocks; interfaces = is.interfaces; rows = is.rows; homes = is.homes };
       heads = all.heads;
       targets = all.targets;
       sources = all.sources;
-    }
+    })
 
 -- a system without rows
-pub without_rows :
-    (v w : Whole) (h k : Kept) → v ≡ w → h ≡ k → k.heads.rows ≡ [] → k.ends.targets ≡ [] → k.ends.sources ≡ [] → StandFor w → HaveRows v h
-without_rows v w h k e f heads targets sources is =
+pub without_rows : (v w : Whole) → v ≡ w → IsBare w.kept → StandFor w → HaveRows v
+without_rows v w e bare is =
     let sys = system_of (inputs_of w) in
-    have_rows v w h k (inputs_of w) e f refl is
+    subst (λ (x : Whole). HaveRows x) (sym e)
     (record {
-      heads = subst (λ (rows : List Head). AreHeads sys rows) (sym heads) (All-nil (IsRowOfHead sys));
-      targets = subst (λ (rows : List TargetRow). AreTargets sys rows) (sym targets) (All-nil (λ (r : TargetRow). LeadsTo sys r.from 0 r.first));
-      sources = subst (λ (rows : List SourceRow). AreSources sys rows) (sym sources) (All-nil (λ (r : SourceRow). ComesFrom sys r.to r.source));
+      tables = is;
+      heads = subst (λ (rows : List Head). AreHeads sys rows) (sym bare.heads) (All-nil (IsRowOfHead sys));
+      targets = subst (λ (rows : List TargetRow). AreTargets sys rows) (sym bare.targets) (All-nil (λ (r : TargetRow). LeadsTo sys r.from 0 r.first));
+      sources = subst (λ (rows : List SourceRow). AreSources sys rows) (sym bare.sources) (All-nil (λ (r : SourceRow). ComesFrom sys r.to r.source));
     })

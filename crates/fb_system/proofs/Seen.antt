@@ -32,6 +32,7 @@ use Rattle.fb_system.specs.declared.rows.StimulusRow.{StimulusRow}
 use Rattle.fb_system.specs.Linking.{AreHomes, IsLinked, Linked, link_at, receiver_at, sender_at}
 use Rattle.fb_system.specs.Ports.{IsPort, IsSource, IsTarget, IsVariable, variable_of}
 use Rattle.fb_system.specs.Systems.{inputs_of, StandFor}
+use Rattle.fb_system.specs.declared.kept.Kept.{Kept}
 use Rattle.fb_system.specs.declared.whole.Whole.{Whole}
 
 -- ---- What acceptance says
@@ -223,9 +224,9 @@ latency_read v w i p links l d sent e s r q h =
 
 -- ---- Making
 
-abbrev whole_of : Plan → List Stimulus → Library → Linked → List Ports → Interfaces → List StimulusRow → List ℕ → Whole
-whole_of plan stimuli lib links blocks interfaces rows homes =
-    record { deploy = plan; stimuli = stimuli; fabric = lib; links = links; event_blocks = blocks; interfaces = interfaces; rows = rows; homes = homes }
+abbrev whole_of : Plan → List Stimulus → Library → Linked → List Ports → Interfaces → List StimulusRow → List ℕ → Kept → Whole
+whole_of plan stimuli lib links blocks interfaces rows homes kept =
+    record { deploy = plan; stimuli = stimuli; fabric = lib; links = links; event_blocks = blocks; interfaces = interfaces; rows = rows; homes = homes; kept = kept }
 
 -- what a result that is Ok promised
 pub ok_read : {A E : Type 0} (r : Result A E) (P : A → Type 0) (a : A) → IfOk r P → r ≡ Ok a → P a
@@ -239,11 +240,11 @@ pub ok_seen : {A E : Type 0} (r : Result A E) (a b : A) → a ≡ b → IfOk r (
 ok_seen {A} r a b e h = subst (λ (x : A). IfOk r (λ s. s ≡ x)) e h
 
 pub made :
-    (lib f : Library) (plan p : Plan) (stimuli xs : List Stimulus) (links : Linked) (blocks : List Ports) (interfaces its : Interfaces) (rows rs : List StimulusRow)
+    (lib f : Library) (plan p : Plan) (stimuli xs : List Stimulus) (links : Linked) (blocks : List Ports) (interfaces its : Interfaces) (rows rs : List StimulusRow) (kept : Kept)
     → AreAccepted (inputs lib plan stimuli) → AreInterfaces lib interfaces → AreRows lib stimuli rows → IsLinked lib plan links → ArePortsOfKinds blocks
     → f ≡ lib → p ≡ plan → xs ≡ stimuli → its ≡ interfaces → rs ≡ rows
-    → (homes : List ℕ) → (IsLinked f p links → AreHomes f p homes) → StandFor (whole_of p xs f links blocks its rs homes)
-made lib f plan p stimuli xs links blocks interfaces its rows rs accepted of_types by_number linked of_kinds library deploy same types numbers homes at =
+    → (homes : List ℕ) → (IsLinked f p links → AreHomes f p homes) → StandFor (whole_of p xs f links blocks its rs homes kept)
+made lib f plan p stimuli xs links blocks interfaces its rows rs kept accepted of_types by_number linked of_kinds library deploy same types numbers homes at =
     let view = view_made lib f plan p stimuli xs library deploy same in
     let joined : IsLinked f p links = subst (λ (i : Inputs). IsLinked i.library i.plan links) (sym view) linked in
     record {

@@ -1,5 +1,5 @@
 -- What the tables of a system stand for (the numbers are this project's profile).
-use Rattle.std.specs.Prelude.{◌≡◌}
+use Rattle.std.specs.Prelude.{◌≡◌, []}
 use Rattle.fb_types.specs.EventPorts.{ArePortsOfKinds}
 use Rattle.fb_types.specs.Headline.{Inputs, AreAccepted, system_of}
 use Rattle.fb_names.specs.Numbers.{IsResolved}
@@ -32,14 +32,20 @@ pub record StandFor (w : Whole) : Type 0 where
   pub rows : AreRows w.fabric w.stimuli w.rows
   pub homes : AreHomes w.fabric w.deploy w.homes
 
--- .. and the rows that are kept beside them: heads of lines, and ends of connections
-pub record HaveRows (w : Whole) (k : Kept) : Type 0 where
+-- .. and the rows that are kept among them: heads of lines, and ends of connections
+pub record HaveRows (w : Whole) : Type 0 where
   pub tables : StandFor w
-  pub heads : AreHeads (system_of (inputs_of w)) k.heads.rows
-  pub targets : AreTargets (system_of (inputs_of w)) k.ends.targets
-  pub sources : AreSources (system_of (inputs_of w)) k.ends.sources
+  pub heads : AreHeads (system_of (inputs_of w)) w.kept.heads.rows
+  pub targets : AreTargets (system_of (inputs_of w)) w.kept.ends.targets
+  pub sources : AreSources (system_of (inputs_of w)) w.kept.ends.sources
 
--- The rows that are kept beside the tables of a system of these inputs.
+-- No rows are kept.
+pub record IsBare (k : Kept) : Type 0 where
+  pub heads : k.heads.rows ≡ []
+  pub targets : k.ends.targets ≡ []
+  pub sources : k.ends.sources ≡ []
+
+-- Rows that may be kept in a system of these inputs.
 pub record IsKept (i : Inputs) (k : Kept) : Type 0 where
   pub heads : AreHeads (system_of i) k.heads.rows
   pub targets : AreTargets (system_of i) k.ends.targets

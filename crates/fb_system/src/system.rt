@@ -16,7 +16,7 @@ ghost use Rattle.fb_system.specs.Ends.{ComesFrom, LeadsTo};
 ghost use Rattle.fb_system.specs.Heads.{IsHead};
 ghost use Rattle.fb_system.specs.Linking.{AreHomes, IsLinked};
 ghost use Rattle.fb_system.specs.Ports.{IsPort, IsSource, IsTarget, IsVariable, variable_of};
-ghost use Rattle.fb_system.specs.Systems.{inputs_of, IsGiven, IsKept, StandFor};
+ghost use Rattle.fb_system.specs.Systems.{inputs_of, IsBare, IsGiven, IsKept, StandFor};
 
 use crate::given::Given;
 use crate::heads::{Head, HeadOf};
@@ -47,14 +47,13 @@ use std::sync::Arc;
 /// Instances, events, variables, resources and links are numbers here, each from 0.
 pub struct System {
     whole: Arc<Whole, Global>,
-    kept: Arc<Kept, Global>,
 }
 
 // Written out, and not derived: so it is proved here alone what is let go with a system, and not in each crate that lets
 // one go.
 impl Drop for System {
     fn drop(self) {
-        let System { whole: _, kept: _ } = self;
+        let System { whole: _ } = self;
     }
 }
 
@@ -74,7 +73,7 @@ impl Model for System {
 
     ghost view = { λ s. inputs_of (arc_value s.whole) };
 
-    ghost invariant = { λ s. HaveRows (arc_value s.whole) (arc_value s.kept) };
+    ghost invariant = { λ s. HaveRows (arc_value s.whole) };
 }
 
 impl System {
@@ -110,44 +109,50 @@ impl System {
             interfaces,
             rows,
             homes: Items::new(alloc),
+            kept: Kept::new(alloc),
         };
         System::of_tables(alloc, tables)
     }
 
     /// The system of tables that stand for accepted inputs once they have the resources of all instances.
     fn of_tables(alloc: Global, mut tables: Whole) -> Result<System, AllocError>
-        requires { (homes : List ℕ) → (IsLinked tables.fabric tables.deploy tables.links → AreHomes tables.fabric tables.deploy homes) → StandFor (record tables { homes = homes }) }
+        requires stands { (homes : List ℕ) → (IsLinked tables.fabric tables.deploy tables.links → AreHomes tables.fabric tables.deploy homes) → StandFor (record tables { homes = homes }) }
+        requires bare { IsBare tables.kept }
         ensures { IfOk result (λ s. s ≡ inputs_of tables) }
     {
         add_homes(alloc, &mut tables)?;
         let whole = Arc::new(alloc, tables)?;
-        let kept = Arc::new(alloc, Kept::new(alloc))?;
-        let bare = System { whole, kept };
-        bare.with_rows(alloc)
+        let bare = System { whole };
+        let rows = rows_of(alloc, &bare)?;
+        bare.with_rows(alloc, rows)
     }
 
-    /// The same system with the heads of its lines and the ends of its connections.
-    fn with_rows(&self, alloc: Global) -> Result<System, AllocError>
-        ensures { IfOk result (λ s. s ≡ self.now) }
+    /// The same system with these heads of its lines and ends of its connections.
+    fn with_rows(self, alloc: Global, rows: Kept) -> Result<System, AllocError>
+        requires { IsKept self rows }
+        ensures { IfOk result (λ s. s ≡ self) }
     {
-        let rows = rows_of(alloc, self)?;
-        self.with_kept(Arc::new(alloc, rows)?)
-    }
-
-    /// The same system with these rows. No table is copied.
-    fn with_kept(&self, kept: Arc<Kept, Global>) -> Result<System, AllocError>
-        requires { IsKept self.now (arc_value kept) }
-        ensures { IfOk result (λ s. s ≡ self.now) }
-    {
-        let whole = Arc::try_clone(&self.whole)?;
-        Ok(System { whole, kept })
+        let System { whole } = self;
+        match Arc::try_unwrap(whole) {
+            Ok(tables) => {
+                let whole = Arc::new(alloc, tables.with_kept(rows))?;
+                Ok(System { whole })
+            }
+            // The tables have one owner here. With another one they would stay as they are, and be looked up.
+            Err(whole) => Ok(System { whole }),
+        }
     }
 
     /// The same system. No table is copied.
+    ///
+    /// # Errors
+    ///
+    /// When memory runs out.
     pub fn share(&self) -> Result<System, AllocError>
         ensures { IfOk result (λ s. s ≡ self.now) }
     {
-        self.with_kept(Arc::try_clone(&self.kept)?)
+        let whole = Arc::try_clone(&self.whole)?;
+        Ok(System { whole })
     }
 
     /// What was accepted, and what every system keeps.
@@ -249,7 +254,7 @@ impl System {
     {
         // Mostly a port has one connection, and its row is kept.
         if place == 0 {
-            if let Some(row) = self.kept.ends.target(from) {
+            if let Some(row) = self.whole.kept.ends.target(from) {
                 return row.first;
             }
         }
@@ -273,7 +278,7 @@ impl System {
         ensures comes { option_map (variable_of (system_of self.now)) result ≡ (system_of self.now).source (variable_of (system_of self.now) to) }
         ensures within { IfSome result (IsSource (system_of self.now)) }
     {
-        match self.kept.ends.source(to) {
+        match self.whole.kept.ends.source(to) {
             Some(row) => row.source,
             None => self.source_by_tables(to),
         }
@@ -377,7 +382,7 @@ impl System {
     pub fn head(&self, of: HeadOf) -> Option<&Head>
         ensures { IfSome result (λ h. IsHead (system_of self.now) of h.now) }
     {
-        self.kept.heads.find(of)
+        self.whole.kept.heads.find(of)
     }
 
     /// The places of the data inputs WITH an event input of an instance, in the order in which the inputs are declared.

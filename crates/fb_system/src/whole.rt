@@ -3,6 +3,7 @@
 ghost use Rattle.std.specs.Prelude.{◌≡◌, ◌<◌, Some, length, slice_get};
 
 use crate::interfaces::Interfaces;
+use crate::kept::Kept;
 use crate::links::Links;
 use crate::rows::StimulusRow;
 use fb_fabric::fabric::Fabric;
@@ -26,6 +27,38 @@ pub(crate) struct Whole {
     pub rows: Items<StimulusRow>,
     /// For each instance, the resource that holds it.
     pub homes: Items<usize>,
+    /// What an event asks for most, found in one step.
+    pub kept: Kept,
+}
+
+impl Whole {
+    /// The same tables with these rows.
+    pub(crate) fn with_kept(self, rows: Kept) -> Whole
+        ensures { result ≡ record self { kept = rows } }
+    {
+        let Whole {
+            deploy,
+            stimuli,
+            fabric,
+            links,
+            event_blocks,
+            interfaces,
+            rows: stimulus_rows,
+            homes,
+            kept: _,
+        } = self;
+        Whole {
+            deploy,
+            stimuli,
+            fabric,
+            links,
+            event_blocks,
+            interfaces,
+            rows: stimulus_rows,
+            homes,
+            kept: rows,
+        }
+    }
 }
 
 // Written out, and not derived: so each way on which a system wants memory lets the tables go by one call.
@@ -40,6 +73,7 @@ impl Drop for Whole {
             interfaces: _,
             rows: _,
             homes: _,
+            kept: _,
         } = self;
     }
 }

@@ -3,4 +3,4 @@ use Rattle.fb_system.proofs.KeptRows.{heads_seen}
 use Rattle.fb_system.proofs.system.System.head.Goals as goal
 
 pub returns : goal.returns
-returns c = c.find.ensures (system_of c.args.self.now) (heads_seen _ _ _ _ c.deref.ensures c.self.view_is c.self.invariant)
+returns c = c.find.ensures (system_of c.args.self.now) (heads_seen _ _ _ c.deref.ensures c.self.view_is c.self.invariant)

@@ -14,14 +14,17 @@ of-fabric-requires-clause-height c = low_of _ c.requires.accepted
 pub of-fabric-requires-clause-few : goal.of-fabric-requires-clause-few
 of-fabric-requires-clause-few c = few_of _ c.requires.accepted
 
-pub of_tables-requires : goal.of_tables-requires
-of_tables-requires c =
+pub of_tables-requires-clause-stands : goal.of_tables-requires-clause-stands
+of_tables-requires-clause-stands c =
     let all = c.in_ok-rest.ensures in
     let given = c.requires.given in
     let linked = c.of-links.ensures c.args.library c.args.deploy given.numbers (once_of _ c.requires.accepted) given.holders in
-    made _ _ _ _ _ _ _ _ _ _ _ _ c.requires.accepted given.interfaces given.rows (ok_read _ (IsLinked c.args.library c.args.deploy) _ linked all.first)
+    made _ _ _ _ _ _ _ _ _ _ _ _ _ c.requires.accepted given.interfaces given.rows (ok_read _ (IsLinked c.args.library c.args.deploy) _ linked all.first)
     (ok_read _ ArePortsOfKinds _ c.all_ports.ensures all.third) (ok_read _ (λ (f : Library). f ≡ c.args.library) _ c.of-fabric.ensures all.second)
     (λ j. (all.given j).0) (c.from_vec.ensures ∙ (λ j. (all.given j).1.items)) (λ j. (all.given j).2) (λ j. (all.given j).3)
+
+pub of_tables-requires-clause-bare : goal.of_tables-requires-clause-bare
+of_tables-requires-clause-bare c = record { heads = c.new-2.ensures.heads; targets = c.new-2.ensures.targets; sources = c.new-2.ensures.sources }
 
 pub returns : goal.returns
 returns c =

@@ -5,8 +5,8 @@ use Rattle.fb_system.proofs.system.System.source.Goals as goal
 
 pub returns-in-Some-clause-comes : goal.returns-in-Some-clause-comes
 returns-in-Some-clause-comes c =
-    (source_read (system_of c.args.self.now) c.args.to _ _ c.in-Some.is (c.source.ensures _ (sources_seen _ _ _ _ c.deref.ensures c.self.view_is c.self.invariant))).comes
+    (source_read (system_of c.args.self.now) c.args.to _ _ c.in-Some.is (c.source.ensures _ (sources_seen _ _ _ c.deref.ensures c.self.view_is c.self.invariant))).comes
 
 pub returns-in-Some-clause-within : goal.returns-in-Some-clause-within
 returns-in-Some-clause-within c =
-    (source_read (system_of c.args.self.now) c.args.to _ _ c.in-Some.is (c.source.ensures _ (sources_seen _ _ _ _ c.deref.ensures c.self.view_is c.self.invariant))).within
+    (source_read (system_of c.args.self.now) c.args.to _ _ c.in-Some.is (c.source.ensures _ (sources_seen _ _ _ c.deref.ensures c.self.view_is c.self.invariant))).within

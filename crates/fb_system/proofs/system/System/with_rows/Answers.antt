@@ -1,7 +1,11 @@
-use Rattle.std.proofs.Common.{subst, sym}
-use Rattle.fb_system.specs.Systems.{IsKept}
-use Rattle.fb_system.specs.declared.kept.Kept.{Kept}
+use Rattle.std.proofs.Common.{◌≡◌, subst, sym}
+use Rattle.fb_system.specs.Systems.{HaveRows}
+use Rattle.fb_system.specs.declared.whole.Whole.{Whole}
+use Rattle.fb_system.proofs.KeptRows.{with_rows}
+use Rattle.fb_system.proofs.Seen.{ok_read}
 use Rattle.fb_system.proofs.system.System.with_rows.Goals as goal
 
-pub with_kept-requires : goal.with_kept-requires
-with_kept-requires c = subst (λ (k : Kept). IsKept c.args.self.now k) (sym c.in_ok-new.ensures.ok) c.in_ok-rows.ensures
+pub invariant_of-result : goal.invariant_of-result
+invariant_of-result c =
+    subst (λ (w : Whole). HaveRows w) (sym c.in_ok-whole-in-Ok.ensures.ok)
+    (with_rows _ _ _ _ _ c.with_kept.ensures (ok_read _ (λ (w : Whole). w ≡ _) _ c.try_unwrap.ensures.ok c.in-Ok.is) c.self.view_is c.self.invariant.tables c.requires)
