@@ -20,7 +20,7 @@ use Rattle.fb_agenda.specs.Calendars.{AreSplit, BeginsAt, IsPlaceOf, IsQuiet, Le
 use Rattle.fb_types.specs.declared.run.Event.{Event}
 use Rattle.fb_types.proofs.Lookups.{or_else_none}
 use Rattle.fb_agenda.proofs.Apart.{before_both, either_some, precedes_tick, first_is, first_some}
-use Rattle.fb_agenda.proofs.Orders.{AllAfter, AllBefore, absent, after_at, all_later, follows, found_after, not_none, precedes, put_over, rise_after, searchable, without_first}
+use Rattle.fb_agenda.proofs.Orders.{AllAfter, AllBefore, Rise, absent, after_at, all_later, follows, found_after, not_none, precedes, put_over, rise_after, searchable, without_first}
 
 -- ---- What is found in both
 
@@ -255,11 +255,11 @@ err_known (Err x) p = p
 
 -- ---- A key in the row
 
-place_here : (es : List (Key × Event)) (k : Key) (i : ℕ) → i < length es → ((d : Key × Event) → (get_or es i d).0 ≡ k) → IsSome (lookup (same_key k) es)
+pub place_here : {X : Type 0} (es : List (Key × X)) (k : Key) (i : ℕ) → i < length es → ((d : Key × X) → (get_or es i d).0 ≡ k) → IsSome (lookup (same_key k) es)
 place_here [] k i within there = absurd (omega arith)
 place_here (e ∷ es) k zero within there =
     subst (λ (z : Key). IsSome (lookup (same_key z) (e ∷ es))) (there e) (ap (λ b. is_some (cond b (Some e.1) (lookup (same_key e.0) es))) (same_key_itself e.0))
-place_here (e ∷ es) k (suc i) within there = go (same_key k e.0) (place_here es k i (omega arith) there)
+place_here {X} (e ∷ es) k (suc i) within there = go (same_key k e.0) (place_here es k i (omega arith) there)
   where
     go : (b : Bool) → IsSome (lookup (same_key k) es) → IsSome (cond b (Some e.1) (lookup (same_key k) es))
     go true rest = refl
@@ -326,8 +326,8 @@ absent_past k [] h = refl
 absent_past k (e ∷ es) h = ap (λ o. cond (is_eq o) (Some e.1) (lookup (same_key k) es)) (follows e.0 k h.0) ∙ absent_past k es h.1
 
 -- the key lies between those before its place and those after it
-pub absent_between : (k : Key) (es : List (Key × Event)) (i : ℕ) → ((j : ℕ) (d : Key × Event) → j < i → key_cmp (get_or es j d).0 k ≡ Less)
-    → ((j : ℕ) (d : Key × Event) → i ≤ j → j < length es → key_cmp (get_or es j d).0 k ≡ Greater) → lookup (same_key k) es ≡ None
+pub absent_between : {X : Type 0} (k : Key) (es : List (Key × X)) (i : ℕ) → ((j : ℕ) (d : Key × X) → j < i → key_cmp (get_or es j d).0 k ≡ Less)
+    → ((j : ℕ) (d : Key × X) → i ≤ j → j < length es → key_cmp (get_or es j d).0 k ≡ Greater) → lookup (same_key k) es ≡ None
 absent_between k [] i below above = refl
 absent_between k (e ∷ es) zero below above =
     ap (λ o. cond (is_eq o) (Some e.1) (lookup (same_key k) es)) (precedes e.0 k (above zero e (omega arith) (omega arith)))
@@ -348,7 +348,7 @@ pub place_found : (es : List (Key × Event)) (k : Key) (r : Result ℕ ℕ) (n :
 place_found es k (Ok i) n count within found = record { within = subst (λ m. i < m) count within; there = λ d. same_key_is (get_or es i d).0 k (ap is_eq (found d)) }
 place_found es k (Err i) n count within found = tt
 
-pub place_none : (es : List (Key × Event)) (k : Key) → AreRising es → (r : Result ℕ ℕ) → IsBinarySearchResult (λ e. key_cmp e.0 k) es r → IfNone (result_ok r) (lookup (same_key k) es ≡ None)
+pub place_none : {X : Type 0} (es : List (Key × X)) (k : Key) → Rise es → (r : Result ℕ ℕ) → IsBinarySearchResult (λ e. key_cmp e.0 k) es r → IfNone (result_ok r) (lookup (same_key k) es ≡ None)
 place_none es k rising (Ok i) found = tt
 place_none es k rising (Err i) found =
     let parted = found (searchable k es rising) in

@@ -3,4 +3,4 @@ pub mod Apart
 pub mod Timers
 pub mod Placing
 pub mod Calendars
-pub mod Numbering
+pub mod Queueing

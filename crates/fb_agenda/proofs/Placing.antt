@@ -15,7 +15,7 @@ use Rattle.fb_agenda.specs.Agendas.{Contents, AreApart, waiting}
 use Rattle.fb_agenda.specs.Arrivals.{AreNew, HasKeys, KeepsOthers, LacksKeys, arrival_at, arrivals_at}
 use Rattle.fb_types.specs.declared.run.Event.{Event}
 use Rattle.fb_agenda.specs.Calendars.{Sets}
-use Rattle.fb_agenda.proofs.Apart.{either_some, first_some}
+use Rattle.fb_agenda.proofs.Apart.{either_some, first_some, queue_class}
 use Rattle.fb_agenda.proofs.Orders.{not_none}
 
 -- ---- One key more
@@ -137,23 +137,30 @@ module _ (r : ℕ) where
 
   -- ---- The agenda
 
-  module _ (ms : List Message) (c : Contents) (apart : AreApart c) where
-    no_local : (j : Key) → IsSome (found j (arrivals_at r ms)) → lookup (same_key j) c.local ≡ None
-    no_local j there = apart.local j (λ local. let two : j.class ≡ 2 = arrival_class ms j there in omega (arith, local, two))
+  module _ (ms : List Message) (c : Contents) (marked : Bool) (apart : AreApart c marked) where
+    no_local : (j : Key) → IsSome (found j (arrivals_at r ms)) → lookup (same_key j) c.running ≡ None
+    no_local j there = apart.queue.local j (λ local. let two : j.class ≡ 2 = arrival_class ms j there in omega (arith, local, two))
 
-    pub kept_apart : (new : List (Key × Event)) → KeepsOthers (arrivals_at r ms) c.later new → AreApart (record { local = c.local; later = new; due = c.due })
-    kept_apart new kept = record { rising = apart.rising; local = apart.local; later = λ j local. kept j (none_since _ (λ e is. not_it j local (ap is_some is))) ∙ apart.later j local }
+    pub kept_apart : (new : List (Key × Event)) → KeepsOthers (arrivals_at r ms) c.later new → AreApart (record { running = c.running; later = new; due = c.due }) marked
+    kept_apart new kept = record {
+      queue = apart.queue;
+      apart = λ j there. same j (queue_class c.running apart.queue j there) ∙ apart.apart j there;
+      marked = λ unmarked j local. same j local ∙ apart.marked unmarked j local;
+    }
       where
-        not_it : (j : Key) → j.class ≡ 3 → IsSome (found j (arrivals_at r ms)) → ⊥
-        not_it j local there = let two : j.class ≡ 2 = arrival_class ms j there in omega (arith, local, two)
+        same : (j : Key) → j.class ≡ 3 → lookup (same_key j) new ≡ lookup (same_key j) c.later
+        same j local = kept j (none_since _ (λ e is. not_it j local (ap is_some is)))
+          where
+            not_it : (j : Key) → j.class ≡ 3 → IsSome (found j (arrivals_at r ms)) → ⊥
+            not_it j local there = let two : j.class ≡ 2 = arrival_class ms j there in omega (arith, local, two)
 
     pub filled_waits : (held new : List (Key × Event)) → KeepsOthers (arrivals_at r ms) c.later held
         → ((j : Key) → lookup (same_key j) new ≡ or_else (found j (arrivals_at r ms)) (lookup (same_key j) held))
-        → (j : Key) → waiting (record { local = c.local; later = new; due = c.due }) j ≡ or_else (found j (arrivals_at r ms)) (waiting c j)
-    filled_waits held new kept filled j = ap (or_else (lookup (same_key j) c.local)) (filled j) ∙ go (found j (arrivals_at r ms)) refl
+        → (j : Key) → waiting (record { running = c.running; later = new; due = c.due }) j ≡ or_else (found j (arrivals_at r ms)) (waiting c j)
+    filled_waits held new kept filled j = ap (or_else (lookup (same_key j) c.running)) (filled j) ∙ go (found j (arrivals_at r ms)) refl
       where
-        go : (o : Option Event) → found j (arrivals_at r ms) ≡ o → or_else (lookup (same_key j) c.local) (or_else o (lookup (same_key j) held)) ≡ or_else o (waiting c j)
-        go None is = ap (or_else (lookup (same_key j) c.local)) (kept j is)
+        go : (o : Option Event) → found j (arrivals_at r ms) ≡ o → or_else (lookup (same_key j) c.running) (or_else o (lookup (same_key j) held)) ≡ or_else o (waiting c j)
+        go None is = ap (or_else (lookup (same_key j) c.running)) (kept j is)
         go (Some e) is = ap (λ z. or_else z (Some e)) (no_local j (ap is_some is))
 
     pub filled_keeps : (held new : List (Key × Event)) → KeepsOthers (arrivals_at r ms) c.later held
@@ -165,11 +172,11 @@ module _ (r : ℕ) where
     freed_keeps held new kept left j none = left j none ∙ kept j none
 
     pub freed_waits : AreNew r ms c → (new : List (Key × Event)) → KeepsOthers (arrivals_at r ms) c.later new → LacksKeys (arrivals_at r ms) new
-        → (j : Key) → waiting (record { local = c.local; later = new; due = c.due }) j ≡ waiting c j
+        → (j : Key) → waiting (record { running = c.running; later = new; due = c.due }) j ≡ waiting c j
     freed_waits none_there new kept freed j = go (found j (arrivals_at r ms)) refl
       where
-        go : (o : Option Event) → found j (arrivals_at r ms) ≡ o → or_else (lookup (same_key j) c.local) (lookup (same_key j) new) ≡ waiting c j
-        go None is = ap (or_else (lookup (same_key j) c.local)) (kept j is)
+        go : (o : Option Event) → found j (arrivals_at r ms) ≡ o → or_else (lookup (same_key j) c.running) (lookup (same_key j) new) ≡ waiting c j
+        go None is = ap (or_else (lookup (same_key j) c.running)) (kept j is)
         go (Some e) is =
-            or_else_nones (lookup (same_key j) c.local) (lookup (same_key j) new) (no_local j (ap is_some is)) (freed j (ap is_some is))
+            or_else_nones (lookup (same_key j) c.running) (lookup (same_key j) new) (no_local j (ap is_some is)) (freed j (ap is_some is))
             ∙ sym (new_none ms c none_there j (ap is_some is))

@@ -1,34 +1,53 @@
 -- What an agenda contains, and what its timers must be (this project's profile).
-use Rattle.std.specs.Prelude.{◌≡◌, ◌≢◌, ◌≤◌, ℕ, true, List, Option, Some, None, IsSome, if◌then◌else◌, slice_index}
+use Rattle.std.specs.Prelude.{◌≡◌, ◌≢◌, ◌≤◌, ℕ, Bool, true, false, List, Option, Some, None, IsSome, if◌then◌else◌, map, slice_index}
+use Rattle.std.specs.List.{AllByRecursion}
 use Rattle.std.specs.List.Sorted.{IsStrictlySortedBy}
 use Rattle.std.specs.Map.{keys_of, lookup}
 use Rattle.fb_types.specs.Keys.{Map, Precedes, key_cmp, or_else, same_key, timer_key}
 use Rattle.fb_types.specs.Takes.{is_timer_of}
 use Rattle.fb_types.specs.declared.key.Key.{Key}
+use Rattle.fb_types.specs.declared.run.Target.{Target}
 use Rattle.fb_types.specs.declared.run.TimerAsk.{TimerAsk}
 use Rattle.fb_types.specs.declared.run.TimerAsk.TheVariants.{Keep, Clear, At}
 use Rattle.fb_types.specs.declared.run.Event.{Event}
-use Rattle.fb_types.specs.declared.run.Event.TheVariants.{Timer}
+use Rattle.fb_types.specs.declared.run.Event.TheVariants.{Local, Timer}
 
--- The local events, all others, and for each instance the tick that is noted for its timer.
+-- The local events in the queue of the running tick, all other events, and for each instance the tick that is noted for its timer.
 pub record Contents : Type 0 where
-  pub local : List (Key × Event)
+  pub running : List (Key × Event)
   pub later : List (Key × Event)
   pub due : List ℕ
 
 -- what waits under a key
 abbrev pub waiting : Contents → Map Event
-waiting c j = or_else (lookup (same_key j) c.local) (lookup (same_key j) c.later)
+waiting c j = or_else (lookup (same_key j) c.running) (lookup (same_key j) c.later)
 
 -- the keys of a list rise
 abbrev pub AreRising : List (Key × Event) → Type 0
 AreRising es = IsStrictlySortedBy key_cmp (keys_of es)
 
--- Local events, and they alone, are among the local ones, whose keys rise.
-pub record AreApart (c : Contents) : Type 0 where
-  pub rising : AreRising c.local
-  pub local : (j : Key) → j.class ≢ 3 → lookup (same_key j) c.local ≡ None
-  pub later : (j : Key) → j.class ≡ 3 → lookup (same_key j) c.later ≡ None
+-- ---- The queue of the running tick
+
+-- local events, of which the queue has the targets
+abbrev pub local_events : List (Key × Target) → List (Key × Event)
+local_events ts = map (λ t. (t.0, Local t.1)) ts
+
+-- Its keys rise, have one tick, and are those of local events.
+pub record IsQueue (es : List (Key × Event)) : Type 0 where
+  pub rising : AreRising es
+  pub tick : (j k : Key) → IsSome (lookup (same_key j) es) → IsSome (lookup (same_key k) es) → j.tick ≡ k.tick
+  pub local : (j : Key) → j.class ≢ 3 → lookup (same_key j) es ≡ None
+
+-- All its keys precede this one, and have its tick.
+pub record MayFollow (es : List (Key × Event)) (k : Key) : Type 0 where
+  pub before : AllByRecursion (λ j. Precedes j k) (keys_of es)
+  pub tick : (j : Key) → IsSome (lookup (same_key j) es) → j.tick ≡ k.tick
+
+-- No key of the queue is among the others, and where none of these is marked as a local event, none is one.
+pub record AreApart (c : Contents) (has_local : Bool) : Type 0 where
+  pub queue : IsQueue c.running
+  pub apart : (j : Key) → IsSome (lookup (same_key j) c.running) → lookup (same_key j) c.later ≡ None
+  pub marked : has_local ≡ false → (j : Key) → j.class ≡ 3 → lookup (same_key j) c.later ≡ None
 
 -- The list has the key, and none before it.
 pub record IsFirst (es : List (Key × Event)) (k : Key) : Type 0 where

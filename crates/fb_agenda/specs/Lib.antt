@@ -2,5 +2,4 @@ pub mod Agendas
 pub mod Arrivals
 pub mod Calendars
 pub mod Inside
-pub mod Numbered
 pub mod Places

@@ -2,49 +2,38 @@
 
 ghost use Rattle.std.specs.Prelude.{◌≡◌, ◌<◌, if◌then◌else◌, length, Some, None, IfSome, IfNone, IfOk, IfErr, OnOk, OnErr, slice_set};
 ghost use Rattle.std.specs.Bool.{OnFalse, OnTrue};
+ghost use Rattle.std.specs.Map.{lookup};
 ghost use Rattle.fb_types.specs.Keys.{Precedes, changed_to, found, local_key, or_else, same_key, timer_key};
 ghost use Rattle.fb_types.specs.Takes.{is_timer_of};
-ghost use Rattle.fb_agenda.specs.Agendas.{waiting, AreRising, IsNext, IsTimed, LiesIn, timer_set};
+ghost use Rattle.fb_types.specs.declared.run.Event.TheVariants.{Local, Timer};
+ghost use Rattle.fb_agenda.specs.Agendas.{waiting, AreRising, IsNext, IsTimed, LiesIn, MayFollow, local_events, timer_set};
 ghost use Rattle.fb_agenda.specs.Arrivals.{AreNew, arrivals_at};
 ghost use Rattle.fb_agenda.specs.Calendars.{BeginsAt, Leads, Sets};
 ghost use Rattle.fb_agenda.specs.Places.{taken};
-ghost use Rattle.std.specs.Map.{lookup};
-ghost use Rattle.fb_types.specs.declared.run.Event.TheVariants.{Local, Timer};
 
-use crate::arrivals;
 use crate::calendar::Calendar;
+use crate::later::Later;
 use crate::least::Least;
-use crate::locals::Locals;
+use crate::{arrivals, queue, rising};
 use fb_types::key::Key;
 use fb_types::run::{Event, Message, Target, TimerAsk};
 use std::alloc::{AllocError, Global};
+use std::collections::VecDeque;
 use std::marker::Model;
-
-/// The class of the keys of timers.
-const TIMER: u8 = 1;
-
-/// The class of the keys of local events.
-const LOCAL: u8 = 3;
 
 /// The events that wait, one at most under each key, and when the timers of the instances go off.
 pub struct Agenda {
-    /// The local events. They come in the order of their keys: so one is put, and the next one found, in constant time.
-    local: Locals,
-    /// All other events.
-    later: Calendar,
-    /// For each instance the tick at which its timer goes off, or went off last.
-    due: Vec<u64>,
+    /// All events but those in `now`.
+    later: Later,
+    /// The queue of the running tick: local events under rising keys of one tick, none of which is in `later`.
+    now: VecDeque<(Key, Target)>,
 }
 
-// Written out, and not derived: so it is proved here alone what is let go with an agenda, and not in each crate that lets
-// one go.
+// Written out, and not derived: so it is proved here alone what is dropped with an agenda, and not in each crate that
+// drops one.
 impl Drop for Agenda {
     fn drop(self) {
-        let Agenda {
-            local: _,
-            later: _,
-            due: _,
-        } = self;
+        let Agenda { later: _, now: _ } = self;
     }
 }
 
@@ -57,57 +46,45 @@ impl Model for Agenda {
 
     ghost view = { contents_of };
 
-    ghost invariant = { λ a. AreApart (contents_of a) };
+    ghost invariant = { λ a. AreApart (contents_of a) a.later.has_local };
 }
 
-/// The key under which the timer of an instance goes off.
-fn key_of_timer(tick: u64, resource: u32, instance: u32) -> Key
-    ensures { result ≡ timer_key tick resource instance }
-{
-    Key {
-        tick,
-        resource,
-        class: TIMER,
-        a: u128::from(instance),
-        b: 0,
-    }
-}
-
-/// Whether a local event waits, and no other before it.
+/// Whether an event is in the queue, and none of the others comes before its first.
 #[inline(always)]
-fn is_local_first(local: &Locals, later: &mut Calendar) -> bool
-    requires { AreRising local.now }
-    ensures local { OnTrue result (Leads local.now later.old) }
-    ensures later { OnFalse result (Leads later.old local.now) }
+fn is_now_first(now: &VecDeque<(Key, Target)>, later: &mut Calendar) -> bool
+    requires { AreRising (local_events now.now.items) }
+    ensures running { OnTrue result (Leads (local_events now.now.items) later.old) }
+    ensures later { OnFalse result (Leads later.old (local_events now.now.items)) }
     ensures kept { later.new ≡ later.old }
 {
-    let Some(tick) = local.first_tick() else {
+    let Some(first) = queue::first(now) else {
         return false;
     };
-    // Mostly no other event waits at the tick of the local ones.
-    if later.is_past(tick) {
+    // Mostly no other event waits at the running tick.
+    if later.is_past(first.tick) {
         return true;
     }
-    is_local_less(local, later)
+    is_now_less(now, later)
 }
 
 /// The same, by the first keys of both.
 #[inline(never)]
-fn is_local_less(local: &Locals, later: &Calendar) -> bool
-    requires { AreRising local.now }
-    ensures local { OnTrue result (Leads local.now later.now) }
-    ensures later { OnFalse result (Leads later.now local.now) }
+fn is_now_less(now: &VecDeque<(Key, Target)>, later: &Calendar) -> bool
+    requires { AreRising (local_events now.now.items) }
+    ensures running { OnTrue result (Leads (local_events now.now.items) later.now) }
+    ensures later { OnFalse result (Leads later.now (local_events now.now.items)) }
 {
-    let Some(first) = local.first() else {
+    let Some(first) = queue::first(now) else {
         return false;
     };
     let Some(other) = later.first() else {
         return true;
     };
-    first < *other
+    *first < *other
 }
 
-/// Puts the first of these events into its place, if its tick is below the horizon, and tells whether it is. It leaves.
+/// Takes out the first of these events, if its tick is below the horizon, and puts it into its place. Answers whether it was
+/// taken.
 #[inline(never)]
 fn pop_later(later: &mut Calendar, horizon: u64, place: &mut Least) -> bool
     ensures value { IfSome (taken result place.new) (λ r. lookup (same_key r.0) later.old ≡ Some r.1) }
@@ -131,10 +108,14 @@ impl Agenda {
         ensures due { IfOk result (λ a. length a.due ≡ instances) }
     {
         let due = vec![in alloc; 0u64; instances]?;
-        Ok(Agenda {
-            local: Locals::new(alloc),
-            later: Calendar::new(alloc),
+        let later = Later {
+            events: Calendar::new(alloc),
             due,
+            has_local: false,
+        };
+        Ok(Agenda {
+            later,
+            now: VecDeque::new(alloc),
         })
     }
 
@@ -149,10 +130,10 @@ impl Agenda {
         ensures due { self.new.due ≡ self.old.due }
         ensures err { OnErr result (self.new ≡ self.old) }
     {
-        if key.class == LOCAL {
-            self.local.insert(key, event)
+        if key.is_local() {
+            self.put_aside(key, event)
         } else {
-            self.later.insert(key, event)
+            self.later.events.insert(key, event)
         }
     }
 
@@ -174,7 +155,49 @@ impl Agenda {
         ensures due { self.new.due ≡ self.old.due }
         ensures err { OnErr result (self.new ≡ self.old) }
     {
-        self.local.put(tick, resource, number, target)
+        let key = Key::local(tick, resource, number);
+        if self.is_next(&key) {
+            rising::make_room(&mut self.now)?;
+            self.now.push_back_reserved((key, target));
+            Ok(())
+        } else {
+            self.put_aside(key, Event::Local(target))
+        }
+    }
+
+    /// Whether the key of a local event may be appended to the queue of the running tick. Nothing waits under it then.
+    #[inline(always)]
+    fn is_next(&self, key: &Key) -> bool
+        requires { key.now.class ≡ 3 }
+        ensures follows { OnTrue result (MayFollow self.entry.now.running key.now) }
+        ensures alone { OnTrue result (lookup (same_key key.now) self.entry.now.later ≡ None) }
+    {
+        !self.later.has_local && queue::follows(&self.now, key)
+    }
+
+    /// Puts an event under the key of a local event, wherever it waits. What is not in the queue goes to the others.
+    ///
+    /// # Errors
+    ///
+    /// When memory runs out. The agenda is then as it was.
+    #[inline(never)]
+    fn put_aside(&mut self, key: Key, event: Event) -> Result<(), AllocError>
+        requires { key.class ≡ 3 }
+        ensures put { OnOk result ((j : Key) → waiting self.new j ≡ (if same_key key j then Some event else waiting self.old j)) }
+        ensures due { self.new.due ≡ self.old.due }
+        ensures err { OnErr result (self.new ≡ self.old) }
+    {
+        let Some(index) = queue::place_of(&self.now, &key) else {
+            return self.later.insert_local(key, event);
+        };
+        if let Some(target) = queue::target_of(&event) {
+            self.now[index] = (key, target);
+            return Ok(());
+        }
+        // It is no local event, so it has no place in the queue.
+        self.later.insert_local(key, event)?;
+        self.now.remove(index);
+        Ok(())
     }
 
     /// Puts messages for a resource under their keys, or none of them.
@@ -193,35 +216,16 @@ impl Agenda {
         ensures err { OnErr result (AreNew receiver messages.items self.old → (j : Key) → waiting self.new j ≡ waiting self.old j) }
         ensures due { self.new.due ≡ self.old.due }
     {
-        if arrivals::hold_places(&mut self.later, receiver, &messages).is_err() {
-            arrivals::free_places(&mut self.later, receiver, &messages);
+        if arrivals::hold_places(&mut self.later.events, receiver, &messages).is_err() {
+            arrivals::free_places(&mut self.later.events, receiver, &messages);
             return Err((AllocError, messages));
         }
-        arrivals::fill_places(&mut self.later, receiver, messages);
+        arrivals::fill_places(&mut self.later.events, receiver, messages);
         Ok(())
     }
 
-    /// The event under the least key, if its tick is below the horizon. It leaves the agenda.
-    #[inline(always)]
-    pub fn take_least(&mut self, horizon: u64) -> Option<(Key, Event)>
-        ensures found { IfSome result (λ r. waiting self.old r.0 ≡ Some r.1) }
-        ensures below { IfSome result (λ r. r.0.tick < horizon) }
-        ensures least { IfSome result (λ r. (j : Key) → Precedes j r.0 → waiting self.old j ≡ None) }
-        ensures left { IfSome result (λ r. (j : Key) → waiting self.new j ≡ (if same_key r.0 j then None else waiting self.old j)) }
-        ensures due { self.new.due ≡ self.old.due }
-        ensures none { IfNone result ((j : Key) → j.tick < horizon → waiting self.old j ≡ None) }
-        ensures kept { IfNone result (self.new ≡ self.old) }
-    {
-        let mut least = Least::new();
-        if !self.take_least_into(horizon, &mut least) {
-            return None;
-        }
-        let Least { key, event } = least;
-        Some((key, event))
-    }
-
-    /// Puts the event under the least key into its place, if its tick is below the horizon, and tells whether it is. It
-    /// leaves the agenda.
+    /// Takes out the event under the least key, if its tick is below the horizon, and puts it into its place. Answers whether
+    /// it was taken.
     #[inline(always)]
     pub fn take_least_into(&mut self, horizon: u64, place: &mut Least) -> bool
         ensures found { OnTrue result (waiting self.old place.new.key ≡ Some place.new.event) }
@@ -232,26 +236,26 @@ impl Agenda {
         ensures none { OnFalse result ((j : Key) → j.tick < horizon → waiting self.old j ≡ None) }
         ensures kept { OnFalse result (self.new ≡ self.old) }
     {
-        if is_local_first(&self.local, &mut self.later) {
-            self.local.pop_into(horizon, place)
+        if is_now_first(&self.now, &mut self.later.events) {
+            queue::pop_into(&mut self.now, horizon, place)
         } else {
-            pop_later(&mut self.later, horizon, place)
+            pop_later(&mut self.later.events, horizon, place)
         }
     }
 
     /// The tick of the next event, if one waits.
     pub fn next(&self) -> Option<u64>
-        ensures some { IfSome result (IsNext self.now) }
-        ensures none { IfNone result ((j : Key) → waiting self.now j ≡ None) }
+        ensures some { IfSome result (IsNext self.entry.now) }
+        ensures none { IfNone result ((j : Key) → waiting self.entry.now j ≡ None) }
     {
         // The least key has the lesser of the two ticks, so no keys are compared.
-        let Some(local) = self.local.first_tick() else {
-            return self.later.first_tick();
+        let Some(first) = queue::first(&self.now) else {
+            return self.later.events.first_tick();
         };
-        let Some(later) = self.later.first_tick() else {
-            return Some(local);
+        let Some(later) = self.later.events.first_tick() else {
+            return Some(first.tick);
         };
-        Some(local.min(later))
+        Some(first.tick.min(later))
     }
 
     /// Does what a reaction asks of the timer of its instance, which lies in this resource.
@@ -291,8 +295,10 @@ impl Agenda {
         ensures cleared { (j : Key) → waiting self.new j ≡ (if is_timer_of resource instance j then None else waiting self.old j) }
         ensures due { self.new.due ≡ self.old.due }
     {
-        let due = self.due[instance as usize];
-        self.later.remove(&key_of_timer(due, resource, instance));
+        let due = self.later.due[instance as usize];
+        self.later
+            .events
+            .remove(&Key::timer(due, resource, instance));
     }
 
     fn start_timer(&mut self, resource: u32, instance: u32, tick: u64) -> Result<(), AllocError>
@@ -301,9 +307,9 @@ impl Agenda {
         ensures due { OnOk result (self.new.due ≡ slice_set self.old.due instance tick) }
         ensures counted { length self.new.due ≡ length self.old.due }
     {
-        let key = key_of_timer(tick, resource, instance);
-        self.later.insert(key, Event::Timer(instance))?;
-        self.due[instance as usize] = tick;
+        let key = Key::timer(tick, resource, instance);
+        self.later.events.insert(key, Event::Timer(instance))?;
+        self.later.due[instance as usize] = tick;
         Ok(())
     }
 }

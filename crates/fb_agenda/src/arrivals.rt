@@ -1,6 +1,6 @@
 //! Messages that are put among the events of an agenda.
 //!
-//! Only a key that is not there wants memory. So a place is held for each message first, and the messages are moved
+//! Only a key that is not there takes memory. So a place is held for each message first, and the messages are moved
 //! once that has succeeded: none leaves its list before.
 
 ghost use Rattle.std.specs.Prelude.{◌≡◌, if◌then◌else◌, IsSome, OnOk, Some};
@@ -15,20 +15,11 @@ use fb_types::key::Key;
 use fb_types::run::{Event, Message};
 use std::alloc::AllocError;
 
-/// The class of the keys of arrivals.
-const ARRIVAL: u8 = 2;
-
 /// The key under which a message waits for its receiver.
 fn key_of_arrival(receiver: u32, message: &Message) -> Key
     ensures { result ≡ (arrival_at receiver message.now).0 }
 {
-    Key {
-        tick: message.arrives,
-        resource: receiver,
-        class: ARRIVAL,
-        a: u128::from(message.link),
-        b: message.number,
-    }
+    Key::arrival(message.arrives, receiver, message.link, message.number)
 }
 
 /// Puts some event under the key of each message.

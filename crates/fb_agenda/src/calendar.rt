@@ -1,8 +1,8 @@
-//! The events that are not local: stimuli, timers and messages.
+//! The events that are not in the queue of the running tick, mostly stimuli, timers and messages.
 //!
-//! They come in any order of their keys, mostly in a rising one, and mostly there are few of them. In a tree of many an
-//! event is put and found in logarithmic time, at some hundreds of instructions. So a few are kept in a row in the order
-//! of their keys, and only what comes when the row is long goes into a tree.
+//! They come in any order of their keys, mostly in a rising one, and mostly there are few of them. In a `BTreeMap` an event
+//! is put and found in logarithmic time, at some hundreds of instructions. So a few are kept in a row in the order of their
+//! keys, and only what comes when the row is long goes into the map.
 
 ghost use Rattle.std.specs.Prelude.{◌≡◌, ◌<◌, ◌≤◌, List, [], IfSome, IfNone, IfOk, OnOk, OnErr, Some, None};
 ghost use Rattle.std.specs.Bool.{OnFalse, OnTrue};

@@ -8,8 +8,8 @@ use fb_types::run::Event;
 
 /// An event that was taken from an agenda, with its key.
 ///
-/// An event is large, and moved whole from function to function. So who takes one after another has one place for it,
-/// into which each is put.
+/// An event is large, and moved whole from function to function. So a loop that takes one after another has one place for
+/// it, into which each is put.
 #[derive(Drop)]
 pub struct Least {
     pub key: Key,
@@ -20,18 +20,12 @@ impl Least {
     /// A place into which nothing was put yet.
     pub fn new() -> Least {
         Least {
-            key: Key {
-                tick: 0,
-                resource: 0,
-                class: 0,
-                a: 0,
-                b: 0,
-            },
+            key: Key::stimulus(0, 0, 0),
             event: Event::Stimulus(0),
         }
     }
 
-    /// Puts here what was found, and tells whether anything was.
+    /// Puts here what was found, and answers whether anything was.
     #[inline(always)]
     pub(crate) fn hold(&mut self, found: Option<(Key, Event)>) -> bool
         ensures { taken result self.new ≡ found }

@@ -1,11 +1,6 @@
 pub mod Apart
 pub mod Begins
-pub mod Dealt
-pub mod Earliest
-pub mod Exchanged
 pub mod Fuel
-pub mod Keyed
-pub mod LatencyTables
 pub mod Leaving
 pub mod Lists
 pub mod OpenIs

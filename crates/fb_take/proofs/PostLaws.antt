@@ -28,6 +28,7 @@ use Rattle.fb_net.specs.declared.outbox.Out.{Out}
 use Rattle.fb_net.specs.declared.outbox.Out.TheVariants as outs
 use Rattle.fb_net.specs.Events.{event_of}
 use Rattle.fb_take.specs.Posts.{ArePosted, CountsAre, IsMessage, IsPut, IsSendable, arriving, message_of}
+pub use Rattle.fb_link.proofs.Lists.{next_of}
 use Rattle.fb_take.specs.Waiting.{meaning, MayWait, AllMayWait, TimersAtHome, IsInOrder}
 
 pub timer_class : (r n : ℕ) (j : Key) → is_timer_of r n j ≡ true → j.class ≡ 1
@@ -201,10 +202,6 @@ posted_more i k base new before after x os o locals sent is =
     let more : post_all sys k (map (out_of sys) (os ++ o ∷ [])) x ≡ post sys k (out_of sys o) (post_all sys k (map (out_of sys) os) x) =
     ap (λ zs. post_all sys k zs x) (map_push (out_of sys) os o) ∙ post_all_more sys k (map (out_of sys) os) (out_of sys o) x in
     subst (λ y. ArePosted i y base new before after locals sent) (sym more) is
-
-pub next_of : {A : Type 0} (P : A → Type 0) (xs ys : List A) (y : A) → All P (xs ++ y ∷ ys) → P y
-next_of P [] ys y h = All-head P y ys h
-next_of P (x ∷ xs) ys y h = next_of P xs ys y (All-tail P x (xs ++ y ∷ ys) h)
 
 pub all_before : {A : Type 0} (P : A → Type 0) (xs ys : List A) → All P (xs ++ ys) → All P xs
 all_before P [] ys h = All-nil P

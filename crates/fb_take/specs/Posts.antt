@@ -1,9 +1,9 @@
 -- What a taking puts on the agenda of its resource, and the messages that it gives (this project's profile).
 use Rattle.std.specs.Prelude.{◌≡◌, ◌<◌, ◌++◌, ℕ, List, All, map, Some, if◌then◌else◌, slice_get}
 use Rattle.fb_types.specs.Headline.{Inputs, system_of}
-use Rattle.fb_types.specs.Keys.{or_else, found, message_key, same_key}
+use Rattle.fb_types.specs.Keys.{or_else, found, same_key}
 use Rattle.fb_types.specs.Names.{Port}
-use Rattle.fb_types.specs.Numbers.{carried_of, path_at}
+use Rattle.fb_types.specs.Numbers.{carried_of}
 use Rattle.fb_types.specs.States as model
 use Rattle.fb_types.specs.Systems.{System}
 use Rattle.fb_types.specs.Takes.{Posts}
@@ -20,20 +20,13 @@ use Rattle.fb_net.specs.declared.outbox.Sending.{Sending}
 use Rattle.fb_net.specs.Events.{IsEventIn, event_of}
 use Rattle.fb_laws.specs.Typed.{FitsAt, IsTypedEvent}
 use Rattle.fb_take.specs.Waiting.{meaning}
+pub use Rattle.fb_link.specs.Messages.{key_of, receiver_of}
 
 -- an event was put under a key
 abbrev pub IsPut : Contents → Contents → Key → Event → Type 0
 IsPut old new k e = (j : Key) → waiting new j ≡ (if same_key k j then Some e else waiting old j)
 
 -- ---- Messages
-
--- the resource to which a message goes
-abbrev pub receiver_of : System → Message → ℕ
-receiver_of sys m = sys.resource (path_at sys m.target.instance)
-
--- the key under which a message waits
-abbrev pub key_of : System → Message → Key
-key_of sys m = message_key m.arrives (receiver_of sys m) m.link m.number
 
 -- a message as the model has it, under its key
 abbrev pub arriving : Inputs → Message → Key × model.Event

@@ -5,18 +5,15 @@
 //! to an agenda: it is put behind the mail, and who runs the resources delivers it. So the run of all resources over one
 //! agenda, and that of one resource by itself, stand on the same taking, and each is a short loop over it.
 //!
-//! What is promised above: `take::take` takes an event as the definitions say (`IsTakenHere`), from every state that the
-//! blocks and counts may stand for, also where the resource stops; and `open::open_agenda` and `open::open_agendas` put
-//! exactly the events of the opening on the agendas (`IsOpened`). Of a message that is sent on a link, `arrivals` has the
-//! tick of its arrival, and the least tick at which one can arrive that is sent from a tick on; messages may overtake
-//! each other. `exchange` has the messages of all outboxes by receiver, in the order of their keys.
+//! What it guarantees to callers: `take::take` takes an event as the definitions say (`IsTakenHere`), from every state that
+//! the blocks and counts may stand for, also where the resource stops; and `open::open_agenda` and `open::open_agendas` put
+//! exactly the events of the opening on the agendas (`IsOpened`). When messages arrive, and at which resource, `fb_link`
+//! says.
 //!
-//! To be read in this order: `tick_counts`, what is counted in a tick; `queues`, where events come from and go to; `take`, the
-//! taking; `arrivals`; `post`, what a taking puts out; `open`, the beginning; `exchange`.
+//! Read in this order: `tick_counts`, what is counted in a tick; `queues`, where events come from and go to; `take`, the
+//! taking; `post`, what a taking puts out; `open`, the beginning.
 #![tactic(auto)]
 
-pub mod arrivals;
-pub mod exchange;
 pub mod open;
 mod post;
 pub mod queues;

@@ -18,9 +18,6 @@ use fb_types::key::Key;
 use fb_types::run::{Event, TimerAsk};
 use std::alloc::{AllocError, Global};
 
-/// The class of the keys of stimuli.
-const STIMULUS: u8 = 0;
-
 /// Whether a resource is the one that is asked for, or all are.
 fn is_asked(of: Option<u32>, resource: u32) -> bool
     ensures { result ≡ is_of of resource }
@@ -57,13 +54,8 @@ fn key_of_stimulus(system: &System, row: u32) -> Key
 {
     system.facts();
     let stimulus = system.stimulus(row);
-    Key {
-        tick: stimulus.tick,
-        resource: resource_of(system, stimulus.target.instance),
-        class: STIMULUS,
-        a: u128::from(row),
-        b: 0,
-    }
+    let resource = resource_of(system, stimulus.target.instance);
+    Key::stimulus(stimulus.tick, resource, row)
 }
 
 /// Puts the stimuli that are asked for on an empty agenda, each at its tick and under its row.

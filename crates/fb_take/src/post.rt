@@ -11,8 +11,8 @@ ghost use Rattle.fb_net.specs.Outs.{out_of};
 ghost use Rattle.fb_take.specs.Posts.{ArePosted, CountsAre, IsMessage, IsPostable, IsPut, message_of};
 ghost use Rattle.fb_take.specs.Waiting.{IsInOrder};
 
-use crate::arrivals::arrival;
 use fb_agenda::agenda::Agenda;
+use fb_link::arrival;
 use fb_net::outbox::{Out, Sending};
 use fb_system::system::System;
 use fb_types::key::Key;
@@ -58,7 +58,7 @@ fn post_message(
 {
     let number = sent[sending.link as usize];
     let next = number.checked_add(1).ok_or(AllocError)?;
-    let arrives = arrival(system.latency(sending.link as usize), key.tick);
+    let arrives = arrival(system, sending.link, key.tick);
     sent[sending.link as usize] = next;
     mail.reserve(1)?;
     mail.push_reserved(Message {

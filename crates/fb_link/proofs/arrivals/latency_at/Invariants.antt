@@ -1,0 +1,6 @@
+use Rattle.std.proofs.Common.{◌≡◌, take}
+use Rattle.fb_types.specs.Flat.{latency_at}
+use Rattle.fb_link.proofs.arrivals.latency_at.Given as goal
+
+abbrev pub invariant-loop-entry : goal.invariant-loop-entry
+invariant-loop-entry l = l.ticks ≡ latency_at (take l.entry-index l.entry-items) l.sent_tick

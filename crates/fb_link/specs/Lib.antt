@@ -1,0 +1,3 @@
+pub mod Arrivals
+pub mod Exchanges
+pub mod Messages

@@ -1,0 +1,76 @@
+//! The messages of all resources, sorted by receiver.
+
+ghost use Rattle.std.specs.Prelude.{◌≡◌, ◌<◌, ◌++◌, ℕ, [], All, IfOk, OnOk, List, Some, Vec, length, slice_get};
+ghost use Rattle.std.specs.declared.alloc.Global as global;
+ghost use Rattle.fb_types.specs.Headline.{system_of};
+ghost use Rattle.fb_types.specs.declared.run.Message as model;
+ghost use Rattle.fb_link.specs.Exchanges.{all_of, AreDealt, AreFor, AreSorted};
+
+use fb_system::system::System;
+use fb_types::run::Message;
+use std::alloc::{AllocError, Global};
+
+/// An empty inbox for each resource.
+fn empty_lists(alloc: Global, count: usize) -> Result<Vec<Vec<Message>>, AllocError>
+    ensures counted { IfOk result (λ v. length v.items ≡ count) }
+    ensures empty { IfOk result (λ v. (r : ℕ) (list : Vec model.Message global.Global) → slice_get v.items r ≡ Some list → list.items ≡ []) }
+{
+    let mut lists = Vec::with_capacity(alloc, count)?;
+    for _ in 0..count {
+        lists.push(Vec::new(alloc))?;
+    }
+    Ok(lists)
+}
+
+/// Appends each message of an outbox to the inbox of its receiver.
+fn deal(
+    system: &System,
+    outbox: Vec<Message>,
+    inboxes: &mut Vec<Vec<Message>>,
+) -> Result<(), AllocError>
+    requires targets { All (λ m. m.target.instance < length (system_of system.now).paths) outbox.items }
+    requires counted { length inboxes.old.items ≡ length (system_of system.now).resource_names }
+    ensures counted { OnOk result (length inboxes.new.items ≡ length inboxes.old.items) }
+    ensures dealt { OnOk result ((all : List model.Message) → AreDealt (system_of system.now) all inboxes.old.items
+        → AreDealt (system_of system.now) (all ++ outbox.items) inboxes.new.items) }
+{
+    system.facts();
+    for message in outbox {
+        let receiver = system.resource(message.target.instance);
+        inboxes[receiver].push(message)?;
+    }
+    Ok(())
+}
+
+/// Sorts the messages for one resource by their keys, which differ in these three parts alone.
+fn sort(messages: &mut Vec<Message>) -> Result<(), AllocError>
+    ensures { OnOk result (AreSorted messages.old.items messages.new.items) }
+{
+    messages.sort_by_key(|message| (message.arrives, message.link, message.number))
+}
+
+/// Takes one outbox of each resource and gives one inbox for each: exactly the messages for that resource, in the order
+/// of their keys, which is by tick of arrival, then link, then number. No message is copied or lost. Keys are expected to
+/// differ; of several messages under one key, the one that was handed in last stays last.
+///
+/// # Errors
+/// When memory runs out.
+pub fn exchange(
+    alloc: Global,
+    system: &System,
+    outboxes: Vec<Vec<Message>>,
+) -> Result<Vec<Vec<Message>>, AllocError>
+    requires targets { All (λ box. All (λ m. m.target.instance < length (system_of system.now).paths) box.items) outboxes.items }
+    ensures counted { IfOk result (λ v. length v.items ≡ length (system_of system.now).resource_names) }
+    ensures each { IfOk result (λ v. (r : ℕ) (list : Vec model.Message global.Global) → slice_get v.items r ≡ Some list
+        → AreFor (system_of system.now) r (all_of outboxes.items) list.items) }
+{
+    let mut inboxes = empty_lists(alloc, system.resources())?;
+    for outbox in outboxes {
+        deal(system, outbox, &mut inboxes)?;
+    }
+    for receiver in 0..inboxes.len() {
+        sort(&mut inboxes[receiver])?;
+    }
+    Ok(inboxes)
+}
