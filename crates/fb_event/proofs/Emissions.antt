@@ -13,7 +13,7 @@ use Rattle.fb_types.specs.declared.event_kind.EventKind.{EventKind}
 use Rattle.fb_types.specs.declared.event_kind.EventKind.TheVariants.{SetReset, DataLatch, CountUp}
 use Rattle.fb_event.specs.Block.{state, state_of}
 use Rattle.fb_event.specs.Emissions.{emission_at, emitted_by}
-use Rattle.fb_event.specs.Reactions.{IsEventOutput, IsWellFormed, emissions_of, meanings}
+use Rattle.fb_event.specs.Reactions.{EmitsBehind, IsEventOutput, IsWellFormed, emissions_of, meanings}
 use Rattle.fb_event.specs.State.{State}
 use Rattle.fb_event.specs.Step.{Performs}
 use Rattle.fb_event.specs.declared.step.Step.{Step}
@@ -92,8 +92,6 @@ map-nil f (x ∷ xs) e = cc
 pub silent-Performs : (s : State) (r : Reaction) (step : Step) → Performs s r step → r.emits ≡ [] → step.emits.now ≡ []
 silent-Performs s r step h e = map-nil _ step.emits.now (h.emits ∙ e)
 
-pub ruleset step_emissions = (emissions-Performs, silent-Performs)
-
 -- event outputs with the values of all data outputs are well-formed emissions
 all-IsWellFormed : (b : KindState) (s : State) → state_of b ≡ s → (places : List ℕ) → All (IsEventOutput s.kind) places → All (IsWellFormed s.kind) (map (emission_at b) places)
 all-IsWellFormed b s e places within =
@@ -102,12 +100,18 @@ all-IsWellFormed b s e places within =
     (All-weaker (IsEventOutput (state_of b).kind) (λ place. IsWellFormed (state_of b).kind (emission_at b place)) (emission_at-IsWellFormed b) places here)) within
 
 -- what a step emits is what its reaction emits
-pub emitted-Performs : (s : State) (r : Reaction) (step : Step) → Performs s r step → meanings s.kind (emitted_by step) ≡ emissions_of s.kind r
+emitted-Performs : (s : State) (r : Reaction) (step : Step) → Performs s r step → meanings s.kind (emitted_by step) ≡ emissions_of s.kind r
 emitted-Performs s r step h =
     meanings-state step.block (state s.kind r.memory) h.block step.emits.now h.within ∙ ap (emissions (ports_of_event_block s.kind) (output_of r.memory)) h.emits
 
--- .. in well-formed emissions
-pub well_formed-Performs : (s : State) (r : Reaction) (step : Step) → Performs s r step → All (IsWellFormed s.kind) (emitted_by step)
-well_formed-Performs s r step h = all-IsWellFormed step.block (state s.kind r.memory) h.block step.emits.now h.within
+-- .. behind what was emitted before
+pub behind-Performs : (s : State) (r : Reaction) (step : Step) (old new : List run.Emission) → Performs s r step
+    → new ≡ old ++ map (emission_at step.block) step.emits.now → EmitsBehind s.kind r old new
+behind-Performs s r step old new h e = record {
+  news = emitted_by step;
+  behind = e;
+  meant = emitted-Performs s r step h;
+  well_formed = all-IsWellFormed step.block (state s.kind r.memory) h.block step.emits.now h.within;
+}
 
-pub ruleset steps = (emitted-Performs, well_formed-Performs)
+pub ruleset step_emissions = (emissions-Performs, silent-Performs, behind-Performs)

@@ -1,5 +1,5 @@
 -- Reactions in the terms of the program's calls, where events are places in the lists of the ports (this project's profile, in the manner of IEC 61499-1, Annex A).
-use Rattle.std.specs.Prelude.{ℕ, List, [], ◌∷◌, map, length, ◌≡◌, ◌<◌, IsTrue}
+use Rattle.std.specs.Prelude.{ℕ, List, [], ◌∷◌, ◌++◌, map, length, All, ◌≡◌, ◌<◌, IsTrue}
 use Rattle.fb_types.specs.Values.{fits}
 use Rattle.fb_types.specs.Blocks.{ports_of_event_block, variable_names, outputs_with, Emission}
 use Rattle.fb_types.specs.EventBlocks.{Reaction, reaction, expiry, output_of}
@@ -49,3 +49,14 @@ abbrev pub IsWellFormed : EventKind → run.Emission → Type 0
 IsWellFormed k e =
     let p = ports_of_event_block k in
     IsEventOutput k e.event × (length e.values ≡ length (outputs_with p (event_at p.event_outputs e.event)))
+
+-- The list is that one, and others behind it.
+abbrev pub BeginsWith : (old new : List run.Emission) → Type 0
+BeginsWith old new = (news : List run.Emission) × (new ≡ old ++ news)
+
+-- Behind a list of emissions stand those of a reaction, and nothing else.
+pub record EmitsBehind (k : EventKind) (r : Reaction) (old new : List run.Emission) : Type 0 where
+  pub news : List run.Emission
+  pub behind : new ≡ old ++ news
+  pub meant : meanings k news ≡ emissions_of k r
+  pub well_formed : All (IsWellFormed k) news

@@ -10,4 +10,4 @@
 mod emission;
 pub mod reaction;
 pub mod state;
-pub mod step;
+mod step;

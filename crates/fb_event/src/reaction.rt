@@ -3,8 +3,8 @@
 ghost use Rattle.std.specs.Prelude.{◌≡◌, ◌++◌, ◌≤◌, ◌^◌, [], All, IfErr, IsOk, OnOk, map};
 ghost use Rattle.fb_types.specs.Blocks.{ports_of_event_block};
 ghost use Rattle.fb_event.specs.Block.{state_of, IsInRange};
-ghost use Rattle.fb_event.specs.Emissions.{emission_at, emitted_by};
-ghost use Rattle.fb_event.specs.Reactions.{FitTheirTypes, reaction_to, expiry_of, emissions_of, first_value, meanings, IsEventOutput, IsWellFormed};
+ghost use Rattle.fb_event.specs.Emissions.{emission_at};
+ghost use Rattle.fb_event.specs.Reactions.{BeginsWith, EmitsBehind, FitTheirTypes, reaction_to, expiry_of, emissions_of, first_value, meanings, IsEventOutput, IsWellFormed};
 
 use crate::emission::emit_all;
 use crate::state::EventState;
@@ -14,7 +14,8 @@ use fb_types::value::Value;
 
 /// The reaction of an event block to the event input at a place of its event inputs, in a tick that is at most
 /// 10^12. `inputs` are the values of all its data inputs, in the order of the declaration, as they are
-/// after the sampling. What it emits is put behind the other emissions, by the allocator that these keep.
+/// after the sampling. What it emits is put behind the other emissions, which stay as they are, by the allocator that
+/// they keep.
 ///
 /// # Errors
 /// `Halt::Memory` where memory ran out, and never a stop. Nothing is said of what the block remembers then.
@@ -37,10 +38,13 @@ pub fn react(
     ensures emitted { let reaction = reaction_to state.old event tick inputs.now in
         OnOk result (meanings state.old.kind emits.new
         ≡ meanings state.old.kind emits.old ++ emissions_of state.old.kind reaction) }
+    ensures behind { let reaction = reaction_to state.old event tick inputs.now in
+        OnOk result (EmitsBehind state.old.kind reaction emits.old emits.new) }
 
     // Also where memory runs out.
     ensures kind { state.new.kind ≡ state.old.kind }
     ensures well_formed { let IsFit = IsWellFormed state.old.kind in All IsFit emits.old → All IsFit emits.new }
+    ensures kept { BeginsWith emits.old emits.new }
     ensures only_memory { IfErr result (λ halt. halt ≡ Halt.Memory) }
     ensures silent { (reaction_to state.old event tick inputs.now).emits ≡ [] → IsOk result }
 {
@@ -49,7 +53,7 @@ pub fn react(
 }
 
 /// The reaction of an event block to its timer, which goes off in a tick that is at most 10^12. It reads no
-/// input. What it emits is put behind the other emissions, by the allocator that these keep.
+/// input. What it emits is put behind the other emissions, which stay as they are, by the allocator that they keep.
 ///
 /// # Errors
 /// `Halt::Memory` where memory ran out, and never a stop. Nothing is said of what the block remembers then.
@@ -67,10 +71,13 @@ pub fn expire(
     ensures emitted { let reaction = expiry_of state.old tick in
         OnOk result (meanings state.old.kind emits.new
         ≡ meanings state.old.kind emits.old ++ emissions_of state.old.kind reaction) }
+    ensures behind { let reaction = expiry_of state.old tick in
+        OnOk result (EmitsBehind state.old.kind reaction emits.old emits.new) }
 
     // Also where memory runs out.
     ensures kind { state.new.kind ≡ state.old.kind }
     ensures well_formed { let IsFit = IsWellFormed state.old.kind in All IsFit emits.old → All IsFit emits.new }
+    ensures kept { BeginsWith emits.old emits.new }
     ensures only_memory { IfErr result (λ halt. halt ≡ Halt.Memory) }
     ensures silent { (expiry_of state.old tick).emits ≡ [] → IsOk result }
 {
@@ -78,41 +85,8 @@ pub fn expire(
     perform(&step, state, emits, ask)
 }
 
-/// The same reaction as a step, for who emits event after event: it takes no memory, and has no error. The block is what
-/// the step makes of it, and the values of what is emitted are made by the step.
-#[inline(always)]
-#[tactic(auto, using(crate::proofs::Inputs::inputs, crate::proofs::Emissions::steps))]
-pub fn step_at(state: &mut EventState, event: u32, tick: u64, inputs: &[Value]) -> Step
-    requires early { tick ≤ 10 ^ 12 }
-    requires typed { FitTheirTypes (ports_of_event_block state.old.kind).inputs inputs.now }
-    ensures memory { state.new.memory ≡ (reaction_to state.old event tick inputs.now).memory }
-    ensures timer { result.ask ≡ (reaction_to state.old event tick inputs.now).timer }
-    ensures emitted { meanings state.old.kind (emitted_by result) ≡ emissions_of state.old.kind (reaction_to state.old event tick inputs.now) }
-    ensures kind { state.new.kind ≡ state.old.kind }
-    ensures well_formed { All (IsWellFormed state.old.kind) (emitted_by result) }
-{
-    let value = first(inputs);
-    let step = reaction(state.block, event, tick, value);
-    state.block = step.block;
-    step
-}
-
-/// The reaction to the timer as a step, which takes no memory and has no error.
-#[tactic(auto, using(crate::proofs::Emissions::steps))]
-pub fn step_at_expiry(state: &mut EventState, tick: u64) -> Step
-    requires early { tick ≤ 10 ^ 12 }
-    ensures memory { state.new.memory ≡ (expiry_of state.old tick).memory }
-    ensures timer { result.ask ≡ (expiry_of state.old tick).timer }
-    ensures emitted { meanings state.old.kind (emitted_by result) ≡ emissions_of state.old.kind (expiry_of state.old tick) }
-    ensures kind { state.new.kind ≡ state.old.kind }
-    ensures well_formed { All (IsWellFormed state.old.kind) (emitted_by result) }
-{
-    let step = expiry(state.block, tick);
-    state.block = step.block;
-    step
-}
-
 /// Emits what the step emits, and then makes the block and the timer what the step says.
+#[inline(always)]
 fn perform(
     step: &Step,
     state: &mut EventState,
@@ -127,6 +101,7 @@ fn perform(
     ensures emitted { OnOk result (emits.new ≡ emits.old ++ map (emission_at step.now.block) step.now.emits.now) }
     ensures kind { state.new.kind ≡ state.old.kind }
     ensures well_formed { let IsFit = IsWellFormed state.old.kind in All IsFit emits.old → All IsFit emits.new }
+    ensures kept { BeginsWith emits.old emits.new }
     ensures only_memory { IfErr result (λ halt. halt ≡ Halt.Memory) }
     ensures silent { step.now.emits.now ≡ [] → IsOk result }
 {

@@ -28,8 +28,8 @@ const R_OF_COUNT_UP: u32 = 1;
 
 /// What a reaction of an event block comes to: what the block is then, what it emits, and what it asks of its timer.
 #[derive(Clone, Copy)]
-pub struct Step {
-    pub(crate) block: KindState,
+pub(crate) struct Step {
+    pub block: KindState,
     /// The places of the event outputs that are emitted, in order. The same values go with each.
     pub emits: &'static [u32],
     /// What is asked of the timer.

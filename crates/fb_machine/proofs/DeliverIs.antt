@@ -24,6 +24,7 @@ message_waits i tick m accepted limits is later = record {
   resource = (sound_system i accepted limits).counted (path_at (system_of i) m.target.instance);
   later = omega (arith, later);
   typed = is.typed;
+  own = refl;
 }
 
 -- one message more is delivered

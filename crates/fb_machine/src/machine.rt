@@ -5,7 +5,7 @@ ghost use Rattle.fb_types.specs.Headline.{Inputs, system_of};
 ghost use Rattle.fb_types.specs.Keys.{without};
 ghost use Rattle.fb_types.specs.States.{Config, State};
 ghost use Rattle.fb_types.specs.States as model;
-ghost use Rattle.fb_net.specs.Events.{IsEventIn, event_of};
+ghost use Rattle.fb_net.specs.Events.{IsEventIn, IsKeyOf, event_of};
 ghost use Rattle.fb_system.specs.Lines.{BelongsTo};
 ghost use Rattle.fb_laws.specs.Typed.{IsTypedEvent};
 ghost use Rattle.fb_machine.specs.Completions.{Completes};
@@ -58,6 +58,7 @@ impl Machine {
         requires ready { IsReady system.now limit key.now.tick self.old }
         requires stands { (s : State) × (a : model.Agenda) × IsAt system.now s a self.old }
         requires event { IsEventIn system.now key.now.resource event.now }
+        requires own { IsKeyOf key.now event.now }
         requires typed { IsTypedEvent (system_of system.now) (event_of system.now event.now) }
         requires named { key.now.resource < length (system_of system.now).resource_names }
         requires early { key.now.tick ≤ 10 ^ 12 }

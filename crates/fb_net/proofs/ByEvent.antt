@@ -1,6 +1,6 @@
 -- The taking of an event is what the model makes of it, by what the event is.
 use Rattle.std.proofs.Common.{◌≡◌, ℕ, Bool, true, false, cond, List, map, refl, sym, ap, subst, ◌∙◌}
-use Rattle.std.specs.Prelude.{None, Option, Some, Result, Ok, Err}
+use Rattle.std.specs.Prelude.{None, Option, Some, Result, Ok, Err, IfErr, OnOk}
 use Rattle.std.specs.Option.{option_map}
 use Rattle.std.proofs.lemmas.List.{append-nil}
 use Rattle.fb_types.specs.Blocks.{Bound, Emission, Event, ports_of}
@@ -8,9 +8,9 @@ use Rattle.fb_types.specs.EventBlocks as blocks
 use Rattle.fb_types.specs.Flat.{kind_of}
 use Rattle.fb_types.specs.Headline.{Inputs, system_of}
 use Rattle.fb_types.specs.Names.{Path, Port}
-use Rattle.fb_types.specs.Numbers.{carried_of, emission_of, event_input, event_output, path_at, port_of, ports_at}
+use Rattle.fb_types.specs.Numbers.{carried_of, emission_of, event_input, event_output, line_of, path_at, port_of, ports_at}
 use Rattle.fb_types.specs.Reactions.{Outcome, Reacts, ReactsAt, World, emissions, emitted_all, expires, hold_all, remembered, silent, with_slots}
-use Rattle.fb_types.specs.States.{Line, Stimulated, path_of}
+use Rattle.fb_types.specs.States.{Stimulated, path_of}
 use Rattle.fb_types.specs.States as model
 use Rattle.fb_types.specs.Systems.{System}
 use Rattle.fb_types.specs.declared.event_kind.EventKind.{EventKind}
@@ -28,7 +28,7 @@ use Rattle.fb_types.specs.declared.value.Reason.{Reason}
 use Rattle.fb_types.specs.declared.value.Value.{Value}
 use Rattle.fb_types.specs.declared.run.Event.{Event as Waiting}
 use Rattle.fb_types.specs.declared.run.Event.TheVariants as waits
-use Rattle.fb_net.specs.Outs.{Stands, out_of}
+use Rattle.fb_net.specs.Outs.{Gathered, Stands, asked, gathered, out_of}
 use Rattle.fb_net.specs.declared.outbox.Outbox.{Outbox}
 use Rattle.fb_net.specs.Leaves.{EventCame, expiry_reaction}
 use Rattle.fb_net.specs.Samples.{HoldsAll, slots_set}
@@ -39,7 +39,7 @@ use Rattle.fb_tree.specs.Worlds.{InForest, IsForest}
 use Rattle.fb_tree.specs.declared.resource.Forest.{Forest}
 use Rattle.fb_laws.specs.Typed.{AreTyped, IsTypedEvent}
 use Rattle.fb_laws.proofs.Kept.{held_typed, slots_typed}
-use Rattle.fb_net.specs.Arrivals.{Arrives, ComesTo, HasReacted, IsReady, ReactedIn, StandTyped, expiring, lines_in}
+use Rattle.fb_net.specs.Arrivals.{Arrives, ComesTo, HasReacted, ReactedIn, StandTyped, expiring}
 use Rattle.fb_net.specs.Events.{Came, HasTaken, event_of, stimulated}
 use Rattle.fb_net.specs.Steps.{AreKept}
 use Rattle.fb_net.proofs.Crossing.{answered-left, answered-stop}
@@ -152,35 +152,35 @@ module _ (i : Inputs) (k : Key) (row : ℕ) (s : StimulusAt) (is : IsStimulusAt 
 -- ---- Timers
 
 -- nothing was put out yet
-silent-stands : (i : Inputs) (k : Key) (f : Forest) (x : Outbox) → IsReady i k f x → (w : World) (left : ℕ) → IsForest i f w
-    → Stands i (lines_in i x) f x (silent w left)
-silent-stands i k f x ready w left h = record {
+silent-stands : (i : Inputs) (f : Forest) (x : Outbox) (w : World) (left : ℕ) → IsForest i f w
+    → Stands i (gathered i x) f x (silent w left)
+silent-stands i f x w left h = record {
   world = h;
-  lines = sym (append-nil (lines_in i x));
-  outs = ap (map (out_of (system_of i))) ready.none;
-  timer = ready.keeps;
+  lines = sym (append-nil (map (line_of (system_of i)) x.lines.items));
+  outs = sym (append-nil (map (out_of (system_of i)) x.outs.items));
+  timer = refl;
 }
 
 -- An event block has reacted to its timer, and what it emits was put out.
 pub timer-expires : (i : Inputs) (k : Key) (kind : EventKind) (at : ℕ) (old late new : Forest) (x y : Outbox) (ask : TimerAsk) (emits : List run.Emission)
-    → (system_of i).kind (path_at (system_of i) at) ≡ Some (Event kind) → IsReady i k old x → InForest i old at
+    → (system_of i).kind (path_at (system_of i) at) ≡ Some (Event kind) → InForest i old at
     → ((w : World) → IsForest i old w → InForest i old at → EventCame i at kind (expiry_reaction i kind at k.tick w) late ask emits w)
-    → ((before : List Line) (o : Outcome) → Stands i before late (record x { timer = ask }) o → Stands i before new y
+    → ((before : Gathered) (o : Outcome) → Stands i before late (record x { timer = asked x.timer ask }) o → Stands i before new y
     (emitted_all (system_of i) k (path_at (system_of i) at) (map (emission_of (ports_at (system_of i) (path_at (system_of i) at))) emits) o))
     → ComesTo i (expiring i k kind at) old x new y
-timer-expires i k kind at old late new x y ask emits is ready here comes put_out w left h =
+timer-expires i k kind at old late new x y ask emits is here comes put_out w left h =
     let sys = system_of i in
     let p : Path = path_at sys at in
     let its : Ports = ports_of (Event kind) in
     let r : blocks.Reaction = expiry_reaction i kind at k.tick w in
-    let s = silent-stands i k old x ready w left h in
+    let s = silent-stands i old x w left h in
     let came = comes w h here in
-    let settled : Stands i (lines_in i x) late (record x { timer = ask }) (remembered p r (silent w left)) =
-    record { world = came.stands; lines = s.lines; outs = s.outs; timer = came.timer } in
+    let settled : Stands i (gathered i x) late (record x { timer = asked x.timer ask }) (remembered p r (silent w left)) =
+    record { world = came.stands; lines = s.lines; outs = s.outs; timer = ap (asked x.timer) came.timer } in
     let same : map (emission_of (ports_at sys p)) emits ≡ emissions its (blocks.output_of r.memory) r.emits =
     ap (λ (z : Ports). map (emission_of z) emits) (ports-of_kind sys p (Event kind) is) ∙ came.emitted in
-    subst (λ (es : List Emission). Stands i (lines_in i x) new y (emitted_all sys k p es (remembered p r (silent w left)))) same
-    (put_out (lines_in i x) (remembered p r (silent w left)) settled)
+    subst (λ (es : List Emission). Stands i (gathered i x) new y (emitted_all sys k p es (remembered p r (silent w left)))) same
+    (put_out (gathered i x) (remembered p r (silent w left)) settled)
 
 -- The timer of an event block was taken.
 pub timer-taken : (i : Inputs) (k : Key) (kind : EventKind) (at : ℕ) (old new : Forest) (x y : Outbox)
@@ -198,6 +198,13 @@ timer-taken i k kind at old new x y is stands left w h =
       stands = stands w left h;
     }
 
+-- However it has ended, the timer was taken.
+pub timer-ended : (i : Inputs) (k : Key) (at : ℕ) (old new : Forest) (x y : Outbox) (left : ℕ) (r : Result (Unit {0}) Halt)
+    → IfErr r (λ h. h ≡ halt.Memory) → OnOk r ((left : ℕ) → Came i k (waits.Timer at) old x left None new left y) → HasTaken i k (waits.Timer at) old x left r new left y
+timer-ended i k at old new x y left (Ok u) memory came = came left
+timer-ended i k at old new x y left (Err (halt.Stop s)) memory came = absurd cc
+timer-ended i k at old new x y left (Err halt.Memory) memory came = tt
+
 -- .. and so was that of any other instance: nothing happens.
 rests : (i : Inputs) (k : Key) (p : Path) (w : World) (left : ℕ) (declared : Option BlockType) → expires (system_of i) k w p left (option_map kind_of declared) ≡ silent w left
 rests i k p w left None = refl
@@ -205,8 +212,8 @@ rests i k p w left (Some (block.Basic t)) = refl
 rests i k p w left (Some (block.Composite t)) = refl
 
 pub timer-rests : (i : Inputs) (k : Key) (at : ℕ) (declared : Option BlockType) (f : Forest) (x : Outbox)
-    → option_map kind_of declared ≡ (system_of i).kind (path_at (system_of i) at) → IsReady i k f x → (left : ℕ) → Came i k (waits.Timer at) f x left None f left x
-timer-rests i k at declared f x is ready left w h =
+    → option_map kind_of declared ≡ (system_of i).kind (path_at (system_of i) at) → (left : ℕ) → Came i k (waits.Timer at) f x left None f left x
+timer-rests i k at declared f x is left w h =
     let sys = system_of i in
     let p : Path = path_at sys at in
     record {
@@ -214,5 +221,5 @@ timer-rests i k at declared f x is ready left w h =
       reacts = sym (rests i k p w left declared) ∙ ap (expires sys k w p left) is;
       stops = refl;
       leaves = refl;
-      stands = silent-stands i k f x ready w left h;
+      stands = silent-stands i f x w left h;
     }

@@ -22,13 +22,13 @@ use Rattle.fb_types.specs.declared.run.Target.{Target}
 use Rattle.fb_types.specs.declared.value.Reason.{Reason}
 use Rattle.fb_types.specs.declared.value.Value.{Value}
 use Rattle.fb_types.proofs.PathLaws.{same_path_itself}
-use Rattle.fb_net.specs.Outs.{Stands}
+use Rattle.fb_net.specs.Outs.{gathered, Stands}
 use Rattle.fb_net.specs.declared.outbox.Outbox.{Outbox}
 use Rattle.fb_net.specs.Leaves.{ChartCame, ChartEnded, EachWorld, chart_start, charted_block}
 use Rattle.fb_net.specs.Samples.{AreSampled}
 use Rattle.fb_tree.specs.Worlds.{InForest, IsForest}
 use Rattle.fb_tree.specs.declared.resource.Forest.{Forest}
-use Rattle.fb_net.specs.Arrivals.{Arrives, HasReacted, IsReady, IsBegun, ReactedIn, Tells, lines_in}
+use Rattle.fb_net.specs.Arrivals.{Arrives, HasReacted, IsReady, IsBegun, ReactedIn, Tells}
 use Rattle.fb_net.proofs.Sampling.{line-sampled, port-here, port_named, ports-of_kind, taken_line, variables-sampled}
 
 -- ---- Emissions
@@ -123,7 +123,7 @@ module _ (i : Inputs) (k : Key) (at : Target) (t : BasicType) (is : (system_of i
             (subst (λ (z : Option Kind). ReactsAt sys k w q before z out) (sym is) reacts);
         stops = emitted_all-stop sys k p c.place.emitted o;
         leaves = emitted_all-left sys k p c.place.emitted o ∙ sym c.left;
-        stands = subst (λ (es : List Emission). Stands i (lines_in i x) new y (emitted_all sys k p es o)) same (told o first);
+        stands = subst (λ (es : List Emission). Stands i (gathered i x) new y (emitted_all sys k p es o)) same (told o first);
       }
 
   -- however the reaction ended

@@ -1,6 +1,6 @@
 -- What arrives at an instance is taken as its kind says.
 use Rattle.std.proofs.Common.{◌≡◌, ◌<◌, inl, inr, ⊎_elim, ℕ, Bool, true, false, cond, List, [], ◌∷◌, ◌++◌, length, Contains, refl, sym, ap, subst, ◌∙◌}
-use Rattle.std.specs.Prelude.{None, Option, Some, slice_get}
+use Rattle.std.specs.Prelude.{None, Option, Some, Result, Ok, Err, IfErr, OnOk, slice_get}
 use Rattle.std.proofs.lemmas.Bool.{false_from_ne_true}
 use Rattle.std.proofs.lemmas.List.{length-map}
 use Rattle.std.proofs.lemmas.List.Elements.{Contains-append_right, Contains-get_or}
@@ -20,6 +20,8 @@ use Rattle.fb_types.specs.declared.library.BlockType.TheVariants as block
 use Rattle.fb_types.specs.declared.library.CompositeType.{CompositeType}
 use Rattle.fb_types.specs.declared.library.EventPort.{EventPort}
 use Rattle.fb_types.specs.declared.library.Ports.{Ports}
+use Rattle.fb_types.specs.declared.run.Halt.{Halt}
+use Rattle.fb_types.specs.declared.run.Halt.TheVariants as halt
 use Rattle.fb_types.specs.declared.run.Target.{Target}
 use Rattle.fb_net.specs.declared.outbox.Outbox.{Outbox}
 use Rattle.fb_types.proofs.NameLaws.{any_from_contains, contains_from_any}
@@ -28,7 +30,8 @@ use Rattle.fb_types.proofs.Elements.{Contains-cons_cases, Contains-nil}
 use Rattle.fb_names.proofs.NameTwice.{block_twice}
 use Rattle.fb_system.specs.Ports.{IsPort}
 use Rattle.fb_tree.specs.declared.resource.Forest.{Forest}
-use Rattle.fb_net.specs.Arrivals.{Arrives, ComesTo, ReactedIn, entering, leaving, reacting}
+use Rattle.fb_net.specs.Arrivals.{Arrives, ComesTo, HasReacted, ReactedIn, entering, leaving, reacting}
+use Rattle.fb_net.specs.Events.{Remembered}
 use Rattle.fb_net.proofs.Charting.{emitted_all-left, emitted_all-stop}
 use Rattle.fb_net.proofs.Sampling.{input_port, output_port, ports-of_kind}
 
@@ -45,6 +48,18 @@ done-reacted i step Comes old new x y left comes stops leaves stands w h = recor
   leaves = leaves w;
   stands = stands w left h;
 }
+
+-- However a reaction ended that nothing stops, it has come to what it says.
+pub reacted-ended : (i : Inputs) (Comes : World → Outcome → Type 0) (old new : Forest) (x y : Outbox) (left : ℕ) (r : Result (Unit {0}) Halt)
+    → IfErr r (λ h. h ≡ halt.Memory) → OnOk r (ReactedIn i Comes old x None new left y) → HasReacted i Comes old x r new left y
+reacted-ended i Comes old new x y left (Ok u) memory done = done
+reacted-ended i Comes old new x y left (Err (halt.Stop s)) memory done = absurd cc
+reacted-ended i Comes old new x y left (Err halt.Memory) memory done = tt
+
+pub remembered-ended : (Holds : Type 0) (r : Result (Unit {0}) Halt) → IfErr r (λ h. h ≡ halt.Memory) → OnOk r Holds → Remembered r Holds
+remembered-ended Holds (Ok u) memory holds = holds
+remembered-ended Holds (Err (halt.Stop s)) memory holds = absurd cc
+remembered-ended Holds (Err halt.Memory) memory holds = tt
 
 -- ---- Event blocks
 

@@ -1,7 +1,7 @@
 -- What the emission of output events makes of a world, of the lines and of what goes out.
-use Rattle.std.proofs.Common.{◌≡◌, ℕ, ◌<◌, false, List, [], ◌∷◌, ◌++◌, map, take, length, get_or, ◌+◌, refl, sym, ap, subst, ◌∙◌, suc, append_assoc, arith}
+use Rattle.std.proofs.Common.{◌≡◌, ℕ, ◌<◌, false, List, [], ◌∷◌, ◌++◌, map, length, refl, sym, ap, subst, ◌∙◌, suc, append_assoc, arith}
 use Rattle.std.specs.Prelude.{All}
-use Rattle.std.proofs.lemmas.List.{get_or-map, length-map, map-append, take_more}
+use Rattle.std.proofs.lemmas.List.{map-append}
 use Rattle.std.proofs.lemmas.List.Elements.{All-append, All-push}
 use Rattle.fb_system.specs.Stands.{ArePlaces, variable_at}
 use Rattle.fb_types.specs.Blocks.{Bound, Emission, outputs_with}
@@ -23,7 +23,7 @@ use Rattle.fb_tree.specs.Changes.{Changes}
 use Rattle.fb_tree.specs.Worlds.{IsForest}
 use Rattle.fb_tree.specs.declared.resource.Forest.{Forest}
 use Rattle.fb_net.specs.Emitting.{HasEmitted, carried_by, outputs_at, outputs_shown}
-use Rattle.fb_net.specs.Outs.{AreOuts, IsOut, Stands, out_of}
+use Rattle.fb_net.specs.Outs.{AreOuts, Gathered, IsOut, Stands, out_of}
 use Rattle.fb_net.specs.declared.outbox.Outbox.{Outbox}
 
 -- ---- What messages carry
@@ -78,15 +78,6 @@ one_more_emitted i key k f g h x y z es e first then =
       resource = then.resource ∙ first.resource;
     }
 
--- the emissions of one event more
-pub one_event_more :
-    (f : ℕ → run.Emission) (events : List ℕ) (n : ℕ) → n < length events → map f (take (n + 1) events) ≡ map f (take n events) ++ f (get_or events n 0) ∷ []
-one_event_more f events n lt = ap (map f) (take_more events n 0 lt) ∙ map-append f (take n events) (get_or events n 0 ∷ [])
-
--- what holds of the emissions of all events holds of that of one
-pub of_event : (P : run.Emission → Type 0) (f : ℕ → run.Emission) (events : List ℕ) (n : ℕ) → n < length events → All P (map f events) → P (f (get_or events n 0))
-of_event P f events n lt all = subst P (get_or-map f events n 0 (f 0) lt) (all n (f 0) (subst (λ m. n < m) (sym (length-map events f)) lt))
-
 -- ---- One emission
 
 -- the line of an emission
@@ -140,7 +131,7 @@ module _ (i : Inputs) (key : Key) (k : ℕ) (f : Forest) (x : Outbox) (e : run.E
       subst (λ (bs : List Bound). IsForest i g (with_block p (outputs_shown bs (w.blocks p)) w)) (same_values sys k e done.places done.stand)
       (done.published.stands w forest here)
 
-  stands : sys.resource p ≡ f.resource → key.resource ≡ f.resource → (before : List model.Line) (o : Outcome) → Stands i before f x o
+  stands : sys.resource p ≡ f.resource → key.resource ≡ f.resource → (before : Gathered) (o : Outcome) → Stands i before f x o
       → Stands i before g y (emitted sys key p said o)
   stands here resource before o h = record {
     world = shows o.world h.world here;
@@ -148,8 +139,9 @@ module _ (i : Inputs) (key : Key) (k : ℕ) (f : Forest) (x : Outbox) (e : run.E
         ap (λ (ls : List Line). map (line_of sys) ls) done.lines
         ∙ map-append (line_of sys) x.lines.items (line_by key k e ∷ [])
         ∙ ap (λ (ls : List model.Line). ls ++ line_of sys (line_by key k e) ∷ []) h.lines
-        ∙ append_assoc before o.lines (line_of sys (line_by key k e) ∷ []);
-    outs = goes resource ∙ ap (λ (os : List reactions.Out). os ++ spread sys key.resource (carried_from p said.values) (sys.targets (record { at = p; name = said.event }))) h.outs;
+        ∙ append_assoc before.lines o.lines (line_of sys (line_by key k e) ∷ []);
+    outs = goes resource ∙ ap (λ (os : List reactions.Out). os ++ spread sys key.resource (carried_from p said.values) (sys.targets (record { at = p; name = said.event }))) h.outs
+        ∙ append_assoc before.outs o.outs (spread sys key.resource (carried_from p said.values) (sys.targets (record { at = p; name = said.event })));
     timer = done.timer ∙ h.timer;
   }
 

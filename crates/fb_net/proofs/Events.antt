@@ -1,6 +1,7 @@
 -- How the reactions of an event block stand among the blocks of its resource.
-use Rattle.std.proofs.Common.{◌≡◌, ◌<◌, ℕ, List, length, map, Option, Some, refl, sym, ap, subst, ◌∙◌}
-use Rattle.std.specs.Prelude.{All, slice_get, slice_set}
+use Rattle.std.proofs.Common.{◌≡◌, ◌<◌, ◌++◌, ℕ, List, [], length, map, Option, Some, Result, Ok, Err, refl, sym, ap, subst, ◌∙◌, arith}
+use Rattle.std.specs.Prelude.{All, OnOk, slice_get, slice_set}
+use Rattle.std.proofs.lemmas.Result.{on_ok_weaker}
 use Rattle.fb_types.specs.Names.{Name, Path}
 use Rattle.fb_types.specs.Blocks.{Kind, Event, ports_of_event_block, variable_names}
 use Rattle.fb_types.specs.EventBlocks.{Memory, Reaction, reaction, expiry}
@@ -11,12 +12,11 @@ use Rattle.fb_types.specs.States as model
 use Rattle.fb_types.specs.Systems.{System}
 use Rattle.fb_types.specs.declared.event_kind.EventKind.{EventKind}
 use Rattle.fb_types.specs.declared.run.Emission as run
+use Rattle.fb_types.specs.declared.run.Halt.{Halt}
 use Rattle.fb_types.specs.declared.run.TimerAsk.{TimerAsk}
 use Rattle.fb_types.specs.declared.value.Value.{Value}
 use Rattle.fb_event.specs.Reactions.{FitTheirTypes, IsWellFormed, emissions_of, expiry_of, meanings, reaction_to}
-use Rattle.fb_event.specs.Emissions.{emitted_by}
 use Rattle.fb_event.specs.State.{State}
-use Rattle.fb_event.specs.declared.step.Step.{Step}
 use Rattle.fb_tree.specs.Changes.{Changes, block_in, remembered, with_instance}
 use Rattle.fb_tree.specs.Worlds.{EventStands, Found, InForest, IsForest, NodeStands, ShellStands, StandsFor, input_names, seat_in, with_seated}
 use Rattle.fb_tree.specs.declared.block.EventBlock.{EventBlock}
@@ -26,7 +26,7 @@ use Rattle.fb_tree.specs.declared.resource.Forest.{Forest}
 use Rattle.fb_tree.proofs.Reading.{found_at}
 use Rattle.fb_tree.proofs.Writing.{AreNumbered, seated_forest}
 use Rattle.fb_system.specs.Lines.{IsEmission}
-use Rattle.fb_net.specs.Leaves.{Changed, EventCame, HasExpired, HasTypedInputs, IsOne, expiry_reaction}
+use Rattle.fb_net.specs.Leaves.{Changed, EventCame, HasAnswered, HasExpired, HasTypedInputs, IsOne, expiry_reaction}
 use Rattle.fb_net.proofs.Leaves.{event_is, reads_inputs, values_by_name}
 
 -- the block of an event block has its ports
@@ -142,10 +142,31 @@ fit i k w found d x kind es of_kind is event here well_formed =
     let stood = stood_there i k w found d x kind of_kind is event here in
     subst (λ (j : EventKind). All (IsEmission (ports_of_event_block j)) es) stood.0.is_kind (all_fit x.state.kind es well_formed)
 
+-- ---- What the program's calls promise
+
+-- no emission is ill-formed
+none_emitted : (P : run.Emission → Type 0) → All P []
+none_emitted P n d lt = absurd (omega arith)
+
+-- where nothing was emitted before, all emissions are well-formed
+pub all_new : (k : EventKind) (old new : List run.Emission) → old ≡ [] → (All (IsWellFormed k) old → All (IsWellFormed k) new) → All (IsWellFormed k) new
+all_new k old new fresh kept = kept (subst (λ (es : List run.Emission). All (IsWellFormed k) es) (sym fresh) (none_emitted (IsWellFormed k)))
+
+-- .. and they are the reaction's
+pub has_answered : (r : Result (Unit {0}) Halt) (k : EventKind) (x : Reaction) (s : State) (ask : TimerAsk) (old new : List run.Emission) → old ≡ []
+    → OnOk r (s.memory ≡ x.memory) → OnOk r (ask ≡ x.timer) → OnOk r (meanings k new ≡ meanings k old ++ emissions_of k x) → OnOk r (HasAnswered k x s ask new)
+has_answered (Ok u) k x s ask old new fresh memory timer emitted = record {
+  memory = memory;
+  timer = timer;
+  sent = emitted ∙ ap (λ (es : List run.Emission). meanings k es ++ emissions_of k x) fresh;
+}
+has_answered (Err h) k x s ask old new fresh memory timer emitted = tt
+
 -- ---- The timer goes off where the block stands
 
 module _ (i : Inputs) (numbered : AreNumbered i) (old : Forest) (k : ℕ) (number : k < length (system_of i).paths) (kind : EventKind) (of_kind : (system_of i).kind (path_at (system_of i) k) ≡ Some (Event kind))
-    (seat : ℕ) (is_seat : seat ≡ seat_in old.seats k) (tick : ℕ) (step : Step) (bs : List Block) (changed : Changed (HasExpired tick) old.blocks seat step bs) where
+    (seat : ℕ) (is_seat : seat ≡ seat_in old.seats k) (tick : ℕ) (ask : TimerAsk) (emits : List run.Emission) (r : Result (Unit {0}) Halt) (bs : List Block)
+    (changed : Changed (HasExpired tick ask emits) old.blocks seat r bs) where
   found : slice_get old.blocks (seat_in old.seats k) ≡ Some changed.before
   found = ap (slice_get old.blocks) (sym is_seat) ∙ changed.stood
 
@@ -155,19 +176,20 @@ module _ (i : Inputs) (numbered : AreNumbered i) (old : Forest) (k : ℕ) (numbe
       (sym (changed.stands ∙ ap (λ (s : ℕ). slice_set old.blocks s changed.after) is_seat ∙ ap (slice_set old.blocks (seat_in old.seats k)) changed.ends.is_event))
       (remembers i numbered old k number changed.before changed.ends.event kind of_kind found changed.ends.was_event changed.ends.state changed.ends.kind)
 
-  pub expired_fit : IsOne i old k → All (IsEmission (ports_of_event_block kind)) (emitted_by step)
+  pub expired_fit : IsOne i old k → All (IsEmission (ports_of_event_block kind)) emits
   expired_fit (w, forest, lies) =
-      fit i k w (slice_get old.blocks (seat_in old.seats k)) changed.before changed.ends.event kind (emitted_by step) of_kind found changed.ends.was_event
+      fit i k w (slice_get old.blocks (seat_in old.seats k)) changed.before changed.ends.event kind emits of_kind found changed.ends.was_event
       (found_at i old k number (slice_get old.blocks (seat_in old.seats k)) refl w forest lies) changed.ends.well_formed
 
   pub expired_whole : IsOne i old k → (v : World) × IsForest i (record old { blocks = bs }) v
   expired_whole (w, forest, lies) = whole i old (record old { blocks = bs }) k changed.ends.state expired_changes w forest lies
 
-  pub expired_came : (w : World) → IsForest i old w → InForest i old k
-      → EventCame i k kind (expiry_reaction i kind k tick w) (record old { blocks = bs }) step.ask (emitted_by step) w
+  pub expired_came : OnOk r ((w : World) → IsForest i old w → InForest i old k
+      → EventCame i k kind (expiry_reaction i kind k tick w) (record old { blocks = bs }) ask emits w)
   expired_came =
-      came i old (record old { blocks = bs }) k kind (slice_get old.blocks (seat_in old.seats k)) changed.before changed.ends.event changed.ends.event.state changed.ends.state
-      (expiry_of changed.ends.event.state tick) (expiry_reaction i kind k tick) step.ask (emitted_by step) of_kind found changed.ends.was_event refl
+      on_ok_weaker r
+      (λ answered. came i old (record old { blocks = bs }) k kind (slice_get old.blocks (seat_in old.seats k)) changed.before changed.ends.event changed.ends.event.state changed.ends.state
+      (expiry_of changed.ends.event.state tick) (expiry_reaction i kind k tick) ask emits of_kind found changed.ends.was_event refl
       (λ w forest lies. found_at i old k number (slice_get old.blocks (seat_in old.seats k)) refl w forest lies) expired_changes
       (λ w stood. expired_agrees (system_of i) (path_at (system_of i) k) kind changed.ends.event (block_in i w k) tick stood)
-      changed.ends.memory changed.ends.timer changed.ends.sent
+      answered.memory answered.timer answered.sent) changed.ends.answered

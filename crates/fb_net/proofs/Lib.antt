@@ -1,4 +1,5 @@
 pub mod Arriving
+pub mod Asked
 pub mod Charting
 pub mod Crossing
 pub mod Sampling
@@ -13,4 +14,5 @@ pub mod Going
 pub mod Publishing
 pub mod Basics
 pub mod Events
+pub mod Keys
 pub mod Leaves

@@ -3,6 +3,7 @@ use Rattle.std.proofs.Common.{◌≡◌, ℕ, Bool, true, false, cond, List, [],
 use Rattle.std.specs.Prelude.{◌||◌, Option, None, Some}
 use Rattle.std.proofs.Math.Path.{fun_ext}
 use Rattle.std.proofs.lemmas.Bool.{or_left, or_right}
+use Rattle.std.proofs.lemmas.List.{append-nil}
 use Rattle.fb_types.specs.Blocks.{Kind, among, Bound, bound, inputs_with, ports, ports_of}
 use Rattle.fb_types.specs.Headline.{Inputs, system_of}
 use Rattle.fb_types.specs.Names.{Name, Path, Port, same_name, with_value}
@@ -20,7 +21,7 @@ use Rattle.fb_types.specs.declared.value.Value.{Value}
 use Rattle.fb_types.proofs.NameLaws.{same_from_same_name, same_name-itself}
 use Rattle.fb_system.specs.Ports.{data_input}
 use Rattle.fb_system.specs.Stands.{ArePlaces}
-use Rattle.fb_net.specs.Outs.{Stands, out_of}
+use Rattle.fb_net.specs.Outs.{Stands, gathered, out_of}
 use Rattle.fb_net.specs.declared.outbox.Outbox.{Outbox}
 use Rattle.fb_net.specs.Samples.{AreSampled, all_sampled, names_in}
 use Rattle.fb_tree.specs.Changes.{Changes}
@@ -155,14 +156,14 @@ sampling-stands i k at old new x y values ready input here are changes written o
     let p : Path = path_at sys at.instance in
     let its : Ports = ports_at sys p in
     let told = line-sampled i k at its refl input old ready.resource here values are w h left in
-    subst (λ (o : Outcome). Stands i (map (line_of sys) x.lines.items) new y o)
+    subst (λ (o : Outcome). Stands i (gathered i x) new y o)
     (sym (sampling-here i k at its refl input old ready.resource here values are w left))
     (record {
       world = subst (λ (v : Values). IsForest i new (with_block p (record (w.blocks p) { variables = v }) w))
           (variables-sampled i k at its refl input old ready.resource here values are w h) (changes.stands w h here);
       lines = written ∙ ap (λ (l : List Line). map (line_of sys) x.lines.items ++ l) told;
-      outs = ap (map (out_of sys)) (outs ∙ ready.none);
-      timer = timer ∙ ready.keeps;
+      outs = ap (map (out_of sys)) outs ∙ sym (append-nil (map (out_of sys) x.outs.items));
+      timer = timer;
     })
 
 -- no variables WITH the event: nothing is sampled

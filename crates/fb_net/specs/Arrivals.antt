@@ -1,9 +1,9 @@
 -- What the arrival of an event at a port of an instance comes to (IEC 61499-1, 5.2.2 and 5.3.2; crossings and timers are this project's profile).
-use Rattle.std.specs.Prelude.{◌≡◌, ℕ, List, [], ◌∷◌, map, Option, Some, None, Result, Ok, Err}
+use Rattle.std.specs.Prelude.{◌≡◌, ℕ, List, [], ◌∷◌, Option, Some, None, Result, Ok, Err}
 use Rattle.fb_types.specs.Blocks.{Emission, Event, ports_of}
 use Rattle.fb_types.specs.EventBlocks as blocks
 use Rattle.fb_types.specs.Headline.{Inputs, system_of}
-use Rattle.fb_types.specs.Numbers.{path_at, ports_at, port_of, line_of}
+use Rattle.fb_types.specs.Numbers.{path_at, ports_at, port_of}
 use Rattle.fb_types.specs.Reactions.{World, Outcome, taking, memory_of, answered, emitted_all, crossing_in, crossing_out, expires, ReactsAt}
 use Rattle.fb_types.specs.States.{Line}
 use Rattle.fb_types.specs.declared.event_kind.EventKind.{EventKind}
@@ -13,7 +13,7 @@ use Rattle.fb_types.specs.declared.run.Halt.TheVariants as halt
 use Rattle.fb_types.specs.declared.run.Target.{Target}
 use Rattle.fb_types.specs.declared.run.TimerAsk.TheVariants.{Keep}
 use Rattle.fb_types.specs.declared.value.Reason.{Reason}
-use Rattle.fb_net.specs.Outs.{AreOuts, Stands}
+use Rattle.fb_net.specs.Outs.{AreOuts, Gathered, Stands, gathered}
 use Rattle.fb_net.specs.declared.outbox.Outbox.{Outbox}
 use Rattle.fb_tree.specs.Worlds.{IsForest}
 use Rattle.fb_tree.specs.declared.resource.Forest.{Forest}
@@ -21,12 +21,10 @@ use Rattle.fb_laws.specs.Typed.{AreTyped}
 
 -- ---- Before
 
--- An event of the resource may be taken under the key: nothing goes out yet.
+-- An event of the resource may be taken under the key.
 pub record IsReady (i : Inputs) (k : Key) (f : Forest) (x : Outbox) : Type 0 where
   pub resource : k.resource ≡ f.resource
   pub outs : AreOuts (system_of i) f.resource x
-  pub none : x.outs.items ≡ []
-  pub keeps : x.timer ≡ Keep
 
 -- The blocks stand for a world in which each variable holds a value of its type.
 abbrev pub StandTyped : Inputs → Forest → Type 0
@@ -34,12 +32,9 @@ StandTyped i f = (w : World) × IsForest i f w × AreTyped (system_of i) w
 
 -- ---- What a step comes to
 
-abbrev pub lines_in : Inputs → Outbox → List Line
-lines_in i x = map (line_of (system_of i)) x.lines.items
-
 -- In each world for which the blocks stood, blocks and outbox have come to what the step makes of it, however many steps are left.
 abbrev pub ComesTo : Inputs → (World → ℕ → Outcome) → Forest → Outbox → Forest → Outbox → Type 0
-ComesTo i step old before new x = (w : World) (left : ℕ) → IsForest i old w → Stands i (lines_in i before) new x (step w left)
+ComesTo i step old before new x = (w : World) (left : ℕ) → IsForest i old w → Stands i (gathered i before) new x (step w left)
 
 -- an event input of the instance takes an event: its variables are sampled, and its line is told
 abbrev pub sampling : Inputs → Key → Target → World → ℕ → Outcome
@@ -76,12 +71,12 @@ pub record IsBegun (i : Inputs) (f : Forest) (line : Line) (o : Outcome) : Type 
 -- Line and emissions of a leaf were told, wherever its reaction has begun so.
 abbrev pub Tells : Inputs → Key → (instance : ℕ) → Line → List Emission → Forest → Outbox → Forest → Outbox → Type 0
 Tells i k at line emits old before new x =
-    (o : Outcome) → IsBegun i old line o → Stands i (lines_in i before) new x (emitted_all (system_of i) k (path_at (system_of i) at) emits o)
+    (o : Outcome) → IsBegun i old line o → Stands i (gathered i before) new x (emitted_all (system_of i) k (path_at (system_of i) at) emits o)
 
 -- ---- What a reaction comes to
 
 -- A reaction of the model from one world, for whose outcome blocks and outbox stand.
-pub record Reacted (i : Inputs) (Comes : Outcome → Type 0) (before : List Line) (stop : Option Reason) (new : Forest) (after : ℕ) (x : Outbox) : Type 0 where
+pub record Reacted (i : Inputs) (Comes : Outcome → Type 0) (before : Gathered) (stop : Option Reason) (new : Forest) (after : ℕ) (x : Outbox) : Type 0 where
   pub outcome : Outcome
   pub reacts : Comes outcome
   pub stops : outcome.stop ≡ stop
@@ -91,7 +86,7 @@ pub record Reacted (i : Inputs) (Comes : Outcome → Type 0) (before : List Line
 -- .. in each world for which the blocks stood
 abbrev pub ReactedIn : Inputs → (World → Outcome → Type 0) → Forest → Outbox → Option Reason → Forest → (after : ℕ) → Outbox → Type 0
 ReactedIn i Comes old before stop new after x =
-    (w : World) → IsForest i old w → Reacted i (Comes w) (lines_in i before) stop new after x
+    (w : World) → IsForest i old w → Reacted i (Comes w) (gathered i before) stop new after x
 
 -- How a reaction ended. After want of memory nothing is said.
 abbrev pub HasReacted : Inputs → (World → Outcome → Type 0) → Forest → Outbox → Result (Unit {0}) Halt → Forest → (after : ℕ) → Outbox → Type 0

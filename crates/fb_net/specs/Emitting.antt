@@ -15,7 +15,7 @@ use Rattle.fb_types.specs.declared.run.Carried.{Carried}
 use Rattle.fb_types.specs.declared.run.Emission as run
 use Rattle.fb_types.specs.declared.value.Value.{Value}
 use Rattle.fb_tree.specs.declared.resource.Forest.{Forest}
-use Rattle.fb_net.specs.Outs.{AreOuts, IsOut, Stands, out_of}
+use Rattle.fb_net.specs.Outs.{AreOuts, Gathered, IsOut, Stands, out_of}
 use Rattle.fb_net.specs.declared.outbox.Out.{Out}
 use Rattle.fb_net.specs.declared.outbox.Outbox.{Outbox}
 
@@ -37,10 +37,6 @@ abbrev pub others : List Port → List Port
 others [] = []
 others (q ∷ qs) = qs
 
--- the emission of an event output without values
-abbrev pub bare : (event : ℕ) → run.Emission
-bare event = record { event = event; values = [] }
-
 -- values, each with the data output at its place
 abbrev pub outputs_at : System → (instance : ℕ) → (places : List ℕ) → List Value → List Bound
 outputs_at sys k places values = pair_up (map (variable_at (ports_at sys (path_at sys k)).outputs) places) values
@@ -56,7 +52,7 @@ carried_by k places values = map (λ x. record { instance = k; variable = x.0; v
 -- The blocks and what was put out stand for what the emissions of an instance make of what they stood for.
 abbrev pub EmitsSo : Inputs → Key → (instance : ℕ) → Forest → Outbox → List run.Emission → Forest → Outbox → Type 0
 EmitsSo i key k f x es g y =
-    (before : List model.Line) (o : Outcome) → Stands i before f x o →
+    (before : Gathered) (o : Outcome) → Stands i before f x o →
     Stands i before g y (emitted_all (system_of i) key (path_at (system_of i) k) (map (emission_of (ports_at (system_of i) (path_at (system_of i) k))) es) o)
 
 -- An instance has emitted so.

@@ -1,18 +1,21 @@
 -- Events by number, and what the taking of one comes to in its resource (IEC 61499-1, 5.2.2 and 5.3.2; keys, links and the count of steps are this project's profile).
-use Rattle.std.specs.Prelude.{◌≡◌, ◌<◌, ℕ, List, [], map, length, All, Option, Some, None, Result, Ok, Err, slice_get}
+use Rattle.std.specs.Prelude.{◌≡◌, ◌<◌, ℕ, [], map, length, All, Option, Some, None, Result, Ok, Err, slice_get}
 use Rattle.fb_types.specs.Headline.{Inputs, system_of, stimuli_of}
 use Rattle.fb_types.specs.Numbers.{path_at, port_of, carried_of, line_of}
 use Rattle.fb_types.specs.Reactions.{World, Outcome, Reacts}
 use Rattle.fb_types.specs.Simulation.{Stimulus}
-use Rattle.fb_types.specs.States.{Stimulated, Expired, Arrived, Raised, Line, path_of}
+use Rattle.fb_types.specs.States.{Stimulated, Expired, Arrived, Raised, path_of}
 use Rattle.fb_types.specs.States as model
+use Rattle.fb_types.specs.Keys.{local_key, message_key, stimulus_key, timer_key}
 use Rattle.fb_types.specs.declared.key.Key.{Key}
 use Rattle.fb_types.specs.declared.run.Halt.{Halt}
 use Rattle.fb_types.specs.declared.run.Halt.TheVariants as halt
 use Rattle.fb_types.specs.declared.value.Reason.{Reason}
 use Rattle.fb_types.specs.declared.run.Event.{Event}
 use Rattle.fb_types.specs.declared.run.Event.TheVariants as waits
-use Rattle.fb_net.specs.Outs.{Stands}
+use Rattle.fb_net.specs.Outs.{Gathered, Stands, gathered, only_lines}
+use Rattle.fb_net.specs.declared.arrival.Arrival.{Arrival}
+use Rattle.fb_net.specs.declared.arrival.Arrival.TheVariants as arrives
 use Rattle.fb_net.specs.declared.outbox.Outbox.{Outbox}
 use Rattle.fb_system.specs.Ports.{IsCarried, IsTarget}
 use Rattle.fb_tree.specs.Worlds.{IsForest}
@@ -43,20 +46,52 @@ pub record IsEventIn (i : Inputs) (resource : ℕ) (e : Event) : Type 0 where
   pub numbered : IsNumbered i e
   pub here : (system_of i).resource (path_of (event_of i e)) ≡ resource
 
+-- the event that arrives
+abbrev pub event_in : Arrival → Event
+event_in (arrives.Stimulus row) = waits.Stimulus row
+event_in (arrives.Timer k) = waits.Timer k
+event_in (arrives.Message m) = waits.Arrival m.now
+event_in (arrives.Local t number) = waits.Local t
+
+-- ---- Keys
+
+-- the key under which an event of a resource arrives
+abbrev pub key_at : (tick resource : ℕ) → Arrival → Key
+key_at tick r (arrives.Stimulus row) = stimulus_key tick r row
+key_at tick r (arrives.Timer k) = timer_key tick r k
+key_at tick r (arrives.Message m) = message_key tick r m.now.link m.now.number
+key_at tick r (arrives.Local t number) = local_key tick r number
+
+-- the key of an event that waits, by its number where it is a local event
+abbrev pub key_by : (tick resource number : ℕ) → Event → Key
+key_by tick r n (waits.Stimulus row) = stimulus_key tick r row
+key_by tick r n (waits.Timer k) = timer_key tick r k
+key_by tick r n (waits.Arrival m) = message_key tick r m.link m.number
+key_by tick r n (waits.Local t) = local_key tick r n
+
+-- The key has the class and the numbers of the event.
+abbrev pub IsKeyOf : Key → Event → Type 0
+IsKeyOf k e = k ≡ key_by k.tick k.resource k.a e
+
 -- ---- The taking
 
 -- An event was taken as the model takes it, from the world on, and the resource goes on, or stops for a reason.
-pub record CameTo (i : Inputs) (k : Key) (e : Event) (before : List Line) (left : ℕ) (stop : Option Reason) (new : Forest) (after : ℕ) (x : Outbox) (w : World) : Type 0 where
+pub record CameTo (i : Inputs) (k : Key) (e : Event) (before : Gathered) (left : ℕ) (stop : Option Reason) (new : Forest) (after : ℕ) (x : Outbox) (w : World) : Type 0 where
   pub outcome : Outcome
   pub reacts : Reacts (system_of i) k w (event_of i e) left outcome
   pub stops : outcome.stop ≡ stop
   pub leaves : outcome.left ≡ after
   pub stands : Stands i before new x outcome
 
--- .. in each world for which the blocks stood, where lines stood before
+-- .. in each world for which the blocks stood, behind what the outbox had before
 abbrev pub Came : Inputs → Key → Event → Forest → Outbox → (left : ℕ) → Option Reason → Forest → (after : ℕ) → Outbox → Type 0
 Came i k e old before left stop new after x =
-    (w : World) → IsForest i old w → CameTo i k e (map (line_of (system_of i)) before.lines.items) left stop new after x w
+    (w : World) → IsForest i old w → CameTo i k e (gathered i before) left stop new after x w
+
+-- .. and behind lines alone, where nothing was to go out and nothing was asked of the timer
+abbrev pub CameAlone : Inputs → Key → Event → Forest → Outbox → (left : ℕ) → Option Reason → Forest → (after : ℕ) → Outbox → Type 0
+CameAlone i k e old before left stop new after x =
+    (w : World) → IsForest i old w → CameTo i k e (only_lines (map (line_of (system_of i)) before.lines.items)) left stop new after x w
 
 -- How a taking ended. After want of memory nothing is said.
 abbrev pub HasTaken : Inputs → Key → Event → Forest → Outbox → (left : ℕ) → Result (Unit {0}) Halt → Forest → (after : ℕ) → Outbox → Type 0

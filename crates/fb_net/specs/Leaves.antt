@@ -1,5 +1,5 @@
 -- How a leaf reacts among the blocks of its resource (IEC 61499-1, 5.2.2; event blocks are this project's profile).
-use Rattle.std.specs.Prelude.{◌≡◌, ℕ, List, [], map, Option, Some, None, Result, Ok, Err, All, slice_get, slice_set}
+use Rattle.std.specs.Prelude.{◌≡◌, ℕ, List, [], map, Option, Some, None, Result, Ok, Err, OnOk, All, slice_get, slice_set}
 use Rattle.fb_types.specs.Blocks.{inputs_with, ports_of_event_block}
 use Rattle.fb_types.specs.Charts.{Place, ChartReacts}
 use Rattle.fb_types.specs.EventBlocks.{Reaction, reaction, expiry, output_of}
@@ -21,9 +21,7 @@ use Rattle.fb_st.specs.Frames.{values_of}
 use Rattle.fb_ecc.specs.Places.{Ended, IsBlockOf, sampled, place as chart_at}
 use Rattle.fb_ecc.specs.declared.state.BasicState.{BasicState}
 use Rattle.fb_event.specs.Reactions.{FitTheirTypes, IsWellFormed, emissions_of, expiry_of, meanings}
-use Rattle.fb_event.specs.Emissions.{emitted_by}
 use Rattle.fb_event.specs.State.{State}
-use Rattle.fb_event.specs.declared.step.Step.{Step}
 use Rattle.fb_tree.specs.Changes.{block_in, with_instance}
 use Rattle.fb_tree.specs.Worlds.{InForest, IsForest, input_names}
 use Rattle.fb_tree.specs.declared.block.BasicBlock.{BasicBlock}
@@ -99,17 +97,21 @@ pub record HasCharted (t : BasicType) (event : ℕ) (values : List Value) (befor
 abbrev pub IsEventAt : List Block → (seat : ℕ) → Type 0
 IsEventAt blocks seat = (x : EventBlock) × (slice_get blocks seat ≡ Some (block.Event x))
 
--- An event block has reacted to its timer by a step, and is otherwise what it was.
-pub record HasExpired (tick : ℕ) (was : Block) (step : Step) (is : Block) : Type 0 where
+-- An event block remembers, asks and emits what a reaction says.
+pub record HasAnswered (kind : EventKind) (x : Reaction) (s : State) (ask : TimerAsk) (emits : List run.Emission) : Type 0 where
+  pub memory : s.memory ≡ x.memory
+  pub timer : ask ≡ x.timer
+  pub sent : meanings kind emits ≡ emissions_of kind x
+
+-- An event block has reacted to its timer, and is otherwise what it was.
+pub record HasExpired (tick : ℕ) (ask : TimerAsk) (emits : List run.Emission) (was : Block) (r : Result (Unit {0}) Halt) (is : Block) : Type 0 where
   pub event : EventBlock
   pub state : State
   pub was_event : was ≡ block.Event event
   pub is_event : is ≡ block.Event (record event { state = state })
-  pub memory : state.memory ≡ (expiry_of event.state tick).memory
-  pub timer : step.ask ≡ (expiry_of event.state tick).timer
-  pub sent : meanings event.state.kind (emitted_by step) ≡ emissions_of event.state.kind (expiry_of event.state tick)
+  pub answered : OnOk r (HasAnswered event.state.kind (expiry_of event.state tick) state ask emits)
   pub kind : state.kind ≡ event.state.kind
-  pub well_formed : All (IsWellFormed event.state.kind) (emitted_by step)
+  pub well_formed : All (IsWellFormed event.state.kind) emits
 
 abbrev pub remembering_block : Reaction → model.Block → model.Block
 remembering_block x b = record b { memory = Remembers x.memory }

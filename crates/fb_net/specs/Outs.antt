@@ -1,5 +1,5 @@
 -- What the taking of an event puts out, by numbers (IEC 61499-1, 5.2.2 and 5.3.2; messages are this project's profile).
-use Rattle.std.specs.Prelude.{◌≡◌, ◌≢◌, ℕ, List, ◌++◌, map, All}
+use Rattle.std.specs.Prelude.{◌≡◌, ◌≢◌, ℕ, List, [], ◌++◌, map, All}
 use Rattle.fb_types.specs.Headline.{Inputs, system_of}
 use Rattle.fb_types.specs.Numbers.{path_at, port_of, carried_of, line_of}
 use Rattle.fb_types.specs.Reactions as reactions
@@ -7,6 +7,8 @@ use Rattle.fb_types.specs.Reactions.{Outcome}
 use Rattle.fb_types.specs.States.{Line}
 use Rattle.fb_types.specs.Systems.{System}
 use Rattle.fb_types.specs.declared.run.Target.{Target}
+use Rattle.fb_types.specs.declared.run.TimerAsk.{TimerAsk}
+use Rattle.fb_types.specs.declared.run.TimerAsk.TheVariants.{Keep, Clear, At}
 use Rattle.fb_system.specs.Lines.{BelongsTo}
 use Rattle.fb_system.specs.Ports.{IsCarried, IsTarget}
 use Rattle.fb_tree.specs.Worlds.{IsForest}
@@ -42,9 +44,30 @@ pub record AreOuts (sys : System) (r : ℕ) (x : Outbox) : Type 0 where
   pub lines : All (BelongsTo sys) x.lines.items
   pub outs : All (IsOut sys r) x.outs.items
 
--- The blocks and what was put out stand for what a reaction comes to, where lines stood before.
-pub record Stands (i : Inputs) (before : List Line) (f : Forest) (x : Outbox) (o : Outcome) : Type 0 where
+-- ---- What an outbox gathers
+
+-- What an outbox has, in the model.
+pub record Gathered : Type 0 where
+  pub lines : List Line
+  pub outs : List reactions.Out
+  pub timer : TimerAsk
+
+abbrev pub gathered : Inputs → Outbox → Gathered
+gathered i x = record { lines = map (line_of (system_of i)) x.lines.items; outs = map (out_of (system_of i)) x.outs.items; timer = x.timer }
+
+-- lines, and nothing else
+abbrev pub only_lines : List Line → Gathered
+only_lines ls = record { lines = ls; outs = []; timer = Keep }
+
+-- what is asked of a timer of which something was asked before
+abbrev pub asked : (before now : TimerAsk) → TimerAsk
+asked before Keep = before
+asked before Clear = Clear
+asked before (At tick) = At tick
+
+-- The blocks stand for what a reaction comes to, and so does what was put out behind what the outbox had before.
+pub record Stands (i : Inputs) (before : Gathered) (f : Forest) (x : Outbox) (o : Outcome) : Type 0 where
   pub world : IsForest i f o.world
-  pub lines : map (line_of (system_of i)) x.lines.items ≡ before ++ o.lines
-  pub outs : map (out_of (system_of i)) x.outs.items ≡ o.outs
-  pub timer : x.timer ≡ o.timer
+  pub lines : map (line_of (system_of i)) x.lines.items ≡ before.lines ++ o.lines
+  pub outs : map (out_of (system_of i)) x.outs.items ≡ before.outs ++ o.outs
+  pub timer : x.timer ≡ asked before.timer o.timer

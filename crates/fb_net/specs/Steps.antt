@@ -29,7 +29,7 @@ ports_in t k = ports_at (system_in t) (path_at (system_in t) k)
 
 -- ---- Before
 
--- An event may be taken: nothing goes out yet.
+-- An event may be taken.
 abbrev pub MayBegin : Taking → Type 0
 MayBegin t = IsReady t.system.now t.key.now t.forest.now t.outbox.now
 

@@ -1,6 +1,6 @@
 //! The arrival of an event at a port of an instance.
 
-ghost use Rattle.std.specs.Prelude.{◌≡◌, ◌≢◌, ◌∷◌, [], ◌≤◌, ◌^◌, All, false, true, length, OnOk, Some};
+ghost use Rattle.std.specs.Prelude.{◌≡◌, ◌≢◌, ◌∷◌, [], ◌≤◌, ◌^◌, All, false, true, length, IfErr, OnOk, Some};
 ghost use Rattle.fb_types.specs.Blocks.{Basic, Event};
 ghost use Rattle.fb_types.specs.Numbers.{path_at};
 ghost use Rattle.fb_types.specs.declared.library.BasicType.{BasicType};
@@ -25,7 +25,7 @@ use fb_names::numbers::TypeNumber;
 use fb_st::meter::Meter;
 use fb_types::event_kind::EventKind;
 use fb_types::library::{BasicType, BlockType};
-use fb_types::run::{Emission, Emits, Halt, Place, Target, Values};
+use fb_types::run::{Emission, Emits, Halt, Place, Target, TimerAsk, Values};
 use std::alloc::AllocError;
 
 impl Taking<'_> {
@@ -101,8 +101,11 @@ impl Taking<'_> {
         write_taken(self.outbox, self.system, self.key, at, values)
     }
 
-    /// An event arrives at an event input of an event block.
-    fn arrive_event(&mut self, kind: EventKind, at: Target) -> Result<(), AllocError>
+    /// An event arrives at an event input of an event block. `emits` is room for what it emits.
+    ///
+    /// # Errors
+    /// When memory runs out, and never a stop.
+    fn arrive_event(&mut self, kind: EventKind, at: Target, emits: &mut Emits) -> Result<(), Halt>
         requires place { MayArrive self.old at }
         requires input { at.is_output ≡ false }
         requires kind { (system_in self.old).kind (path_at (system_in self.old) at.instance) ≡ Some (Event kind) }
@@ -114,11 +117,16 @@ impl Taking<'_> {
         // Also where memory runs out.
         ensures kept { IsKept self.old self.new }
         ensures same { IsSame self.old self.new }
+        ensures only_memory { IfErr result (λ halt. halt ≡ Halt.Memory) }
     {
         self.take_samples(at)?;
-        let step = react_event(self.forest, self.system, kind, at, self.key.tick);
-        self.outbox.timer = step.ask;
-        self.emit_step(at.instance, &step)
+        *emits = Emits::new(emits.allocator());
+        let mut ask = TimerAsk::Keep;
+        let tick = self.key.tick;
+        react_event(self.forest, self.system, kind, at, tick, emits, &mut ask)?;
+        self.outbox.ask_timer(ask);
+        self.emit_all(at.instance, emits)?;
+        Ok(())
     }
 
     /// An event from outside arrives at an event input of a composite, and goes on inside.
@@ -165,13 +173,13 @@ impl Taking<'_> {
         self.emit_at(at.instance, Emission { event, values }, places)
     }
 
-    /// Tells an event that was taken at an event input of a basic block, and what its reaction emits.
-    fn tell(&mut self, at: Target, values: Values, emits: Emits) -> Result<(), AllocError>
+    /// Writes the line of an event that was taken at an event input of a basic block, and emits what its reaction emits.
+    fn tell(&mut self, at: Target, values: Values, emits: &mut Emits) -> Result<(), AllocError>
         requires place { MayArrive self.old at }
         requires input { at.is_output ≡ false }
         requires counted { length values ≡ length (names_in (system_in self.old) at) }
-        requires emissions { All (IsEmission (ports_in self.old at.instance)) emits }
-        ensures told { OnOk result (HasTold self.old at values emits self.new) }
+        requires emissions { All (IsEmission (ports_in self.old at.instance)) emits.old }
+        ensures told { OnOk result (HasTold self.old at values emits.old self.new) }
         ensures outs { OnOk result (ArePutOut self.old self.new) }
 
         // Also where memory runs out.
@@ -182,7 +190,7 @@ impl Taking<'_> {
         self.emit_all(at.instance, emits)
     }
 
-    /// An event arrives at an event input of a basic block.
+    /// An event arrives at an event input of a basic block. `emits` is room for what it emits.
     ///
     /// # Errors
     /// `Halt::Stop` where a reason ends the reaction: what was emitted before it stands.
@@ -191,6 +199,7 @@ impl Taking<'_> {
         block: &BasicType,
         at: Target,
         meter: &mut Meter,
+        emits: &mut Emits,
     ) -> Result<(), Halt>
         requires place { MayArrive self.old at }
         requires input { at.is_output ≡ false }
@@ -207,7 +216,7 @@ impl Taking<'_> {
         let alloc = *self.outbox.lines.allocator();
         let places = self.system.inputs_with(at.instance, at.event);
         let values = sampled_values(alloc, self.forest, self.system, at, places)?;
-        let mut emits = Emits::new(alloc);
+        *emits = Emits::new(emits.allocator());
         let end = react_basic(
             self.forest,
             self.system,
@@ -215,17 +224,17 @@ impl Taking<'_> {
             at,
             values.as_slice(),
             meter,
-            &mut emits,
+            emits,
         );
         self.tell(at, values, emits)?;
         end
     }
 
-    /// An event arrives at a port of an instance.
+    /// An event arrives at a port of an instance. `emits` is room for what a leaf emits.
     ///
     /// # Errors
     /// `Halt::Stop` where a reason ends the reaction: what was put out before it stands.
-    pub fn arrive(&mut self, at: Target, meter: &mut Meter) -> Result<(), Halt>
+    pub fn arrive(&mut self, at: Target, meter: &mut Meter, emits: &mut Emits) -> Result<(), Halt>
         requires target { IsTarget (system_in self.old) at }
         requires here { InForest self.old.system.now self.old.forest.now at.instance }
         requires ready { MayBegin self.old }
@@ -241,9 +250,9 @@ impl Taking<'_> {
         let system = self.system;
         system.facts();
         match system.kind(at.instance) {
-            TypeNumber::Event(kind) => Ok(self.arrive_event(kind, at)?),
+            TypeNumber::Event(kind) => self.arrive_event(kind, at, emits),
             TypeNumber::Declared(place) => match system.library().blocks.get(place) {
-                Some(BlockType::Basic(block)) => self.arrive_basic(block, at, meter),
+                Some(BlockType::Basic(block)) => self.arrive_basic(block, at, meter, emits),
                 Some(BlockType::Composite(_)) => {
                     if at.is_output {
                         Ok(self.leave(at)?)

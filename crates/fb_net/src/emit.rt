@@ -5,18 +5,16 @@ ghost use Rattle.fb_types.specs.Headline.{system_of};
 ghost use Rattle.fb_types.specs.Blocks.{outputs_with};
 ghost use Rattle.fb_types.specs.Numbers.{carried_of, event_at, line_of, path_at, port_of, ports_at};
 ghost use Rattle.fb_types.specs.Reactions.{spread};
-ghost use Rattle.fb_event.specs.Emissions.{emission_at, emitted_by};
 ghost use Rattle.fb_system.specs.Lines.{BelongsTo, IsEmission};
 ghost use Rattle.fb_system.specs.Ports.{IsCarried, IsPort, IsTarget};
 ghost use Rattle.fb_system.specs.Stands.{ArePlaces};
 ghost use Rattle.fb_tree.specs.Changes.{Changes};
-ghost use Rattle.fb_net.specs.Emitting.{PutsOut, bare, carried_by, others, outputs_at, outputs_shown};
+ghost use Rattle.fb_net.specs.Emitting.{PutsOut, carried_by, others, outputs_at, outputs_shown};
 ghost use Rattle.fb_net.specs.Outs.{IsOut, out_of};
 ghost use Rattle.fb_net.specs.Steps.{ArePutOut, EmitsAll, EmitsWell, IsKept, IsSame, MayEmit, ports_in};
 
 use crate::outbox::{Out, Outbox, Sending};
 use crate::taking::Taking;
-use fb_event::step::Step;
 use fb_system::system::System;
 use fb_tree::resource::Forest;
 use fb_types::few::Held;
@@ -25,6 +23,7 @@ use fb_types::key::Key;
 use fb_types::run::{Carried, Emission, Emits, Line, Place, Target, Values};
 use fb_types::value::Value;
 use std::alloc::{AllocError, Global};
+use std::mem::replace;
 
 /// Puts out an event that goes to a target: a local event where the target lies in the same resource, as most do, else a
 /// message.
@@ -236,6 +235,7 @@ fn carried_values(
 impl Taking<'_> {
     /// Emits one output event: its variables are published, it goes where its connections lead, and it has a line. The
     /// error is that memory runs out; each instance has its block then too.
+    #[inline(always)]
     pub fn emit_one(&mut self, instance: u32, emission: Emission) -> Result<(), AllocError>
         requires place { MayEmit self.old instance }
         requires emission { IsEmission (ports_in self.old instance) emission }
@@ -245,6 +245,10 @@ impl Taking<'_> {
         ensures kept { IsKept self.old self.new }
         ensures same { IsSame self.old self.new }
     {
+        // Most events of event blocks have no variables WITH them.
+        if emission.values.is_empty() {
+            return self.emit_bare(instance, emission);
+        }
         let system = self.system;
         let places = system.outputs_with(instance, emission.event);
         self.emit_at(instance, emission, places)
@@ -299,18 +303,20 @@ impl Taking<'_> {
         Ok(())
     }
 
-    /// Emits one output event that brings no values: it goes where its connections lead, and it has a line. The error is
-    /// that memory runs out.
+    /// Emits one output event that brings no values: it goes where its connections lead, and it has a line. Errors are as
+    /// of `emit_one`.
     #[inline(always)]
-    fn emit_bare(&mut self, instance: u32, event: u32) -> Result<(), AllocError>
+    fn emit_bare(&mut self, instance: u32, emission: Emission) -> Result<(), AllocError>
         requires place { MayEmit self.old instance }
-        requires emission { IsEmission (ports_in self.old instance) (bare event) }
-        ensures emitted { OnOk result (EmitsWell self.old instance (bare event ∷ []) self.new) }
+        requires emission { IsEmission (ports_in self.old instance) emission }
+        requires bare { emission.values ≡ [] }
+        ensures emitted { OnOk result (EmitsWell self.old instance (emission ∷ []) self.new) }
 
         // Also where memory runs out.
         ensures kept { IsKept self.old self.new }
         ensures same { IsSame self.old self.new }
     {
+        let Emission { event, values } = emission;
         let from = Target {
             instance,
             event,
@@ -324,7 +330,6 @@ impl Taking<'_> {
             &[],
             &[],
         )?;
-        let values = Values::new(*self.outbox.lines.allocator());
         self.outbox.lines.reserve(1)?;
         self.outbox.lines.push_reserved(Line {
             key: *self.key,
@@ -333,44 +338,6 @@ impl Taking<'_> {
             event,
             values,
         });
-        Ok(())
-    }
-
-    /// Emits one of the events of a step of an event block. The error is that memory runs out.
-    #[inline(always)]
-    fn emit_event(&mut self, instance: u32, event: u32, step: &Step) -> Result<(), AllocError>
-        requires place { MayEmit self.old instance }
-        requires emission { IsEmission (ports_in self.old instance) (emission_at step.now.block event) }
-        ensures emitted { OnOk result (EmitsWell self.old instance (emission_at step.now.block event ∷ []) self.new) }
-
-        // Also where memory runs out.
-        ensures kept { IsKept self.old self.new }
-        ensures same { IsSame self.old self.new }
-    {
-        // Most event blocks have no data outputs.
-        if step.is_bare() {
-            return self.emit_bare(instance, event);
-        }
-        let values = step.values(*self.outbox.lines.allocator())?;
-        self.emit_one(instance, Emission { event, values })
-    }
-
-    /// Emits what a step of an event block emits, in order. The error is that memory runs out; each instance has its block
-    /// then too.
-    #[inline(always)]
-    pub fn emit_step(&mut self, instance: u32, step: &Step) -> Result<(), AllocError>
-        requires place { MayEmit self.old instance }
-        requires emissions { All (IsEmission (ports_in self.old instance)) (emitted_by step.now) }
-        ensures emitted { OnOk result (EmitsAll self.old instance (emitted_by step.now) self.new) }
-        ensures outs { OnOk result (ArePutOut self.old self.new) }
-
-        // Also where memory runs out.
-        ensures kept { IsKept self.old self.new }
-        ensures same { IsSame self.old self.new }
-    {
-        for event in step.emits {
-            self.emit_event(instance, *event, step)?;
-        }
         Ok(())
     }
 
@@ -391,18 +358,21 @@ impl Taking<'_> {
     }
 
     /// Emits output events of an instance in their order: their variables are published, each has a line, and each goes
-    /// where its connections lead. The error is that memory runs out; each instance has its block then too.
-    pub fn emit_all(&mut self, instance: u32, emits: Emits) -> Result<(), AllocError>
+    /// where its connections lead. They leave their list. The error is that memory runs out; each instance has its block
+    /// then too.
+    #[inline(always)]
+    pub fn emit_all(&mut self, instance: u32, emits: &mut Emits) -> Result<(), AllocError>
         requires place { MayEmit self.old instance }
-        requires emissions { All (IsEmission (ports_in self.old instance)) emits }
-        ensures emitted { OnOk result (EmitsAll self.old instance emits self.new) }
+        requires emissions { All (IsEmission (ports_in self.old instance)) emits.old }
+        ensures emitted { OnOk result (EmitsAll self.old instance emits.old self.new) }
         ensures outs { OnOk result (ArePutOut self.old self.new) }
 
         // Also where memory runs out.
         ensures kept { IsKept self.old self.new }
         ensures same { IsSame self.old self.new }
     {
-        match emits.into_held() {
+        let room = Emits::new(emits.allocator());
+        match replace(emits, room).into_held() {
             Held::Nothing => Ok(()),
             Held::One(emission) => self.emit_one(instance, emission),
             Held::Several(emissions) => self.emit_several(instance, emissions),

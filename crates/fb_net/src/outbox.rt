@@ -1,5 +1,8 @@
 //! What the taking of an event puts out.
 
+ghost use Rattle.std.specs.Prelude.{◌≡◌};
+ghost use Rattle.fb_net.specs.Outs.{asked};
+
 use fb_types::items::Items;
 use fb_types::run::{Carried, Line, Target, TimerAsk};
 
@@ -19,7 +22,7 @@ pub enum Out {
     Send(Sending),
 }
 
-/// The lines, the events that go out in their order, and what the reaction asks of the timer of its instance.
+/// The lines, the events that go out in their order, and what the reactions ask of the timer of their instance.
 pub struct Outbox {
     pub lines: Vec<Line>,
     pub outs: Vec<Out>,
@@ -35,5 +38,18 @@ impl Drop for Outbox {
             outs: _,
             timer: _,
         } = self;
+    }
+}
+
+impl Outbox {
+    /// Asks this of the timer. Where it asks nothing, what was asked before stays.
+    #[inline(always)]
+    pub(crate) fn ask_timer(&mut self, ask: TimerAsk)
+        ensures { self.new ≡ record self.old { timer = asked self.old.timer ask } }
+    {
+        match ask {
+            TimerAsk::Keep => {}
+            TimerAsk::Clear | TimerAsk::At(_) => self.timer = ask,
+        }
     }
 }

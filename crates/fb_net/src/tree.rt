@@ -1,36 +1,40 @@
 //! The blocks of one resource.
 
-ghost use Rattle.std.specs.Prelude.{◌≡◌, ◌<◌, ◌≤◌, ◌^◌, [], length, IfOk};
+ghost use Rattle.std.specs.Prelude.{◌≡◌, ◌<◌, ◌≤◌, ◌^◌, length, IfOk};
 ghost use Rattle.fb_types.specs.Headline.{system_of};
 ghost use Rattle.fb_types.specs.Reactions.{World};
 ghost use Rattle.fb_types.specs.Simulation.{opening_state};
 ghost use Rattle.fb_types.specs.Takes.{world_of};
-ghost use Rattle.fb_types.specs.declared.run.TimerAsk.TheVariants.{Keep};
 ghost use Rattle.fb_net.specs.Outs.{AreOuts};
 ghost use Rattle.fb_tree.specs.Worlds.{IsForest};
 ghost use Rattle.fb_laws.specs.Typed.{AreTyped, IsTypedEvent};
-ghost use Rattle.fb_net.specs.Events.{HasTaken, IsEventIn, Remembered, event_of};
+ghost use Rattle.fb_net.specs.Events.{HasTaken, IsEventIn, Remembered, event_in, event_of, key_at};
 
+use crate::arrival::Arrival;
 use crate::outbox::Outbox;
 use crate::taking::Taking;
 use fb_st::meter::Meter;
 use fb_system::system::System;
 use fb_tree::resource::Forest;
-use fb_types::key::Key;
-use fb_types::run::{Event, Halt};
+use fb_types::run::{Emits, Halt};
 use std::alloc::{AllocError, Global};
 use std::marker::Model;
 
 /// The blocks and held copies of one resource of a system. Contracts see what the blocks stand for in the model.
 pub struct Tree {
     forest: Forest,
+    /// Room for what a leaf emits in one taking. It is kept from taking to taking.
+    emits: Emits,
 }
 
 // Written out, and not derived: so it is proved here alone what is let go with a tree, and not in each crate that lets one
 // go.
 impl Drop for Tree {
     fn drop(self) {
-        let Tree { forest: _ } = self;
+        let Tree {
+            forest: _,
+            emits: _,
+        } = self;
     }
 }
 
@@ -56,33 +60,33 @@ impl Tree {
         ensures resource { IfOk result (λ t. t.resource ≡ resource) }
     {
         let forest = fb_tree::build::build(alloc, system, resource)?;
-        Ok(Tree { forest })
+        let emits = Emits::new(alloc);
+        Ok(Tree { forest, emits })
     }
 
-    /// Takes an event of the resource, under its key. `meter` has the steps that are left in the tick behind that of the
-    /// event itself. The lines are put behind those in the outbox, which has no events before.
+    /// Takes an event of the resource at a tick, which is at most 10^12 milliseconds. `meter` has the steps that are left in
+    /// the tick behind that of the event itself. Lines and events that go out are put behind those in the outbox. What was
+    /// asked of the timer before stays where the reaction asks nothing.
     ///
     /// # Errors
     /// `Halt::Stop` where a reason stops the resource: the lines before it stand. `Halt::Memory`, after which each
     /// instance of the resource has its block still, and no more is said of the blocks.
+    #[tactic(auto, using(crate::proofs::Keys::keys))]
     pub fn take(
         &mut self,
         system: &System,
-        event: &Event,
-        key: &Key,
+        arrival: Arrival<'_>,
+        tick: u64,
         meter: &mut Meter,
         outbox: &mut Outbox,
     ) -> Result<(), Halt>
-        requires event { IsEventIn system.now self.old.resource event.now }
-        requires key { key.now.resource ≡ self.old.resource }
-        requires named { key.now.resource < length (system_of system.now).resource_names }
-        requires early { key.now.tick ≤ 10 ^ 12 }
+        requires event { IsEventIn system.now self.old.resource (event_in arrival) }
+        requires named { self.old.resource < length (system_of system.now).resource_names }
+        requires early { tick ≤ 10 ^ 12 }
         requires belongs { (w : World) × IsForest system.now self.old w × AreTyped (system_of system.now) w }
-        requires typed { IsTypedEvent (system_of system.now) (event_of system.now event.now) }
+        requires typed { IsTypedEvent (system_of system.now) (event_of system.now (event_in arrival)) }
         requires outs { AreOuts (system_of system.now) self.old.resource outbox.old }
-        requires none { outbox.old.outs.items ≡ [] }
-        requires keeps { outbox.old.timer ≡ Keep }
-        ensures taken { HasTaken system.now key.now event.now self.old outbox.old meter.old.left result self.new meter.new.left outbox.new }
+        ensures taken { HasTaken system.now (key_at tick self.old.resource arrival.entry) (event_in arrival.entry) self.old outbox.old meter.old.left result self.new meter.new.left outbox.new }
         ensures outs { Remembered result (AreOuts (system_of system.now) self.new.resource outbox.new) }
         ensures fewer { meter.new.left ≤ meter.old.left }
         ensures resource { self.new.resource ≡ self.old.resource }
@@ -90,12 +94,15 @@ impl Tree {
         // Also where memory runs out.
         ensures whole { (w : World) × IsForest system.now self.new w }
     {
+        // There are at most 256 resources, so that the number of one fits.
+        system.facts();
+        let key = arrival.key(tick, self.forest.resource as u32);
         let mut taking = Taking {
             system,
-            key,
+            key: &key,
             forest: &mut self.forest,
             outbox,
         };
-        taking.take_event(event, meter)
+        taking.take_event(arrival, meter, &mut self.emits)
     }
 }

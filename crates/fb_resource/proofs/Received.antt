@@ -88,6 +88,7 @@ module _ (i : Inputs) (limit : ℕ) (ms : List Message) (old : Inner) (agenda : 
         resource = subst (λ r. r < count_of (system_of i)) (sym of.numbered) of.named;
         later = it.later;
         typed = it.message.typed;
+        own = refl;
       }
 
   order : IsInOrder i old.clock agenda

@@ -39,7 +39,7 @@ not_less a b h = omega (arith, h)
 ready_to : (i : Inputs) (t to : ℕ) (q : Queues) → AreReady i t q → ((j : Key) → j.tick < to → waiting q.agenda j ≡ None) → AreReady i to q
 ready_to i t to q ready none = record {
   order = record {
-    waits = λ j f h. let may = ready.order.waits j f h in record { event = may.event; resource = may.resource; later = not_less j.tick to (clash j f h); typed = may.typed };
+    waits = λ j f h. let may = ready.order.waits j f h in record { event = may.event; resource = may.resource; later = not_less j.tick to (clash j f h); typed = may.typed; own = may.own };
     timed = ready.order.timed;
     home = ready.order.home;
   };

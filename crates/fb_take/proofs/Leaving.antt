@@ -39,7 +39,7 @@ order_left i t k old new order left least due = record {
   waits = λ j e h.
       let was = still k j old new e left h in
       let may = order.waits j e was in
-      record { event = may.event; resource = may.resource; later = not_before k j old e least was; typed = may.typed };
+      record { event = may.event; resource = may.resource; later = not_before k j old e least was; typed = may.typed; own = may.own };
   timed = λ j r n e h timer.
       subst (λ (xs : List ℕ). same_key (timer_key (slice_index xs n) r n) j ≡ true) (sym due) (order.timed j r n e (still k j old new e left h) timer);
   home = λ j e h one. order.home j e (still k j old new e left h) one;

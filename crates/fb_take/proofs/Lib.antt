@@ -1,3 +1,4 @@
+pub mod Alone
 pub mod Apart
 pub mod Begins
 pub mod Fuel

@@ -285,8 +285,8 @@ stimulus_typed i row accepted = go (slice_get (stimuli_of i) row) refl
     go (Some s) is = all_at (IsTypedStimulus (system_of i)) (stimuli_of i) row s (accepted_typed i accepted).stimuli is
 
 pub stimulus_waits : (i : Inputs) (row r a : ℕ) (x : StimulusAt) → IsStimulusAt i row x → row < length i.stimuli → r ≡ (system_of i).resource (path_at (system_of i) x.target.instance)
-    → r < length (system_of i).resource_names → AreAccepted i → MayWait i 0 (record { tick = x.tick; resource = r; class = 0; a = a; b = 0 }) (kinds.Stimulus row)
-stimulus_waits i row r a x is within its named accepted = record {
+    → r < length (system_of i).resource_names → AreAccepted i → a ≡ row → MayWait i 0 (record { tick = x.tick; resource = r; class = 0; a = a; b = 0 }) (kinds.Stimulus row)
+stimulus_waits i row r a x is within its named accepted numbered = record {
   event = record {
     numbered = within;
     here =
@@ -298,6 +298,7 @@ stimulus_waits i row r a x is within its named accepted = record {
   resource = named;
   later = omega arith;
   typed = stimulus_typed i row accepted;
+  own = ap (stimulus_key x.tick r) numbered;
 }
 
 -- ---- One instance after another

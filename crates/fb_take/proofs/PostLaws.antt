@@ -216,6 +216,7 @@ local_waits i k n t is named = record {
   resource = named;
   later = omega arith;
   typed = tt;
+  own = refl;
 }
 
 pub message_is : (i : Inputs) (k : Key) (n : ℕ) (s : Sending) → IsSendable (system_of i) k.resource s → IsMessage i (message_of (system_of i) k s n)

@@ -23,11 +23,12 @@ use Rattle.fb_laws.proofs.Timers as timers
 use Rattle.fb_agenda.specs.Agendas.{Contents, IsTimed, LiesIn, timer_set, waiting}
 use Rattle.fb_types.specs.declared.run.Event.{Event}
 use Rattle.fb_types.specs.declared.run.Event.TheVariants.{Timer}
-use Rattle.fb_net.specs.Outs.{IsOut, out_of}
+use Rattle.fb_net.specs.Outs.{IsOut, only_lines, out_of}
 use Rattle.fb_net.specs.declared.outbox.Out.{Out}
 use Rattle.fb_net.specs.declared.outbox.Out.TheVariants.{Local, Send}
 use Rattle.fb_net.specs.declared.outbox.Outbox.{Outbox}
 use Rattle.fb_net.specs.Events.{CameTo, event_of}
+use Rattle.fb_net.proofs.Asked.{asked_first}
 use Rattle.fb_tree.specs.declared.resource.Forest.{Forest}
 use Rattle.fb_laws.specs.Typed.{AreTyped, IsTypedEvent, IsTypedOut, KeepsTypes}
 use Rattle.fb_laws.proofs.Accepted.{accepted_typed}
@@ -70,7 +71,7 @@ order_timer i tick r n ask old mid within here named later set timed order = rec
 
     put : (t : ℕ) → tick ≤ t → Fine (timer_key t r n) (Timer n)
     put t le = (
-      record { event = record { numbered = within; here = here }; resource = named; later = le; typed = tt },
+      record { event = record { numbered = within; here = here }; resource = named; later = le; typed = tt; own = refl },
       λ one. (n, within, its, refl),
     )
       where
@@ -131,13 +132,13 @@ postable i sound k (o ∷ os) h g t =
 -- what came of a reaction may be posted, and sets a timer of now or later
 pub came_good : (i : Inputs) (k : Key) (e : Event) (left after : ℕ) (stop : _) (tree : Forest) (x : Outbox) (before : _) (w : World) → AreAccepted i → IsWithinLimits i.plan
     → (system_of i).resource (path_of (event_of i e)) ≡ k.resource → AreTyped (system_of i) w → IsTypedEvent (system_of i) (event_of i e)
-    → CameTo i k e before left stop tree after x w
+    → CameTo i k e (only_lines before) left stop tree after x w
     → All (IsOut (system_of i) k.resource) x.outs.items → All (IsPostable (system_of i) k.resource) x.outs.items × IsLater k.tick x.timer
 came_good i k e left after stop tree x before w accepted limits home typed_world typed_event came outs = (
   postable i sound k x.outs.items outs
       (subst (λ os. Each (IsGood (system_of i) sound k) os) (sym came.stands.outs) good.outs)
       (subst (λ (os : List reactions.Out). All (IsTypedOut (system_of i)) os) (sym came.stands.outs) kept.outs),
-  subst (IsLater k.tick) (sym came.stands.timer) (later_is k.tick came.outcome.timer good.timer),
+  subst (IsLater k.tick) (sym (came.stands.timer ∙ asked_first came.outcome.timer)) (later_is k.tick came.outcome.timer good.timer),
 )
   where
     sound : IsSound (system_of i)

@@ -18,9 +18,10 @@ use Rattle.fb_types.specs.declared.value.Reason.TheVariants as reason
 use Rattle.fb_agenda.specs.Agendas.{Contents, timer_set}
 use Rattle.fb_types.specs.declared.run.Event.{Event}
 use Rattle.fb_types.specs.declared.run.Event.TheVariants.{Timer}
-use Rattle.fb_net.specs.Outs.{out_of}
+use Rattle.fb_net.specs.Outs.{only_lines, out_of}
 use Rattle.fb_net.specs.declared.outbox.Outbox.{Outbox}
 use Rattle.fb_net.specs.Events.{CameTo, event_of}
+use Rattle.fb_net.proofs.Asked.{asked_first}
 use Rattle.fb_tree.specs.Worlds.{IsForest}
 use Rattle.fb_tree.specs.declared.resource.Forest.{Forest}
 use Rattle.fb_laws.specs.Typed.{IsTypedEvent, IsTypedSystem}
@@ -104,7 +105,7 @@ pub taken_one : (i : Inputs) (limit : ℕ) (s : State) (k : Key) (e : Event) (m 
     → IsTypedSystem (system_of i) → IsTypedEvent (system_of i) (event_of i e)
     → IsHere i s k.resource before was → CountsAre old.sent.items s.sent
     → begun limit k.tick (s.meters k.resource) ≡ meter_of m → m.left ≡ suc l
-    → CameTo i k e (map (line_of (system_of i)) old.outbox.lines.items) l stop tree meter.left x (world_of s k.resource)
+    → CameTo i k e (only_lines (map (line_of (system_of i)) old.outbox.lines.items)) l stop tree meter.left x (world_of s k.resource)
     → mid ≡ record old { outbox = x }
     → ((counts : ℕ → ℕ) → CountsAre mid.sent.items counts
     → IsSettled i k (path_of (event_of i e)) x.timer (post_all (system_of i) k (map (out_of (system_of i)) x.outs.items) (record { locals = m.locals; sent = counts; raised = []; messages = [] })) mid new meter.locals)
@@ -162,7 +163,7 @@ taken_one i limit s k e m meter l stop old mid new before was tree x sound typed
         }
 
     its : IsSettled i k (path_of event) o.timer posts old new meter.locals
-    its = subst (λ ask. IsSettled i k (path_of event) ask posts old new meter.locals) came.stands.timer
+    its = subst (λ ask. IsSettled i k (path_of event) ask posts old new meter.locals) (came.stands.timer ∙ asked_first o.timer)
         (subst (λ (os : List Out). IsSettled i k (path_of event) x.timer (post_all sys k os start) old new meter.locals) came.stands.outs after_old)
 
     here : IsForest i tree (world_of state k.resource)

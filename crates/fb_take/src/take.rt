@@ -11,7 +11,7 @@ ghost use Rattle.fb_types.specs.Takes as takes;
 ghost use Rattle.fb_types.specs.declared.key.Key as keys;
 ghost use Rattle.fb_types.specs.declared.run.TimerAsk.TheVariants.{Keep};
 ghost use Rattle.fb_net.specs.Outs.{AreOuts, out_of};
-ghost use Rattle.fb_net.specs.Events.{Came, IsEventIn, IsNumbered, event_of};
+ghost use Rattle.fb_net.specs.Events.{CameAlone, IsEventIn, IsKeyOf, IsNumbered, event_in, event_of, key_at};
 ghost use Rattle.fb_tree.specs.Worlds.{IsForest};
 ghost use Rattle.fb_laws.specs.Typed.{AreTyped, IsTypedEvent};
 ghost use Rattle.fb_take.specs.Counts.{IsMetered, meter_of};
@@ -19,10 +19,11 @@ ghost use Rattle.fb_take.specs.Posts.{CountsAre, IsMessage, IsPostable};
 ghost use Rattle.fb_take.specs.Takings.{AreReady, IsHere, IsLater, IsSettled, IsTakenHere};
 ghost use Rattle.fb_take.specs.Waiting.{IsInOrder, meaning};
 
-use crate::tick_counts::TickCounts;
 use crate::post::post_all;
 use crate::queues::Queues;
+use crate::tick_counts::TickCounts;
 use fb_agenda::agenda::Agenda;
+use fb_net::arrival::Arrival;
 use fb_net::outbox::Outbox;
 use fb_net::tree::Tree;
 use fb_st::meter::Meter;
@@ -46,8 +47,27 @@ fn instance_of(system: &System, event: &Event) -> u32
     }
 }
 
+/// The arrival of an event that waited under this key.
+#[inline(always)]
+fn arrival_of<'a>(key: &Key, event: &'a Event) -> Arrival<'a>
+    requires { IsKeyOf key.now event.now }
+    ensures event { event_in result ≡ event.now }
+    ensures key { key_at key.now.tick key.now.resource result ≡ key.now }
+{
+    match event {
+        Event::Stimulus(row) => Arrival::Stimulus(*row),
+        Event::Timer(instance) => Arrival::Timer(*instance),
+        Event::Arrival(message) => Arrival::Message(message),
+        Event::Local(target) => Arrival::Local {
+            target: *target,
+            number: key.a,
+        },
+    }
+}
+
 /// Takes an event in the tree of its resource, which has so many steps left behind that of the event. `Some` is
 /// the reason for which the resource stops.
+#[inline(always)]
 fn take_in(
     tree: &mut Tree,
     left: &mut u64,
@@ -57,6 +77,7 @@ fn take_in(
     event: &Event,
 ) -> Result<Option<Reason>, AllocError>
     requires event { IsEventIn system.now tree.old.resource event.now }
+    requires own { IsKeyOf key.now event.now }
     requires key { key.now.resource ≡ tree.old.resource }
     requires named { key.now.resource < length (system_of system.now).resource_names }
     requires early { key.now.tick ≤ 10 ^ 12 }
@@ -65,13 +86,14 @@ fn take_in(
     requires outs { AreOuts (system_of system.now) tree.old.resource outbox.old }
     requires none { outbox.old.outs.items ≡ [] }
     requires keeps { outbox.old.timer ≡ Keep }
-    ensures came { IfOk result (λ stop. Came system.now key.now event.now tree.old outbox.old left.old stop tree.new left.new outbox.new) }
+    ensures came { IfOk result (λ stop. CameAlone system.now key.now event.now tree.old outbox.old left.old stop tree.new left.new outbox.new) }
     ensures outs { OnOk result (AreOuts (system_of system.now) tree.new.resource outbox.new) }
     ensures fewer { left.new ≤ left.old }
     ensures resource { tree.new.resource ≡ tree.old.resource }
 {
     let mut steps = Meter { left: *left };
-    let taken = tree.take(system, event, key, &mut steps, outbox);
+    let arrival = arrival_of(key, event);
+    let taken = tree.take(system, arrival, key.tick, &mut steps, outbox);
     *left = steps.left;
     match taken {
         Ok(()) => Ok(None),
@@ -173,6 +195,7 @@ pub fn take(
     requires queues { AreReady system.now key.now.tick queues.old }
     requires stands { (s : State) × IsHere system.now s key.now.resource tree.old meter.old }
     requires event { IsEventIn system.now key.now.resource event.now }
+    requires own { IsKeyOf key.now event.now }
     requires typed { IsTypedEvent (system_of system.now) (event_of system.now event.now) }
     requires named { key.now.resource < length (system_of system.now).resource_names }
     requires early { key.now.tick ≤ 10 ^ 12 }

@@ -1,19 +1,18 @@
 use Rattle.std.proofs.Common.{◌∙◌, ap, rules, sym}
 use Rattle.fb_tree.specs.declared.block.Block.TheVariants as block
 use Rattle.fb_net.proofs.Basics.{changed_here}
+use Rattle.fb_net.proofs.Events.{all_new, has_answered}
 use Rattle.fb_net.proofs.event_blocks.expire_at.Goals as goal
 
-pub returns : goal.returns
-returns c =
-    changed_here _ c.args.blocks.now c.args.seat c.in-Some.place.now (sym c.in-Some.ensures.value) _ c.step_at_expiry.result
+pub returns-clause-reacted : goal.returns-clause-reacted
+returns-clause-reacted c =
+    changed_here _ c.args.blocks.now c.args.seat c.in-Some.place.now (sym c.in-Some.ensures.value) _ c.expire.result
     (record {
       event = _;
-      state = c.step_at_expiry.new.state;
+      state = c.expire.new.state;
       was_event = c.in-Event.is ∙ ap block.Event (sym c.in-Event.event-is);
       is_event = search rules;
-      memory = c.step_at_expiry.ensures.memory;
-      timer = c.step_at_expiry.ensures.timer;
-      sent = c.step_at_expiry.ensures.emitted;
-      kind = c.step_at_expiry.ensures.kind;
-      well_formed = c.step_at_expiry.ensures.well_formed;
+      answered = has_answered c.expire.result _ _ c.expire.new.state c.expire.new.ask c.args.emits.now c.expire.new.emits c.requires.fresh c.expire.ensures.memory c.expire.ensures.timer c.expire.ensures.emitted;
+      kind = c.expire.ensures.kind;
+      well_formed = all_new _ c.args.emits.now c.expire.new.emits c.requires.fresh c.expire.ensures.well_formed;
     })

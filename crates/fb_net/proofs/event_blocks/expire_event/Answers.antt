@@ -12,14 +12,14 @@ expire_at-requires-clause-event c =
 pub returns-clause-reacted : goal.returns-clause-reacted
 returns-clause-reacted c =
     expired_came c.args.system.now c.facts.ensures.numbered c.args.forest.now c.args.instance c.requires.instance c.args.kind c.requires.kind c.seat-seat.result c.seat-seat.ensures
-    c.args.tick c.expire_at.result c.expire_at.new.blocks c.expire_at.ensures
+    c.args.tick c.expire_at.new.ask c.expire_at.new.emits c.expire_at.result c.expire_at.new.blocks c.expire_at.ensures.reacted
 
 pub returns-clause-emissions : goal.returns-clause-emissions
 returns-clause-emissions c =
     expired_fit c.args.system.now c.facts.ensures.numbered c.args.forest.now c.args.instance c.requires.instance c.args.kind c.requires.kind c.seat-seat.result c.seat-seat.ensures
-    c.args.tick c.expire_at.result c.expire_at.new.blocks c.expire_at.ensures c.requires.one
+    c.args.tick c.expire_at.new.ask c.expire_at.new.emits c.expire_at.result c.expire_at.new.blocks c.expire_at.ensures.reacted c.requires.one
 
 pub returns-clause-whole : goal.returns-clause-whole
 returns-clause-whole c =
     expired_whole c.args.system.now c.facts.ensures.numbered c.args.forest.now c.args.instance c.requires.instance c.args.kind c.requires.kind c.seat-seat.result c.seat-seat.ensures
-    c.args.tick c.expire_at.result c.expire_at.new.blocks c.expire_at.ensures c.requires.one
+    c.args.tick c.expire_at.new.ask c.expire_at.new.emits c.expire_at.result c.expire_at.new.blocks c.expire_at.ensures.reacted c.requires.one

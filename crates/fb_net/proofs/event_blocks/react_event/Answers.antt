@@ -1,19 +1,19 @@
 use Rattle.std.proofs.Common.{refl, sym, ap, ◌∙◌}
 use Rattle.std.specs.Prelude.{slice_get}
+use Rattle.std.proofs.lemmas.Result.{on_ok_weaker}
 use Rattle.fb_types.specs.Headline.{system_of}
 use Rattle.fb_types.specs.Numbers.{path_at}
-use Rattle.fb_event.specs.Emissions.{emitted_by}
 use Rattle.fb_event.specs.Reactions.{reaction_to}
 use Rattle.fb_tree.specs.Changes.{block_in}
 use Rattle.fb_tree.specs.Worlds.{seat_in}
 use Rattle.fb_tree.specs.declared.block.Block.TheVariants as block
 use Rattle.fb_tree.proofs.Reading.{found_at}
 use Rattle.fb_net.specs.Leaves.{taken_reaction}
-use Rattle.fb_net.proofs.Events.{came, fit, remembers, taken_agrees, typed, whole}
+use Rattle.fb_net.proofs.Events.{all_new, came, fit, has_answered, remembers, taken_agrees, typed, whole}
 use Rattle.fb_net.proofs.event_blocks.react_event.Goals as goal
 
-pub step_at-requires-clause-typed : goal.step_at-requires-clause-typed
-step_at-requires-clause-typed c =
+pub react-requires-clause-typed : goal.react-requires-clause-typed
+react-requires-clause-typed c =
     let i = c.args.system.now in
     let f = c.args.forest.now in
     let k = c.args.at.instance in
@@ -30,13 +30,15 @@ returns-clause-reacted c =
     let k = at.instance in
     let inputs = c.as_slice-inputs.result.now in
     let found = slice_get f.blocks (seat_in f.seats k) in
-    came i f _ k c.args.kind found c.in-Some.place.now _ _ c.step_at.new.state
-    (reaction_to _ at.event c.args.tick inputs) (taken_reaction i c.args.kind at c.args.tick) c.step_at.result.ask (emitted_by c.step_at.result) c.requires.kind (sym c.in-Some.ensures.value)
+    on_ok_weaker c.react.result
+    (λ answered. came i f _ k c.args.kind found c.in-Some.place.now _ _ c.react.new.state
+    (reaction_to _ at.event c.args.tick inputs) (taken_reaction i c.args.kind at c.args.tick) c.react.new.ask c.react.new.emits c.requires.kind (sym c.in-Some.ensures.value)
     (c.in-Event.is ∙ ap block.Event (sym c.in-Event.event-is)) refl (λ w forest lies. found_at i f k c.requires.port.instance found refl w forest lies)
     (remembers i c.facts.ensures.numbered f k c.requires.port.instance c.in-Some.place.now _ c.args.kind c.requires.kind (sym c.in-Some.ensures.value)
-    (c.in-Event.is ∙ ap block.Event (sym c.in-Event.event-is)) c.step_at.new.state c.step_at.ensures.kind)
+    (c.in-Event.is ∙ ap block.Event (sym c.in-Event.event-is)) c.react.new.state c.react.ensures.kind)
     (λ w stood. taken_agrees (system_of i) (path_at (system_of i) k) c.args.kind _ (block_in i w k) at.event c.args.tick inputs c.as_slice-inputs.ensures c.requires.kind stood)
-    c.step_at.ensures.memory c.step_at.ensures.timer c.step_at.ensures.emitted
+    answered.memory answered.timer answered.sent)
+    (has_answered c.react.result _ _ c.react.new.state c.react.new.ask c.args.emits.now c.react.new.emits c.requires.fresh c.react.ensures.memory c.react.ensures.timer c.react.ensures.emitted)
 
 pub returns-clause-emissions : goal.returns-clause-emissions
 returns-clause-emissions c =
@@ -45,14 +47,15 @@ returns-clause-emissions c =
     let k = c.args.at.instance in
     let w = c.requires.typed.0 in
     let found = slice_get f.blocks (seat_in f.seats k) in
-    fit i k w found c.in-Some.place.now _ c.args.kind (emitted_by c.step_at.result) c.requires.kind (sym c.in-Some.ensures.value)
-    (c.in-Event.is ∙ ap block.Event (sym c.in-Event.event-is)) (found_at i f k c.requires.port.instance found refl w c.requires.typed.1 c.requires.typed.2) c.step_at.ensures.well_formed
+    fit i k w found c.in-Some.place.now _ c.args.kind c.react.new.emits c.requires.kind (sym c.in-Some.ensures.value)
+    (c.in-Event.is ∙ ap block.Event (sym c.in-Event.event-is)) (found_at i f k c.requires.port.instance found refl w c.requires.typed.1 c.requires.typed.2)
+    (all_new _ c.args.emits.now c.react.new.emits c.requires.fresh c.react.ensures.well_formed)
 
 pub returns-clause-whole : goal.returns-clause-whole
 returns-clause-whole c =
     let i = c.args.system.now in
     let f = c.args.forest.now in
     let k = c.args.at.instance in
-    whole i f _ k c.step_at.new.state
+    whole i f _ k c.react.new.state
     (remembers i c.facts.ensures.numbered f k c.requires.port.instance c.in-Some.place.now _ c.args.kind c.requires.kind (sym c.in-Some.ensures.value)
-    (c.in-Event.is ∙ ap block.Event (sym c.in-Event.event-is)) c.step_at.new.state c.step_at.ensures.kind) c.requires.typed.0 c.requires.typed.1 c.requires.typed.2
+    (c.in-Event.is ∙ ap block.Event (sym c.in-Event.event-is)) c.react.new.state c.react.ensures.kind) c.requires.typed.0 c.requires.typed.1 c.requires.typed.2

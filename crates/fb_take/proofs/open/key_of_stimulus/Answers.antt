@@ -1,4 +1,4 @@
-use Rattle.std.proofs.Common.{sym, ap, subst, ◌∙◌}
+use Rattle.std.proofs.Common.{refl, sym, ap, subst, ◌∙◌}
 use Rattle.fb_types.specs.Headline.{system_of}
 use Rattle.fb_types.specs.Keys.{stimulus_key}
 use Rattle.fb_types.specs.Names.{Port}
@@ -27,4 +27,4 @@ returns-clause-waits c =
     let i = c.args.system.now in
     let x = c.stimulus-stimulus.result in
     subst (λ (k : Key). MayWait i 0 k (Stimulus c.args.row)) (sym c.stimulus.ensures)
-    (stimulus_waits i c.args.row c.resource_of-resource.result c.args.row x c.stimulus-stimulus.ensures c.requires c.resource_of-resource.ensures.resource c.resource_of-resource.ensures.named c.facts.ensures.accepted)
+    (stimulus_waits i c.args.row c.resource_of-resource.result c.args.row x c.stimulus-stimulus.ensures c.requires c.resource_of-resource.ensures.resource c.resource_of-resource.ensures.named c.facts.ensures.accepted refl)

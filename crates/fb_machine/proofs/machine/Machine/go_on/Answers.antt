@@ -21,6 +21,9 @@ take-requires-clause-stands c =
 pub take-requires-clause-event : goal.take-requires-clause-event
 take-requires-clause-event c = (c.loop-self.invariant.ready.1.queues.order.waits c.take_least_into.new.place.key c.take_least_into.new.place.event c.loop-self-test.ensures.found).event
 
+pub take-requires-clause-own : goal.take-requires-clause-own
+take-requires-clause-own c = (c.loop-self.invariant.ready.1.queues.order.waits c.take_least_into.new.place.key c.take_least_into.new.place.event c.loop-self-test.ensures.found).own
+
 pub take-requires-clause-typed : goal.take-requires-clause-typed
 take-requires-clause-typed c = (c.loop-self.invariant.ready.1.queues.order.waits c.take_least_into.new.place.key c.take_least_into.new.place.event c.loop-self-test.ensures.found).typed
 

@@ -7,24 +7,31 @@ use Rattle.fb_types.specs.Numbers.{path_at}
 use Rattle.fb_types.specs.declared.library.BlockType.TheVariants as block
 use Rattle.fb_types.specs.declared.library.Library.{Library}
 use Rattle.std.specs.Option.{option_map}
+use Rattle.std.proofs.lemmas.Result.{on_ok_weaker}
 use Rattle.fb_laws.proofs.Accepted.{accepted_typed}
 use Rattle.fb_net.specs.Arrivals.{Arrives, entering, leaving, reacting}
-use Rattle.fb_net.proofs.Crossing.{composite-enters, composite-leaves, done-reacted, event-arrives, reacting-left, reacting-stop}
+use Rattle.fb_net.proofs.Crossing.{composite-enters, composite-leaves, done-reacted, event-arrives, reacted-ended, reacting-left, reacting-stop, remembered-ended}
 use Rattle.fb_net.proofs.taking.Taking.arrive.Goals as goal
 
 pub arrive_event-requires-clause-sound : goal.arrive_event-requires-clause-sound
 arrive_event-requires-clause-sound c = (accepted_typed c.args.self.now.system.now c.facts.ensures.accepted).system
 
-pub returns-in_ok-arrive_event-in-Event-clause-reacted : goal.returns-in_ok-arrive_event-in-Event-clause-reacted
-returns-in_ok-arrive_event-in-Event-clause-reacted c =
+pub returns-in-Event-clause-reacted : goal.returns-in-Event-clause-reacted
+returns-in-Event-clause-reacted c =
     let i = c.args.self.now.system.now in
     let k = c.args.self.now.key.now in
     let at = c.args.at in
     let kind = c.in-Event.kind in
     let left = c.args.meter.now.left in
-    done-reacted i (reacting i k kind at) (Arrives i k at left) c.args.self.now.forest.now c.arrive_event.new.self.forest.now c.args.self.now.outbox.now c.arrive_event.new.self.outbox.now left
-    (event-arrives i k kind at (sym c.in-Event.ensures) left) (reacting-stop i k kind at left) (reacting-left i k kind at left)
-    c.in_ok-arrive_event-in-Event.ensures.reacted
+    let done = c.arrive_event in
+    reacted-ended i (Arrives i k at left) c.args.self.now.forest.now done.new.self.forest.now c.args.self.now.outbox.now done.new.self.outbox.now left done.result done.ensures.only_memory
+    (on_ok_weaker done.result
+    (done-reacted i (reacting i k kind at) (Arrives i k at left) c.args.self.now.forest.now done.new.self.forest.now c.args.self.now.outbox.now done.new.self.outbox.now left
+    (event-arrives i k kind at (sym c.in-Event.ensures) left) (reacting-stop i k kind at left) (reacting-left i k kind at left))
+    done.ensures.reacted)
+
+pub returns-in-Event-clause-outs : goal.returns-in-Event-clause-outs
+returns-in-Event-clause-outs c = remembered-ended _ c.arrive_event.result c.arrive_event.ensures.only_memory c.arrive_event.ensures.outs
 
 pub returns-in_ok-leave-in-Some-Composite-clause-reacted : goal.returns-in_ok-leave-in-Some-Composite-clause-reacted
 returns-in_ok-leave-in-Some-Composite-clause-reacted c =

@@ -1,7 +1,5 @@
 use Rattle.std.proofs.Common.{◌≡◌, ◌<◌, Some, length, sym, subst, ◌∙◌}
 use Rattle.std.specs.Prelude.{All}
-use Rattle.std.proofs.lemmas.Result.{on_ok_weaker}
-use Rattle.fb_event.specs.Emissions.{emitted_by}
 use Rattle.fb_types.specs.Blocks.{Event}
 use Rattle.fb_types.specs.Headline.{Inputs, system_of}
 use Rattle.fb_types.specs.Numbers.{path_at, ports_at}
@@ -12,82 +10,101 @@ use Rattle.fb_system.specs.Ports.{IsPort}
 use Rattle.fb_tree.specs.Worlds.{InForest, IsForest}
 use Rattle.fb_net.specs.Emitting.{EmitsSo}
 use Rattle.fb_net.specs.Leaves.{EventCame, HasTypedInputs, taken_reaction}
-use Rattle.fb_net.specs.Outs.{AreOuts, IsOut}
+use Rattle.fb_net.specs.Outs.{AreOuts, IsOut, asked}
+use Rattle.fb_net.specs.declared.outbox.Outbox.{Outbox}
 use Rattle.fb_net.specs.Steps.{AreKept, system_in}
 use Rattle.fb_net.proofs.Arriving.{event-reacts, event-typed, ports-of_event}
 use Rattle.fb_net.proofs.Same.{already, still}
 use Rattle.fb_net.proofs.Wholes.{kept-then, kept-world}
 use Rattle.fb_net.proofs.taking.Taking.arrive_event.Goals as goal
 
-pub react_event-step-requires-clause-port : goal.react_event-step-requires-clause-port
-react_event-step-requires-clause-port c =
+pub react_event-requires-clause-port : goal.react_event-requires-clause-port
+react_event-requires-clause-port c =
     still (λ (i : Inputs) (k : Key). IsPort (system_of i) c.args.at) c.args.self.now c.take_samples.new.self c.take_samples.ensures.same c.requires.place.port
 
-pub react_event-step-requires-clause-kind : goal.react_event-step-requires-clause-kind
-react_event-step-requires-clause-kind c =
+pub react_event-requires-clause-kind : goal.react_event-requires-clause-kind
+react_event-requires-clause-kind c =
     still (λ (i : Inputs) (k : Key). (system_of i).kind (path_at (system_of i) c.args.at.instance) ≡ Some (Event c.args.kind)) c.args.self.now c.take_samples.new.self c.take_samples.ensures.same
     c.requires.kind
 
-pub react_event-step-requires-clause-typed : goal.react_event-step-requires-clause-typed
-react_event-step-requires-clause-typed c =
+pub react_event-requires-clause-typed : goal.react_event-requires-clause-typed
+react_event-requires-clause-typed c =
     let a = c.args.self.now in
     let b = c.take_samples.new.self in
     still (λ (i : Inputs) (k : Key). (w : World) × IsForest i b.forest.now w × InForest i b.forest.now c.args.at.instance × HasTypedInputs i c.args.kind c.args.at.instance w) a b c.take_samples.ensures.same
     (event-typed a.system.now a.key.now c.args.kind c.args.at c.requires.kind c.requires.input a.forest.now b.forest.now
     a.outbox.now b.outbox.now c.in_ok-take_samples.ensures.taken c.requires.sound c.requires.typed (c.requires.place.here ∙ sym c.take_samples.ensures.kept.resource))
 
-pub emit_step-requires-clause-place : goal.emit_step-requires-clause-place
-emit_step-requires-clause-place c =
+pub emit_all-requires-clause-place : goal.emit_all-requires-clause-place
+emit_all-requires-clause-place c =
     let a = c.args.self.now in
     let b = c.take_samples.new.self in
-    let g = c.react_event-step.new.forest in
+    let g = c.react_event.new.forest in
     let ready = c.in_ok-take_samples.ensures.ready in
-    let resource = sym c.react_event-step.ensures.resource in
+    let resource = sym c.react_event.ensures.resource in
     record {
       number = still (λ (i : Inputs) (k : Key). c.args.at.instance < length (system_of i).paths) a b c.take_samples.ensures.same c.requires.place.port.instance;
       here = still (λ (i : Inputs) (k : Key). InForest i g c.args.at.instance) a b c.take_samples.ensures.same (c.requires.place.here ∙ sym c.take_samples.ensures.kept.resource ∙ resource);
       resource = ready.resource ∙ resource;
-      outs = record { lines = ready.outs.lines; outs = subst (λ r. All (IsOut (system_in b) r) b.outbox.now.outs.items) resource ready.outs.outs };
+      outs = subst (λ (x : Outbox). AreOuts (system_in b) g.resource x) (sym c.ask_timer.ensures)
+          (record { lines = ready.outs.lines; outs = subst (λ r. All (IsOut (system_in b) r) b.outbox.now.outs.items) resource ready.outs.outs });
     }
 
-pub emit_step-requires-clause-emissions : goal.emit_step-requires-clause-emissions
-emit_step-requires-clause-emissions c =
+pub emit_all-requires-clause-emissions : goal.emit_all-requires-clause-emissions
+emit_all-requires-clause-emissions c =
     let a = c.args.self.now in
     let b = c.take_samples.new.self in
-    still (λ (i : Inputs) (k : Key). All (IsEmission (ports_at (system_of i) (path_at (system_of i) c.args.at.instance))) (emitted_by c.react_event-step.result)) a b c.take_samples.ensures.same
-    (ports-of_event a.system.now c.args.kind c.args.at.instance c.requires.kind (emitted_by c.react_event-step.result) c.react_event-step.ensures.emissions)
+    still (λ (i : Inputs) (k : Key). All (IsEmission (ports_at (system_of i) (path_at (system_of i) c.args.at.instance))) c.react_event.new.emits) a b c.take_samples.ensures.same
+    (ports-of_event a.system.now c.args.kind c.args.at.instance c.requires.kind c.react_event.new.emits c.react_event.ensures.emissions)
 
 pub returns-clause-reacted : goal.returns-clause-reacted
 returns-clause-reacted c =
     let a = c.args.self.now in
     let b = c.take_samples.new.self in
-    let z = c.emit_step.new.self in
+    let z = c.emit_all.new.self in
     let at = c.args.at in
-    let late = c.react_event-step.new.forest in
-    let ask = c.react_event-step.result.ask in
-    let emits = emitted_by c.react_event-step.result in
+    let late = c.react_event.new.forest in
+    let ask = c.react_event.new.ask in
+    let emits = c.react_event.new.emits in
     let same = c.take_samples.ensures.same in
-    on_ok_weaker c.emit_step.result
-    (λ put_out. event-reacts a.system.now a.key.now c.args.kind at c.requires.kind c.requires.input a.forest.now b.forest.now late z.forest.now a.outbox.now b.outbox.now z.outbox.now ask emits
+    event-reacts a.system.now a.key.now c.args.kind at c.requires.kind c.requires.input a.forest.now b.forest.now late z.forest.now a.outbox.now b.outbox.now z.outbox.now ask emits
     c.in_ok-take_samples.ensures.taken (c.requires.place.here ∙ sym c.take_samples.ensures.kept.resource)
     (already (λ (i : Inputs) (k : Key). (w : World) → IsForest i b.forest.now w → InForest i b.forest.now at.instance → EventCame i at.instance c.args.kind (taken_reaction i c.args.kind at k.tick w) late ask emits w) a b same
-    c.react_event-step.ensures.reacted)
-    (already (λ (i : Inputs) (k : Key). EmitsSo i k at.instance late (record b.outbox.now { timer = ask }) emits z.forest.now z.outbox.now) a b same put_out))
-    c.emit_step.ensures.emitted
+    c.in_ok-react_event.ensures.reacted)
+    (already (λ (i : Inputs) (k : Key). EmitsSo i k at.instance late (record b.outbox.now { timer = asked b.outbox.now.timer ask }) emits z.forest.now z.outbox.now) a b same
+    (subst (λ (x : Outbox). EmitsSo b.system.now b.key.now at.instance late x emits z.forest.now z.outbox.now) c.ask_timer.ensures c.in_ok-emit_all.ensures.emitted))
 
 pub returns-clause-outs : goal.returns-clause-outs
 returns-clause-outs c =
-    let z = c.emit_step.new.self in
-    on_ok_weaker c.emit_step.result
-    (already (λ (i : Inputs) (k : Key). AreOuts (system_of i) z.forest.now.resource z.outbox.now) c.args.self.now c.take_samples.new.self c.take_samples.ensures.same) c.emit_step.ensures.outs
+    let z = c.emit_all.new.self in
+    already (λ (i : Inputs) (k : Key). AreOuts (system_of i) z.forest.now.resource z.outbox.now) c.args.self.now c.take_samples.new.self c.take_samples.ensures.same c.in_ok-emit_all.ensures.outs
 
 pub returns-clause-kept : goal.returns-clause-kept
 returns-clause-kept c =
     let a = c.args.self.now in
     let b = c.take_samples.new.self in
-    let g = c.react_event-step.new.forest in
+    let g = c.react_event.new.forest in
     let same = c.take_samples.ensures.same in
-    kept-then a.system.now a.forest.now b.forest.now c.emit_step.new.self.forest.now c.take_samples.ensures.kept
-    (already (λ (i : Inputs) (k : Key). AreKept i b.forest.now c.emit_step.new.self.forest.now) a b same
-    (kept-then b.system.now b.forest.now g c.emit_step.new.self.forest.now
-    (kept-world b.system.now b.forest.now g c.react_event-step.ensures.resource c.react_event-step.ensures.whole) c.emit_step.ensures.kept))
+    kept-then a.system.now a.forest.now b.forest.now c.emit_all.new.self.forest.now c.take_samples.ensures.kept
+    (already (λ (i : Inputs) (k : Key). AreKept i b.forest.now c.emit_all.new.self.forest.now) a b same
+    (kept-then b.system.now b.forest.now g c.emit_all.new.self.forest.now
+    (kept-world b.system.now b.forest.now g c.react_event.ensures.resource c.react_event.ensures.whole) c.emit_all.ensures.kept))
+
+pub returns-in_err-react_event-clause-kept : goal.returns-in_err-react_event-clause-kept
+returns-in_err-react_event-clause-kept c =
+    let a = c.args.self.now in
+    let b = c.take_samples.new.self in
+    let g = c.react_event.new.forest in
+    kept-then a.system.now a.forest.now b.forest.now g c.take_samples.ensures.kept
+    (already (λ (i : Inputs) (k : Key). AreKept i b.forest.now g) a b c.take_samples.ensures.same
+    (kept-world b.system.now b.forest.now g c.react_event.ensures.resource c.react_event.ensures.whole))
+
+pub returns-in_err-emit_all-clause-kept : goal.returns-in_err-emit_all-clause-kept
+returns-in_err-emit_all-clause-kept c =
+    let a = c.args.self.now in
+    let b = c.take_samples.new.self in
+    let g = c.react_event.new.forest in
+    kept-then a.system.now a.forest.now b.forest.now c.emit_all.new.self.forest.now c.take_samples.ensures.kept
+    (already (λ (i : Inputs) (k : Key). AreKept i b.forest.now c.emit_all.new.self.forest.now) a b c.take_samples.ensures.same
+    (kept-then b.system.now b.forest.now g c.emit_all.new.self.forest.now
+    (kept-world b.system.now b.forest.now g c.react_event.ensures.resource c.react_event.ensures.whole) c.emit_all.ensures.kept))

@@ -1,17 +1,45 @@
-use Rattle.std.proofs.lemmas.Result.{on_ok_weaker}
-use Rattle.fb_event.specs.Emissions.{emitted_by}
+use Rattle.std.proofs.Common.{◌∙◌, sym, subst}
+use Rattle.fb_net.specs.Emitting.{EmitsSo}
+use Rattle.fb_net.specs.Outs.{AreOuts, IsOut}
+use Rattle.fb_net.specs.Steps.{system_in}
+use Rattle.fb_net.specs.declared.outbox.Outbox.{Outbox}
+use Rattle.std.specs.Prelude.{All}
 use Rattle.fb_net.proofs.ByEvent.{timer-expires}
 use Rattle.fb_net.proofs.Wholes.{kept-then, kept-world}
 use Rattle.fb_net.proofs.taking.Taking.expire.Goals as goal
 
 pub returns-clause-expired : goal.returns-clause-expired
 returns-clause-expired c =
-    on_ok_weaker c.emit_step.result
-    (λ put_out. timer-expires c.args.self.now.system.now c.args.self.now.key.now c.args.kind c.args.instance c.args.self.now.forest.now c.expire_event-step.new.forest c.emit_step.new.self.forest.now
-    c.args.self.now.outbox.now c.emit_step.new.self.outbox.now c.expire_event-step.result.ask (emitted_by c.expire_event-step.result) c.requires.kind c.requires.ready c.requires.here
-    c.expire_event-step.ensures.reacted put_out)
-    c.emit_step.ensures.emitted
+    let i = c.args.self.now.system.now in
+    let k = c.args.self.now.key.now in
+    let late = c.expire_event.new.forest in
+    let emits = c.expire_event.new.emits in
+    let z = c.emit_all.new.self in
+    timer-expires i k c.args.kind c.args.instance c.args.self.now.forest.now late z.forest.now
+    c.args.self.now.outbox.now z.outbox.now c.expire_event.new.ask emits c.requires.kind c.requires.here c.in_ok-expire_event.ensures.reacted
+    (subst (λ (x : Outbox). EmitsSo i k c.args.instance late x emits z.forest.now z.outbox.now) c.ask_timer.ensures c.in_ok-emit_all.ensures.emitted)
+
+pub emit_all-requires-clause-place : goal.emit_all-requires-clause-place
+emit_all-requires-clause-place c =
+    let a = c.args.self.now in
+    let g = c.expire_event.new.forest in
+    let resource = sym c.expire_event.ensures.resource in
+    record {
+      number = c.requires.instance;
+      here = c.requires.here ∙ resource;
+      resource = c.requires.ready.resource ∙ resource;
+      outs = subst (λ (x : Outbox). AreOuts (system_in a) g.resource x) (sym c.ask_timer.ensures)
+          (record { lines = c.requires.ready.outs.lines; outs = subst (λ r. All (IsOut (system_in a) r) a.outbox.now.outs.items) resource c.requires.ready.outs.outs });
+    }
 
 pub returns-clause-kept : goal.returns-clause-kept
 returns-clause-kept c =
-    kept-then c.args.self.now.system.now c.args.self.now.forest.now c.expire_event-step.new.forest c.emit_step.new.self.forest.now (kept-world c.args.self.now.system.now c.args.self.now.forest.now c.expire_event-step.new.forest c.expire_event-step.ensures.resource c.expire_event-step.ensures.whole) c.emit_step.ensures.kept
+    kept-then c.args.self.now.system.now c.args.self.now.forest.now c.expire_event.new.forest c.emit_all.new.self.forest.now (kept-world c.args.self.now.system.now c.args.self.now.forest.now c.expire_event.new.forest c.expire_event.ensures.resource c.expire_event.ensures.whole) c.emit_all.ensures.kept
+
+pub returns-in_err-emit_all-clause-kept : goal.returns-in_err-emit_all-clause-kept
+returns-in_err-emit_all-clause-kept c =
+    kept-then c.args.self.now.system.now c.args.self.now.forest.now c.expire_event.new.forest c.emit_all.new.self.forest.now (kept-world c.args.self.now.system.now c.args.self.now.forest.now c.expire_event.new.forest c.expire_event.ensures.resource c.expire_event.ensures.whole) c.emit_all.ensures.kept
+
+pub returns-in_err-expire_event-clause-kept : goal.returns-in_err-expire_event-clause-kept
+returns-in_err-expire_event-clause-kept c =
+    kept-world c.args.self.now.system.now c.args.self.now.forest.now c.expire_event.new.forest c.expire_event.ensures.resource c.expire_event.ensures.whole

@@ -13,4 +13,4 @@ returns-in-Event-clause-taken c =
 pub returns-in-Declared-clause-taken : goal.returns-in-Declared-clause-taken
 returns-in-Declared-clause-taken c =
     timer-rests c.args.self.now.system.now c.args.self.now.key.now c.args.instance (slice_get c.args.self.now.system.now.library.blocks c.in-Declared.field-0) c.args.self.now.forest.now c.args.self.now.outbox.now
-    c.in-Declared.ensures c.requires.ready
+    c.in-Declared.ensures

@@ -3,7 +3,7 @@ use Rattle.fb_types.specs.declared.run.Carried.{Carried}
 use Rattle.fb_net.specs.Samples.{HoldsAll}
 use Rattle.fb_net.proofs.ByEvent.{arrival-taken, arrival-typed}
 use Rattle.fb_net.proofs.Wholes.{kept-held, kept-then}
-use Rattle.fb_net.proofs.taking.Taking.take_arrival.Goals as goal
+use Rattle.fb_net.proofs.taking.Taking.take_message.Goals as goal
 
 pub arrive-requires-clause-typed : goal.arrive-requires-clause-typed
 arrive-requires-clause-typed c =

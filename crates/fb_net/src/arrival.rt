@@ -1,0 +1,35 @@
+//! An event that comes to the blocks of a resource.
+
+ghost use Rattle.std.specs.Prelude.{◌≡◌};
+ghost use Rattle.fb_net.specs.Events.{key_at};
+
+use fb_types::key::Key;
+use fb_types::run::{Message, Target};
+
+/// An event of a resource, whose time has come. It has the class and the numbers of its key.
+#[derive(Clone, Copy)]
+pub enum Arrival<'a> {
+    /// The stimulus in this row, from 0.
+    Stimulus(u32),
+    /// The timer of this instance.
+    Timer(u32),
+    /// A message from another resource.
+    Message(&'a Message),
+    /// A local event at its target, with its number within the tick and the resource, from 0.
+    Local { target: Target, number: u128 },
+}
+
+impl Arrival<'_> {
+    /// The key under which the event comes at a tick, in milliseconds, in a resource.
+    #[inline(always)]
+    pub fn key(&self, tick: u64, resource: u32) -> Key
+        ensures { result ≡ key_at tick resource self.now }
+    {
+        match self {
+            Arrival::Stimulus(row) => Key::stimulus(tick, resource, *row),
+            Arrival::Timer(instance) => Key::timer(tick, resource, *instance),
+            Arrival::Message(message) => Key::arrival(tick, resource, message.link, message.number),
+            Arrival::Local { number, .. } => Key::local(tick, resource, *number),
+        }
+    }
+}
