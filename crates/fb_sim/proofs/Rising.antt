@@ -137,7 +137,7 @@ module _ (i : Inputs) (good : AreGood i) (limit horizon : ℕ) (es : List (CoreS
 
     -- each bound is as far
     over : (r : ℕ) → r < count_of (system_of i) → (core_of i limit es r).state.stop ≡ None → x.tick ≤ slice_index_or bounds r 0
-    over r b live = (greatest r b live).over m x.tick floor (let h = x.within in omega arith) in_reach
+    over r b live = (greatest r b).over m x.tick floor (let h = x.within in omega arith) in_reach
 
     -- and so is each clock after the turns,
     past : (r : ℕ) → r < count_of (system_of i) → (e r).state.stop ≡ None → x.tick ≤ (e r).clock

@@ -283,13 +283,13 @@ module _ {X : Type 0} (clock : X → ℕ) (stop : X → Option Reason) (Rests : 
                 over = λ m t fl b a. let g = tick_over m t fl b a in omega arith;
               }
 
-    -- What is computed are the greatest bounds, where each resource that has not stopped may stay at its clock.
-    pub greatest : ((r : ℕ) → r < count_of sys → (c r).state.stop ≡ None → IsLegal M c r (c r).clock) → AreGreatest sys limit horizon cap c all
-    greatest legal r b live =
+    -- What is computed are the greatest bounds, where each resource may stay at its clock.
+    pub greatest : ((r : ℕ) → r < count_of sys → IsLegal M c r (c r).clock) → AreGreatest sys limit horizon cap c all
+    greatest legal r b =
         let e = of.counted in
         let s = element_at xs r (omega arith) in
         let x = y.each r s.0 s.1 in
-        bound_greatest r x.tick x.links (clock s.0) (slice_index all r) (of.clocks r s.0 s.1) x.is (legal r b live)
+        bound_greatest r x.tick x.links (clock s.0) (slice_index all r) (of.clocks r s.0 s.1) x.is (legal r b)
 
   -- ---- Passes
 

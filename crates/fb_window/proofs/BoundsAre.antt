@@ -90,14 +90,14 @@ module _ (i : Inputs) (good : AreGood i) (limit horizon : ℕ) (es : List (CoreS
         → AreGreatest (system_of i) limit horizon cap (core_of i limit es) all
     are_greatest cap few all computed =
         greatest clock_of stop_of Rests (system_of i) sound limit horizon cap few (core_of i limit es) xs all (core_is i limit (core_of i limit es) xs at) computed
-        (λ r b live. clock_legal M (lawful (system_of i) sound limit) horizon w (core_of i limit es) (runs_after M es) kept_by r (at_home r))
+        (λ r b. clock_legal M (lawful (system_of i) sound limit) horizon w (core_of i limit es) (runs_after M es) kept_by r (at_home r))
 
     -- So each resource may leave with its bound.
     pub are_legal : (cap : ℕ) (all : List ℕ) → AreGreatest (system_of i) limit horizon cap (core_of i limit es) all → AreLegal i limit horizon (core_of i limit es) all
     are_legal cap all g = record {
-      legal = λ r b live. (g r b live).legal;
-      not_back = λ r b live. (g r b live).not_back;
-      in_range = λ r b live. ⊎_elim (λ e. let c = clock_within r in omega arith) (λ h. h.0.in_range) (g r b live).in_range;
+      legal = λ r b live. (g r b).legal;
+      not_back = λ r b live. (g r b).not_back;
+      in_range = λ r b live. ⊎_elim (λ e. let c = clock_within r in omega arith) (λ h. h.0.in_range) (g r b).in_range;
     }
 
     pub may_leave : (all : List ℕ) → horizon ≤ 10 ^ 12 → AreLegal i limit horizon (core_of i limit es) all → MayLeave all xs

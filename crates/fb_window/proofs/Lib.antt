@@ -18,3 +18,4 @@ pub mod Single
 pub mod Walking
 pub mod Walked
 pub mod Noting
+pub mod LinkLemmas

@@ -1,5 +1,5 @@
 -- How far each resource may run in a round (lookahead after Chandy, Misra and Nicol; this project's profile).
-use Rattle.std.specs.Prelude.{◌≡◌, ℕ, ◌+◌, ◌<◌, ◌≤◌, ◌⊎◌, Some, None, List, slice_index}
+use Rattle.std.specs.Prelude.{◌≡◌, ℕ, ◌+◌, ◌<◌, ◌≤◌, ◌⊎◌, Some, List, slice_index}
 use Rattle.fb_types.specs.Keys.{found}
 use Rattle.fb_types.specs.Systems.{System}
 use Rattle.fb_types.specs.Machines.{Machine, waiting}
@@ -27,7 +27,6 @@ module _ (M : Machine) where
     pub greatest : (other : ℕ) → IsLegal M c r other → IsInReach horizon c other → IsNear cap c other → other ≤ bound
     pub over : (m tick : ℕ) → IsFloor M c m → tick ≤ m + 1 → IsInReach horizon c tick → tick ≤ bound
 
--- Such a bound for each resource that has not stopped.
+-- Such a bound for each resource, whether it has stopped or not.
 abbrev pub AreGreatest : (sys : System) (limit horizon cap : ℕ) → Core (machine sys limit) → List ℕ → Type 0
-AreGreatest sys limit horizon cap c all =
-    (r : ℕ) → r < count_of sys → (c r).state.stop ≡ None → IsGreatest (machine sys limit) horizon cap c r (slice_index all r)
+AreGreatest sys limit horizon cap c all = (r : ℕ) → r < count_of sys → IsGreatest (machine sys limit) horizon cap c r (slice_index all r)

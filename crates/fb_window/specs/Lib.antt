@@ -2,6 +2,7 @@ pub mod Bounding
 pub mod Reaching
 pub mod Standing
 pub mod Jobs
+pub mod LinkRows
 pub mod Homes
 pub mod Mails
 pub mod Frontiers

@@ -14,15 +14,15 @@ ghost use Rattle.fb_window.specs.Reaching.{OfEachCore};
 ghost use Rattle.fb_window.specs.Settling.{AreLegal};
 
 use crate::cores::{Bounds, Core, MAX_RESOURCES};
+use crate::links::SystemLinks;
 use fb_resource::resource::Resource;
-use fb_system::system::System;
 use fb_take::arrivals::earliest;
 
 impl Core {
-    /// How far each resource may run: to the greatest bound at which no message can reach it later from below, as far
-    /// as that is over neither the horizon, nor the tick after the least stop, nor `cap` ticks past the least event;
-    /// or to its clock, where that is greater. Ticks are milliseconds. Of a resource that has stopped, which gets no job, the
-    /// bound means nothing.
+    /// How far each resource may run, in ticks (milliseconds): to the greatest bound below which no later message can
+    /// reach it, but not past the horizon, the tick after the least stop, or `cap` ticks past the least event; or to its
+    /// clock where that is greater. A resource that has stopped has its bound too, though it gets no job. This takes no
+    /// memory: the links were copied when the core was opened.
     pub fn bounds(&self, horizon: u64, cap: u64) -> Bounds
         requires resources { AreOf self.now.system self.now.steps self.now.resources.items }
         requires early { horizon ≤ 10 ^ 12 }
@@ -84,20 +84,23 @@ pub(crate) fn floor(resource: &Resource, least: u64) -> u64
 }
 
 /// For each resource the least tick at which a message may arrive that is not sent yet, or the top where that is less.
-fn arrivals(system: &System, resources: &[Resource], least: u64, top: u64) -> [u64; MAX_RESOURCES]
+fn arrivals(
+    system: &SystemLinks,
+    resources: &[Resource],
+    least: u64,
+    top: u64,
+) -> [u64; MAX_RESOURCES]
     requires counted { length resources.now ≡ count_of (system_of system.now) }
     requires early { top ≤ 10 ^ 12 }
     ensures long { length result ≡ 256 }
     ensures cut { (r : ℕ) → r < 256 → IsCut (LinkAllows (λ (x : Inner). x.clock) (λ (x : Inner). x.stopped) (system_of system.now) resources.now least r) top (system_of system.now).links (slice_index result r) }
 {
-    system.facts();
     let mut all = [top; MAX_RESOURCES];
-    for link in 0..system.links() {
-        let floor = floor(&resources[system.sender(link)], least);
+    for link in system.rows() {
+        let floor = floor(&resources[link.from], least);
         // A link on which nothing is sent before the top lowers no bound.
         if floor < top {
-            let receiver = system.receiver(link);
-            all[receiver] = all[receiver].min(earliest(system.latency(link), floor));
+            all[link.to] = all[link.to].min(earliest(&link.latency, floor));
         }
     }
     all

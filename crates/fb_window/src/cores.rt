@@ -1,8 +1,8 @@
 //! The core of the parallel run: all resources at home, and what of it stays behind while they are away.
 
 use crate::job::Job;
+use crate::links::SystemLinks;
 use fb_resource::resource::Resource;
-use fb_system::system::System;
 use fb_types::run::{Line, StopMark};
 use std::alloc::AllocError;
 use std::snapshot::Snapshot;
@@ -13,8 +13,8 @@ pub const MAX_RESOURCES: usize = 256;
 /// All resources of a system at home, with no message on its way.
 #[derive(Drop)]
 pub struct Core {
-    /// The system that is run.
-    pub system: System,
+    /// The links of the system that is run. Contracts see by them which system it is.
+    pub system: SystemLinks,
     /// The limit on the steps of one tick of a resource.
     pub steps: u64,
     /// The resources, in order.
@@ -36,8 +36,8 @@ pub struct Bounds {
 /// What stays behind while resources are away.
 #[derive(Drop)]
 pub struct Away {
-    /// The system that is run.
-    pub system: System,
+    /// The links of the system that is run. Contracts see by them which system it is.
+    pub system: SystemLinks,
     /// The limit on the steps of one tick of a resource.
     pub steps: u64,
     /// The tick past which no bound lies.

@@ -5,7 +5,7 @@
 //! exchanged, and the lines that have become final are handed out (`settle`). What the rounds come to is told by the
 //! law of schedules (`laws`), which knows nothing of this code.
 //!
-//! To be read in this order: `laws`; `cores` and `open`, what a core is; `bounds`; `leave` and `job`; `settle`, with
+//! To be read in this order: `laws`; `cores`, `links` and `open`, what a core is; `bounds`; `leave` and `job`; `settle`, with
 //! `home`, `post`, `frontier`, `cut`, `ends` and `beside`; `walk`, with `nexts`; `let_go`.
 #![tactic(auto)]
 
@@ -20,6 +20,7 @@ pub mod job;
 pub mod laws;
 mod leave;
 pub mod let_go;
+pub mod links;
 mod nexts;
 mod open;
 mod post;

@@ -7,6 +7,7 @@ ghost use Rattle.fb_window.specs.Settling.{lists_of};
 ghost use Rattle.fb_window.specs.Standing.{IsAt};
 
 use crate::cores::Core;
+use crate::links::SystemLinks;
 use fb_resource::resource::Resource;
 use fb_system::system::System;
 use fb_types::run::Line;
@@ -45,8 +46,9 @@ impl Core {
     {
         system.facts();
         let pending = no_lines(alloc, resources.len())?;
+        let system = SystemLinks::of(alloc, system)?;
         Ok(Core {
-            system: system.share()?,
+            system,
             steps,
             resources,
             pending,

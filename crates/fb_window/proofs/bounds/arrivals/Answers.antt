@@ -4,12 +4,13 @@ use Rattle.std.proofs.lemmas.Option.{slice_get_read}
 use Rattle.fb_types.specs.Headline.{system_of}
 use Rattle.fb_types.specs.Parts.{count_of}
 use Rattle.fb_types.specs.Systems.{System}
-use Rattle.fb_laws.specs.Sound.{AreGood, IsSound}
+use Rattle.fb_laws.specs.Sound.{IsSound}
 use Rattle.fb_laws.proofs.Accepting.{sound_of}
 use Rattle.fb_take.specs.Arrivals.{IsEarliest}
 use Rattle.fb_laws.specs.Cuts.{IsCut, LinkAllows}
 use Rattle.fb_window.proofs.Bounding.{AreCut, cuts_first, cuts_here, cuts_past}
-use Rattle.fb_window.proofs.Passes.{clock_of, stop_of, Rests, few_resources}
+use Rattle.fb_window.proofs.LinkLemmas.{inside}
+use Rattle.fb_window.proofs.Passes.{clock_of, stop_of, Rests}
 use Rattle.fb_window.proofs.bounds.arrivals.Goals as goal
 use Rattle.fb_window.proofs.bounds.arrivals.Goals.{then-floor-top, else-floor-top}
 
@@ -17,38 +18,72 @@ pub loop-link-init : goal.loop-link-init
 loop-link-init c =
     record { long = refl; cut = λ r b. cuts_first clock_of stop_of Rests (system_of c.args.system.now) c.args.resources.now c.args.least c.args.top 256 r b }
 
+pub offset_bounds-resources-link : goal.offset_bounds-resources-link
+offset_bounds-resources-link c =
+    let at = slice_get_read c.rows-link-items.result.now _ c.loop-link.link-index c.link-item.result refl c.loop-link-test.true c.link-item.is in
+    let it = inside c.args.system.now c.rows-link-items.result.now c.rows-link-items.ensures c.loop-link.link-index c.link-item.result at in
+    omega (arith, it.from, it.few)
+
+pub bounds-resources-link : goal.bounds-resources-link
+bounds-resources-link c =
+    let at = slice_get_read c.rows-link-items.result.now _ c.loop-link.link-index c.link-item.result refl c.loop-link-test.true c.link-item.is in
+    let it = inside c.args.system.now c.rows-link-items.result.now c.rows-link-items.ensures c.loop-link.link-index c.link-item.result at in
+    omega (arith, it.from, c.requires.counted)
+
+pub offset_bounds-all-link : goal.offset_bounds-all-link
+offset_bounds-all-link c =
+    let at = slice_get_read c.rows-link-items.result.now _ c.loop-link.link-index c.link-item.result refl c.loop-link-test.true c.link-item.is in
+    let it = inside c.args.system.now c.rows-link-items.result.now c.rows-link-items.ensures c.loop-link.link-index c.link-item.result at in
+    omega (arith, it.to, it.few)
+
+pub bounds-all-link : goal.bounds-all-link
+bounds-all-link c =
+    let at = slice_get_read c.rows-link-items.result.now _ c.loop-link.link-index c.link-item.result refl c.loop-link-test.true c.link-item.is in
+    let it = inside c.args.system.now c.rows-link-items.result.now c.rows-link-items.ensures c.loop-link.link-index c.link-item.result at in
+    omega (arith, it.to, it.few)
+
+pub offset_bounds-all-link-then-floor-top : goal.offset_bounds-all-link-then-floor-top
+offset_bounds-all-link-then-floor-top c =
+    let at = slice_get_read c.rows-link-items.result.now _ c.loop-link.link-index c.link-item.result refl c.loop-link-test.true c.link-item.is in
+    let it = inside c.args.system.now c.rows-link-items.result.now c.rows-link-items.ensures c.loop-link.link-index c.link-item.result at in
+    omega (arith, it.to, it.few)
+
+pub bounds-all-link-then-floor-top : goal.bounds-all-link-then-floor-top
+bounds-all-link-then-floor-top c =
+    let at = slice_get_read c.rows-link-items.result.now _ c.loop-link.link-index c.link-item.result refl c.loop-link-test.true c.link-item.is in
+    let it = inside c.args.system.now c.rows-link-items.result.now c.rows-link-items.ensures c.loop-link.link-index c.link-item.result at in
+    omega (arith, it.to, it.few)
+
 pub loop-link-preserved : goal.loop-link-preserved
 loop-link-preserved c =
     let i = c.args.system.now in
     let sys : System = system_of i in
-    let good : AreGood i = record { accepted = c.facts.ensures.accepted; limits = c.facts.ensures.limits } in
-    let sound : IsSound sys = sound_of i good in
-    let few = few_resources i good in
     let xs = c.args.resources.now in
-    let x = c.index-resources-sender.result in
-    let l = c.loop-link.link in
+    let row = c.link-item.result in
+    let l = c.loop-link.link-index in
     let all = c.loop-link.all in
+    let at = slice_get_read c.rows-link-items.result.now _ c.loop-link.link-index c.link-item.result refl c.loop-link-test.true c.link-item.is in
+    let it = inside c.args.system.now c.rows-link-items.result.now c.rows-link-items.ensures c.loop-link.link-index c.link-item.result at in
+    let sound : IsSound sys = sound_of i c.rows-link-items.ensures.good in
     let long : length all ≡ 256 = c.loop-link.invariant.long in
     let counted : length xs ≡ count_of sys = c.requires.counted in
-    let below : l < sys.links = omega (arith, c.loop-link-test.true, c.links-link-end.ensures) in
-    let from : c.sender.result ≡ sys.sender l = c.sender.ensures in
-    let sender : sys.sender l < count_of sys = sound.senders l below in
-    let at : slice_get xs (sys.sender l) ≡ Some x =
-    subst (λ (s : ℕ). slice_get xs s ≡ Some x) from (slice_get_read xs _ c.sender.result x refl (omega arith) c.index-resources-sender.is) in
+    let inner : row.from < length xs = omega (arith, it.from, counted) in
+    let to : row.to ≡ sys.receiver l = it.is.to in
+    let receiver : sys.receiver l < length all = omega (arith, it.to, it.few, to, long) in
+    let x = c.index-resources-link.result in
+    let seat : slice_get xs (sys.sender l) ≡ Some x = subst (λ (s : ℕ). slice_get xs s ≡ Some x) it.is.from (slice_get_read xs _ row.from x refl inner c.index-resources-link.is) in
     elim c.if-floor-top.branch [
       | then-floor-top w ↦
-          let to : w.receiver-receiver.result ≡ sys.receiver l = w.receiver-receiver.ensures in
-          let receiver : sys.receiver l < count_of sys = sound.receivers l below in
-          let here = cuts_here clock_of stop_of Rests sys xs c.args.least c.args.top l w.earliest.result all x w.latency.result.now c.loop-link.invariant.cut (omega arith) at w.latency.ensures
-          (subst (λ (f : ℕ). IsEarliest w.latency.result.now f w.earliest.result) c.floor-floor.ensures w.earliest.ensures.value) in
+          let here = cuts_here clock_of stop_of Rests sys xs c.args.least c.args.top l w.earliest.result all x row.latency c.loop-link.invariant.cut receiver seat it.is.arrival
+          (subst (λ (f : ℕ). IsEarliest row.latency f w.earliest.result) c.floor-floor.ensures w.earliest.ensures.value) in
           let is : c.if-floor-top.all ≡ set all (sys.receiver l) (min (slice_index all (sys.receiver l)) w.earliest.result) =
-          w.all-is ∙ ap (λ z. set all w.receiver-receiver.result z) w.min.ensures ∙ ap (λ q. set all q (min (slice_index all q) w.earliest.result)) to in
+          w.all-is ∙ ap (λ z. set all row.to z) w.min.ensures ∙ ap (λ q. set all q (min (slice_index all q) w.earliest.result)) to in
           record {
             long = ap length is ∙ length-set all (sys.receiver l) (min (slice_index all (sys.receiver l)) w.earliest.result) ∙ long;
             cut = subst (λ (ts : List ℕ). AreCut clock_of stop_of Rests sys xs c.args.least c.args.top (l + 1) ts) (sym is) here;
           }
       | else-floor-top w ↦
-          let past = cuts_past clock_of stop_of Rests sys xs c.args.least c.args.top l all x c.loop-link.invariant.cut (λ sent. sound.later l sent below) at
+          let past = cuts_past clock_of stop_of Rests sys xs c.args.least c.args.top l all x c.loop-link.invariant.cut (λ sent. sound.later l sent it.below) seat
           (omega (arith, w.if-floor-top.false, c.floor-floor.ensures)) in
           record {
             long = ap length w.all-is ∙ long;
@@ -56,13 +91,8 @@ loop-link-preserved c =
           }
     ]
 
-pub returns : goal.returns
-returns c =
-    let end : c.loop-link.link ≡ (system_of c.args.system.now).links = omega (arith, c.loop-link-test.false, c.links-link-end.ensures, c.loop-link.auto.link-end) in
-    let is : length c.loop-link.all ≡ 256 = c.loop-link.invariant.long in
-    record {
-      long = is;
-      cut = λ r b.
-          subst (λ (n : ℕ). IsCut (LinkAllows clock_of stop_of (system_of c.args.system.now) c.args.resources.now c.args.least r) c.args.top n (slice_index c.loop-link.all r)) end
-          (c.loop-link.invariant.cut r (omega arith));
-    }
+pub returns-clause-cut : goal.returns-clause-cut
+returns-clause-cut c = λ r b.
+    let end : c.loop-link.link-index ≡ (system_of c.args.system.now).links = omega (arith, c.loop-link-test.false, c.loop-link.auto.link-index-end, c.rows-link-items.ensures.all.counted) in
+    subst (λ (n : ℕ). IsCut (LinkAllows clock_of stop_of (system_of c.args.system.now) c.args.resources.now c.args.least r) c.args.top n (slice_index c.loop-link.all r)) end
+    (c.loop-link.invariant.cut r (omega (arith, c.loop-link.invariant.long, b)))

@@ -7,5 +7,5 @@ use Rattle.fb_window.proofs.bounds.arrivals.Given as goal
 abbrev pub invariant-loop-link : goal.invariant-loop-link
 invariant-loop-link l = record {
   long : length l.all ≡ 256;
-  cut : AreCut clock_of stop_of Rests (system_of l.system) l.resources l.least l.top l.link l.all;
+  cut : AreCut clock_of stop_of Rests (system_of l.system) l.resources l.least l.top l.link-index l.all;
 }
