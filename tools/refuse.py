@@ -7,7 +7,7 @@ status for want of memory, 4 unless it is given, and then its output is a beginn
 of a line. Where one does not, this says so, and ends with status 1.
 
 So it shows what no proof says: that want of memory is answered, wherever it comes, and that a call which is to leave all as
-it was does so. It also shows that within a round, or within what one worker writes at once, no request comes after the first byte: where the
+it was does so. It also shows that within a round, or within what a run over one agenda writes at once, no request comes after the first byte: where the
 lines of each round are known and memory is wanted, the output ends where a round ends.
 
 ./gate does this when it has run the program, for the runs in RUNS by --serial, one worker and two; without ./gate and without words
@@ -202,8 +202,7 @@ def tell(name, faults, made):
 def try_run(program, it, way):
     """Refuses each request of this run, and returns whether all was as it should be."""
     name, wanted = f"{PROGRAM}, {it.name}, {' '.join(way)}", "".join(it.rounds).encode()
-    # (the run on one thread writes when it has ended, so after want of memory there is nothing)
-    ends = {0} if way == ["--serial"] else ends_of(it.rounds) if it.is_known_by_rounds else None
+    ends = ends_of(it.rounds) if it.is_known_by_rounds else None
     with Room(program, {name: text.encode() for name, text in it.texts.items()}) as room:
         refusals = Refusals(room, ["run", "d.iec", *it.words, *way], WANT_OF_MEMORY, ends)
         status, output, _ = refusals.run(0)

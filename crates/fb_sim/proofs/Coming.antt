@@ -14,7 +14,7 @@ use Rattle.fb_laws.specs.Sound.{AreGood}
 use Rattle.fb_laws.proofs.Accepting.{sound_of}
 use Rattle.fb_laws.proofs.Existence.{there_is}
 use Rattle.fb_types.proofs.SimulationLaws.{one-simulation}
-use Rattle.fb_machine.proofs.Joined.{lines_of-append}
+use Rattle.fb_sim.proofs.Joined.{lines_of-append}
 use Rattle.fb_trace.specs.Progress.{IsPartWritten, bounded}
 use Rattle.fb_sim.specs.Advances.{IsNext, stop_line}
 use Rattle.fb_sim.specs.Sessions.{Session}
@@ -26,7 +26,7 @@ use Rattle.fb_sim.specs.declared.outcome.RunError.TheVariants.{Refused, Memory, 
 use Rattle.fb_sim.specs.declared.state.Stage.TheVariants as going
 use Rattle.fb_sim.proofs.Texts.{lines_text-append, part-after, part-before}
 use Rattle.fb_sim.specs.Reports.{Came, Comes, GoesOn, HasCome, HasTold, Hears, feeds, hundredth, report_text, session}
-use Rattle.fb_sim.specs.declared.told.ToldTally.{ToldTally}
+use Rattle.fb_sim.specs.declared.with_progress.ReportTally.{ReportTally}
 use Rattle.fb_sim.proofs.Simulations.{horizon_is, later_begins, stopped_later, stops}
 
 module _ (i : Inputs) (o : Options) where
@@ -136,7 +136,7 @@ at_own s i o to at = at ∙ ap (λ (j : Inputs). session j o to) (sym (ap (λ (z
 
 -- what a step of the loop comes to, as the inputs are called before the loop
 pub comes_so :
-    (s : Session) (i : Inputs) (o : Options) (to : ℕ) → s ≡ session i o to → (t : Session) (first out new quiet err told : Option (List ℕ)) (k l : ℕ) (n m : ToldTally) (r : Result Outcome RunError)
+    (s : Session) (i : Inputs) (o : Options) (to : ℕ) → s ≡ session i o to → (t : Session) (first out new quiet err told : Option (List ℕ)) (k l : ℕ) (n m : ReportTally) (r : Result Outcome RunError)
     → ((f : Option (List ℕ)) → (q : Option (List ℕ)) → Came s.inputs o f out q err k n → Comes s.inputs o t f new q told l m r) → Came i o first out quiet err k n → Comes i o t first new quiet told l m r
 comes_so s i o to at t first out new quiet err told k l n m r comes came =
     let e : s.inputs ≡ i = ap (λ (z : Session). z.inputs) at in
@@ -169,7 +169,7 @@ heard_more true true old mid new a b some h t = record { all = λ e. Appends-tra
 heard_more true false old mid new a b some h t = record { all = λ e. absurd (let f : false ≡ true = e in cc); none = λ e. absurd (some (behind_none a b e)) }
 heard_more false heard old mid new a b some h t = record { all = λ e. absurd (let f : false ≡ true = e in cc); none = λ e. absurd (some (behind_none a b e)) }
 
-module _ (i : Inputs) (o : Options) (first out quiet err : Option (List ℕ)) (n : ToldTally) (count : ℕ) (c : Came i o first out quiet err count n) where
+module _ (i : Inputs) (o : Options) (first out quiet err : Option (List ℕ)) (n : ReportTally) (count : ℕ) (c : Came i o first out quiet err count n) where
   abbrev now : ℕ
   now = hundredth o.horizon count
 
@@ -209,13 +209,13 @@ module _ (i : Inputs) (o : Options) (first out quiet err : Option (List ℕ)) (n
       omega (arith, e, f)
 
   -- a simulation at the tick of so many hundredths, on the way to the next
-  pub goes_here : (s t : Session) (tick : ℕ) (mid : Option (List ℕ)) (m : ToldTally) (r : Result Outcome RunError) → s ≡ session i o now → tick ≡ next → GoesOn s t tick out mid n m r
+  pub goes_here : (s t : Session) (tick : ℕ) (mid : Option (List ℕ)) (m : ReportTally) (r : Result Outcome RunError) → s ≡ session i o now → tick ≡ next → GoesOn s t tick out mid n m r
       → GoesOn (session i o now) t next out mid n m r
   goes_here s t tick mid m r at is goes =
       subst (λ (z : Session). GoesOn z t next out mid n m r) at (subst (λ (k : ℕ). GoesOn s t k out mid n m r) is goes)
 
   -- the run goes on to the next hundredth, and that is told
-  pub came_more : (t : Session) (mid : Option (List ℕ)) (m : ToldTally) (k : ℕ) (heard : Bool) (new : Option (List ℕ)) → now < next
+  pub came_more : (t : Session) (mid : Option (List ℕ)) (m : ReportTally) (k : ℕ) (heard : Bool) (new : Option (List ℕ)) → now < next
       → GoesOn (session i o now) t next out mid n m (Ok (End k)) → (IsTrue heard → Appends err new (report_text o.horizon next m.lines))
       → Comes i o t first mid quiet new (suc count) (record m { is_heard = heard && m.is_heard }) (Ok (End next))
   came_more t mid m k heard new later r told =
@@ -249,7 +249,7 @@ module _ (i : Inputs) (o : Options) (first out quiet err : Option (List ℕ)) (n
   }
 
   -- the run stops on the way
-  pub came_stop : count ≤ 100 → next ≤ o.horizon → (t : Session) (mid : Option (List ℕ)) (m : ToldTally) (mark : StopMark) → GoesOn (session i o now) t next out mid n m (Ok (Stop mark))
+  pub came_stop : count ≤ 100 → next ≤ o.horizon → (t : Session) (mid : Option (List ℕ)) (m : ReportTally) (mark : StopMark) → GoesOn (session i o now) t next out mid n m (Ok (Stop mark))
       → Comes i o t first mid quiet err (suc count) m (Ok (Stop mark))
   came_stop few early t mid m mark r = (
     ap (λ (s : Session). s.stage) r.3,
@@ -262,7 +262,7 @@ module _ (i : Inputs) (o : Options) (first out quiet err : Option (List ℕ)) (n
   )
 
   -- the run finds no memory on the way, or can't write
-  pub came_failed : AreGood i → count ≤ 100 → now ≤ o.horizon → next ≤ o.horizon → (t : Session) (mid : Option (List ℕ)) (m : ToldTally) (e : RunError)
+  pub came_failed : AreGood i → count ≤ 100 → now ≤ o.horizon → next ≤ o.horizon → (t : Session) (mid : Option (List ℕ)) (m : ReportTally) (e : RunError)
       → GoesOn (session i o now) t next out mid n m (Err e) → Comes i o t first mid quiet err (suc count) m (Err e)
   came_failed good few early later t mid m Memory r =
       let f = come_front i o good now o.horizon c.text early c.come in (
@@ -273,7 +273,7 @@ module _ (i : Inputs) (o : Options) (first out quiet err : Option (List ℕ)) (n
           got = subst (λ (z : Option (List ℕ)). Appends first z c.text) (sym r.0) c.got;
           trace = f.trace;
         },
-        has_told few m.is_heard (ap (λ (z : ToldTally). z.is_heard) r.1),
+        has_told few m.is_heard (ap (λ (z : ReportTally). z.is_heard) r.1),
       )
   came_failed good few early later t mid m (Write k) r =
       let bytes = r.0 in
@@ -286,7 +286,7 @@ module _ (i : Inputs) (o : Options) (first out quiet err : Option (List ℕ)) (n
           got = subst (λ (z : ℕ). IsPartWritten first mid ((c.text ++ bytes) ++ f.rest) z) (sym short.2) part;
           trace = f.trace;
         },
-        has_told few m.is_heard (ap (λ (z : ToldTally). z.is_heard) r.4),
+        has_told few m.is_heard (ap (λ (z : ReportTally). z.is_heard) r.4),
       )
   came_failed good few early later t mid m (Refused x) bad = absurd bad
   came_failed good few early later t mid m BadOption bad = absurd bad

@@ -18,7 +18,7 @@ use Rattle.fb_sim.specs.declared.outcome.RunError.TheVariants.{Refused, Memory, 
 use Rattle.fb_sim.specs.declared.state.Stage.{Stage}
 use Rattle.fb_sim.proofs.Texts.{part-after}
 use Rattle.fb_sim.specs.Reports.{Came, Comes, Ends, Fails, HasCome, HasTold, Hears, Tells, hundredth, is_at_end, session}
-use Rattle.fb_sim.specs.declared.told.ToldTally.{ToldTally}
+use Rattle.fb_sim.specs.declared.with_progress.ReportTally.{ReportTally}
 use Rattle.fb_sim.proofs.Coming.{come_end, hundredth_last}
 
 untrue : false ≡ true → {P : Type 0} → P
@@ -31,7 +31,7 @@ heard_if (Err e) b P is holds t = untrue (sym is ∙ t)
 
 -- ---- The last line
 
-module _ (i : Inputs) (o : Options) (first mid quiet err : Option (List ℕ)) (n : ToldTally) (c : Came i o first mid quiet err 100 n) where
+module _ (i : Inputs) (o : Options) (first mid quiet err : Option (List ℕ)) (n : ReportTally) (c : Came i o first mid quiet err 100 n) where
   come : HasCome i o o.horizon c.text
   come = subst (λ (t : ℕ). HasCome i o t c.text) (hundredth_last o.horizon) c.come
 
@@ -65,7 +65,7 @@ module _ (i : Inputs) (o : Options) (first mid quiet err : Option (List ℕ)) (n
 some_told : (i : Inputs) (o : Options) (quiet err : Option (List ℕ)) (heard : Bool) → HasTold i o quiet err heard → Tells i o quiet err heard false
 some_told i o quiet err heard told = record { told = told; all = λ t. untrue t }
 
-module _ (i : Inputs) (o : Options) (t : Session) (first mid quiet err : Option (List ℕ)) (m : ToldTally) where
+module _ (i : Inputs) (o : Options) (t : Session) (first mid quiet err : Option (List ℕ)) (m : ReportTally) where
   at_last : (new : Option (List ℕ)) (r : Result Outcome RunError) → t ≡ session i o (hundredth o.horizon 100) → Finishes t mid new r → Finishes (session i o o.horizon) mid new r
   at_last new r at f = subst (λ (s : Session). Finishes s mid new r) (at ∙ ap (session i o) (hundredth_last o.horizon)) f
 

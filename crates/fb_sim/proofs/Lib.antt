@@ -1,17 +1,22 @@
 pub mod AdvanceIs
+pub mod AgendaIs
 mod Coming
+pub mod DeliverIs
 pub mod Edges
 mod Ending
 pub mod Fronts
-pub mod OneWorkerIs
+pub mod Joined
+pub mod OneAgendaIs
+pub mod OpenIs
 pub mod Outcomes
+pub mod ReadyIs
 pub mod Refused
 pub mod Rising
 pub mod RoundIs
 pub mod RunIs
 pub mod Seen
-pub mod SerialIs
 pub mod SessionIs
 mod Simulations
+pub mod TakenIs
 pub mod Texts
 pub mod WindowIs

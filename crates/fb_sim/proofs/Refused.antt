@@ -5,7 +5,12 @@ use Rattle.fb_read.specs.Front.{bad_byte, bad_token}
 use Rattle.fb_read.specs.Whole.{IsDerived, IsLibraryText, IsMemory, IsNesting, IsGrammarFault, HasTokenFault, HasTokens, RefusesWhere, most_bytes}
 use Rattle.fb_read.specs.declared.error.ReadError.{ReadError}
 use Rattle.fb_read.specs.declared.error.ReadError.TheVariants as error
-use Rattle.fb_sim.specs.Serial.{IsReadFault}
+use Rattle.fb_types.specs.Headline.{Inputs}
+use Rattle.fb_check.specs.Refusals as judge
+use Rattle.fb_check.specs.declared.error.CheckError.{CheckError}
+use Rattle.fb_check.specs.declared.error.CheckError.TheVariants as check
+use Rattle.fb_sim.specs.Given.{Given}
+use Rattle.fb_sim.specs.Serial.{AreNotAccepted, HasNumber, IsReadFault, Reads}
 
 pub not_memory : (e : ReadError) → (e ≡ error.Memory → ⊥) → ¬ (IsMemory e)
 not_memory error.Memory other is = other refl
@@ -50,3 +55,8 @@ read_fault text e other none nesting too_long byte token grammar =
     here : {f : ReadError} → (refused e ≡ refused f) ⊎ (refused e ≡ refused error.Memory) → e ≡ f
     here (inl is) = err_is is
     here (inr memory) = absurd (other (err_is memory))
+
+-- what the check says of its refusal, where it is not for memory
+pub check_fault : (given : Given) (i : Inputs) (e : CheckError) → (e ≡ check.Memory → ⊥) → Reads given i → judge.IsRightly i e → HasNumber (judge.number_of e) (AreNotAccepted given)
+check_fault given i check.Memory other read rightly = absurd (other refl)
+check_fault given i (check.Refused f) other read rightly = record { inputs = i; read = read; applies = rightly }

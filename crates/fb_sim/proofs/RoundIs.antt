@@ -28,7 +28,7 @@ use Rattle.fb_window.specs.declared.cores.Settled.{Settled}
 use Rattle.fb_window.specs.declared.cores.Settled.TheVariants as settled
 use Rattle.fb_laws.proofs.Phasing.{phase_of, is_phase}
 use Rattle.fb_laws.proofs.TellsAll.{end_told, stop_told}
-use Rattle.fb_sim.specs.Rounds.{Begin, AreAll, HasCome, IsHomeAgain}
+use Rattle.fb_sim.specs.Rounds.{Begin, AreAll, HasCome, IsHomeAgain, IsHomeOnce, IsPhaseAt}
 use Rattle.fb_sim.proofs.Fronts.{left_begins, all_left, all_stopped}
 use Rattle.fb_sim.proofs.Rising.{rises}
 
@@ -122,6 +122,33 @@ module _ (i : Inputs) (good : AreGood i) (limit horizon : ℕ) where
             stop_all (after_phase i limit es fs) (st.schedule fs ph) mark.resource mark.reason mark.tick (ls ++ map (line_of (system_of i)) out.items) se.0 se.1 (se.3 ls left),
           );
         }
+
+    -- the steps of the round are those of one phase, and the exchange
+    phase_at : (s : Settled) (st : Settles i limit horizon es bounds before workers s) → IsPhaseAt i limit horizon cap es (phase_of (machine (system_of i) limit) st.turns (count_of (system_of i)))
+    phase_at s st = record {
+      bounds = bounds;
+      greatest = greatest;
+      workers = workers;
+      turns = st.turns;
+      are_turns = st.are_turns;
+      phase = is_phase (machine (system_of i) limit) st.turns (count_of (system_of i)) st.are_turns.others;
+    }
+
+    pub home_once : (s : Settled) → Settles i limit horizon es bounds before workers s → IsHomeOnce i limit horizon cap es ls s
+    unfolding home_again
+    home_once (settled.Going core out) st =
+        let fs = phase_of (machine (system_of i) limit) st.turns (count_of (system_of i)) in
+        let home = home_again (settled.Going core out) st in
+        record { belong = home.belong; round = record { steps = fs; phase = phase_at (settled.Going core out) st; after = home.after; by = refl } }
+    home_once (settled.Ended core out) st =
+        let fs = phase_of (machine (system_of i) limit) st.turns (count_of (system_of i)) in
+        let home = home_again (settled.Ended core out) st in
+        record { belong = home.belong; round = record { steps = fs; phase = phase_at (settled.Ended core out) st; after = home.after; by = refl } }
+    home_once (settled.Stopped out mark) st =
+        let fs = phase_of (machine (system_of i) limit) st.turns (count_of (system_of i)) in
+        let home = home_again (settled.Stopped out mark) st in
+        let se = st.settled fs (is_phase (machine (system_of i) limit) st.turns (count_of (system_of i)) st.are_turns.others) in
+        record { belong = home.belong; round = record { steps = fs; phase = phase_at (settled.Stopped out mark) st; after = home.after; by = (se.0, se.1) } }
 
 -- ---- The opening
 

@@ -30,14 +30,14 @@ use Rattle.fb_window.specs.declared.cores.Away.{Away}
 use Rattle.fb_window.specs.declared.cores.Core.{Core}
 use Rattle.fb_window.specs.declared.cores.Settled.{Settled}
 use Rattle.fb_window.specs.declared.cores.Settled.TheVariants as settled
-use Rattle.fb_sim.specs.Rounds.{Begin, CountedRounds, HasCome, HasWalked, IsAfter, IsHomeAgain, IsOnItsWay, Rounds, WritesPartOf, lines_out, round_of, text_of}
+use Rattle.fb_sim.specs.Rounds.{Begin, CountedRounds, HasCome, HasWalked, IsAfter, IsHomeAgain, IsHomeOnce, IsOnItsWay, Rounds, WritesPartOf, lines_out, round_of, text_of}
 use Rattle.fb_sim.specs.declared.options.Options.{Options}
 use Rattle.fb_sim.specs.declared.outcome.RunError.{RunError}
 use Rattle.fb_sim.specs.declared.outcome.RunError.TheVariants.{Refused, Memory, Write, BadOption, Failed}
 use Rattle.fb_sim.specs.declared.progress.Round.{Round}
 use Rattle.fb_sim.specs.declared.progress.Round.TheVariants.{Going, Ended, Stopped}
 use Rattle.fb_sim.specs.declared.tally.Tally.{Tally}
-use Rattle.fb_sim.proofs.RoundIs.{all_begin, come_begins, home_again}
+use Rattle.fb_sim.proofs.RoundIs.{all_begin, come_begins, home_again, home_once}
 
 -- what holds of the inputs and the limit holds of the core's own
 at_core : (P : Inputs → ℕ → Type 0) (j i : Inputs) (l limit : ℕ) → j ≡ i → l ≡ limit → P i limit → P j l
@@ -93,17 +93,36 @@ module _ (i : Inputs) (limit horizon : ℕ) (core : Core) (ls : List Line) (h : 
           → AreLegal j l u (core_of j l es) bounds
           → Settles j l u es bounds before workers s
 
+      settles : (s : Settled) → away.horizon ≡ horizon
+          → OfEachCore core.system core.steps horizon core.resources.items (λ c. AreLegal core.system core.steps horizon c all)
+          → Says away.system away.steps away.horizon (lists_of away.pending.items) s → Settles i limit horizon h.steps all (lists_of core.pending.items) (λ r. 0) s
+      settles s to legal says =
+          let a : Says i away.steps away.horizon (lists_of away.pending.items) s = subst (λ (j : Inputs). Says j away.steps away.horizon (lists_of away.pending.items) s) (system ∙ h.of.inputs) says in
+          let b : Says i limit away.horizon (lists_of away.pending.items) s = subst (λ (l : ℕ). Says i l away.horizon (lists_of away.pending.items) s) (steps ∙ h.of.steps) a in
+          let c : Says i limit horizon (lists_of away.pending.items) s = subst (λ (u : ℕ). Says i limit u (lists_of away.pending.items) s) to b in
+          let d : Says i limit horizon (lists_of core.pending.items) s = subst (λ (ps : List (List run.Line)). Says i limit horizon ps s) (ap (λ ps. lists_of ps.items) pending) c in
+          d core.resources.items all h.steps (λ r. 0) left h.schedule h.at (are_legal legal)
+
       pub is_home : (s : Settled) → AreGood i → away.horizon ≡ horizon
           → OfEachCore core.system core.steps horizon core.resources.items (λ c. AreLegal core.system core.steps horizon c all)
           → (cap : ℕ) → OfEachCore core.system core.steps horizon core.resources.items (λ c. AreGreatest (system_of core.system) core.steps horizon cap c all)
           → Says away.system away.steps away.horizon (lists_of away.pending.items) s → IsHomeAgain i limit horizon (core_of i limit h.steps) ls s
       is_home s good to legal cap greatest says =
-          let a : Says i away.steps away.horizon (lists_of away.pending.items) s = subst (λ (j : Inputs). Says j away.steps away.horizon (lists_of away.pending.items) s) (system ∙ h.of.inputs) says in
-          let b : Says i limit away.horizon (lists_of away.pending.items) s = subst (λ (l : ℕ). Says i l away.horizon (lists_of away.pending.items) s) (steps ∙ h.of.steps) a in
-          let c : Says i limit horizon (lists_of away.pending.items) s = subst (λ (u : ℕ). Says i limit u (lists_of away.pending.items) s) to b in
-          let d : Says i limit horizon (lists_of core.pending.items) s = subst (λ (ps : List (List run.Line)). Says i limit horizon ps s) (ap (λ ps. lists_of ps.items) pending) c in
           home_again i good limit horizon h.steps core.resources.items (lists_of core.pending.items) ls h.schedule h.at h.left cap all (are_greatest cap greatest) (λ r. 0) s
-          (d core.resources.items all h.steps (λ r. 0) left h.schedule h.at (are_legal legal))
+          (settles s to legal says)
+
+      -- the same, with the one phase that led there
+      pub is_home_once : (s : Settled) → AreGood i → away.horizon ≡ horizon
+          → OfEachCore core.system core.steps horizon core.resources.items (λ c. AreLegal core.system core.steps horizon c all)
+          → (cap : ℕ) → OfEachCore core.system core.steps horizon core.resources.items (λ c. AreGreatest (system_of core.system) core.steps horizon cap c all)
+          → Says away.system away.steps away.horizon (lists_of away.pending.items) s → IsHomeOnce i limit horizon cap h.steps ls s
+      is_home_once s good to legal cap greatest says =
+          home_once i good limit horizon h.steps core.resources.items (lists_of core.pending.items) ls h.schedule h.at h.left cap all (are_greatest cap greatest) (λ r. 0) s
+          (settles s to legal says)
+
+-- a core that all final lines were handed out of
+abbrev pub on_its_way : (i : Inputs) (limit horizon : ℕ) (core : Core) (ls : List Line) → HasCome i limit horizon core ls → IsOnItsWay i limit horizon core ls
+on_its_way i limit horizon core ls h = record { of = h.of; steps = h.steps; schedule = h.way.schedule; at = h.way.at; left = h.way.left.handed }
 
 -- ---- A walk before the window
 
@@ -183,15 +202,28 @@ module _ (i : Inputs) (o : Options) (c : model_cores.Core (machine (system_of i)
   pub counted_wanting : (e : RunError) → e ≡ Memory → new ≡ old → CountedRounds i o c ls old new (Err e)
   counted_wanting e is same = subst (λ (f : RunError). CountedRounds i o c ls old new (Err f)) (sym is) same
 
-  -- without the count
-  pub uncounted : (round : Round) (n : Tally) → CountedRounds i o c ls old new (Ok (round, n)) → Rounds i o c ls old new (Ok round)
-  uncounted round n r = (r.0, r.1, r.2)
-
   -- the error that `?` passes on
   pub counted_passed : (r : Result (Round × Tally) RunError) (e : RunError) → IsErrAnd r (λ f. f ≡ e) → CountedRounds i o c ls old new (Err e) → CountedRounds i o c ls old new r
   counted_passed (Ok x) e bad h = absurd bad
   counted_passed (Err f) e is h = subst (λ (x : RunError). CountedRounds i o c ls old new (Err x)) (sym is) h
 
-  pub passed : (r : Result Round RunError) (e : RunError) → IsErrAnd r (λ f. f ≡ e) → CountedRounds i o c ls old new (Err e) → Rounds i o c ls old new r
-  passed (Ok x) e bad h = absurd bad
-  passed (Err f) e is h = subst (λ (x : RunError). Rounds i o c ls old new (Err x)) (sym is) h
+-- What one round has written: the text of its lines, or a part of it.
+module _ (i : Inputs) (o : Options) (es : List (CoreStep (machine (system_of i) o.steps))) (ls : List Line) (old new : Option (List ℕ)) where
+  pub round_whole : (s : Settled) → IsHomeOnce i o.steps o.horizon 1024 es ls s → Appends old new (text_of i o.form (map (line_of (system_of i)) (lines_out s))) → Rounds i o es ls old new (Ok (round_of s))
+  round_whole s h got = (map (line_of (system_of i)) (lines_out s), h.round, got)
+
+  pub round_failed : (s : Settled) (e : RunError) → IsHomeOnce i o.steps o.horizon 1024 es ls s → WritesPartOf old new (text_of i o.form (map (line_of (system_of i)) (lines_out s))) e
+      → Rounds i o es ls old new (Err e)
+  round_failed s (Write n) h part = (map (line_of (system_of i)) (lines_out s), (round_of s, h.round), part)
+  round_failed s (Refused r) h part = absurd part
+  round_failed s Memory h part = absurd part
+  round_failed s BadOption h part = absurd part
+  round_failed s Failed h part = absurd part
+
+  pub round_wanting : (e : RunError) → e ≡ Memory → new ≡ old → Rounds i o es ls old new (Err e)
+  round_wanting e is same = subst (λ (f : RunError). Rounds i o es ls old new (Err f)) (sym is) same
+
+  -- the error that `?` passes on
+  pub round_passed : (r : Result Round RunError) (e : RunError) → IsErrAnd r (λ f. f ≡ e) → Rounds i o es ls old new (Err e) → Rounds i o es ls old new r
+  round_passed (Ok x) e bad h = absurd bad
+  round_passed (Err f) e is h = subst (λ (x : RunError). Rounds i o es ls old new (Err x)) (sym is) h

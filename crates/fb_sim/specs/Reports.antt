@@ -17,7 +17,7 @@ use Rattle.fb_sim.specs.declared.outcome.Outcome.TheVariants.{End, Stop}
 use Rattle.fb_sim.specs.declared.outcome.RunError.{RunError}
 use Rattle.fb_sim.specs.declared.outcome.RunError.TheVariants.{Refused, Memory, Write, BadOption, Failed}
 use Rattle.fb_sim.specs.declared.state.Stage.TheVariants as going
-use Rattle.fb_sim.specs.declared.told.ToldTally.{ToldTally}
+use Rattle.fb_sim.specs.declared.with_progress.ReportTally.{ReportTally}
 
 -- ---- What standard error hears
 
@@ -83,11 +83,11 @@ is_at_end (Err e) = false
 -- ---- From one tick to a later one
 
 -- the counts of bytes and of line feeds, with a text behind
-abbrev pub Counted : (n m : ToldTally) → (text : List ℕ) → Type 0
+abbrev pub Counted : (n m : ReportTally) → (text : List ℕ) → Type 0
 Counted n m text = (m.bytes ≡ bounded (n.bytes + length text)) × (m.lines ≡ bounded (n.lines + feeds text)) × (m.is_heard ≡ n.is_heard)
 
 -- The text of the way to the later tick was written, or a part of it, or memory was wanting.
-abbrev pub GoesOn : (s t : Session) (to : ℕ) → (old new : Option (List ℕ)) → (n m : ToldTally) → Result Outcome RunError → Type 0
+abbrev pub GoesOn : (s t : Session) (to : ℕ) → (old new : Option (List ℕ)) → (n m : ReportTally) → Result Outcome RunError → Type 0
 GoesOn s t to old new n m (Ok o) =
     (text : List ℕ) × IsNext s to text (serial.ending_of o) × Appends old new text × (t ≡ record s { to = to; stage = stage_after o }) × Counted n m text
 GoesOn s t to old new n m (Err Memory) = (new ≡ old) × (m ≡ n)
@@ -119,7 +119,7 @@ pub record HasTold (i : Inputs) (o : Options) (quiet err : Option (List ℕ)) (h
   pub hears : Hears heard quiet err reports
 
 -- The run has come to the tick of so many hundredths and goes on; so much was written and told.
-pub record Came (i : Inputs) (o : Options) (first out quiet err : Option (List ℕ)) (count : ℕ) (n : ToldTally) : Type 0 where
+pub record Came (i : Inputs) (o : Options) (first out quiet err : Option (List ℕ)) (count : ℕ) (n : ReportTally) : Type 0 where
   pub text : List ℕ
   pub come : HasCome i o (hundredth o.horizon count) text
   pub got : Appends first out text
@@ -159,7 +159,7 @@ Fails i o old new BadOption = ⊥
 Fails i o old new Failed = ⊥
 
 -- The run has come so many hundredths far, or has stopped or failed on the way.
-abbrev pub Comes : (i : Inputs) (o : Options) (t : Session) (first out quiet err : Option (List ℕ)) (count : ℕ) (m : ToldTally) → Result Outcome RunError → Type 0
+abbrev pub Comes : (i : Inputs) (o : Options) (t : Session) (first out quiet err : Option (List ℕ)) (count : ℕ) (m : ReportTally) → Result Outcome RunError → Type 0
 Comes i o t first out quiet err count m (Ok (End h)) = Came i o first out quiet err count m × (t ≡ session i o (hundredth o.horizon count))
 Comes i o t first out quiet err count m (Ok (Stop mark)) =
     (t.stage ≡ going.Stopped mark) × HasWritten i o first out (AtStop mark.tick mark.resource mark.reason) × HasTold i o quiet err m.is_heard

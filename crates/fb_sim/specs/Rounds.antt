@@ -16,7 +16,9 @@ use Rattle.fb_types.specs.declared.value.Reason.{Reason}
 use Rattle.fb_system.specs.Lines.{BelongsTo}
 use Rattle.fb_trace.specs.Progress.{IsPartWritten, bounded}
 use Rattle.fb_laws.specs.Finality.{HasKept, core_of}
-use Rattle.fb_window.specs.Settling.{IsUnderWay, lists_of}
+use Rattle.fb_laws.specs.Phases.{Turn, IsPhase}
+use Rattle.fb_window.specs.Bounding.{AreGreatest}
+use Rattle.fb_window.specs.Settling.{AreTurns, IsUnderWay, after_phase, lists_of}
 use Rattle.fb_window.specs.Standing.{IsAt}
 use Rattle.fb_window.specs.declared.cores.Core.{Core}
 use Rattle.fb_window.specs.declared.cores.Settled.{Settled}
@@ -107,20 +109,53 @@ IsShort old new text before Memory = ⊥
 IsShort old new text before BadOption = ⊥
 IsShort old new text before Failed = ⊥
 
--- Where these lines were handed out of the core c, a round hands out the next ones, and the writer gets their text, or a part of it.
-abbrev pub Rounds : (i : Inputs) (o : Options) (c : model_cores.Core (machine (system_of i) o.steps)) (ls : List Line) → (old new : Option (List ℕ)) → Result Round RunError → Type 0
-Rounds i o c ls old new (Ok round) = (out : List Line) × IsAfter i o.steps o.horizon c (ls ++ out) round × Appends old new (text_of i o.form out)
-Rounds i o c ls old new (Err (Write n)) = (out : List Line) × Begin i o.steps o.horizon (ls ++ out) × IsPartWritten old new (text_of i o.form out) n
-Rounds i o c ls old new (Err Memory) = new ≡ old
-Rounds i o c ls old new (Err (Refused r)) = ⊥
-Rounds i o c ls old new (Err BadOption) = ⊥
-Rounds i o c ls old new (Err Failed) = ⊥
+-- The steps of one phase after the steps es: each resource that has not stopped has left once, with its greatest legal bound at the cap, and has come back, whichever worker drew it.
+pub record IsPhaseAt (i : Inputs) (limit horizon cap : ℕ) (es fs : List (CoreStep (machine (system_of i) limit))) : Type 0 where
+  pub bounds : List ℕ
+  pub greatest : AreGreatest (system_of i) limit horizon cap (core_of i limit es) bounds
+  pub workers : ℕ → ℕ
+  pub turns : ℕ → Option (Turn (machine (system_of i) limit))
+  pub are_turns : AreTurns i limit horizon (core_of i limit es) bounds workers turns
+  pub phase : IsPhase (machine (system_of i) limit) turns fs
 
--- The same, with the count of the bytes that were written.
+-- The core of the round stands where these steps have led; or they have led to its stop.
+abbrev pub IsBy : (i : Inputs) (limit horizon : ℕ) (c : model_cores.Core (machine (system_of i) limit)) (ls : List Line) (ds : List (CoreStep (machine (system_of i) limit))) (round : Round)
+    → IsAfter i limit horizon c ls round → Type 0
+IsBy i limit horizon c ls ds (Going core) after = after.0.steps ≡ ds
+IsBy i limit horizon c ls ds (Ended core) after = after.0.steps ≡ ds
+IsBy i limit horizon c ls ds (Stopped mark) after =
+    IsLeastStop (machine (system_of i) limit) (count_of (system_of i)) (core_of i limit ds) mark.resource mark.reason × ((core_of i limit ds mark.resource).clock ≡ mark.tick)
+
+-- One round after the steps es: one phase and one exchange after it, and no other step. So these lines are handed out, and it says how far the run is.
+pub record IsOneRound (i : Inputs) (limit horizon cap : ℕ) (es : List (CoreStep (machine (system_of i) limit))) (ls : List Line) (round : Round) : Type 0 where
+  pub steps : List (CoreStep (machine (system_of i) limit))
+  pub phase : IsPhaseAt i limit horizon cap es steps
+  pub after : IsAfter i limit horizon (core_of i limit es) ls round
+  pub by : IsBy i limit horizon (core_of i limit es) ls (after_phase i limit es steps) round after
+
+-- Where these lines were handed out of the core after the steps es, one round with windows of 1,024 ticks at most hands out the next ones, and the writer gets their text, or a part of it.
+abbrev pub Rounds : (i : Inputs) (o : Options) (es : List (CoreStep (machine (system_of i) o.steps))) (ls : List Line) → (old new : Option (List ℕ)) → Result Round RunError → Type 0
+Rounds i o es ls old new (Ok round) = (out : List Line) × IsOneRound i o.steps o.horizon 1024 es (ls ++ out) round × Appends old new (text_of i o.form out)
+Rounds i o es ls old new (Err (Write n)) =
+    (out : List Line) × ((round : Round) × IsOneRound i o.steps o.horizon 1024 es (ls ++ out) round) × IsPartWritten old new (text_of i o.form out) n
+Rounds i o es ls old new (Err Memory) = new ≡ old
+Rounds i o es ls old new (Err (Refused r)) = ⊥
+Rounds i o es ls old new (Err BadOption) = ⊥
+Rounds i o es ls old new (Err Failed) = ⊥
+
+-- A round of a run failed, out of which these lines were handed: the writer got a part of the next ones, or nothing.
+abbrev pub FailsRound : (i : Inputs) (o : Options) (ls : List Line) → (old new : Option (List ℕ)) → RunError → Type 0
+FailsRound i o ls old new (Write n) = (out : List Line) × Begin i o.steps o.horizon (ls ++ out) × IsPartWritten old new (text_of i o.form out) n
+FailsRound i o ls old new Memory = new ≡ old
+FailsRound i o ls old new (Refused r) = ⊥
+FailsRound i o ls old new BadOption = ⊥
+FailsRound i o ls old new Failed = ⊥
+
+-- Where these lines were handed out of the core c, some turns of single resources and a round hand out the next ones, and the writer gets their text, of so many bytes.
 abbrev pub CountedRounds : (i : Inputs) (o : Options) (c : model_cores.Core (machine (system_of i) o.steps)) (ls : List Line) → (old new : Option (List ℕ)) → Result (Round × Tally) RunError → Type 0
 CountedRounds i o c ls old new (Ok (round, tally)) =
     (out : List Line) × IsAfter i o.steps o.horizon c (ls ++ out) round × Appends old new (text_of i o.form out) × (tally.bytes ≡ bounded (length (text_of i o.form out)))
-CountedRounds i o c ls old new (Err e) = Rounds i o c ls old new (Err e)
+CountedRounds i o c ls old new (Err e) = FailsRound i o ls old new e
 
 -- ---- A run
 
@@ -175,6 +210,11 @@ lines_out (settled.Stopped out mark) = out.items
 pub record IsHomeAgain (i : Inputs) (limit horizon : ℕ) (c : model_cores.Core (machine (system_of i) limit)) (ls : List Line) (s : Settled) : Type 0 where
   pub belong : All (BelongsTo (system_of i)) (lines_out s)
   pub after : IsAfter i limit horizon c (ls ++ map (line_of (system_of i)) (lines_out s)) (round_of s)
+
+-- All are home again after one round, and these lines are the next ones.
+pub record IsHomeOnce (i : Inputs) (limit horizon cap : ℕ) (es : List (CoreStep (machine (system_of i) limit))) (ls : List Line) (s : Settled) : Type 0 where
+  pub belong : All (BelongsTo (system_of i)) (lines_out s)
+  pub round : IsOneRound i limit horizon cap es (ls ++ map (line_of (system_of i)) (lines_out s)) (round_of s)
 
 -- The core has come to where it stands by some steps, each in its turn, and these lines were handed out of it: but of those that it keeps some may be final by now.
 pub record IsOnItsWay (i : Inputs) (limit horizon : ℕ) (core : Core) (ls : List Line) : Type 0 where

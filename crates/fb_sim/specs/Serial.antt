@@ -15,7 +15,7 @@ use Rattle.fb_read.specs.declared.error.ReadError.TheVariants as read
 use Rattle.fb_inputs.specs.Deployments.{deploy_of}
 use Rattle.fb_inputs.specs.Stimuli.{stimuli_of}
 use Rattle.fb_inputs.specs.Refusals as input
-use Rattle.fb_check.specs.Faults as judge
+use Rattle.fb_check.specs.Refusals as judge
 use Rattle.fb_trace.specs.Progress.{IsPartWritten}
 use Rattle.fb_sim.specs.Given.{Given}
 use Rattle.fb_sim.specs.declared.options.Options.{Options}
@@ -108,12 +108,12 @@ abbrev pub HasNumber : Option ℕ → (ℕ → Type 0) → Type 0
 HasNumber None holds = ⊥
 HasNumber (Some n) holds = holds n
 
--- The first of the declaration, the deployment, the stimuli and the check that refuses, does so rightly.
+-- The first of the declaration, the deployment, the stimuli and the check that refuses, does so rightly. Its error has a number, so it is not the one for memory.
 abbrev pub IsRightly : Given → Refusal → Type 0
 IsRightly given (Declaration e) = IsReadFault given.declaration e
 IsRightly given (Deployment e) = HasNumber (input.number_of e) (IsNoPlan given)
 IsRightly given (Stimuli e) = HasNumber (input.number_of e) (AreNoStimuli given)
-IsRightly given (Check f) = AreNotAccepted given (judge.number_of f)
+IsRightly given (Check e) = HasNumber (judge.number_of e) (AreNotAccepted given)
 
 -- why inputs are not known to be accepted
 abbrev pub IsRefusal : Given → RunError → Type 0
@@ -148,11 +148,3 @@ pub record WritesPart (given : Given) (o : Options) (old new : Option (List ℕ)
   pub end : Ending
   pub got : IsPartWritten old new bytes written
   pub trace : AreTrace given o bytes end
-
--- What a writer has where a run failed. Options out of their range come before all else.
-abbrev pub Fails : Given → Options → (old new : Option (List ℕ)) → RunError → Type 0
-Fails given o old new BadOption = (AreWithin o → ⊥) × (new ≡ old)
-Fails given o old new (Write n) = WritesPart given o old new n
-Fails given o old new (Refused r) = AreWithin o × IsRightly given r × (new ≡ old)
-Fails given o old new Memory = AreWithin o × (new ≡ old)
-Fails given o old new Failed = ⊥

@@ -8,7 +8,7 @@ ghost use Rattle.fb_sim.specs.Rounds.{HasCome, RunsOn, behind};
 use crate::options::Options;
 use crate::outcome::RunError;
 use crate::progress::Round;
-use crate::round::counted_round;
+use crate::rounds::counted_round;
 use crate::tally::{RoundPlan, first_window};
 use fb_phase::Gate;
 use fb_system::system::System;

@@ -1,24 +1,37 @@
 //! Runs of a simulation, from the bytes of its inputs to those of its trace.
 //!
-//! What is promised above is the headline: `run::run`, by workers, and `serial::run_serial`, on one thread, write the
-//! trace of the one-thread simulation of accepted inputs, and so does a `simulation::Simulation` that its caller
-//! advances. `told::run_told` tells how far a run is besides. There is no rule about simulation here.
+//! What this crate guarantees to its callers is the headline: `run`, with workers, and `run_serial`, on one thread, write
+//! the trace of the one-thread simulation of accepted inputs, and so does a `Simulation` that its caller advances.
+//! `run_with_progress` reports the progress of a run besides. There is no rule about simulation here.
 //!
-//! To be read in this order: `options` and `outcome`; `reading`, what comes before a run; `serial`; `run` with
-//! `one_worker`, `drive` and `round`, with `progress`, `tally` and `work`; `simulation` and `state`; `told`, a run that tells how far it is.
+//! To be read in this order: `options` and `outcome`; `reading`, what comes before a run; `serial` with `one_agenda`, a
+//! run on one thread; `runs` with `drive` and `rounds`, a run with workers, with `progress`, `tally` and `work`;
+//! `simulation` and `state`; `with_progress`, a run that reports its progress.
 #![tactic(auto)]
 
 mod drive;
-mod one_worker;
+mod one_agenda;
 pub mod options;
 pub mod outcome;
 pub mod progress;
 pub mod reading;
-pub mod round;
-pub mod run;
+pub mod rounds;
+pub mod runs;
 pub mod serial;
 pub mod simulation;
 pub mod state;
 mod tally;
-pub mod told;
+pub mod with_progress;
 mod work;
+
+pub use fb_types::run::Form;
+pub use options::{Inputs, Options};
+pub use outcome::{Outcome, Refusal, RunError};
+pub use progress::Round;
+pub use reading::{let_go, open};
+pub use rounds::round;
+pub use runs::{open_core, run};
+pub use serial::{check, run_serial};
+pub use simulation::Simulation;
+pub use state::Stage;
+pub use with_progress::{ReportedRun, run_with_progress};

@@ -3,7 +3,7 @@
 ghost use Rattle.std.specs.Prelude.{◌≡◌};
 ghost use Rattle.fb_sim.specs.declared.outcome.RunError.TheVariants.{Memory};
 
-use fb_check::fault::Fault;
+use fb_check::error::CheckError;
 use fb_inputs::error::InputError;
 use fb_phase::PhaseError;
 use fb_read::error::ReadError;
@@ -15,13 +15,14 @@ use thiserror::Error;
 /// How a run ends.
 #[derive(Clone, Copy, Debug, PartialEq, Eq)]
 pub enum Outcome {
-    /// It came to its horizon, in ticks.
+    /// It came to its horizon, in ticks of one millisecond.
     End(u64),
     /// A resource stopped before.
     Stop(StopMark),
 }
 
-/// What refuses the inputs: the first of the declaration, the deployment, the stimuli and the check.
+/// What refuses the inputs: the first of the declaration, the deployment, the stimuli and the check. Its error is never
+/// the variant `Memory`: a run that is out of memory answers `RunError::Memory`.
 #[derive(Debug, Drop, Error)]
 pub enum Refusal {
     /// The declaration is no text of the language.
@@ -35,7 +36,7 @@ pub enum Refusal {
     Stimuli(InputError),
     /// They are not accepted together.
     #[error("{0}")]
-    Check(Fault),
+    Check(CheckError),
 }
 
 /// Why there is no run, or no whole one.
@@ -44,15 +45,16 @@ pub enum RunError {
     /// The inputs are refused.
     #[error("{0}")]
     Refused(Refusal),
+    /// A growth of memory was refused.
     #[error("out of memory")]
     Memory,
-    /// The writer failed when it had taken so many bytes of the trace.
+    /// The writer failed after this many bytes of the trace.
     #[error("write fault after {0} bytes")]
     Write(u128),
     /// The horizon, the steps or the workers are out of their range, or the tick to advance to is.
     #[error("an option is out of range")]
     BadOption,
-    /// An earlier call on the same simulation wanted memory or could not write, so nothing is run any more.
+    /// An earlier call on the same simulation ran out of memory or could not write, so nothing is run any more.
     #[error("the run failed before")]
     Failed,
 }

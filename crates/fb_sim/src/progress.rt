@@ -1,9 +1,9 @@
-//! How far a run is.
+//! The progress of a run.
 
 use fb_types::run::StopMark;
 use fb_window::cores::Core;
 
-/// How far a run is after a round.
+/// The progress of a run after a round.
 #[derive(Drop)]
 pub enum Round {
     /// Some resource has ticks to run yet.

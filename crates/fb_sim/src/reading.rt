@@ -120,8 +120,10 @@ fn judge_reading(alloc: Global, inputs: &Inputs<'_>, read: &Reading) -> Result<(
     };
     match judge(alloc, &case) {
         Ok(()) => Ok(()),
-        Err(CheckError::Memory) => Err(RunError::Memory),
-        Err(CheckError::Refused(fault)) => Err(RunError::Refused(Refusal::Check(fault))),
+        Err(error) => match error {
+            CheckError::Memory => Err(RunError::Memory),
+            error => Err(RunError::Refused(Refusal::Check(error))),
+        },
     }
 }
 
@@ -146,8 +148,10 @@ pub fn open(alloc: Global, inputs: &Inputs<'_>) -> Result<System, RunError>
     let read = read(alloc, inputs)?;
     match accept(alloc, read.library, read.deploy, read.stimuli) {
         Ok(system) => Ok(system),
-        Err(CheckError::Memory) => Err(RunError::Memory),
-        Err(CheckError::Refused(fault)) => Err(RunError::Refused(Refusal::Check(fault))),
+        Err(error) => match error {
+            CheckError::Memory => Err(RunError::Memory),
+            error => Err(RunError::Refused(Refusal::Check(error))),
+        },
     }
 }
 

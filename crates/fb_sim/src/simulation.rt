@@ -9,7 +9,7 @@ use crate::drive::{Finish, run_on};
 use crate::options::{Inputs, Options};
 use crate::outcome::{Outcome, RunError};
 use crate::reading::open;
-use crate::run::{close, open_core};
+use crate::runs::{close, open_core};
 use crate::state::{SessionState, Stage};
 use fb_phase::Gate;
 use fb_system::system::System;

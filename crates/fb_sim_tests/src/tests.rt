@@ -12,7 +12,7 @@ mod rounds;
 mod texts;
 mod writers;
 
-use fb_sim::options::{Inputs, Options};
+use fb_sim::{Inputs, Options};
 use fb_types::run::Form;
 
 /// More steps than any tick of these runs needs that does not stop.

@@ -62,7 +62,7 @@ fn put_stop<W: Write>(
 }
 
 /// Puts the last line.
-pub(crate) fn put_last<W: Write>(
+fn put_last<W: Write>(
     page: &mut Page,
     out: &mut W,
     system: &System,

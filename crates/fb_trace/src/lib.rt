@@ -1,9 +1,9 @@
 //! The text of a trace, written line by line.
 //!
-//! What is promised above: the lines of several resources become one list in the order of the trace; the writer gets
-//! exactly their text, or, where it fails, a beginning of it, and the fault tells how many bytes.
+//! What this crate guarantees to its callers: the lines of several resources become one list in the order of the trace;
+//! the writer gets exactly their text, or, where it fails, a beginning of it, and the fault says how many bytes.
 //!
-//! To be read in this order: `merge`; `trace`, `lines` and `last`, what is written; `pieces`, `start`, `names` and `number`;
+//! To be read in this order: `merge`; `lines` and `last`, what is written; `pieces`, `start`, `names` and `number`;
 //! `page`, `copy`, `front` and `fault`.
 #![tactic(auto)]
 
@@ -18,4 +18,3 @@ mod number;
 mod page;
 mod pieces;
 mod start;
-pub mod trace;

@@ -215,7 +215,7 @@ fn put_line<W: Write>(
 }
 
 /// Puts the text of lines.
-pub(crate) fn put_lines<W: Write>(
+fn put_lines<W: Write>(
     page: &mut Page,
     out: &mut W,
     system: &System,

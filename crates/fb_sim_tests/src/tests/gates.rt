@@ -4,7 +4,7 @@ use super::advances::opened;
 use super::texts::BETWEEN;
 use super::{inputs_of, to};
 use fb_phase::Gate;
-use fb_sim::run::run;
+use fb_sim::run;
 use std::alloc::Global;
 use std::process::Abort;
 use std::sync::Wait;

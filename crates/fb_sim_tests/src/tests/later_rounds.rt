@@ -3,10 +3,7 @@
 use super::gates::Meeting;
 use super::{ENOUGH, inputs_of, to};
 use fb_phase::{Gate, OpenGate};
-use fb_sim::options::Inputs;
-use fb_sim::outcome::Outcome;
-use fb_sim::run::run;
-use fb_sim::serial::run_serial;
+use fb_sim::{Inputs, Outcome, run, run_serial};
 use std::alloc::Global;
 use std::process::Abort;
 use std::sync::Wait;

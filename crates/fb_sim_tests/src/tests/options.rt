@@ -1,8 +1,7 @@
 //! Options out of their range.
 
 use super::{inputs_of, to};
-use fb_sim::outcome::RunError;
-use fb_sim::serial::run_serial;
+use fb_sim::{RunError, run_serial};
 
 /// A horizon, steps and workers, of which one is out of its range.
 static OUT_OF_RANGE: [(u64, u64, u64); 6] = [

@@ -1,7 +1,7 @@
 //! Two systems with their traces, which were worked out by hand.
 
 use super::ENOUGH;
-use fb_sim::outcome::Outcome;
+use fb_sim::Outcome;
 use fb_types::run::StopMark;
 use fb_types::value::Reason;
 

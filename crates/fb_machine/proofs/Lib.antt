@@ -1,6 +1,0 @@
-pub mod DeliverIs
-pub mod Joined
-pub mod OpenIs
-pub mod ReadyIs
-pub mod RunIs
-pub mod TakenIs

@@ -1,7 +1,0 @@
-use Rattle.std.proofs.Common.{◌<◌, ◌^◌, sym, subst}
-use Rattle.fb_machine.proofs.DeliverIs.{narrow_receiver}
-use Rattle.fb_machine.proofs.deliver.key_of_message.Goals as goal
-
-pub overflow_cast-result : goal.overflow_cast-result
-overflow_cast-result c =
-    record { fits = subst (λ n. n < 2 ^ 32) (sym c.resource-receiver.ensures) (narrow_receiver c.args.system.now c.facts.ensures.accepted c.facts.ensures.limits c.args.message.now) }

@@ -1,0 +1,97 @@
+use Rattle.std.proofs.Common.{[], subst, Err}
+use Rattle.fb_laws.specs.Sound.{AreGood}
+use Rattle.fb_sim.specs.Pauses.{Pauses}
+use Rattle.fb_sim.specs.Rounds.{RunsOn}
+use Rattle.fb_sim.specs.declared.outcome.RunError.TheVariants.{Memory}
+use Rattle.fb_sim.proofs.OneAgendaIs.{gone_first, gone_more, gone_short, gone_wanting, through_horizon, through_stop}
+use Rattle.fb_sim.proofs.RunIs.{err_is}
+use Rattle.fb_sim.proofs.one_agenda.run_through.Goals as goal
+
+pub loop-pause-init : goal.loop-pause-init
+loop-pause-init g c = record {
+  ready = (0, c.requires.ready);
+  none = c.requires.none;
+  gone = gone_first c.args.system.now c.args.options c.args.machine.now (g.W.Write.contents c.args.out.now) c.requires.at;
+}
+
+pub returns-in_err-pause-clause-failed : goal.returns-in_err-pause-clause-failed
+returns-in_err-pause-clause-failed g c =
+    let i = c.args.system.now in
+    let o = c.args.options in
+    let old = g.W.Write.contents c.args.out.now in
+    let mid = g.W.Write.contents c.loop-pause.out in
+    let good : AreGood i = record { accepted = c.facts.ensures.accepted; limits = c.facts.ensures.limits } in
+    err_is (λ e. RunsOn i o [] old mid (Err e)) c.from_residual.result Memory c.from_residual.ensures.1
+    (gone_wanting i o good c.loop-pause.machine old mid c.loop-pause.written c.loop-pause.invariant.gone)
+
+pub returns-in-Err-clause-failed : goal.returns-in-Err-clause-failed
+returns-in-Err-clause-failed g c =
+    let i = c.args.system.now in
+    let o = c.args.options in
+    let old = g.W.Write.contents c.args.out.now in
+    let mid = g.W.Write.contents c.loop-pause.out in
+    let new = g.W.Write.contents c.hand_out.new.out in
+    let good : AreGood i = record { accepted = c.facts.ensures.accepted; limits = c.facts.ensures.limits } in
+    let inv = c.loop-pause.invariant in
+    rw c.later.ensures
+    (gone_short i o c.loop-pause.machine c.go_on.new.self old mid c.loop-pause.written inv.gone inv.none good new c.in_ok-pause.pause
+    (c.in_ok-pause.ensures.pauses inv.gone.at inv.gone.is) c.in-Err.error (rw c.lines.ensures at c.in-Err.ensures.part))
+
+pub loop-pause-preserved : goal.loop-pause-preserved
+loop-pause-preserved g c =
+    let i = c.args.system.now in
+    let o = c.args.options in
+    let old = g.W.Write.contents c.args.out.now in
+    let mid = g.W.Write.contents c.loop-pause.out in
+    let now = g.W.Write.contents c.hand_out.new.out in
+    let m = c.loop-pause.machine in
+    let new = c.go_on.new.self in
+    let inv = c.loop-pause.invariant in
+    let got = rw c.lines.ensures at c.in-Ok.ensures.whole in
+    let pauses = subst (λ p. Pauses i o.horizon o.steps inv.gone.at m new p) c.in-Lines.is (c.in_ok-pause.ensures.pauses inv.gone.at inv.gone.is) in
+    let ready = c.in_ok-pause.ensures.ready in
+    record {
+      ready = (ready.0, c.clear_lines.ensures.ready i o.steps ready.0 ready.1);
+      none = c.clear_lines.ensures.none;
+      gone =
+          rw c.saturating_add-written.ensures
+          (gone_more i o m new old mid c.loop-pause.written inv.gone inv.none now c.in-Ok.bytes got.0 got.1 c.clear_lines.new.self pauses
+          (c.clear_lines.ensures.at i pauses.0.state pauses.0.agenda));
+    }
+
+pub returns-in-Horizon-clause-ran : goal.returns-in-Horizon-clause-ran
+returns-in-Horizon-clause-ran g c =
+    let i = c.args.system.now in
+    let o = c.args.options in
+    let old = g.W.Write.contents c.args.out.now in
+    let mid = g.W.Write.contents c.loop-pause.out in
+    let now = g.W.Write.contents c.hand_out.new.out in
+    let m = c.loop-pause.machine in
+    let new = c.go_on.new.self in
+    let inv = c.loop-pause.invariant in
+    let got = rw c.lines.ensures at c.in-Ok.ensures.whole in
+    let pauses = subst (λ p. Pauses i o.horizon o.steps inv.gone.at m new p) c.in-Horizon.is (c.in_ok-pause.ensures.pauses inv.gone.at inv.gone.is) in
+    rw c.saturating_add-written.ensures
+    (through_horizon i o m new old mid c.loop-pause.written inv.gone inv.none now c.in-Ok.bytes got.0 got.1 pauses)
+
+pub returns-in-Stop-clause-ends : goal.returns-in-Stop-clause-ends
+returns-in-Stop-clause-ends g c =
+    let o = c.args.options in
+    let gone = c.loop-pause.invariant.gone in
+    let pauses = subst (λ p. Pauses c.args.system.now o.horizon o.steps gone.at c.loop-pause.machine c.go_on.new.self p) c.in-Stop.is (c.in_ok-pause.ensures.pauses gone.at gone.is) in
+    pauses.0
+
+pub returns-in-Stop-clause-ran : goal.returns-in-Stop-clause-ran
+returns-in-Stop-clause-ran g c =
+    let i = c.args.system.now in
+    let o = c.args.options in
+    let old = g.W.Write.contents c.args.out.now in
+    let mid = g.W.Write.contents c.loop-pause.out in
+    let now = g.W.Write.contents c.hand_out.new.out in
+    let m = c.loop-pause.machine in
+    let new = c.go_on.new.self in
+    let inv = c.loop-pause.invariant in
+    let got = rw c.lines.ensures at c.in-Ok.ensures.whole in
+    let pauses = subst (λ p. Pauses i o.horizon o.steps inv.gone.at m new p) c.in-Stop.is (c.in_ok-pause.ensures.pauses inv.gone.at inv.gone.is) in
+    rw c.saturating_add-written.ensures
+    (through_stop i o m new old mid c.loop-pause.written inv.gone inv.none now c.in-Ok.bytes got.0 got.1 c.in-Stop.mark pauses)

@@ -1,5 +1,0 @@
-use Rattle.fb_sim.proofs.RoundIs.{opened_come}
-use Rattle.fb_sim.proofs.run.open_core.Goals as goal
-
-pub returns : goal.returns
-returns c = opened_come c.args.system.now c.args.steps c.open.result c.open.ensures.system c.open.ensures.steps c.open.ensures.at c.open.ensures.left

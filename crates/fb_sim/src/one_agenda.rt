@@ -1,0 +1,99 @@
+//! A run on one thread: one agenda of all resources, of which the least event is always taken. The lines are written as
+//! the run goes on.
+//!
+//! `run_serial` uses it, and so does `run` with one worker. What one taking does is `fb_take`'s; here are the loop over it
+//! and the delivery of messages to the one agenda.
+//!
+//! To be read in this order: `machine` and `pause`, the state and the taking of events; `deliver`, messages; `open`, the
+//! beginning; then the run itself, below.
+
+ghost use Rattle.std.specs.Prelude.{◌≡◌, [], IfOk, IfErr, Err};
+ghost use Rattle.fb_types.specs.Headline.{system_of, stimuli_of};
+ghost use Rattle.fb_types.specs.Simulation.{opening_agenda, opening_state};
+ghost use Rattle.fb_sim.specs.Machines.{IsAt, IsReady};
+ghost use Rattle.fb_trace.specs.End as trace;
+ghost use Rattle.fb_trace.specs.End.{EndsIn};
+ghost use Rattle.fb_sim.specs.Given.{Given};
+ghost use Rattle.fb_sim.specs.OneAgenda.{RunsThrough};
+ghost use Rattle.fb_sim.specs.Rounds.{FailsRun, RunsOn};
+ghost use Rattle.fb_sim.specs.Serial.{AreWithin, Declares, Writes, ending_of};
+
+mod deliver;
+mod machine;
+mod open;
+mod pause;
+
+use crate::drive::later;
+use crate::one_agenda::machine::Machine;
+use crate::one_agenda::pause::Pause;
+use crate::options::Options;
+use crate::outcome::{Outcome, RunError};
+use crate::rounds::hand_out;
+use crate::runs::close;
+use fb_system::system::System;
+use fb_trace::last::RunEnd;
+use std::alloc::Global;
+use std::io::Write;
+
+/// This many lines are gathered before they are written: enough for few writes, and few enough to stay in a processor's
+/// cache until then.
+const MANY_LINES: usize = 1024;
+
+/// The answer of a run that ended so.
+fn outcome_of(end: RunEnd) -> Outcome
+    ensures { ending_of result ≡ trace.ending_of end }
+{
+    match end {
+        RunEnd::Horizon(horizon) => Outcome::End(horizon),
+        RunEnd::Stop(mark) => Outcome::Stop(mark),
+    }
+}
+
+/// Takes all events below the horizon, or up to the first stop, and writes their lines, but no last line. The count is
+/// that of the bytes written. No memory is allocated between the first byte of a piece and its last.
+fn run_through<W: Write>(
+    system: &System,
+    machine: &mut Machine,
+    options: Options,
+    out: &mut W,
+) -> Result<(RunEnd, u128), RunError>
+    requires options { AreWithin options }
+    requires ready { IsReady system.now options.steps 0 machine.old }
+    requires at { IsAt system.now (opening_state (system_of system.now)) (opening_agenda (system_of system.now) (stimuli_of system.now)) machine.old }
+    requires none { machine.old.queues.outbox.lines.items ≡ [] }
+    ensures ends { IfOk result (λ r. EndsIn (system_of system.now) r.0) }
+    ensures ran { IfOk result (λ r. RunsThrough system.now options (W.contents out.old) (W.contents out.new) (trace.ending_of r.0) r.1) }
+    ensures failed { IfErr result (λ e. RunsOn system.now options [] (W.contents out.old) (W.contents out.new) (Err e)) }
+{
+    system.facts();
+    let mut written: u128 = 0;
+    loop {
+        let pause = machine.go_on(system, options.horizon, options.steps, MANY_LINES)?;
+        match hand_out(out, system, options.form, machine.lines()) {
+            Ok(bytes) => written = written.saturating_add(bytes),
+            Err(error) => return Err(later(written, error)),
+        }
+        match pause {
+            Pause::Lines => machine.clear_lines(),
+            Pause::Horizon => return Ok((RunEnd::Horizon(options.horizon), written)),
+            Pause::Stop(mark) => return Ok((RunEnd::Stop(mark), written)),
+        }
+    }
+}
+
+/// Runs an accepted system on this thread, and writes its trace.
+pub(crate) fn run_one_agenda<W: Write>(
+    alloc: Global,
+    system: &System,
+    options: Options,
+    out: &mut W,
+) -> Result<Outcome, RunError>
+    requires { AreWithin options }
+    ensures trace { (given : Given) → Declares given system.now → IfOk result (λ o. Writes given options (W.contents out.old) (W.contents out.new) (ending_of o)) }
+    ensures failed { (given : Given) → Declares given system.now → IfErr result (FailsRun given options (W.contents out.old) (W.contents out.new)) }
+{
+    let mut machine = Machine::open(alloc, system)?;
+    let (end, written) = run_through(system, &mut machine, options, out)?;
+    close(out, system, end, written)?;
+    Ok(outcome_of(end))
+}

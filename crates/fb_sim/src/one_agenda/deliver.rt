@@ -1,0 +1,67 @@
+//! Puts messages on the one agenda of all resources.
+
+ghost use Rattle.std.specs.Prelude.{◌≡◌, ◌<◌, ℕ, [], map, All, OnOk};
+ghost use Rattle.fb_types.specs.Headline.{system_of};
+ghost use Rattle.fb_types.specs.Keys.{found, or_else};
+ghost use Rattle.fb_types.specs.declared.key.Key as keys;
+ghost use Rattle.fb_take.specs.Posts.{IsMessage, arriving, key_of};
+ghost use Rattle.fb_take.specs.Waiting.{IsInOrder, meaning};
+
+use fb_agenda::agenda::Agenda;
+use fb_system::system::System;
+use fb_types::key::Key;
+use fb_types::run::{Event, Message};
+use std::alloc::AllocError;
+
+/// The key under which a message waits.
+fn key_of_message(system: &System, message: &Message) -> Key
+    requires { IsMessage system.now message.now }
+    ensures { result ≡ key_of (system_of system.now) message.now }
+{
+    system.facts();
+    let receiver = system.resource(message.target.instance) as u32;
+    Key::arrival(message.arrives, receiver, message.link, message.number)
+}
+
+/// The same as `deliver`, one message after another. `deliver` calls it for all but the last.
+fn deliver_each(
+    agenda: &mut Agenda,
+    mail: &mut Vec<Message>,
+    system: &System,
+) -> Result<(), AllocError>
+    requires { All (IsMessage system.now) mail.old.items }
+    ensures put { OnOk result ((j : keys.Key) → meaning system.now agenda.new j ≡ or_else (found j (map (arriving system.now) mail.old.items)) (meaning system.now agenda.old j)) }
+    ensures order { OnOk result ((tick : ℕ) → IsInOrder system.now tick agenda.old → All (λ m. tick < m.arrives) mail.old.items → IsInOrder system.now tick agenda.new) }
+    ensures due { OnOk result (agenda.new.due ≡ agenda.old.due) }
+    ensures none { OnOk result (mail.new.items ≡ []) }
+{
+    if mail.is_empty() {
+        return Ok(());
+    }
+    system.facts();
+    for message in mail.drain(..) {
+        agenda.put(key_of_message(system, &message), Event::Arrival(message))?;
+    }
+    Ok(())
+}
+
+/// Puts the messages of the mail on the agenda, each under its key. The memory of the mail is kept.
+pub(crate) fn deliver(
+    agenda: &mut Agenda,
+    mail: &mut Vec<Message>,
+    system: &System,
+) -> Result<(), AllocError>
+    requires { All (IsMessage system.now) mail.old.items }
+    ensures put { OnOk result ((j : keys.Key) → meaning system.now agenda.new j ≡ or_else (found j (map (arriving system.now) mail.old.items)) (meaning system.now agenda.old j)) }
+    ensures order { OnOk result ((tick : ℕ) → IsInOrder system.now tick agenda.old → All (λ m. tick < m.arrives) mail.old.items → IsInOrder system.now tick agenda.new) }
+    ensures due { OnOk result (agenda.new.due ≡ agenda.old.due) }
+    ensures none { OnOk result (mail.new.items ≡ []) }
+{
+    let Some(last) = mail.pop() else {
+        return Ok(());
+    };
+    // Mostly there is one message, and the loop has nothing to do.
+    deliver_each(agenda, mail, system)?;
+    system.facts();
+    agenda.put(key_of_message(system, &last), Event::Arrival(last))
+}

@@ -1,0 +1,136 @@
+//! The state of a run of all resources, and the taking of one event after another.
+
+ghost use Rattle.std.specs.Prelude.{◌≡◌, ◌^◌, ◌<◌, ◌≤◌, ℕ, [], length, All, IfOk, IfSome, None, OnOk};
+ghost use Rattle.fb_types.specs.Headline.{Inputs, system_of};
+ghost use Rattle.fb_types.specs.Keys.{without};
+ghost use Rattle.fb_types.specs.States.{Config, State};
+ghost use Rattle.fb_types.specs.States as model;
+ghost use Rattle.fb_net.specs.Events.{IsEventIn, IsKeyOf, event_of};
+ghost use Rattle.fb_system.specs.Lines.{BelongsTo};
+ghost use Rattle.fb_laws.specs.Typed.{IsTypedEvent};
+ghost use Rattle.fb_sim.specs.Completions.{Completes};
+ghost use Rattle.fb_sim.specs.Machines.{IsAt, IsReady, IsTaken};
+ghost use Rattle.fb_sim.specs.Pauses.{IsSooner, Pauses};
+ghost use Rattle.fb_sim.specs.Runs.{IsSpent};
+
+use crate::one_agenda::deliver::deliver;
+use crate::one_agenda::pause::Pause;
+use fb_agenda::least::Least;
+use fb_net::tree::Tree;
+use fb_system::system::System;
+use fb_take::queues::Queues;
+use fb_take::take::take;
+use fb_take::tick_counts::TickCounts;
+use fb_types::key::Key;
+use fb_types::run::{Event, Line, StopMark};
+use fb_types::value::Reason;
+use std::alloc::AllocError;
+
+/// The one agenda of all resources, with what takings give, and the blocks and the counts of each.
+pub(crate) struct Machine {
+    pub(super) queues: Queues,
+    pub(super) trees: Vec<Tree>,
+    pub(super) meters: Vec<TickCounts>,
+}
+
+// By hand, so that it is proved once what is dropped with a machine, and not at each exit of a function that owns one.
+impl Drop for Machine {
+    fn drop(self) {
+        let Machine {
+            queues: _,
+            trees: _,
+            meters: _,
+        } = self;
+    }
+}
+
+impl Machine {
+    /// Takes an event that was on the agenda, and has left it, and delivers the messages that it gave. `Some` is the
+    /// reason why the resource stops.
+    fn take(
+        &mut self,
+        system: &System,
+        limit: u64,
+        key: &Key,
+        event: &Event,
+    ) -> Result<Option<Reason>, AllocError>
+        requires ready { IsReady system.now limit key.now.tick self.old }
+        requires stands { (s : State) × (a : model.Agenda) × IsAt system.now s a self.old }
+        requires event { IsEventIn system.now key.now.resource event.now }
+        requires own { IsKeyOf key.now event.now }
+        requires typed { IsTypedEvent (system_of system.now) (event_of system.now event.now) }
+        requires named { key.now.resource < length (system_of system.now).resource_names }
+        requires early { key.now.tick ≤ 10 ^ 12 }
+        requires few { limit ≤ 10 ^ 7 }
+        ensures taken { IfOk result (λ stop. (s : State) (a : model.Agenda) → IsAt system.now s (without key.now a) self.old
+            → IsTaken system.now limit s a key.now (event_of system.now event.now) stop self.old self.new) }
+        ensures ready { OnOk result (IsReady system.now limit key.now.tick self.new) }
+        ensures spent { IfOk result (λ stop. stop ≡ None → IsSpent limit key.now self.old.meters.items self.new.meters.items) }
+    {
+        let resource = key.resource as usize;
+        let stop = take(
+            &mut self.trees[resource],
+            &mut self.meters[resource],
+            &mut self.queues,
+            system,
+            limit,
+            key,
+            event,
+        )?;
+        deliver(&mut self.queues.agenda, &mut self.queues.mail, system)?;
+        Ok(stop)
+    }
+
+    /// Takes events below the horizon, least key first, until there are `many` lines, or up to the first stop. It takes at
+    /// least one event where there is one, and appends its lines to those that are there.
+    ///
+    /// # Errors
+    /// When memory runs out, or a link has carried 2^128 messages.
+    pub(super) fn go_on(
+        &mut self,
+        system: &System,
+        horizon: u64,
+        limit: u64,
+        many: usize,
+    ) -> Result<Pause, AllocError>
+        requires ready { (tick : ℕ) × IsReady system.now limit tick self.old }
+        requires stands { (c : Config) × IsAt system.now c.state c.agenda self.old }
+        requires early { horizon ≤ 10 ^ 12 }
+        requires few { limit ≤ 10 ^ 7 }
+        ensures pauses { IfOk result (λ p. (c : Config) → IsAt system.now c.state c.agenda self.old → Pauses system.now horizon limit c self.old self.new p) }
+        ensures ready { OnOk result ((tick : ℕ) × IsReady system.now limit tick self.new) }
+        ensures sooner { IfOk result (IsSooner horizon limit self.old self.new) }
+    {
+        let mut least = Least::new();
+        while self.queues.agenda.take_least_into(horizon, &mut least) {
+            if let Some(reason) = self.take(system, limit, &least.key, &least.event)? {
+                return Ok(Pause::Stop(StopMark {
+                    tick: least.key.tick,
+                    resource: least.key.resource,
+                    reason,
+                }));
+            }
+            if self.queues.outbox.lines.len() >= many {
+                return Ok(Pause::Lines);
+            }
+        }
+        Ok(Pause::Horizon)
+    }
+
+    /// The lines that are there.
+    pub(super) fn lines(&self) -> &[Line]
+        ensures { result.now ≡ self.now.queues.outbox.lines.items }
+    {
+        self.queues.outbox.lines.as_slice()
+    }
+
+    /// Drops the lines, and nothing else. Their memory is kept for the next ones.
+    pub(super) fn clear_lines(&mut self)
+        ensures none { self.new.queues.outbox.lines.items ≡ [] }
+        ensures at { (i : Inputs) (s : State) (a : model.Agenda) → IsAt i s a self.old → IsAt i s a self.new }
+        ensures ready { (i : Inputs) (limit tick : ℕ) → IsReady i limit tick self.old → IsReady i limit tick self.new }
+        ensures meters { self.new.meters ≡ self.old.meters }
+    {
+        self.queues.outbox.lines.clear();
+    }
+}

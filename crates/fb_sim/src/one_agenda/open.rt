@@ -1,0 +1,51 @@
+//! The beginning of a run: its agenda, the blocks and the counts.
+
+ghost use Rattle.std.specs.Prelude.{◌≡◌, [], ℕ, length, IfOk};
+ghost use Rattle.fb_types.specs.Headline.{system_of, stimuli_of};
+ghost use Rattle.fb_types.specs.Simulation.{opening_agenda, opening_state};
+ghost use Rattle.fb_sim.specs.Machines.{IsAt, IsReady};
+ghost use Rattle.fb_sim.specs.Openings.{AreOpened};
+
+use crate::one_agenda::machine::Machine;
+use fb_net::tree::Tree;
+use fb_system::system::System;
+use fb_take::open::open_agenda;
+use fb_take::queues::Queues;
+use fb_take::tick_counts::TickCounts;
+use std::alloc::{AllocError, Global};
+
+/// The blocks of all resources, as they begin.
+fn open_trees(alloc: Global, system: &System) -> Result<Vec<Tree>, AllocError>
+    ensures { IfOk result (λ v. AreOpened system.now (length (system_of system.now).resource_names) v.items) }
+{
+    system.facts();
+    let mut trees = Vec::new(alloc);
+    for resource in 0..system.resources() {
+        let tree = Tree::build(alloc, system, resource as u32)?;
+        trees.push(tree)?;
+    }
+    Ok(trees)
+}
+
+impl Machine {
+    /// The run of a system at its beginning.
+    ///
+    /// # Errors
+    /// When memory runs out.
+    pub(super) fn open(alloc: Global, system: &System) -> Result<Machine, AllocError>
+        ensures ready { IfOk result (λ m. (limit : ℕ) → IsReady system.now limit 0 m) }
+        ensures at { IfOk result (IsAt system.now (opening_state (system_of system.now)) (opening_agenda (system_of system.now) (stimuli_of system.now))) }
+        ensures lines { IfOk result (λ m. m.queues.outbox.lines.items ≡ []) }
+    {
+        system.facts();
+        let agenda = open_agenda(alloc, system, None)?;
+        let queues = Queues::open(alloc, system, agenda)?;
+        let trees = open_trees(alloc, system)?;
+        let meters = vec![in alloc; TickCounts::new(); system.resources()]?;
+        Ok(Machine {
+            queues,
+            trees,
+            meters,
+        })
+    }
+}

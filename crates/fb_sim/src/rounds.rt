@@ -1,0 +1,268 @@
+//! One round: each resource runs to its bound, the messages are exchanged, and the lines that have become final are
+//! written.
+//!
+//! `round` is the round that callers make themselves. A run and a simulation that is advanced use `counted_round`: turns of
+//! single resources before the window, a cap and a number of workers that depend on the round before, and no board with
+//! one worker. Both write the same lines.
+
+ghost use Rattle.std.specs.Prelude.{◌≡◌, ◌≤◌, List, map, length, vec_len, All, IfOk, IfErr};
+ghost use Rattle.std.specs.Io.KnownBytes.{Appends};
+ghost use Rattle.std.specs.List.{AllZip};
+ghost use Rattle.fb_types.specs.Headline.{system_of};
+ghost use Rattle.fb_types.specs.Numbers.{line_of};
+ghost use Rattle.fb_types.specs.States as model;
+ghost use Rattle.fb_types.specs.Text.{lines_text};
+ghost use Rattle.fb_system.specs.Lines.{BelongsTo};
+ghost use Rattle.fb_trace.specs.Progress.{bounded};
+ghost use Rattle.fb_laws.specs.Finality.{core_of};
+ghost use Rattle.fb_window.specs.Jobs.{Does};
+ghost use Rattle.fb_sim.specs.Serial.{AreWithin};
+ghost use Rattle.fb_sim.specs.Rounds as spec;
+ghost use Rattle.fb_sim.specs.Rounds.{CountedRounds, HasCome, HasWalked, IsHomeAgain, IsHomeOnce, IsOnItsWay, Rounds, WritesPartOf, lines_out};
+ghost use Rattle.fb_sim.specs.declared.outcome.RunError.TheVariants.{Memory};
+
+use crate::options::Options;
+use crate::outcome::RunError;
+use crate::progress::Round;
+use crate::tally::{LONGEST_WINDOW, RoundPlan, Tally};
+use crate::work::Windows;
+use fb_phase::{Gate, run_all};
+use fb_resource::resource::WindowDone;
+use fb_system::system::System;
+use fb_trace::lines::write_counted;
+use fb_types::run::{Form, Line};
+use fb_window::cores::{Core, Settled};
+use fb_window::job::Job;
+use std::alloc::{AllocError, Global};
+use std::io::Write;
+use std::sync::Wait;
+use std::thread::Threads;
+
+/// How many of the jobs have something to do.
+fn busy_in(jobs: &[Job]) -> usize {
+    let mut busy: usize = 0;
+    for job in jobs {
+        if !job.is_idle() {
+            busy = busy.saturating_add(1);
+        }
+    }
+    busy
+}
+
+/// How many lines the jobs gave.
+fn lines_in(dones: &[WindowDone]) -> usize {
+    let mut count: usize = 0;
+    for done in dones {
+        if let WindowDone::Ran { lines, .. } = done {
+            count = count.saturating_add(lines.len());
+        }
+    }
+    count
+}
+
+/// How many workers the busy jobs want: no more than there are of them, since the others cost next to nothing, and a
+/// thread costs more than one job.
+fn workers_for(busy: usize, most: u64) -> usize
+    requires some { 1 ≤ most }
+    requires few { most ≤ 64 }
+    ensures some { 1 ≤ result }
+    ensures few { result ≤ 64 }
+{
+    busy.min(most as usize).max(1)
+}
+
+/// Runs the jobs one after another on this thread, as one worker does that passes the gate before each: without a
+/// board, which costs more than a light round.
+fn run_here<R: Wait, P: Gate>(
+    rt: &R,
+    alloc: Global,
+    jobs: Vec<Job>,
+    gate: &P,
+) -> Result<Vec<WindowDone>, AllocError>
+    ensures { IfOk result (λ v. AllZip Does jobs.items v.items) }
+{
+    let mut dones = Vec::new(alloc);
+    for job in jobs {
+        gate.at(rt, dones.len());
+        dones.push(job.run(alloc))?;
+    }
+    Ok(dones)
+}
+
+/// Runs all jobs, and gives what was made of each in their order.
+fn run_jobs<R: Threads + Wait + Sync, P: Gate>(
+    rt: &R,
+    alloc: Global,
+    jobs: Vec<Job>,
+    workers: usize,
+    gate: &P,
+) -> Result<Vec<WindowDone>, RunError>
+    requires few_jobs { vec_len jobs ≤ 256 }
+    requires some { 1 ≤ workers }
+    requires few { workers ≤ 64 }
+    ensures done { IfOk result (λ v. AllZip Does jobs.items v.items) }
+    ensures memory { IfErr result (λ e. e ≡ Memory) }
+{
+    if workers == 1 {
+        return Ok(run_here(rt, alloc, jobs, gate)?);
+    }
+    Ok(run_all(rt, alloc, &Windows, jobs, workers, gate)?)
+}
+
+/// The core after the turns of single resources that are planned. What has become final meanwhile is handed out after
+/// the next window.
+fn walked(alloc: Global, system: &System, core: Core, plan: RoundPlan) -> Result<Core, RunError>
+    requires options { AreWithin plan.options }
+    requires come { (ls : List model.Line) × HasCome system.now plan.options.steps plan.options.horizon core ls }
+    ensures on { (ls : List model.Line) (come : HasCome system.now plan.options.steps plan.options.horizon core ls)
+        → IfOk result (λ d. HasWalked system.now plan.options.steps plan.options.horizon (core_of system.now plan.options.steps come.steps) ls d) }
+    ensures memory { IfErr result (λ e. e ≡ Memory) }
+{
+    Ok(core.walk(alloc, system, plan.options.horizon, plan.turns)?)
+}
+
+/// Runs each resource to its bound, with the workers, and puts all back together. A bound is at most this many ticks past
+/// the least event. The answer has the count of resources that had something to do, and of the lines that they gave.
+fn window<R: Threads + Wait + Sync, P: Gate>(
+    rt: &R,
+    alloc: Global,
+    system: &System,
+    core: Core,
+    options: Options,
+    ticks: u64,
+    gate: &P,
+) -> Result<(Settled, usize, usize), RunError>
+    requires options { AreWithin options }
+    requires ticks { 1 ≤ ticks }
+    requires come { (ls : List model.Line) × IsOnItsWay system.now options.steps options.horizon core ls }
+    ensures home { (ls : List model.Line) (way : IsOnItsWay system.now options.steps options.horizon core ls)
+        → IfOk result (λ r. IsHomeAgain system.now options.steps options.horizon (core_of system.now options.steps way.steps) ls r.0) }
+    ensures memory { IfErr result (λ e. e ≡ Memory) }
+{
+    system.facts();
+    let bounds = core.bounds(options.horizon, ticks);
+    let (away, jobs) = core.jobs(alloc, system, bounds)?;
+    let busy = busy_in(jobs.as_slice());
+    let workers = workers_for(busy, options.workers);
+    let dones = run_jobs(rt, alloc, jobs, workers, gate)?;
+    let lines = lines_in(dones.as_slice());
+    let settled = away.settle(alloc, system, dones)?;
+    Ok((settled, busy, lines))
+}
+
+/// The lines that are to be written.
+fn lines_of(settled: &Settled) -> &[Line]
+    ensures { result.now ≡ lines_out settled.now }
+{
+    match settled {
+        Settled::Going(_, lines) => lines.as_slice(),
+        Settled::Ended(_, lines) => lines.as_slice(),
+        Settled::Stopped(lines, _) => lines.as_slice(),
+    }
+}
+
+/// The progress of the run, once the lines are written.
+fn round_of(settled: Settled) -> Round
+    ensures { result ≡ spec.round_of settled }
+{
+    match settled {
+        Settled::Going(core, _) => Round::Going(core),
+        Settled::Ended(core, _) => Round::Ended(core),
+        Settled::Stopped(_, mark) => Round::Stopped(mark),
+    }
+}
+
+/// Writes lines, and answers how many bytes they have.
+pub(crate) fn hand_out<W: Write>(
+    out: &mut W,
+    system: &System,
+    form: Form,
+    lines: &[Line],
+) -> Result<u128, RunError>
+    requires { All (BelongsTo (system_of system.now)) lines.now }
+    ensures whole { IfOk result (λ n. let sys = system_of system.now in let text = lines_text form sys (map (line_of sys) lines.now) in
+        Appends (W.contents out.old) (W.contents out.new) text × (n ≡ bounded (length text))) }
+    ensures part { IfErr result (λ e. let sys = system_of system.now in
+        WritesPartOf (W.contents out.old) (W.contents out.new) (lines_text form sys (map (line_of sys) lines.now)) e) }
+{
+    match write_counted(out, system, form, lines) {
+        Ok(count) => Ok(count),
+        Err(fault) => Err(RunError::Write(fault.written)),
+    }
+}
+
+/// A round of a run, as planned, with what it has done.
+pub(crate) fn counted_round<R: Threads + Wait + Sync, W: Write, P: Gate>(
+    rt: &R,
+    alloc: Global,
+    system: &System,
+    core: Core,
+    plan: RoundPlan,
+    out: &mut W,
+    gate: &P,
+) -> Result<(Round, Tally), RunError>
+    requires options { AreWithin plan.options }
+    requires ticks { 1 ≤ plan.ticks }
+    requires come { (ls : List model.Line) × HasCome system.now plan.options.steps plan.options.horizon core ls }
+    ensures { (ls : List model.Line) (come : HasCome system.now plan.options.steps plan.options.horizon core ls)
+        → CountedRounds system.now plan.options (core_of system.now plan.options.steps come.steps) ls (W.contents out.old) (W.contents out.new) result }
+{
+    system.facts();
+    let core = walked(alloc, system, core, plan)?;
+    let (settled, busy, lines) = window(rt, alloc, system, core, plan.options, plan.ticks, gate)?;
+    let bytes = hand_out(out, system, plan.options.form, lines_of(&settled))?;
+    Ok((round_of(settled), Tally { bytes, busy, lines }))
+}
+
+/// One phase and one exchange: each resource that has not stopped runs to its greatest legal bound, at most 1,024 ticks
+/// past the least event, and all are put back together.
+fn one_phase<R: Threads + Wait + Sync, P: Gate>(
+    rt: &R,
+    alloc: Global,
+    system: &System,
+    core: Core,
+    options: Options,
+    gate: &P,
+) -> Result<Settled, RunError>
+    requires options { AreWithin options }
+    requires come { (ls : List model.Line) × IsOnItsWay system.now options.steps options.horizon core ls }
+    ensures home { (ls : List model.Line) (way : IsOnItsWay system.now options.steps options.horizon core ls)
+        → IfOk result (IsHomeOnce system.now options.steps options.horizon 1024 way.steps ls) }
+    ensures memory { IfErr result (λ e. e ≡ Memory) }
+{
+    system.facts();
+    let bounds = core.bounds(options.horizon, LONGEST_WINDOW);
+    let (away, jobs) = core.jobs(alloc, system, bounds)?;
+    let workers = options.workers as usize;
+    let dones = run_all(rt, alloc, &Windows, jobs, workers, gate)?;
+    Ok(away.settle(alloc, system, dones)?)
+}
+
+/// Runs each resource to its bound, exchanges their messages, and writes the lines that have become final, but no last
+/// line: one phase and one exchange, for every number of workers. The bounds are the greatest legal ones that are at most
+/// 1,024 ticks past the least event. A chain of rounds from the opening writes the text of the final lines. While a run
+/// goes on, the least tick of all events rises in each round and is below the horizon: so there is at most one round more
+/// than there are ticks below the horizon.
+///
+/// It waits for its workers, and for the gate where that waits.
+///
+/// # Errors
+/// `Memory`, after which nothing was written; and `Write` with the count of the bytes written. The core is given up.
+pub fn round<R: Threads + Wait + Sync, W: Write, P: Gate>(
+    rt: &R,
+    alloc: Global,
+    system: &System,
+    core: Core,
+    options: Options,
+    out: &mut W,
+    gate: &P,
+) -> Result<Round, RunError>
+    requires options { AreWithin options }
+    requires come { (ls : List model.Line) × HasCome system.now options.steps options.horizon core ls }
+    ensures { (ls : List model.Line) (come : HasCome system.now options.steps options.horizon core ls)
+        → Rounds system.now options come.steps ls (W.contents out.old) (W.contents out.new) result }
+{
+    let settled = one_phase(rt, alloc, system, core, options, gate)?;
+    hand_out(out, system, options.form, lines_of(&settled))?;
+    Ok(round_of(settled))
+}

@@ -1,0 +1,112 @@
+//! Runs with workers.
+
+ghost use Rattle.std.specs.Prelude.{◌^◌, ◌≤◌, ℕ, [], IfOk, IfErr, OnOk};
+ghost use Rattle.std.specs.Io.KnownBytes.{Appends};
+ghost use Rattle.fb_types.specs.Headline.{system_of};
+ghost use Rattle.fb_types.specs.Text.{last_line};
+ghost use Rattle.fb_trace.specs.End as trace;
+ghost use Rattle.fb_trace.specs.End.{EndsIn};
+ghost use Rattle.fb_sim.specs.Given.{Given};
+ghost use Rattle.fb_sim.specs.Serial.{AreWithin, Declares, Writes, ending_of};
+ghost use Rattle.fb_sim.specs.Rounds.{FailsRun, HasCome, IsShort};
+
+use crate::drive::{Finish, run_on};
+use crate::one_agenda::run_one_agenda;
+use crate::options::{Inputs, Options};
+use crate::outcome::{Outcome, RunError};
+use crate::reading::open;
+use fb_phase::Gate;
+use fb_resource::resource::Resource;
+use fb_system::system::System;
+use fb_trace::last::{RunEnd, write_last};
+use fb_window::cores::Core;
+use std::alloc::{AllocError, Global};
+use std::io::Write;
+use std::sync::Wait;
+use std::thread::Threads;
+
+/// The core of a system before the first event.
+pub fn open_core(alloc: Global, system: &System, steps: u64) -> Result<Core, AllocError>
+    requires some { 1 ≤ steps }
+    requires few { steps ≤ 10 ^ 7 }
+    ensures { IfOk result (λ c. (horizon : ℕ) → HasCome system.now steps horizon c []) }
+{
+    let resources = Resource::open_all(alloc, system)?;
+    Core::open(alloc, system, resources, steps)
+}
+
+/// Writes the last line, after this many bytes.
+pub(crate) fn close<W: Write>(
+    out: &mut W,
+    system: &System,
+    end: RunEnd,
+    written: u128,
+) -> Result<(), RunError>
+    requires { EndsIn (system_of system.now) end }
+    ensures whole { OnOk result (Appends (W.contents out.old) (W.contents out.new) (last_line (system_of system.now) (trace.ending_of end))) }
+    ensures part { IfErr result (IsShort (W.contents out.old) (W.contents out.new) (last_line (system_of system.now) (trace.ending_of end)) written) }
+{
+    match write_last(out, system, end) {
+        Ok(()) => Ok(()),
+        Err(fault) => Err(RunError::Write(written.saturating_add(fault.written))),
+    }
+}
+
+/// Runs an accepted system with one worker or with several, and writes its trace.
+fn run_system<R: Threads + Wait + Sync, W: Write, P: Gate>(
+    rt: &R,
+    alloc: Global,
+    system: &System,
+    options: Options,
+    out: &mut W,
+    gate: &P,
+) -> Result<Outcome, RunError>
+    requires { AreWithin options }
+    ensures trace { (given : Given) → Declares given system.now → IfOk result (λ o. Writes given options (W.contents out.old) (W.contents out.new) (ending_of o)) }
+    ensures failed { (given : Given) → Declares given system.now → IfErr result (FailsRun given options (W.contents out.old) (W.contents out.new)) }
+{
+    if options.workers == 1 {
+        return run_one_agenda(alloc, system, options, out);
+    }
+    let core = open_core(alloc, system, options.steps)?;
+    let (finish, written) = run_on(rt, alloc, system, core, options, out, gate)?;
+    match finish {
+        Finish::AtEnd(_) => {
+            close(out, system, RunEnd::Horizon(options.horizon), written)?;
+            Ok(Outcome::End(options.horizon))
+        }
+        Finish::AtMark(mark) => {
+            close(out, system, RunEnd::Stop(mark), written)?;
+            Ok(Outcome::Stop(mark))
+        }
+    }
+}
+
+/// Runs the application of the inputs with workers, and writes its trace, which is that of a run on one thread.
+///
+/// One worker always takes the least event of all, and writes the lines piece by piece, without a gate: it runs as
+/// `run_serial` does. Several run in rounds: each round runs every resource as far as no message can reach it any more,
+/// then exchanges the messages, and then writes the lines that have become final. After a light round the run makes up to
+/// 256 turns of single resources, on the calling thread and without a gate. No memory is allocated between the first byte
+/// of a piece or a round and its last. It waits for its workers, and for the gate where that waits.
+///
+/// # Errors
+/// `BadOption` before all else; then `Refused`, after which nothing was written; `Memory`, after which a beginning of
+/// the trace was written; and `Write` with the count of the bytes written.
+pub fn run<R: Threads + Wait + Sync, W: Write, P: Gate>(
+    rt: &R,
+    alloc: Global,
+    inputs: &Inputs<'_>,
+    options: Options,
+    out: &mut W,
+    gate: &P,
+) -> Result<Outcome, RunError>
+    ensures trace { IfOk result (λ o. Writes inputs.now options (W.contents out.old) (W.contents out.new) (ending_of o)) }
+    ensures failed { IfErr result (FailsRun inputs.now options (W.contents out.old) (W.contents out.new)) }
+{
+    if !options.are_within() {
+        return Err(RunError::BadOption);
+    }
+    let system = open(alloc, inputs)?;
+    run_system(rt, alloc, &system, options, out, gate)
+}
