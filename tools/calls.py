@@ -155,7 +155,7 @@ PIPES = {"trace_pipe": LONG_TRACE, "pipe": CYCLE, "cut_pipe": CYCLE[:40], "empty
 
 # What the help has of a run and of a check: each argument's name and words of its sentence, with the range, and an example.
 HELP_OF_FILES = (
-    "DECL", "declaration of the types", "--deploy", "in TOML", "at most 1 MiB", "--stim", "in CSV", "at most 16 MiB", "--why", "tells its place",
+    "DECL", "declaration of the types", "--deploy", "in TOML", "at most 1 MiB", "--stim", "in CSV", "at most 16 MiB", "--why", "shows its place",
 )
 HELP_OF_RUN = (
     *HELP_OF_FILES, "--horizon", "in milliseconds, at which the run ends, 1 to 1000000000000", "--steps", "most steps", "1 to 10000000",

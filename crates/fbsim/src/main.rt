@@ -1,32 +1,34 @@
-//! The simulator's program.
+//! The simulator's program: it hands over the words, the files and the outputs of the machine.
+//!
+//! The calls are those of `fbsim_command`, which is a library, since no crate can use a program.
 #![tactic(auto)]
 
-use fb_call::files::Files;
-use fb_command::command::command;
-use fb_command::failure::Failure;
+#[cfg(test)]
+mod tests;
+
+use fbsim_command::failure::Failure;
+use fbsim_command::files::Files;
+pub use fbsim_command::{Call, LineFault, Source, SourceFault, Streams, command, parse};
 use std::process::ExitCode;
 use std::sync::Wait;
 use std::thread::Threads;
 use std::{env, io};
 
-/// Calls the program by the words that it was started with. The host opens its files and its outputs, and the workers
+/// Calls the program with the words that it was started with. The host opens its files and its outputs, and the workers
 /// have a handle of their own, since a host that is passed on starts no threads.
 fn call<R: Threads + Wait + Sync>(rt: &R, host: &HostRuntime) -> io::Result<u8> {
     let alloc = host.alloc();
     let words: Vec<String> = env::args(host)?.collect(alloc)?;
     let texts: Vec<&str> = words.iter().map(|word| word.as_str()).collect(alloc)?;
     let mut files = Files::new(host);
-    Ok(
-        command(
-            rt,
-            alloc,
-            texts.as_slice(),
-            &mut files,
-            &mut host.stdout(),
-            &mut host.stderr(),
-        )
-        .status,
-    )
+    Ok(command(
+        rt,
+        alloc,
+        texts.as_slice(),
+        &mut files,
+        &mut host.stdout(),
+        &mut host.stderr(),
+    ))
 }
 
 fn main(rt: HostRuntime) -> ExitCode {

@@ -1,4 +1,0 @@
-mod Explaining
-mod Showing
-mod Noting
-mod Reporting

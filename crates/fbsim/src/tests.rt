@@ -1,0 +1,205 @@
+//! How calls end over files and outputs in memory, for each status. Expected bytes were worked out by hand, or are the
+//! texts of clap, the parser of command lines.
+
+mod files;
+mod memory;
+
+use crate::command;
+use files::FILES;
+use memory::{Memory, Narrow};
+use std::alloc::Global;
+use std::process::Abort;
+use std::sync::Wait;
+use std::thread::Threads;
+
+/// More bytes than any of the outputs has.
+const ENOUGH: usize = 1_000_000;
+
+const CYCLE_TRACE: &str =
+    "0 MAIN < S.COLD\n0 MAIN > C.START DT=3\n3 MAIN < C.EO\n6 MAIN < C.EO\nend 8\n";
+
+const RING_TRACE: &str =
+    "0 MAIN < S.COLD\n0 MAIN > M.EI1\n0 MAIN < M.EO\n0 MAIN > M.EI2\n0 MAIN < M.EO\n\
+    stop 0 MAIN steps\n";
+
+const LOOP_TRACE: &str = "7 R1 > A.EI1\n7 R1 < A.EO\n7 R2 > L.GO\n\
+    7 R2 < L.TICKED\n7 R2 < L.TICKED\n7 R2 < L.TICKED\n7 R2 < L.TICKED\nstop 7 R2 steps\n";
+
+const HELP: &str =
+    "Simulates IEC 61499-1 control applications in virtual time; one tick is a millisecond of it.\n\n\
+    Usage: fbsim <COMMAND>\n\n\
+    Commands:\n\
+    \x20 run      Runs an application and writes the trace of its events to standard output.\n\
+    \x20 check    Says whether a run would take these files, or which fault comes first.\n\
+    \x20 wave     Writes a trace to standard output as a value change dump, which viewers of waveforms show.\n\
+    \x20 explain  Says what a refusal means, with two examples of it and what to look at.\n\
+    \x20 help     Print this message or the help of the given subcommand(s)\n\n\
+    Options:\n\
+    \x20 -h, --help  Print help\n\n\
+    Example: fbsim run cell.iec --deploy cell.toml --stim cell.csv --horizon 1000\n";
+
+const NO_COMMAND: &str = "error: 'fbsim' requires a subcommand but one was not provided\n\
+    \x20 [subcommands: run, check, wave, explain, help]\n\n\
+    Usage: fbsim <COMMAND>\n\nFor more information, try '--help'.\n";
+
+const NO_HORIZON: &str = "error: the following required arguments were not provided:\n\
+    \x20 --horizon <horizon>\n\n\
+    Usage: fbsim run --horizon <horizon> <DECL>\n\nFor more information, try '--help'.\n";
+
+const NO_TICKS: &str =
+    "error: invalid value '0' for '--horizon <horizon>': 0 is not in 1..=1000000000000\n\n\
+    For more information, try '--help'.\n";
+
+const STEPS_OVER: &str =
+    "error: invalid value '10000001' for '--steps <steps>': 10000001 is not in 1..=10000000\n\n\
+    For more information, try '--help'.\n";
+
+const WORKERS_OVER: &str =
+    "error: invalid value '65' for '--workers <workers>': 65 is not in 1..=64\n\n\
+    For more information, try '--help'.\n";
+
+const NO_FORM: &str = "error: invalid value '3' for '--trace <trace>'\n\
+    \x20 [possible values: 1, 2]\n\nFor more information, try '--help'.\n";
+
+/// Calls with status 0, each with its output.
+static ENDED: [(&str, &str); 4] = [
+    ("fbsim run - --horizon 8", CYCLE_TRACE),
+    ("fbsim run cycle --horizon 8 --serial", CYCLE_TRACE),
+    ("fbsim check cycle", "accepted\n"),
+    ("fbsim --help", HELP),
+];
+
+/// Calls with status 1, each with its output.
+static STOPPED: [(&str, &str); 4] = [
+    ("fbsim run ring --horizon 1 --steps 3", RING_TRACE),
+    (
+        "fbsim run loop --deploy apart --stim at_seven --steps 10 --horizon 9 --workers 1",
+        LOOP_TRACE,
+    ),
+    (
+        "fbsim run loop --deploy apart --stim at_seven --steps 10 --horizon 9 --workers 2",
+        LOOP_TRACE,
+    ),
+    (
+        "fbsim run loop --deploy apart --stim at_seven --steps 10 --horizon 9 --workers 64",
+        LOOP_TRACE,
+    ),
+];
+
+/// Calls that fail, each with its status and its line. The fault of a file comes before the refusal of a file that was
+/// read before it.
+static FAILED: [(&str, u8, &str); 18] = [
+    (
+        "fbsim run pair --deploy pair_at_once --horizon 5",
+        2,
+        "refused E12\n",
+    ),
+    (
+        "fbsim run pair --deploy pair_unlinked --horizon 5",
+        2,
+        "refused E27\n",
+    ),
+    (
+        "fbsim run value_alone --deploy value_linked --horizon 6",
+        2,
+        "refused E28\n",
+    ),
+    ("fbsim run cut_off --horizon 1", 2, "refused E03 line 2\n"),
+    ("fbsim check cut_off", 2, "refused E03 line 2\n"),
+    ("fbsim run nowhere --horizon 8", 3, "file fault\n"),
+    ("fbsim check cycle --stim nowhere", 3, "file fault\n"),
+    ("fbsim run - --deploy - --horizon 8", 3, "file fault\n"),
+    ("fbsim check cut_off --deploy - --stim -", 3, "file fault\n"),
+    ("fbsim run full --horizon 8", 4, "out of memory\n"),
+    ("fbsim check cut_off --stim full", 4, "out of memory\n"),
+    ("fbsim", 5, NO_COMMAND),
+    ("fbsim run cycle", 5, NO_HORIZON),
+    ("fbsim run cycle --horizon 0", 5, NO_TICKS),
+    (
+        "fbsim run cycle --horizon 8 --steps 10000001",
+        5,
+        STEPS_OVER,
+    ),
+    ("fbsim run cycle --horizon 8 --workers 65", 5, WORKERS_OVER),
+    ("fbsim run cycle --horizon 8 --trace 3", 5, NO_FORM),
+    ("fbsim explain E99", 5, "error: no refusal is called E99\n"),
+];
+
+/// Makes a call over the files in memory, and returns its status.
+fn called<R: Abort + Threads + Wait + Sync>(
+    rt: &R,
+    alloc: Global,
+    words: &str,
+    out: &mut Narrow,
+    err: &mut Narrow,
+) -> u8 {
+    let words: Vec<&str> = words
+        .split_whitespace()
+        .collect(alloc)
+        .expect(rt, "no memory for the words");
+    let mut source = Memory::new(&FILES);
+    command(rt, alloc, words.as_slice(), &mut source, out, err)
+}
+
+/// Makes a call twice. The second time standard error fails, which changes neither the status nor the output.
+fn expect_end<R: Abort + Threads + Wait + Sync>(
+    rt: &R,
+    alloc: Global,
+    words: &str,
+    end: u8,
+    text: &str,
+    line: &str,
+) {
+    for room in [ENOUGH, 0] {
+        let mut out = Narrow::new(alloc, ENOUGH);
+        let mut err = Narrow::new(alloc, room);
+        let status = called(rt, alloc, words, &mut out, &mut err);
+        assert_eq!(rt; status, end, "{words}");
+        assert!(rt; out.got.as_slice() == text.as_bytes(), "{words}");
+        assert!(rt;
+            room == 0 || err.got.as_slice() == line.as_bytes(),
+            "{words}"
+        );
+    }
+}
+
+#[test]
+fn calls_end_with_their_status(rt: HostRuntime) {
+    for (words, text) in &ENDED {
+        expect_end(&rt, rt.alloc(), words, 0, text, "");
+    }
+    for (words, text) in &STOPPED {
+        expect_end(&rt, rt.alloc(), words, 1, text, "");
+    }
+    for (words, status, line) in &FAILED {
+        expect_end(&rt, rt.alloc(), words, *status, "", line);
+    }
+}
+
+/// Makes a call whose output fails after each number of bytes of its text.
+fn expect_write_faults<R: Abort + Threads + Wait + Sync>(
+    rt: &R,
+    alloc: Global,
+    words: &str,
+    text: &str,
+) {
+    for room in 0..text.len() {
+        let mut out = Narrow::new(alloc, room);
+        let mut err = Narrow::new(alloc, ENOUGH);
+        let status = called(rt, alloc, words, &mut out, &mut err);
+        let line = format!(in alloc; "write fault after {room} bytes\n").expect(
+            rt,
+            "no memory for the line",
+        );
+        assert_eq!(rt; status, 3, "{words}");
+        assert!(rt; out.got.as_slice() == &text.as_bytes()[..room], "{words}");
+        assert!(rt; err.got.as_slice() == line.as_bytes(), "{words}");
+    }
+}
+
+#[test]
+fn a_failing_output_is_reported(rt: HostRuntime) {
+    expect_write_faults(&rt, rt.alloc(), "fbsim run cycle --horizon 8", CYCLE_TRACE);
+    expect_write_faults(&rt, rt.alloc(), "fbsim check cycle", "accepted\n");
+    expect_write_faults(&rt, rt.alloc(), "fbsim --help", HELP);
+}

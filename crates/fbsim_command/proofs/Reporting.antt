@@ -1,0 +1,70 @@
+-- What is reported of the progress of a run, and then of how a call ends.
+use Rattle.std.proofs.Common.{◌≡◌, ◌∙◌, ◌&&◌, ◌++◌, Bool, true, false, List, [], Option, None, option_map, refl, sym, ap, subst, string_bytes}
+use Rattle.std.specs.Prelude.{IsTrue, IfErr, IfOk, OnOk, Result, Ok, Err}
+use Rattle.std.specs.Io.KnownBytes.{Appends}
+use Rattle.std.proofs.KnownBytes.{Appends-nil, Appends-trans}
+use Rattle.clap.specs.Words.{Text}
+use Rattle.fbsim_command.specs.Line.{AskHelp}
+use Rattle.fb_sim.specs.Given.{Given}
+use Rattle.fb_sim.specs.declared.options.Options.{Options}
+use Rattle.fb_sim.specs.declared.outcome.Outcome.{Outcome}
+use Rattle.fb_sim.specs.declared.outcome.Outcome.TheVariants as sim_end
+use Rattle.fb_sim.specs.declared.outcome.RunError.{RunError}
+use Rattle.fb_sim.specs.Reports.{AreReports, Hears, is_at_end}
+use Rattle.fb_sim.specs.Serial.{Writes, ending_of}
+use Rattle.fbsim_command.specs.Command.{Explains, IsDoneOf, Runs, is_ended}
+use Rattle.fbsim_command.specs.Failures.{WritesPart}
+use Rattle.fbsim_command.specs.Outcomes.{End, Held}
+use Rattle.fbsim_command.specs.declared.program.Answer.{Answer}
+use Rattle.fbsim_command.specs.declared.failure.Failure.TheVariants.{Refused, File, Write, Memory, Line, BadOption}
+use Rattle.fbsim_command.specs.declared.status.Done.{Done}
+use Rattle.fbsim_command.specs.declared.status.Done.TheVariants.{Helped}
+
+-- where nothing is reported
+pub quiet : (err : Held) → Hears true err err []
+quiet err = record { all = λ t. Appends-nil err; none = λ e. refl }
+
+-- ---- A run
+
+same_end : (o : Outcome) (d : Done) → IsDoneOf o d → is_at_end (Ok o) ≡ is_ended (Ok d)
+same_end (sim_end.End h) d is = ap (λ (x : Done). is_ended (Ok x)) (sym is)
+same_end (sim_end.Stop mark) d is = ap (λ (x : Done). is_ended (Ok x)) (sym is)
+
+pub ran :
+    (serial : Bool) (given : Given) (options : Options) (old new : Held) (o : Outcome) (d : Done) → IsDoneOf o d → Writes given options old new (ending_of o)
+    → Runs serial given options old new (Ok d)
+ran serial given options old new (sim_end.End h) d is writes = subst (λ (x : Done). Runs serial given options old new (Ok x)) (sym is) (h, writes)
+ran serial given options old new (sim_end.Stop mark) d is writes =
+    subst (λ (x : Done). Runs serial given options old new (Ok x)) (sym is) (mark.tick, mark.resource, mark.reason, writes)
+
+pub reported :
+    (given : Given) (options : Options) (r : Result Outcome RunError) (o : Outcome) (d : Done) (heard : Bool) (old new : Held) → r ≡ Ok o → IsDoneOf o d
+    → (x : Text) × AreReports given options (is_at_end r) x × Hears heard old new x → (x : Text) × AreReports given options (is_ended (Ok d)) x × Hears heard old new x
+reported given options r o d heard old new is done told = (told.0, subst (λ (b : Bool). AreReports given options b told.0) (ap is_at_end is ∙ same_end o d done) told.1, told.2)
+
+-- ---- A call that is no run
+
+pub ended_so :
+    (a : Answer) (e : End) → a ≡ record { end = e; is_heard = true; note = None } → (err : Held) (P : End → Text → Option Text → Type 0) → P e [] None
+    → (x : Text) × Hears a.is_heard err err x × P a.end x (option_map string_bytes a.note)
+ended_so a e is err P p = subst (λ (b : Answer). (x : Text) × Hears b.is_heard err err x × P b.end x (option_map string_bytes b.note)) (sym is) ([], quiet err, p)
+
+pub helped : (words : List Text) (old new : Held) (help : Text) → AskHelp words → (r : End) → IfOk r (λ d. (d ≡ Helped) × Appends old new help) → IfErr r (WritesPart old new help) → Explains words old new r
+helped words old new help asked (Ok d) whole part = subst (λ (x : Done). Explains words old new (Ok x)) (sym whole.0) (asked, (help, whole.1))
+helped words old new help asked (Err (Write n)) whole part = (asked, (help, part))
+helped words old new help asked (Err (Refused refusal)) whole bad = absurd bad
+helped words old new help asked (Err File) whole bad = absurd bad
+helped words old new help asked (Err Memory) whole bad = absurd bad
+helped words old new help asked (Err (Line text)) whole bad = absurd bad
+helped words old new help asked (Err BadOption) whole bad = absurd bad
+
+-- ---- The end
+
+pub told_all : (h t : Bool) (old mid new : Held) (x y : Text) → Hears h old mid x → (IsTrue t → Appends mid new y) → IsTrue (h && t) → Appends old new (x ++ y)
+told_all true true old mid new x y hears told is = Appends-trans old mid new x y (hears.all refl) (told refl)
+told_all true false old mid new x y hears told is = absurd (let f : false ≡ true = is in cc)
+told_all false t old mid new x y hears told is = absurd (let f : false ≡ true = is in cc)
+
+pub quiet_all : (h : Bool) (old mid new : Held) (x : Text) (end : End) → Hears h old mid x → OnOk end (new ≡ mid) → OnOk end (x ≡ [] → new ≡ old)
+quiet_all h old mid new x (Ok d) hears same = λ e. same ∙ hears.none e
+quiet_all h old mid new x (Err failure) hears same = tt

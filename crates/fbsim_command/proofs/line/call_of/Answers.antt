@@ -1,0 +1,30 @@
+use Rattle.std.proofs.Common.{rules, ◌≡◌, sym, subst, codes}
+use Rattle.std.specs.Prelude.{IfSome}
+use Rattle.clap.specs.Words.{Text, found_of, rows_of}
+use Rattle.fbsim_command.specs.Line.{call_name}
+use Rattle.fbsim_command.proofs.LineLaws.{no_name, no_other_call, no_wave, when_none}
+use Rattle.fbsim_command.proofs.line.call_of.Goals as goal
+
+pub returns-in-explain-clause-name : goal.returns-in-explain-clause-name
+returns-in-explain-clause-name c =
+    let named : c.args.name.now ≡ codes "explain" = search rules in
+    subst (λ (t : Text). IfSome c.explain_of.result (λ r. t ≡ call_name r)) (sym named) c.explain_of.ensures.name
+
+pub returns-in-explain-clause-none : goal.returns-in-explain-clause-none
+returns-in-explain-clause-none c =
+    let named : c.args.name.now ≡ codes "explain" = search rules in
+    when_none c.explain_of.result _ _ (no_name (rows_of (found_of c.args.found.now)) c.args.name.now named) c.explain_of.ensures.none
+
+pub returns-in-wave-clause-name : goal.returns-in-wave-clause-name
+returns-in-wave-clause-name c =
+    let named : c.args.name.now ≡ codes "wave" = search rules in
+    subst (λ (t : Text). IfSome c.wave_of.result (λ r. t ≡ call_name r)) (sym named) c.wave_of.ensures.name
+
+pub returns-in-wave-clause-none : goal.returns-in-wave-clause-none
+returns-in-wave-clause-none c =
+    let named : c.args.name.now ≡ codes "wave" = search rules in
+    when_none c.wave_of.result _ _ (no_wave (rows_of (found_of c.args.found.now)) c.args.name.now named) c.wave_of.ensures.none
+
+pub returns-in_default-clause-none : goal.returns-in_default-clause-none
+returns-in_default-clause-none c =
+    when_none c.task_of.result _ _ (no_other_call (rows_of (found_of c.args.found.now)) c.args.name.now c.in_default.not-explain c.in_default.not-wave) c.task_of.ensures.none

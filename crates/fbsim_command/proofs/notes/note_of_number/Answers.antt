@@ -1,0 +1,21 @@
+use Rattle.std.proofs.Common.{Bor, List, ℕ, Option, Some, option_map, refl, subst}
+use Rattle.std.specs.Prelude.{MatchOption}
+use Rattle.fb_why.specs.Findings.{IsSilent, Tells}
+use Rattle.fb_why.specs.declared.spot.Finding.{Finding}
+use Rattle.fbsim_command.specs.Texts.{given_of}
+use Rattle.fbsim_command.proofs.notes.note_of_number.Goals as goal
+
+pub returns-in-Ok-Some : goal.returns-in-Ok-Some
+returns-in-Ok-Some c =
+    let given = given_of c.args.texts.now in
+    let n = c.args.number in
+    let finding = c.in-Ok-Some.finding in
+    let text = c.as_slice-declaration.result.now in
+    let plan = option_map (λ (b : Bor (List ℕ)). b.now) c.deployment.result in
+    let rows = option_map (λ (b : Bor (List ℕ)). b.now) c.rows.result in
+    let at : MatchOption (Some finding) (IsSilent text plan rows n) (λ (r : Finding). Tells text plan rows n r.place) =
+    subst (λ (o : Option Finding). MatchOption o (IsSilent text plan rows n) (λ (r : Finding). Tells text plan rows n r.place)) c.in-Ok-Some.field-0-is c.in-Ok-Some.ensures in
+    let here : Tells given.declaration plan rows n finding.place = subst (λ (t : List ℕ). Tells t plan rows n finding.place) c.as_slice-declaration.ensures.value at in
+    let planned : Tells given.declaration given.deploy rows n finding.place = subst (λ (p : Option (List ℕ)). Tells given.declaration p rows n finding.place) c.deployment.ensures here in
+    let tells : Tells given.declaration given.deploy given.stimuli n finding.place = subst (λ (s : Option (List ℕ)). Tells given.declaration given.deploy s n finding.place) c.rows.ensures planned in
+    (finding, refl, tells)

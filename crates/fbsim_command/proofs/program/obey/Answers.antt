@@ -1,0 +1,67 @@
+use Rattle.std.proofs.Common.{Bor, List, ℕ, Option, Err, map, inl, inr, refl, sym, subst}
+use Rattle.clap.specs.Words.{Text}
+use Rattle.fbsim_command.specs.Line.{AreCall, IsFault, IsHelp}
+use Rattle.fbsim_command.specs.declared.line.LineFault.{LineFault}
+use Rattle.fbsim_command.specs.declared.line.Call.{Call}
+use Rattle.fbsim_command.specs.Command.{Does}
+use Rattle.fbsim_command.specs.Outcomes.{End}
+use Rattle.fbsim_command.specs.declared.failure.Failure.TheVariants.{Line, Memory}
+use Rattle.fbsim_command.proofs.Reporting.{ended_so, helped}
+use Rattle.fbsim_command.proofs.program.obey.Goals as goal
+
+pub returns-in-Ok-Task : goal.returns-in-Ok-Task
+returns-in-Ok-Task g c =
+    let words = map (λ (w : Bor (List ℕ)). w.now) c.args.words.now in
+    let asked = subst (λ (r : Call). AreCall words r) c.in-Ok-Task.field-0-is c.in-Ok-Task.ensures.call in
+    (c.perform.ensures.0, c.perform.ensures.1, inl (c.in-Ok-Task.task, asked, c.in-Ok-Task.ensures.taken, c.perform.ensures.2))
+
+pub returns-in-Ok-Explain : goal.returns-in-Ok-Explain
+returns-in-Ok-Explain g c =
+    let words = map (λ (w : Bor (List ℕ)). w.now) c.args.words.now in
+    let source = c.args.source.now in
+    let old = g.W.Write.contents c.args.out.now in
+    let new = g.W.Write.contents c.explain_to.new.out in
+    let asked = subst (λ (r : Call). AreCall words r) c.in-Ok-Explain.field-0-is c.in-Ok-Explain.ensures.call in
+    ended_so c.ended.result c.explain_to.result c.ended.ensures (g.E.Write.contents c.args.err.now)
+    (λ (end : End) (reports : Text) (note : Option Text). Does g.S.Source.gives g.S.Streams.opens source source words old new end reports note)
+    (inr (inr (inl (c.in-Ok-Explain.name, asked, c.in-Ok-Explain.ensures.taken, c.explain_to.ensures, (refl, refl, refl)))))
+
+pub returns-in-Ok-Wave : goal.returns-in-Ok-Wave
+returns-in-Ok-Wave g c =
+    let words = map (λ (w : Bor (List ℕ)). w.now) c.args.words.now in
+    let old = g.W.Write.contents c.args.out.now in
+    let new = g.W.Write.contents c.show.new.out in
+    let asked = subst (λ (r : Call). AreCall words r) c.in-Ok-Wave.field-0-is c.in-Ok-Wave.ensures.call in
+    ended_so c.ended-in-Ok-Wave.result c.show.result c.ended-in-Ok-Wave.ensures (g.E.Write.contents c.args.err.now)
+    (λ (end : End) (reports : Text) (note : Option Text). Does g.S.Source.gives g.S.Streams.opens c.args.source.now c.show.new.source words old new end reports note)
+    (inr (inl (c.in-Ok-Wave.wave, asked, c.in-Ok-Wave.ensures.taken, c.show.ensures, refl, refl)))
+
+pub returns-in-Err-Help : goal.returns-in-Err-Help
+returns-in-Err-Help g c =
+    let words = map (λ (w : Bor (List ℕ)). w.now) c.args.words.now in
+    let source = c.args.source.now in
+    let old = g.W.Write.contents c.args.out.now in
+    let new = g.W.Write.contents c.help_to.new.out in
+    let help : IsHelp c.in-Err-Help.field-0 = subst (λ (x : LineFault). IsHelp x) (sym c.in-Err-Help.field-0-is) tt in
+    ended_so c.ended-in-Err-Help.result c.help_to.result c.ended-in-Err-Help.ensures (g.E.Write.contents c.args.err.now)
+    (λ (end : End) (reports : Text) (note : Option Text). Does g.S.Source.gives g.S.Streams.opens source source words old new end reports note)
+    (inr (inr (inr (helped words old new c.as_str.result.now (c.in-Err-Help.ensures.help help) c.help_to.result c.help_to.ensures.whole c.help_to.ensures.part, (refl, refl, refl)))))
+
+pub returns-in-Err-Fault : goal.returns-in-Err-Fault
+returns-in-Err-Fault g c =
+    let words = map (λ (w : Bor (List ℕ)). w.now) c.args.words.now in
+    let source = c.args.source.now in
+    let old = g.W.Write.contents c.args.out.now in
+    let fault : IsFault c.in-Err-Fault.field-0 = subst (λ (x : LineFault). IsFault x) (sym c.in-Err-Fault.field-0-is) tt in
+    ended_so c.ended-in-Err-Fault.result (Err (Line _)) c.ended-in-Err-Fault.ensures (g.E.Write.contents c.args.err.now)
+    (λ (end : End) (reports : Text) (note : Option Text). Does g.S.Source.gives g.S.Streams.opens source source words old old end reports note)
+    (inr (inr (inr ((c.in-Err-Fault.ensures.none fault, refl), (refl, refl, refl)))))
+
+pub returns-in-Err-Memory : goal.returns-in-Err-Memory
+returns-in-Err-Memory g c =
+    let words = map (λ (w : Bor (List ℕ)). w.now) c.args.words.now in
+    let source = c.args.source.now in
+    let old = g.W.Write.contents c.args.out.now in
+    ended_so c.ended-in-Err-Memory.result (Err Memory) c.ended-in-Err-Memory.ensures (g.E.Write.contents c.args.err.now)
+    (λ (end : End) (reports : Text) (note : Option Text). Does g.S.Source.gives g.S.Streams.opens source source words old old end reports note)
+    (inr (inr (inr (refl, (refl, refl, refl)))))

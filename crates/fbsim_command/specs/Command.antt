@@ -1,0 +1,178 @@
+-- What a call of the program does (this project's own).
+use Rattle.std.specs.Prelude.{◌≡◌, ◌⊎◌, ℕ, Bool, true, false, List, [], Option, None, Ok, Err, codes, string_bytes}
+use Rattle.std.specs.Borrow.{Bor}
+use Rattle.std.specs.List.{list_any}
+use Rattle.std.specs.Io.KnownBytes.{Appends}
+use Rattle.clap.specs.Words.{Text}
+use Rattle.fb_types.specs.Names.{same_name}
+use Rattle.fb_types.specs.Simulation.{AtHorizon, AtStop}
+use Rattle.fb_types.specs.declared.value.Reason.{Reason}
+use Rattle.fb_sim.specs.Given.{Given}
+use Rattle.fb_sim.specs.Rounds.{WritesFront}
+use Rattle.fb_sim.specs.Serial as sim
+use Rattle.fb_sim.specs.Serial.{AreWithin, IsDeclared, Writes}
+use Rattle.fb_sim.specs.declared.options.Options.{Options}
+use Rattle.fb_sim.specs.declared.outcome.Outcome.{Outcome}
+use Rattle.fb_sim.specs.declared.outcome.Outcome.TheVariants as sim_end
+use Rattle.fb_sim.specs.Reports.{AreReports}
+use Rattle.fb_why.specs.Explained.{explained}
+use Rattle.fb_why.specs.declared.table.Explanation.{Explanation}
+use Rattle.fbsim_command.specs.Line.{AreCall, AreNoCall, AskHelp, IsTaken}
+use Rattle.fbsim_command.specs.Failures.{IsPartWritten, explained_text, failure_of_source, no_refusal}
+use Rattle.fbsim_command.specs.Notes.{IsFileNote, IsNote, Notes}
+use Rattle.fbsim_command.specs.Outcomes.{End, Held, IsRefused}
+use Rattle.fbsim_command.specs.Reading.{Reading, AreRead, IsUnread}
+use Rattle.fbsim_command.specs.Showing.{Opening, Shows}
+use Rattle.fbsim_command.specs.declared.failure.Failure.TheVariants.{Refused, File, Write, Memory, Line, BadOption}
+use Rattle.fbsim_command.specs.declared.line.Task.{Task}
+use Rattle.fbsim_command.specs.declared.line.Action.{Action}
+use Rattle.fbsim_command.specs.declared.line.Action.TheVariants.{Check, Run}
+use Rattle.fbsim_command.specs.declared.line.Call.TheVariants as call
+use Rattle.fbsim_command.specs.declared.line.Wave.{Wave}
+use Rattle.fbsim_command.specs.declared.sources.SourceFault.{SourceFault}
+use Rattle.fbsim_command.specs.declared.status.Done.{Done}
+use Rattle.fbsim_command.specs.declared.status.Done.TheVariants.{Helped, Explained, Accepted, Shown, Ended, Stopped}
+use Rattle.fbsim_command.specs.declared.texts.Part.{Part}
+
+-- the inputs are checked
+abbrev pub Checks : Given → (old new : Held) → End → Type 0
+Checks given old new (Ok Accepted) = IsDeclared given × Appends old new (codes "accepted\n")
+Checks given old new (Ok Helped) = ⊥
+Checks given old new (Ok Explained) = ⊥
+Checks given old new (Ok Ended) = ⊥
+Checks given old new (Ok Shown) = ⊥
+Checks given old new (Ok Stopped) = ⊥
+Checks given old new (Err (Refused refusal)) = IsRefused given refusal × (new ≡ old)
+Checks given old new (Err (Write n)) = IsDeclared given × IsPartWritten old new (codes "accepted\n") n
+Checks given old new (Err Memory) = new ≡ old
+Checks given old new (Err File) = ⊥
+Checks given old new (Err (Line message)) = ⊥
+Checks given old new (Err BadOption) = ⊥
+
+abbrev pub IsDoneOf : Outcome → Done → Type 0
+IsDoneOf (sim_end.End h) done = done ≡ Ended
+IsDoneOf (sim_end.Stop mark) done = done ≡ Stopped
+
+-- what a writer has when it is out of memory: of a run from one agenda nothing, and of one with workers a beginning of the trace
+abbrev pub Wants : (serial : Bool) → Given → Options → (old new : Held) → Type 0
+Wants true given o old new = AreWithin o × (new ≡ old)
+Wants false given o old new = (AreWithin o × (new ≡ old)) ⊎ WritesFront given o old new
+
+-- the inputs are run
+abbrev pub Runs : (serial : Bool) → Given → Options → (old new : Held) → End → Type 0
+Runs serial given o old new (Ok Ended) = (horizon : ℕ) × Writes given o old new (AtHorizon horizon)
+Runs serial given o old new (Ok Stopped) = (tick : ℕ) × (resource : ℕ) × (reason : Reason) × Writes given o old new (AtStop tick resource reason)
+Runs serial given o old new (Ok Shown) = ⊥
+Runs serial given o old new (Ok Helped) = ⊥
+Runs serial given o old new (Ok Explained) = ⊥
+Runs serial given o old new (Ok Accepted) = ⊥
+Runs serial given o old new (Err (Refused refusal)) = AreWithin o × IsRefused given refusal × (new ≡ old)
+Runs serial given o old new (Err (Write n)) = sim.WritesPart given o old new n
+Runs serial given o old new (Err Memory) = Wants serial given o old new
+Runs serial given o old new (Err BadOption) = (AreWithin o → ⊥) × (new ≡ old)
+Runs serial given o old new (Err File) = ⊥
+Runs serial given o old new (Err (Line message)) = ⊥
+
+-- what a task asks for is done with the inputs
+abbrev pub Meets : Given → Action → (old new : Held) → End → Type 0
+Meets given Check old new end = Checks given old new end
+Meets given (Run horizon steps workers serial form progress) old new end =
+    Runs serial given (record { horizon = horizon; steps = steps; workers = workers; form = form }) old new end
+
+-- whether a run has come to its horizon
+abbrev pub is_ended : End → Bool
+is_ended (Ok Ended) = true
+is_ended (Ok Stopped) = false
+is_ended (Ok Helped) = false
+is_ended (Ok Explained) = false
+is_ended (Ok Accepted) = false
+is_ended (Ok Shown) = false
+is_ended (Err failure) = false
+
+-- what is reported meanwhile: of a run with workers, if it is asked for, its progress, and else nothing
+abbrev pub ReportsOn : (serial progress : Bool) → Given → Options → End → (reports : Text) → Type 0
+ReportsOn false true given o end reports = AreReports given o (is_ended end) reports
+ReportsOn true true given o end reports = reports ≡ []
+ReportsOn serial false given o end reports = reports ≡ []
+
+abbrev pub Reports : Given → Action → End → (reports : Text) → Type 0
+Reports given Check end reports = reports ≡ []
+Reports given (Run horizon steps workers serial form progress) end reports =
+    ReportsOn serial progress given (record { horizon = horizon; steps = steps; workers = workers; form = form }) end reports
+
+-- ---- The call
+
+-- where a call has failed, such a note
+abbrev pub NotesOf : Given → (why : Bool) → End → Option Text → Type 0
+NotesOf given why (Ok d) note = note ≡ None
+NotesOf given why (Err failure) note = Notes why (IsNote given failure) note
+
+-- The files are read, and what the task asks for is done with them.
+pub record AreReadAndDone {S : Type 0} (reads : Reading S) (from to : S) (c : Task) (old new : Held) (end : End) (reports : Text) (note : Option Text) : Type 0 where
+  pub given : Given
+  pub read : AreRead reads c from to given
+  pub done : Meets given c.action old new end
+  pub reported : Reports given c.action end reports
+  pub noted : NotesOf given c.why end note
+
+-- A file is not read.
+pub record IsFileFault {S : Type 0} (reads : Reading S) (from to : S) (c : Task) (old new : Held) (end : End) (reports : Text) (note : Option Text) : Type 0 where
+  pub part : Part
+  pub fault : SourceFault
+  pub unread : IsUnread reads c from to part fault
+  pub failed : end ≡ Err (failure_of_source fault)
+  pub same : new ≡ old
+  pub reported : reports ≡ []
+  pub noted : Notes c.why (IsFileNote c part fault) note
+
+abbrev pub Performs : {S : Type 0} → Reading S → (from to : S) → Task → (old new : Held) → End → (reports : Text) → (note : Option Text) → Type 0
+Performs reads from to c old new end reports note = AreReadAndDone reads from to c old new end reports note ⊎ IsFileFault reads from to c old new end reports note
+
+-- there is a refusal of this name
+abbrev pub IsRefusalName : (name : Text) → Type 0
+IsRefusalName name = list_any (λ n. same_name n name) explained ≡ true
+
+-- the words ask what a refusal means
+abbrev pub ExplainsRefusal : (name : Text) → (old new : Held) → End → Type 0
+ExplainsRefusal name old new (Ok Explained) =
+    IsRefusalName name × (e : Explanation) × (first : Text) × (second : Text) × (e.name.now ≡ name) × Appends old new (explained_text name e.meaning.now first second e.look.now)
+ExplainsRefusal name old new (Ok Helped) = ⊥
+ExplainsRefusal name old new (Ok Accepted) = ⊥
+ExplainsRefusal name old new (Ok Ended) = ⊥
+ExplainsRefusal name old new (Ok Shown) = ⊥
+ExplainsRefusal name old new (Ok Stopped) = ⊥
+ExplainsRefusal name old new (Err (Write n)) =
+    IsRefusalName name × (e : Explanation) × (first : Text) × (second : Text) × (e.name.now ≡ name) × IsPartWritten old new (explained_text name e.meaning.now first second e.look.now) n
+ExplainsRefusal name old new (Err (Line message)) =
+    (list_any (λ n. same_name n name) explained ≡ false) × (string_bytes message ≡ no_refusal name) × (new ≡ old)
+ExplainsRefusal name old new (Err Memory) = new ≡ old
+ExplainsRefusal name old new (Err (Refused refusal)) = ⊥
+ExplainsRefusal name old new (Err File) = ⊥
+ExplainsRefusal name old new (Err BadOption) = ⊥
+
+-- the words name no call
+abbrev pub Explains : List Text → (old new : Held) → End → Type 0
+Explains words old new (Ok Helped) = AskHelp words × ((help : Text) × Appends old new help)
+Explains words old new (Ok Explained) = ⊥
+Explains words old new (Ok Accepted) = ⊥
+Explains words old new (Ok Ended) = ⊥
+Explains words old new (Ok Shown) = ⊥
+Explains words old new (Ok Stopped) = ⊥
+Explains words old new (Err (Write n)) = AskHelp words × ((help : Text) × IsPartWritten old new help n)
+Explains words old new (Err (Line message)) = AreNoCall words × (new ≡ old)
+Explains words old new (Err Memory) = new ≡ old
+Explains words old new (Err (Refused refusal)) = ⊥
+Explains words old new (Err File) = ⊥
+Explains words old new (Err BadOption) = ⊥
+
+-- nothing is read, and only the end is reported
+abbrev pub TellsNoMore : {S : Type 0} → (from to : S) → (reports : Text) → (note : Option Text) → Type 0
+TellsNoMore from to reports note = (to ≡ from) × (reports ≡ []) × (note ≡ None)
+
+-- The words are done as the call that they name, or a trace is shown, or a refusal is explained, or the words are.
+abbrev pub Does : {S : Type 0} → Reading S → Opening S → (from to : S) → List Text → (old new : Held) → End → (reports : Text) → (note : Option Text) → Type 0
+Does reads opens from to words old new end reports note =
+    ((c : Task) × AreCall words (call.Task c) × IsTaken words × Performs reads from to c old new end reports note)
+    ⊎ ((w : Wave) × AreCall words (call.Wave w) × IsTaken words × Shows reads opens from to w old new end × (reports ≡ []) × (note ≡ None))
+    ⊎ ((name : Bor Text) × AreCall words (call.Explain name) × IsTaken words × ExplainsRefusal name.now old new end × TellsNoMore from to reports note)
+    ⊎ (Explains words old new end × TellsNoMore from to reports note)

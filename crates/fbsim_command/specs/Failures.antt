@@ -1,0 +1,133 @@
+-- How failures are reported, and the status of each end (this project's own).
+use Rattle.std.specs.Prelude.{◌/◌, ◌%◌, ◌<◌, ℕ, List, [], ◌++◌, length, take, Option, Some, None, Result, Ok, Err, codes, decimal, string_bytes}
+use Rattle.std.specs.Io.KnownBytes.{Appends}
+use Rattle.fb_read.specs.declared.error.ReadError.{ReadError}
+use Rattle.fb_read.specs.declared.error.ReadError.TheVariants as read
+use Rattle.fb_inputs.specs.Refusals as input
+use Rattle.fb_inputs.specs.declared.error.InputError.{InputError}
+use Rattle.fb_check.specs.Faults as judge
+use Rattle.fb_sim.specs.declared.outcome.Refusal as sim
+use Rattle.fb_sim.specs.declared.outcome.Refusal.TheVariants as of
+use Rattle.fb_sim.specs.declared.outcome.RunError.{RunError}
+use Rattle.fb_sim.specs.declared.outcome.RunError.TheVariants as run
+use Rattle.fb_wave.specs.declared.error.WaveError.{WaveError}
+use Rattle.fb_wave.specs.declared.error.WaveError.TheVariants as wave
+use Rattle.fbsim_command.specs.declared.failure.Failure.{Failure}
+use Rattle.fbsim_command.specs.declared.failure.Failure.TheVariants.{Refused, File, Write, Memory, Line, BadOption}
+use Rattle.fbsim_command.specs.declared.failure.RefusalLine.{RefusalLine}
+use Rattle.fbsim_command.specs.declared.failure.RefusalLine.TheVariants.{Numbered, Syntax, Trace}
+use Rattle.fbsim_command.specs.declared.sources.SourceFault.{SourceFault}
+use Rattle.fbsim_command.specs.declared.sources.SourceFault.TheVariants as source
+use Rattle.fbsim_command.specs.declared.status.Done.{Done}
+use Rattle.fbsim_command.specs.declared.status.Done.TheVariants.{Helped, Explained, Accepted, Shown, Ended, Stopped}
+
+-- ---- Failures
+
+abbrev pub failure_of_read : ReadError → Failure
+failure_of_read read.Memory = Memory
+failure_of_read read.Byte = Refused (Numbered 1)
+failure_of_read read.Token = Refused (Numbered 2)
+failure_of_read (read.Syntax line) = Refused (Syntax line)
+failure_of_read read.TooLong = Refused (Numbered 4)
+failure_of_read read.Nesting = Refused (Numbered 5)
+
+-- a refusal with this number; without one, out of memory
+abbrev pub numbered_input : Option ℕ → Failure
+numbered_input (Some n) = Refused (Numbered n)
+numbered_input None = Memory
+
+abbrev pub failure_of_input : InputError → Failure
+failure_of_input e = numbered_input (input.number_of e)
+
+abbrev pub failure_of_refusal : sim.Refusal → Failure
+failure_of_refusal (of.Declaration e) = failure_of_read e
+failure_of_refusal (of.Deployment e) = failure_of_input e
+failure_of_refusal (of.Stimuli e) = failure_of_input e
+failure_of_refusal (of.Check f) = Refused (Numbered (judge.number_of f))
+
+abbrev pub failure_of : RunError → Failure
+failure_of (run.Refused r) = failure_of_refusal r
+failure_of run.Memory = Memory
+failure_of (run.Write n) = Write n
+failure_of run.BadOption = BadOption
+failure_of run.Failed = Memory
+
+abbrev pub failure_of_wave : WaveError → Failure
+failure_of_wave (wave.Refused line) = Refused (Trace line)
+failure_of_wave wave.Memory = Memory
+failure_of_wave wave.Read = File
+failure_of_wave (wave.Write n) = Write n
+failure_of_wave wave.Names = Memory
+
+abbrev pub failure_of_source : SourceFault → Failure
+failure_of_source source.File = File
+failure_of_source source.Memory = Memory
+
+-- ---- The texts
+
+abbrev pub refusal_text : RefusalLine → List ℕ
+refusal_text (Numbered n) = codes "refused E" ++ decimal (n / 10) ++ decimal (n % 10)
+refusal_text (Syntax line) = codes "refused E03 line " ++ decimal line
+refusal_text (Trace line) = codes "refused trace line " ++ decimal line
+
+abbrev pub failure_text : Failure → List ℕ
+failure_text (Refused refusal) = refusal_text refusal
+failure_text File = codes "file fault"
+failure_text (Write n) = codes "write fault after " ++ decimal n ++ codes " bytes"
+failure_text Memory = codes "out of memory"
+failure_text (Line text) = string_bytes text
+failure_text BadOption = codes "an option is out of range"
+
+-- what standard error gets: the text, and a line end if the text has none of its own
+abbrev pub told : Failure → List ℕ
+told (Line text) = string_bytes text
+told failure = failure_text failure ++ codes "\n"
+
+-- what standard error gets at the end of a call: the failure, and then the line of the note, if there is one
+abbrev pub told_of : Result Done Failure → Option (List ℕ) → List ℕ
+told_of (Ok d) text = []
+told_of (Err failure) None = told failure
+told_of (Err failure) (Some text) = told failure ++ text ++ codes "\n"
+
+-- ---- Explanations
+
+-- what a refusal means, with two examples of it, and what to look at
+abbrev pub explained_text : (name meaning first second look : List ℕ) → List ℕ
+explained_text name meaning first second look =
+    name
+    ++ (codes ": " ++ (meaning ++ (codes "\nFor example:\n- " ++ (first ++ (codes "\n- " ++ (second ++ (codes "\nLook at: " ++ (look ++ codes "\n"))))))))
+
+-- the words ask for a refusal that there is not
+abbrev pub no_refusal : (name : List ℕ) → List ℕ
+no_refusal name = codes "error: no refusal is called " ++ name ++ codes "\n"
+
+-- ---- The statuses
+
+abbrev pub status_of : Result Done Failure → ℕ
+status_of (Ok Helped) = 0
+status_of (Ok Explained) = 0
+status_of (Ok Accepted) = 0
+status_of (Ok Shown) = 0
+status_of (Ok Ended) = 0
+status_of (Ok Stopped) = 1
+status_of (Err (Refused refusal)) = 2
+status_of (Err File) = 3
+status_of (Err (Write n)) = 3
+status_of (Err Memory) = 4
+status_of (Err (Line text)) = 5
+status_of (Err BadOption) = 5
+
+-- ---- A writer that fails
+
+-- The writer got the first bytes of a text, but not all, and `written` is how many.
+pub record IsPartWritten (old new : Option (List ℕ)) (text : List ℕ) (written : ℕ) : Type 0 where
+  pub short : written < length text
+  pub got : Appends old new (take written text)
+
+abbrev pub WritesPart : (old new : Option (List ℕ)) → List ℕ → Failure → Type 0
+WritesPart old new text (Refused refusal) = ⊥
+WritesPart old new text File = ⊥
+WritesPart old new text (Write n) = IsPartWritten old new text n
+WritesPart old new text Memory = ⊥
+WritesPart old new text (Line message) = ⊥
+WritesPart old new text BadOption = ⊥

@@ -1,0 +1,17 @@
+-- Standard input under the name `-` (this project's own): it is read once.
+use Rattle.std.specs.Prelude.{◌≡◌, ◌≢◌, ℕ, Bool, true, List, Option, Result, Err, codes}
+use Rattle.fbsim_command.specs.declared.files.Opened.{Opened}
+use Rattle.fbsim_command.specs.declared.files.Opened.TheVariants.{Named, Input}
+use Rattle.fbsim_command.specs.declared.sources.SourceFault.{SourceFault}
+use Rattle.fbsim_command.specs.declared.sources.SourceFault.TheVariants.{File}
+
+-- Reading a file by its name takes standard input, or leaves it; a second time is a fault.
+pub record TakesInput {A : Type 0} (had has : Bool) (name : List ℕ) (result : Result A SourceFault) : Type 0 where
+  pub input : name ≡ codes "-" → has ≡ true
+  pub again : name ≡ codes "-" → had ≡ true → result ≡ Err File
+  pub others : name ≢ codes "-" → has ≡ had
+
+-- the bytes that an open file has left, where they are known
+abbrev pub remaining_of : {F I : Type 0} → (F → Option (List ℕ)) → (I → Option (List ℕ)) → Opened F I → Option (List ℕ)
+remaining_of file input (Named f) = file f
+remaining_of file input (Input i) = input i

@@ -1,0 +1,9 @@
+pub mod Line
+pub mod Files
+pub mod Failures
+pub mod Texts
+pub mod Reading
+pub mod Notes
+pub mod Outcomes
+pub mod Showing
+pub mod Command

@@ -1,0 +1,212 @@
+-- The command line (this project's own): the program's commands, and what a parse of the words asks for.
+use Rattle.std.specs.Prelude.{◌≡◌, ◌≢◌, ◌⊎◌, ◌<◌, ◌^◌, ◌↔◌, ℕ, Bool, true, IsTrue, List, [], ◌∷◌, Option, Some, map, option_map, codes}
+use Rattle.std.specs.Borrow.{Bor}
+use Rattle.std.specs.Str.Parse.{IsNumeral, digits_value, without_leading_plus}
+use Rattle.clap.specs.Words.{App, Rule, Row, Text, new_app, new_rule, with_rule, with_subcommand, subcommand_of, first_of, one_of, takes, fault_of, IsAmong}
+use Rattle.clap.specs.declared.builder.action.ArgAction.TheVariants.{SetTrue}
+use Rattle.clap.specs.declared.error.kind.ErrorKind.{ErrorKind}
+use Rattle.clap.specs.declared.error.kind.ErrorKind.TheVariants.{DisplayHelp}
+use Rattle.clap.specs.declared.builder.value_parser.ValueParser.{ValueParser}
+use Rattle.clap.specs.declared.builder.value_parser.ValueParser.TheVariants as parser
+use Rattle.fb_types.specs.declared.run.Form.{Form}
+use Rattle.fb_types.specs.declared.run.Form.TheVariants.{One, Two}
+use Rattle.fbsim_command.specs.declared.line.Action.{Action}
+use Rattle.fbsim_command.specs.declared.line.Action.TheVariants.{Check, Run}
+use Rattle.fbsim_command.specs.declared.line.Task.{Task}
+use Rattle.fbsim_command.specs.declared.line.Call.{Call}
+use Rattle.fbsim_command.specs.declared.line.Call.TheVariants as call
+use Rattle.fbsim_command.specs.declared.line.Wave.{Wave}
+use Rattle.fbsim_command.specs.declared.line.LineFault.{LineFault}
+use Rattle.fbsim_command.specs.declared.line.LineFault.TheVariants.{Memory, Help, Fault}
+
+-- ---- The commands
+
+-- whole numbers from 1 to `most`
+abbrev pub up_to : ℕ → ValueParser
+up_to most = parser.Unsigned 1 most
+
+-- the word that stands for a form of the trace
+abbrev pub word_of : Form → Text
+word_of One = codes "1"
+word_of Two = codes "2"
+
+abbrev pub form_words : List Text
+form_words = word_of One ∷ word_of Two ∷ []
+
+-- the parser takes the words of the forms, and no others
+abbrev pub AreForms : ValueParser → Type 0
+AreForms (parser.Names words) = map (λ w. w.now) words.now ≡ form_words
+AreForms _ = ⊥
+
+-- A value as a parser refers to it. Where it lies in memory changes no answer of the parser, so it may be anywhere.
+abbrev pub placed : {X : Type 0} → X → Bor X
+placed x = record { ref_ptr = (0, 0); now = x }
+
+abbrev pub forms : ValueParser
+forms = parser.Names (placed (map placed form_words))
+
+-- an option with a value of this kind
+abbrev pub limited : Text → ValueParser → Rule
+limited id values = record (new_rule id) { long = Some id; parser = Some values }
+
+-- an argument that has to be there, by its place
+abbrev pub required : Text → Rule
+required id = record (new_rule id) { required = true }
+
+-- an option that takes the name of a file
+abbrev pub file : Text → Rule
+file id = record (new_rule id) { long = Some id }
+
+-- an option without a value
+abbrev pub flag : Text → Rule
+flag id = record (new_rule id) { long = Some id; action = Some SetTrue }
+
+-- a command with an argument that has to be there
+abbrev pub begun : Text → Text → App
+begun name id = with_rule (new_app name) (required id)
+
+-- a command with the names of a declaration and of its deployment
+abbrev pub deployed : Text → App
+deployed name = with_rule (begun name (codes "DECL")) (file (codes "deploy"))
+
+-- a command with the names of its files, and whether a refusal is reported with its place
+abbrev pub files : Text → App
+files name =
+    with_rule (with_rule (deployed name)
+    (file (codes "stim")))
+    (flag (codes "why"))
+
+-- how far a run goes, and by how many workers
+abbrev pub with_numbers : App → App
+with_numbers a = with_rule (with_rule (with_rule a
+    (record (limited (codes "horizon") (up_to 1000000000000)) { required = true }))
+    (record (limited (codes "steps") (up_to 10000000)) { defaults = codes "10000" ∷ [] }))
+    (record (limited (codes "workers") (up_to 64)) { defaults = codes "1" ∷ [] })
+
+-- these, whether it is run from one agenda, whether it reports its progress, and the form of its trace
+abbrev pub with_run_options : ValueParser → App → App
+with_run_options values a = with_rule (with_rule (with_rule (with_numbers a)
+    (flag (codes "serial")))
+    (flag (codes "progress")))
+    (record (limited (codes "trace") values) { defaults = word_of One ∷ [] })
+
+-- a command with the names of a declaration, of its deployment and of its trace
+abbrev pub wave : App
+wave = with_rule (deployed (codes "wave")) (required (codes "TRACE"))
+
+-- a command with the name of a refusal
+abbrev pub explain : App
+explain = begun (codes "explain") (codes "NAME")
+
+-- the program's command, with this parser for the form of the trace
+abbrev pub simulator_with : ValueParser → App
+simulator_with values = with_subcommand (with_subcommand (with_subcommand (with_subcommand
+    (record { top = record (new_app (codes "fbsim")).top { subcommand_required = true }; subs = [] })
+    (with_run_options values (files (codes "run"))).top)
+    (files (codes "check")).top)
+    wave.top)
+    explain.top
+
+abbrev pub simulator : App
+simulator = simulator_with forms
+
+-- ---- What is asked for
+
+abbrev pub command_name : Action → Text
+command_name Check = codes "check"
+command_name (Run horizon steps workers serial form progress) = codes "run"
+
+abbrev pub call_name : Call → Text
+call_name (call.Explain name) = codes "explain"
+call_name (call.Task c) = command_name c.action
+call_name (call.Wave w) = codes "wave"
+
+-- the option has one text, a decimal numeral that may begin with a plus, and this is its number
+pub record IsNumber (rows : List Row) (id : Text) (n : ℕ) : Type 0 where
+  pub text : Text
+  pub given : one_of id rows ≡ Some text
+  pub numeral : IsNumeral 10 (without_leading_plus text)
+  pub value : digits_value 10 (without_leading_plus text) ≡ n
+  pub small : n < 2 ^ 64
+
+-- the option for the form has the word of this form
+abbrev pub IsForm : List Row → Form → Type 0
+IsForm rows form = first_of (codes "trace") rows ≡ Some (word_of form)
+
+-- the option is there exactly where this is true
+abbrev pub IsFlag : List Row → Text → Bool → Type 0
+IsFlag rows id here = IsTrue here ↔ (first_of id rows ≡ Some (codes "true"))
+
+pub record IsRun (rows : List Row) (horizon steps workers : ℕ) (serial : Bool) (form : Form) (progress : Bool) : Type 0 where
+  pub horizon_is : IsNumber rows (codes "horizon") horizon
+  pub steps_is : IsNumber rows (codes "steps") steps
+  pub workers_is : IsNumber rows (codes "workers") workers
+  pub serial_is : IsFlag rows (codes "serial") serial
+  pub form_is : IsForm rows form
+  pub progress_is : IsFlag rows (codes "progress") progress
+
+abbrev pub IsAction : List Row → Action → Type 0
+IsAction rows Check = Unit {0}
+IsAction rows (Run horizon steps workers serial form progress) = IsRun rows horizon steps workers serial form progress
+
+-- the call has what the rows of its command say
+pub record IsTask (rows : List Row) (c : Task) : Type 0 where
+  pub declaration : first_of (codes "DECL") rows ≡ Some c.declaration.now
+  pub deploy : first_of (codes "deploy") rows ≡ option_map (λ n. n.now) c.deploy
+  pub stimuli : first_of (codes "stim") rows ≡ option_map (λ n. n.now) c.stimuli
+  pub why : IsFlag rows (codes "why") c.why
+  pub action : IsAction rows c.action
+
+-- the waveforms of this trace are asked for
+pub record AsksWave (rows : List Row) (w : Wave) : Type 0 where
+  pub declaration : first_of (codes "DECL") rows ≡ Some w.declaration.now
+  pub deploy : first_of (codes "deploy") rows ≡ option_map (λ n. n.now) w.deploy
+  pub trace : first_of (codes "TRACE") rows ≡ Some w.trace.now
+
+abbrev pub IsCall : List Row → Call → Type 0
+IsCall rows (call.Explain name) = first_of (codes "NAME") rows ≡ Some name.now
+IsCall rows (call.Task c) = IsTask rows c
+IsCall rows (call.Wave w) = AsksWave rows w
+
+-- a command's name and its rows ask for this
+pub record IsCallOf (found : Option (Text × List Row)) (r : Call) : Type 0 where
+  pub rows : List Row
+  pub is : found ≡ Some (call_name r, rows)
+  pub call : IsCall rows r
+
+-- the words ask for this
+abbrev pub AreCall : List Text → Call → Type 0
+AreCall words = IsCallOf (subcommand_of simulator words)
+
+-- the parser finds no fault in the words: each value is one that its option takes, and what is required is there
+abbrev pub IsTaken : List Text → Type 0
+IsTaken words = fault_of simulator words ≡ []
+
+-- ---- No call
+
+abbrev pub IsHelp : LineFault → Type 0
+IsHelp Memory = ⊥
+IsHelp (Help text) = Unit {0}
+IsHelp (Fault text) = ⊥
+
+abbrev pub IsFault : LineFault → Type 0
+IsFault Memory = ⊥
+IsFault (Help text) = ⊥
+IsFault (Fault text) = Unit {0}
+
+-- the parser may answer these words with the help
+abbrev pub AskHelp : List Text → Type 0
+AskHelp words = IsAmong DisplayHelp (fault_of simulator words)
+
+-- the parser finds this fault in the words, and it is not that help is asked for
+pub record IsRefused (words : List Text) (kind : ErrorKind) : Type 0 where
+  pub among : IsAmong kind (fault_of simulator words)
+  pub no_help : kind ≢ DisplayHelp
+
+abbrev pub NameNoCall : List Text → Type 0
+NameNoCall words = (r : Call) → AreCall words r → ⊥
+
+-- the parser refuses these words, and not with the help, or they name no call
+pub record AreNoCall (words : List Text) : Type 0 where
+  pub cause : ((kind : ErrorKind) × IsRefused words kind) ⊎ (IsTaken words × NameNoCall words)
+  pub none : takes simulator words ≡ true → NameNoCall words

@@ -1,0 +1,164 @@
+//! Why a call of the program does not do what is asked, and how that is reported.
+
+ghost use Rattle.std.specs.Prelude.{◌≡◌};
+ghost use Rattle.fbsim_command.specs.Failures.{failure_of, failure_of_read, failure_of_input, failure_of_refusal, failure_of_source, failure_of_wave};
+ghost use Rattle.fbsim_command.specs.declared.failure.Failure.TheVariants.{Memory};
+
+use crate::sources::SourceFault;
+use fb_inputs::error::InputError;
+use fb_read::error::ReadError;
+use fb_sim::outcome::{Refusal, RunError};
+use fb_wave::error::WaveError;
+use std::alloc::AllocError;
+use std::fmt;
+
+/// What the line of a refusal says.
+#[derive(Clone, Copy)]
+pub enum RefusalLine {
+    /// The refusal of this number, 1 to 30.
+    Numbered(u8),
+    /// A syntax fault in this line, counted from 1.
+    Syntax(u32),
+    /// The trace is none, which shows first at this line, counted from 1.
+    Trace(u64),
+}
+
+/// Why a call of the program does not do what is asked.
+#[derive(Drop)]
+pub enum Failure {
+    Refused(RefusalLine),
+    /// A file could not be read.
+    File,
+    /// The output failed when it had taken this number of bytes.
+    Write(u128),
+    Memory,
+    /// The words name no call, for what this text says.
+    Line(String),
+    /// A number of the call is out of its range.
+    BadOption,
+}
+
+impl From<AllocError> for Failure {
+    ghost from_gives = { λ error failure. failure ≡ Memory };
+
+    fn from(_error: AllocError) -> Failure {
+        Failure::Memory
+    }
+}
+
+impl From<ReadError> for Failure {
+    ghost from_gives = { λ error failure. failure ≡ failure_of_read error };
+
+    fn from(error: ReadError) -> Failure {
+        match error {
+            ReadError::Memory => Failure::Memory,
+            ReadError::Byte => Failure::Refused(RefusalLine::Numbered(1)),
+            ReadError::Token => Failure::Refused(RefusalLine::Numbered(2)),
+            ReadError::Syntax { line } => Failure::Refused(RefusalLine::Syntax(line)),
+            ReadError::TooLong => Failure::Refused(RefusalLine::Numbered(4)),
+            ReadError::Nesting => Failure::Refused(RefusalLine::Numbered(5)),
+        }
+    }
+}
+
+impl From<InputError> for Failure {
+    ghost from_gives = { λ error failure. failure ≡ failure_of_input error };
+
+    fn from(error: InputError) -> Failure {
+        match error.number() {
+            Some(number) => Failure::Refused(RefusalLine::Numbered(number)),
+            None => Failure::Memory,
+        }
+    }
+}
+
+impl From<Refusal> for Failure {
+    ghost from_gives = { λ refusal failure. failure ≡ failure_of_refusal refusal };
+
+    fn from(refusal: Refusal) -> Failure {
+        match refusal {
+            Refusal::Declaration(error) => Failure::from(error),
+            Refusal::Deployment(error) => Failure::from(error),
+            Refusal::Stimuli(error) => Failure::from(error),
+            Refusal::Check(fault) => Failure::Refused(RefusalLine::Numbered(fault.number())),
+        }
+    }
+}
+
+impl From<RunError> for Failure {
+    ghost from_gives = { λ error failure. failure ≡ failure_of error };
+
+    fn from(error: RunError) -> Failure {
+        match error {
+            RunError::Refused(refusal) => Failure::from(refusal),
+            RunError::Memory => Failure::Memory,
+            RunError::Write(written) => Failure::Write(written),
+            RunError::BadOption => Failure::BadOption,
+            // Only a simulation that is used after a failed call answers so, and the program has none.
+            RunError::Failed => Failure::Memory,
+        }
+    }
+}
+
+impl From<WaveError> for Failure {
+    ghost from_gives = { λ error failure. failure ≡ failure_of_wave error };
+
+    fn from(error: WaveError) -> Failure {
+        match error {
+            WaveError::Refused(line) => Failure::Refused(RefusalLine::Trace(line)),
+            WaveError::Memory => Failure::Memory,
+            WaveError::Read => Failure::File,
+            WaveError::Write(written) => Failure::Write(written),
+            // Only a declaration that no text gives has two ports that are written alike.
+            WaveError::Names => Failure::Memory,
+        }
+    }
+}
+
+impl From<SourceFault> for Failure {
+    ghost from_gives = { λ fault failure. failure ≡ failure_of_source fault };
+
+    fn from(fault: SourceFault) -> Failure {
+        match fault {
+            SourceFault::File => Failure::File,
+            SourceFault::Memory => Failure::Memory,
+        }
+    }
+}
+
+impl fmt::Display for RefusalLine {
+    ghost use Rattle.std.specs.Prelude.{Some};
+    ghost use Rattle.fbsim_command.specs.Failures.{refusal_text};
+
+    ghost output = { λ refusal. Some (refusal_text refusal) };
+
+    fn fmt<W: fmt::Write>(&self, f: &mut fmt::Formatter<W>) -> fmt::Result {
+        match self {
+            RefusalLine::Numbered(number) => {
+                let tens = number / 10;
+                let ones = number % 10;
+                write!(f, "refused E{tens}{ones}")
+            }
+            RefusalLine::Syntax(line) => write!(f, "refused E03 line {line}"),
+            RefusalLine::Trace(line) => write!(f, "refused trace line {line}"),
+        }
+    }
+}
+
+impl fmt::Display for Failure {
+    ghost use Rattle.std.specs.Prelude.{Some};
+    ghost use Rattle.fbsim_command.specs.Failures.{failure_text};
+
+    ghost output = { λ failure. Some (failure_text failure) };
+
+    fn fmt<W: fmt::Write>(&self, f: &mut fmt::Formatter<W>) -> fmt::Result {
+        match self {
+            Failure::Refused(refusal) => write!(f, "{refusal}"),
+            Failure::File => write!(f, "file fault"),
+            Failure::Write(written) => write!(f, "write fault after {written} bytes"),
+            Failure::Memory => write!(f, "out of memory"),
+            Failure::Line(text) => write!(f, "{text}"),
+            Failure::BadOption => write!(f, "an option is out of range"),
+        }
+    }
+}

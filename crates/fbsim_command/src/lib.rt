@@ -1,0 +1,25 @@
+//! One call of the program: its words, its files, what it does with them, and how it ends.
+//!
+//! It guarantees to callers: `parse` gives the call that the parser's matches of the words stand for, defaults included.
+//! `command` says for every way in which a call can end: its status, what was read, what was written, and what was
+//! reported of a failure. `Files` reads the first bytes of a file, at most as many as are asked for, and standard input
+//! once.
+//!
+//! Read it in this order: `line`, the words; `sources`, where files come from; `files`, those of the machine;
+//! `program`, the call; `texts`, what is read; `wave`; `output`; `failure`, `notes` and `status`, how it ends.
+#![tactic(auto)]
+
+pub mod failure;
+pub mod files;
+pub mod line;
+mod notes;
+pub mod output;
+pub mod program;
+pub mod sources;
+pub mod status;
+mod texts;
+mod wave;
+
+pub use line::{Call, LineFault, parse};
+pub use program::command;
+pub use sources::{Source, SourceFault, Streams};

@@ -1,0 +1,107 @@
+//! What is reported after the line of a failure: its place.
+
+ghost use Rattle.std.specs.Prelude.{◌≡◌, IfSome, option_map, string_bytes};
+ghost use Rattle.fbsim_command.specs.Notes.{IsFileNote, IsMatter, IsNote, IsNoteOfName, IsNoteOfNumber, Notes, file_word, name_of, number_of};
+ghost use Rattle.fbsim_command.specs.Texts.{given_of};
+
+use crate::failure::{Failure, RefusalLine};
+use crate::line::Task;
+use crate::sources::SourceFault;
+use crate::texts::{Part, Texts, Unread};
+use fb_why::finding::finding_of;
+use std::alloc::Global;
+
+/// The number of a fault of the grammar, whose line says where it is besides.
+const SYNTAX: u8 = 3;
+
+/// What a file is called.
+fn word_for(part: Part) -> &'static str
+    ensures { result.now ≡ file_word part }
+{
+    match part {
+        Part::Declaration => "declaration",
+        Part::Deployment => "deployment",
+        Part::Stimuli => "stimuli",
+    }
+}
+
+/// What is the matter with a file of this name.
+fn words_for(name: &str) -> &'static str
+    ensures { IsMatter name.now result.now }
+{
+    if name == "-" {
+        "standard input can't be read, or was read before"
+    } else {
+        "no file of this name can be read"
+    }
+}
+
+/// The name that a call gives to a file, where it gives one.
+fn name_of<'a>(task: &Task<'a>, part: Part) -> Option<&'a str>
+    ensures { option_map (λ n. n.now) result ≡ name_of task.now part }
+{
+    match part {
+        Part::Declaration => Some(task.declaration),
+        Part::Deployment => task.deploy,
+        Part::Stimuli => task.stimuli,
+    }
+}
+
+/// The note to a file of this name. Without memory for it there is none.
+fn note_of_name(alloc: Global, part: Part, name: &str) -> Option<String>
+    ensures { IfSome result (λ note. IsNoteOfName part name.now (string_bytes note)) }
+{
+    let word = word_for(part);
+    let matter = words_for(name);
+    match format!(in alloc; "{word} {name}: {matter}") {
+        Ok(note) => Some(note),
+        Err(_) => None,
+    }
+}
+
+/// Which file is not read, where that is asked for.
+pub fn note_of_file(alloc: Global, task: &Task<'_>, unread: Unread) -> Option<String>
+    ensures { Notes task.now.why (IsFileNote task.now unread.part unread.fault) (option_map string_bytes result) }
+{
+    if !task.why {
+        return None;
+    }
+    if let SourceFault::Memory = unread.fault {
+        return None;
+    }
+    let name = name_of(task, unread.part)?;
+    Some(note_of_name(alloc, unread.part, name)?)
+}
+
+/// The number of a refusal of the inputs.
+fn number_of(failure: &Failure) -> Option<u8>
+    ensures { result ≡ number_of failure.now }
+{
+    match failure {
+        Failure::Refused(RefusalLine::Numbered(number)) => Some(*number),
+        Failure::Refused(RefusalLine::Syntax(_)) => Some(SYNTAX),
+        _ => None,
+    }
+}
+
+/// The place at which the refusal of this number applies. Without memory for it there is none.
+fn note_of_number(alloc: Global, number: u8, texts: &Texts) -> Option<String>
+    ensures { IfSome result (λ note. IsNoteOfNumber (given_of texts.now) number (string_bytes note)) }
+{
+    let declaration = texts.declaration.as_slice();
+    match finding_of(alloc, number, declaration, texts.deployment(), texts.rows()) {
+        Ok(Some(finding)) => Some(finding.text),
+        Ok(None) | Err(_) => None,
+    }
+}
+
+/// Where a failure applies, for those of which that is known, where it is asked for.
+pub fn note_of(alloc: Global, why: bool, failure: &Failure, texts: &Texts) -> Option<String>
+    ensures { Notes why (IsNote (given_of texts.now) failure.now) (option_map string_bytes result) }
+{
+    if !why {
+        return None;
+    }
+    let number = number_of(failure)?;
+    note_of_number(alloc, number, texts)
+}

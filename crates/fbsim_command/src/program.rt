@@ -1,0 +1,327 @@
+//! One call of the program, over any files and any outputs.
+
+ghost use Rattle.std.specs.Io.KnownBytes.{Appends};
+ghost use Rattle.std.specs.Prelude.{◌≡◌, ◌++◌, ℕ, List, [], Option, None, false, true, map, option_map, Result, IfOk, IfErr, IsTrue, OnOk, string_bytes};
+ghost use Rattle.fb_sim.specs.Reports.{AreReports, Hears};
+ghost use Rattle.fbsim_command.specs.Command.{Checks, Does, ExplainsRefusal, IsDoneOf, Meets, NotesOf, Performs, Reports, Runs, is_ended};
+ghost use Rattle.fbsim_command.specs.Texts.{given_of};
+ghost use Rattle.fbsim_command.specs.Failures.{WritesPart, explained_text, status_of, told, told_of};
+ghost use Rattle.fbsim_command.specs.declared.failure.Failure.{Failure};
+ghost use Rattle.fbsim_command.specs.declared.status.Done.{Done};
+ghost use Rattle.fbsim_command.specs.declared.status.Done.TheVariants.{Helped};
+
+use crate::failure::Failure;
+use crate::line::{Action, Call, LineFault, Task, parse};
+use crate::notes::{note_of, note_of_file};
+use crate::output::write_text;
+use crate::sources::{Source, Streams};
+use crate::status::{Done, ExitStatus, status};
+use crate::texts::{Texts, read_files};
+use crate::wave::show;
+use fb_phase::OpenGate;
+use fb_sim::options::{Inputs, Options};
+use fb_sim::outcome::Outcome;
+use fb_sim::run::run;
+use fb_sim::serial::{check, run_serial};
+use fb_sim::told::{Told, run_told};
+use fb_why::explain::explain;
+use fb_why::table::Explanation;
+use std::alloc::{AllocError, Global};
+use std::io;
+use std::io::Write;
+use std::sync::Wait;
+use std::thread::Threads;
+
+/// Says whether the inputs are accepted.
+fn check_inputs<W: Write>(alloc: Global, inputs: &Inputs<'_>, out: &mut W) -> Result<Done, Failure>
+    ensures { Checks inputs.now (W.contents out.old) (W.contents out.new) result }
+{
+    check(alloc, inputs)?;
+    write_text(out, b"accepted\n")?;
+    Ok(Done::Accepted)
+}
+
+fn done_of(outcome: Outcome) -> Done
+    ensures { IsDoneOf outcome result }
+{
+    match outcome {
+        Outcome::End(_) => Done::Ended,
+        Outcome::Stop(_) => Done::Stopped,
+    }
+}
+
+/// Writes the trace of the inputs, from one agenda or with workers.
+fn run_inputs<R: Threads + Wait + Sync, W: Write>(
+    rt: &R,
+    alloc: Global,
+    inputs: &Inputs<'_>,
+    options: Options,
+    serial: bool,
+    out: &mut W,
+) -> Result<Done, Failure>
+    ensures { Runs serial inputs.now options (W.contents out.old) (W.contents out.new) result }
+{
+    if serial {
+        return Ok(done_of(run_serial(alloc, inputs, options, out)?));
+    }
+    Ok(done_of(run(rt, alloc, inputs, options, out, &OpenGate)?))
+}
+
+/// Writes the trace of the inputs with workers, and reports the progress of the run meanwhile. It says how that ends,
+/// and whether standard error took all reports.
+fn run_and_tell<R: Threads + Wait + Sync, W: Write, E: Write>(
+    rt: &R,
+    alloc: Global,
+    inputs: &Inputs<'_>,
+    options: Options,
+    out: &mut W,
+    err: &mut E,
+) -> (Result<Done, Failure>, bool)
+    ensures run { Runs false inputs.now options (W.contents out.old) (W.contents out.new) result.0 }
+    ensures told { (reports : List ℕ) × AreReports inputs.now options (is_ended result.0) reports × Hears result.1 (E.contents err.old) (E.contents err.new) reports }
+{
+    let Told { end, is_heard } = run_told(rt, alloc, inputs, options, out, err);
+    match end {
+        Ok(outcome) => (Ok(done_of(outcome)), is_heard),
+        Err(error) => (Err(Failure::from(error)), is_heard),
+    }
+}
+
+/// What came of a call.
+#[derive(Drop)]
+struct Answer {
+    end: Result<Done, Failure>,
+    /// Whether standard error took all that was reported before the end.
+    is_heard: bool,
+    /// What is reported after the line of the failure.
+    note: Option<String>,
+}
+
+/// The answer of what ended so, with nothing else to tell.
+fn ended(end: Result<Done, Failure>) -> Answer
+    ensures { result ≡ record { end = end; is_heard = true; note = None } }
+{
+    Answer {
+        end,
+        is_heard: true,
+        note: None,
+    }
+}
+
+/// Does with the files what a task asks for. It says how that ends, and whether standard error took all reports
+/// meanwhile.
+fn meet<R: Threads + Wait + Sync, W: Write, E: Write>(
+    rt: &R,
+    alloc: Global,
+    action: Action,
+    texts: &Texts,
+    out: &mut W,
+    err: &mut E,
+) -> (Result<Done, Failure>, bool)
+    ensures done { Meets (given_of texts.now) action (W.contents out.old) (W.contents out.new) result.0 }
+    ensures told { (reports : List ℕ) × Reports (given_of texts.now) action result.0 reports × Hears result.1 (E.contents err.old) (E.contents err.new) reports }
+{
+    let inputs = texts.inputs();
+    match action {
+        Action::Check => (check_inputs(alloc, &inputs, out), true),
+        Action::Run {
+            horizon,
+            steps,
+            workers,
+            serial,
+            form,
+            progress,
+        } => {
+            let options = Options {
+                horizon,
+                steps,
+                workers,
+                form,
+            };
+            if progress && !serial {
+                return run_and_tell(rt, alloc, &inputs, options, out, err);
+            }
+            let end = run_inputs(rt, alloc, &inputs, options, serial, out);
+            (end, true)
+        }
+    }
+}
+
+/// The note to a call that ends so, where one is asked for.
+fn note_to(alloc: Global, why: bool, end: &Result<Done, Failure>, texts: &Texts) -> Option<String>
+    ensures { NotesOf (given_of texts.now) why end.now (option_map string_bytes result) }
+{
+    match end {
+        Ok(_) => None,
+        Err(failure) => note_of(alloc, why, failure, texts),
+    }
+}
+
+/// Reads the files of a task, and does what it asks for.
+fn perform<R: Threads + Wait + Sync, S: Source, W: Write, E: Write>(
+    rt: &R,
+    alloc: Global,
+    task: &Task<'_>,
+    source: &mut S,
+    out: &mut W,
+    err: &mut E,
+) -> Answer
+    ensures { (reports : List ℕ) × Hears result.is_heard (E.contents err.old) (E.contents err.new) reports
+        × Performs S.gives source.old source.new task.now (W.contents out.old) (W.contents out.new) result.end reports (option_map string_bytes result.note) }
+{
+    match read_files(alloc, task, source) {
+        Ok(texts) => {
+            let (end, is_heard) = meet(rt, alloc, task.action, &texts, out, err);
+            let note = note_to(alloc, task.why, &end, &texts);
+            Answer {
+                end,
+                is_heard,
+                note,
+            }
+        }
+        Err(unread) => Answer {
+            end: Err(Failure::from(unread.fault)),
+            is_heard: true,
+            note: note_of_file(alloc, task, unread),
+        },
+    }
+}
+
+/// The lines of an explanation: what the refusal of this name means, two examples of it, and what to look at.
+fn explained(
+    alloc: Global,
+    name: &str,
+    meaning: &str,
+    first: &str,
+    second: &str,
+    look: &str,
+) -> Result<String, AllocError>
+    ensures { IfOk result (λ text. string_bytes text ≡ explained_text name.now meaning.now first.now second.now look.now) }
+{
+    Ok(format!(in alloc;
+        "{name}: {meaning}\nFor example:\n- {first}\n- {second}\nLook at: {look}\n"
+    )?)
+}
+
+/// Writes what the refusal of this name means.
+fn explain_to<W: Write>(alloc: Global, name: &str, out: &mut W) -> Result<Done, Failure>
+    ensures { ExplainsRefusal name.now (W.contents out.old) (W.contents out.new) result }
+{
+    let Some(explanation) = explain(name) else {
+        let line = format!(in alloc; "error: no refusal is called {name}\n")?;
+        return Err(Failure::Line(line));
+    };
+    let Explanation {
+        name,
+        meaning,
+        examples: [first, second],
+        look,
+    } = explanation;
+    let text = explained(alloc, name, meaning, first, second, look)?;
+    write_text(out, text.as_bytes())?;
+    Ok(Done::Explained)
+}
+
+/// Writes the help.
+fn help_to<W: Write>(help: &str, out: &mut W) -> Result<Done, Failure>
+    ensures whole { IfOk result (λ d. (d ≡ Helped) × Appends (W.contents out.old) (W.contents out.new) help.now) }
+    ensures part { IfErr result (WritesPart (W.contents out.old) (W.contents out.new) help.now) }
+{
+    write_text(out, help.as_bytes())?;
+    Ok(Done::Helped)
+}
+
+/// Does what the words ask for.
+fn obey<'w, R: Threads + Wait + Sync, S: Source + Streams, W: Write, E: Write>(
+    rt: &R,
+    alloc: Global,
+    words: &'w [&'w str],
+    source: &mut S,
+    out: &mut W,
+    err: &mut E,
+) -> Answer
+    ensures { (reports : List ℕ) × Hears result.is_heard (E.contents err.old) (E.contents err.new) reports
+        × Does S.gives S.opens source.old source.new (map (λ w. w.now) words.entry.now) (W.contents out.old) (W.contents out.new) result.end reports (option_map string_bytes result.note) }
+{
+    match parse(alloc, words) {
+        Ok(Call::Task(task)) => perform(rt, alloc, &task, source, out, err),
+        Ok(Call::Explain(name)) => ended(explain_to(alloc, name, out)),
+        Ok(Call::Wave(wave)) => ended(show(alloc, &wave, source, out)),
+        Err(LineFault::Help(text)) => ended(help_to(text.as_str(), out)),
+        Err(LineFault::Fault(text)) => ended(Err(Failure::Line(text))),
+        Err(LineFault::Memory) => ended(Err(Failure::Memory)),
+    }
+}
+
+/// Reports a failure. A fault of the words has its line end already.
+///
+/// # Errors
+/// That of the writer, which may have got a part.
+fn tell<E: Write>(err: &mut E, failure: &Failure) -> io::Result<()>
+    ensures { OnOk result (Appends (E.contents err.old) (E.contents err.new) (told failure.now)) }
+{
+    match failure {
+        Failure::Line(text) => err.write_all(text.as_bytes()),
+        failure => writeln!(err, "{failure}"),
+    }
+}
+
+/// Reports how a call ends, if it failed: the line of its failure, and then the note. It says whether standard error
+/// took it all.
+fn tell_end<E: Write>(err: &mut E, end: &Result<Done, Failure>, note: &Option<String>) -> bool
+    ensures told { IsTrue result → Appends (E.contents err.old) (E.contents err.new) (told_of end.now (option_map string_bytes note.now)) }
+    ensures quiet { OnOk end.now (E.contents err.new ≡ E.contents err.old) }
+{
+    let Err(failure) = end else {
+        return true;
+    };
+    if tell(err, failure).is_err() {
+        return false;
+    }
+    match note {
+        Some(note) => writeln!(err, "{note}").is_ok(),
+        None => true,
+    }
+}
+
+/// Does what the words ask for, the program's own name first. Output goes to `out`. A failure is reported to `err`,
+/// after the progress of a run, if that is asked for. A run with workers waits for them.
+pub fn command_exit<'w, R: Threads + Wait + Sync, S: Source + Streams, W: Write, E: Write>(
+    rt: &R,
+    alloc: Global,
+    words: &'w [&'w str],
+    source: &mut S,
+    out: &mut W,
+    err: &mut E,
+) -> ExitStatus
+    ensures { (end : Result Done Failure) × (reports : List ℕ) × (note : Option (List ℕ)) × (result.status ≡ status_of end)
+        × Does S.gives S.opens source.old source.new (map (λ w. w.now) words.entry.now) (W.contents out.old) (W.contents out.new) end reports note
+        × (IsTrue result.is_reported → Appends (E.contents err.old) (E.contents err.new) (reports ++ told_of end note))
+        × OnOk end (reports ≡ [] → E.contents err.new ≡ E.contents err.old) }
+{
+    let answer = obey(rt, alloc, words, source, out, err);
+    // A standard error that fails changes no status.
+    let is_told = tell_end(err, &answer.end, &answer.note);
+    ExitStatus {
+        status: status(&answer.end),
+        is_reported: answer.is_heard && is_told,
+    }
+}
+
+/// Does what the words ask for, the program's own name first, and answers the status of the program, 0 to 5. Output
+/// goes to `out`. A failure is reported to `err`, after the progress of a run, if that is asked for; an `err` that fails
+/// changes no status. A run with workers waits for them.
+pub fn command<'w, R: Threads + Wait + Sync, S: Source + Streams, W: Write, E: Write>(
+    rt: &R,
+    alloc: Global,
+    words: &'w [&'w str],
+    source: &mut S,
+    out: &mut W,
+    err: &mut E,
+) -> u8
+    ensures { (end : Result Done Failure) × (reports : List ℕ) × (note : Option (List ℕ)) × (result ≡ status_of end)
+        × Does S.gives S.opens source.old source.new (map (λ w. w.now) words.entry.now) (W.contents out.old) (W.contents out.new) end reports note
+        × OnOk end (reports ≡ [] → E.contents err.new ≡ E.contents err.old) }
+{
+    command_exit(rt, alloc, words, source, out, err).status
+}
