@@ -13,13 +13,13 @@ import sys
 from typing import NamedTuple
 
 import refuse
-from calls import CYCLE, FILES, KEYED_TO_8, MOST_OF_A_TEXT, TO_8, TOLD_TO_8
+from calls import CYCLE, FILES, KEYED_TO_8, LONG_TRACE, LONG_WAVE, MOST_OF_A_TEXT, TO_8, TOLD_TO_8, WAVE_TO_8
 from kit import TOP, rtlib
 from program import Room, side_by_side
 
 HERE = os.path.dirname(os.path.realpath(__file__))
 PROGRAM = "fbsim"
-STEPS = (1, 3, 7, 1000)
+STEPS = (1, 2, 3, 7, 1000)
 # How many bytes of a text are gathered before they are written, and more than any text has.
 PAGE = 8192
 LARGE = 1_000_000
@@ -32,6 +32,7 @@ NARROW_FILES = {name: FILES[name] for name in ("far_too_long", "twice")} | {
     "cycle": CYCLE,
     "part": b"APPLICATION",
     "trace": TO_8,
+    "long_trace": LONG_TRACE,
     "stimuli": b"tick,event,values\n0,C.START,DT=5\n",
     "full": CYCLE,
     "many": b"APPLICATION A FBS S : E_RESTART; XXXXXXXXXX : E_CYCLE(DT := T#1ms); END_FBS "
@@ -127,6 +128,16 @@ def of_many_lines():
             yield at_room(["run", "many", "--horizon", "1000", "--serial"], text, room, step, ONCE=0)
 
 
+def of_waves():
+    """The calls that write a waveform, of less than a page and of many."""
+    for step in STEPS:
+        for room in (0, 1, 10, len(WAVE_TO_8) - 1, len(WAVE_TO_8)):
+            yield at_room(["wave", "cycle", "trace"], WAVE_TO_8, room, step)
+    for step in (7, PAGE, LARGE):
+        for room in (PAGE - 1, PAGE, PAGE + 1, len(LONG_WAVE) - 1, len(LONG_WAVE)):
+            yield at_room(["wave", "cycle", "long_trace"], LONG_WAVE, room, step)
+
+
 def of_errors():
     """Calls whose standard error takes little."""
     for words, status, told in FAILING:
@@ -159,7 +170,8 @@ def all_calls(help_text):
         yield from with_room(words, text, STEPS)
     for count in ("2", "7"):
         yield from with_room([*RUN, "--workers", count], TO_8, STEPS)
-    yield from with_room(["--help"], help_text, STEPS[2:3])
+    yield from with_room(["--help"], help_text, STEPS[3:4])
+    yield from of_waves()
     yield from of_errors()
     yield from of_readers()
     yield from of_one_failure()

@@ -16,6 +16,11 @@ from kit import TOP
 PROGRAM = "fbsim"
 HORIZON = 10_000
 COUNTS = (4, 64, 256)
+# How many lines the trace of a ring has, and how it ends in form one: worked out apart from what is below.
+WORKED_OUT = {
+    64: (630, "9973 R57 > M57.EI1\n9973 R57 < M57.EO\nend 10000\n"),
+    256: (284, "9870 R140 > M140.EI1\n9870 R140 < M140.EO\nend 10000\n"),
+}
 
 
 def declaration(count):
@@ -56,8 +61,17 @@ def rings():
             yield cases.Case(f"a ring of {count} in form {form}", "run", fields)
 
 
+def are_as_worked_out():
+    """Returns whether the traces of this file have the count of lines and the end that were worked out apart from it."""
+    traces = [(trace(count, 1), *of) for count, of in WORKED_OUT.items()]
+    return all(text.count("\n") == lines and text.endswith("\n" + last) for text, lines, last in traces)
+
+
 def try_all(program):
     """Returns whether each ring has its trace."""
+    if not are_as_worked_out():
+        print("rings: the traces of this file are not as they were worked out")
+        return False
     return cases.try_cases(program, [*rings()])
 
 

@@ -1,5 +1,5 @@
--- How a core has come to where it stands, before the first round and behind one that goes on.
-use Rattle.std.proofs.Common.{◌≡◌, ℕ, List, [], Option, Ok, subst}
+-- From a core that has come to where it is, a round that goes on leads to another such core.
+use Rattle.std.proofs.Common.{◌≡◌, ℕ, List, ◌++◌, Option, Ok, subst}
 use Rattle.fb_types.specs.Headline.{Inputs}
 use Rattle.fb_types.specs.States.{Line}
 use Rattle.fb_laws.specs.Finality.{core_of}
@@ -9,15 +9,12 @@ use Rattle.fb_sim.specs.declared.options.Options.{Options}
 use Rattle.fb_sim.specs.declared.progress.Round.{Round}
 use Rattle.fb_sim.specs.declared.progress.Round.TheVariants.{Going}
 
-module _ (i : Inputs) (o : Options) (first : Core) (opened : (horizon : ℕ) → HasCome i o.steps horizon first []) where
-  pub at_first : (ls : List Line) × HasCome i o.steps o.horizon first ls
-  at_first = ([], opened o.horizon)
-
-  pub behind_it :
-      (round : Round) (core : Core) (old new : Option (List ℕ)) → round ≡ Going core
-      → ((ls : List Line) (come : HasCome i o.steps o.horizon first ls) → Rounds i o (core_of i o.steps come.steps) ls old new (Ok round))
-      → (ls : List Line) × HasCome i o.steps o.horizon core ls
-  behind_it round core old new is goes =
-      let come = opened o.horizon in
-      let next = subst (λ (r : Round). Rounds i o (core_of i o.steps come.steps) [] old new (Ok r)) is (goes [] come) in
-      (next.0, next.1.0)
+pub goes_on :
+    (i : Inputs) (o : Options) (core next : Core) (round : Round) (old new : Option (List ℕ))
+    → (ls : List Line) × HasCome i o.steps o.horizon core ls
+    → round ≡ Going next
+    → ((ls : List Line) (come : HasCome i o.steps o.horizon core ls) → Rounds i o (core_of i o.steps come.steps) ls old new (Ok round))
+    → (ls : List Line) × HasCome i o.steps o.horizon next ls
+goes_on i o core next round old new come is goes =
+    let after = subst (λ (r : Round). Rounds i o (core_of i o.steps come.1.steps) come.0 old new (Ok r)) is (goes come.0 come.1) in
+    (come.0 ++ after.0, after.1.0)

@@ -8,6 +8,7 @@ ghost use Rattle.fb_system.specs.Lines.{BelongsTo};
 ghost use Rattle.fb_take.specs.Posts.{IsMessage};
 ghost use Rattle.fb_resource.specs.Resources.{IsFor, IsOf};
 
+use super::narrow::{ALL_AT_ONCE, Narrow};
 use fb_check::accept::accept;
 use fb_inputs::deployment::read_deploy;
 use fb_inputs::stimuli::read_stimuli;
@@ -17,7 +18,7 @@ use fb_resource::resource::{Resource, WindowDone};
 use fb_system::system::System;
 use fb_trace::lines::write_lines;
 use fb_types::deploy::Deploy;
-use fb_types::run::{Form, Line, Message};
+use fb_types::run::{Form, Line, Message, StopMark};
 use fb_window::let_go::let_resource_go;
 use std::alloc::Global;
 use std::mem::forget;
@@ -80,9 +81,13 @@ pub fn opened(rt: &impl Abort, alloc: Global, system: &System, number: u32) -> R
 pub struct Ran {
     pub lines: Vec<Line>,
     pub sent: Vec<Message>,
+    /// Where and why the resource stopped, if it did.
+    pub stop: Option<StopMark>,
+    /// The least tick of the events that wait at it still.
+    pub next: Option<u64>,
 }
 
-/// Runs a resource below a tick that is not before its clock. It has not stopped, and does not stop.
+/// Runs a resource, which has not stopped, below a tick that is not before its clock.
 pub fn run(
     rt: &impl Abort,
     resource: Resource,
@@ -104,15 +109,21 @@ pub fn run(
             sent,
             stop,
         } => {
-            assert!(rt; stop.is_none() && resource.clock() == to);
+            assert!(rt; stop.is_some() || resource.clock() == to);
+            let next = resource.next();
             let_resource_go(resource);
-            Ran { lines, sent }
+            Ran {
+                lines,
+                sent,
+                stop,
+                next,
+            }
         }
         WindowDone::NoMemory => panic!(rt; "memory"),
     }
 }
 
-/// The lines of a system have that text in this form.
+/// The lines of a system have that text in this form, whether a writer takes one byte a call, some, or all.
 pub fn expect_text(
     rt: &impl Abort,
     alloc: Global,
@@ -123,9 +134,11 @@ pub fn expect_text(
 )
     requires { All (BelongsTo (system_of system.now)) lines.now }
 {
-    let mut out = Vec::new(alloc);
-    write_lines(&mut out, system, form, lines).expect(rt, "written");
-    assert!(rt; out.as_slice() == text);
+    for step in [1, 2, 3, ALL_AT_ONCE] {
+        let mut out = Narrow::new(alloc, step);
+        write_lines(&mut out, system, form, lines).expect(rt, "written");
+        assert!(rt; out.got.as_slice() == text);
+    }
 }
 
 /// Messages in their order, or in the other.

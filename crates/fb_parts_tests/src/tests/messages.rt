@@ -2,7 +2,8 @@
 
 use super::chain::{ENOUGH, accepted, deliver_first, expect_text, handed, opened, run, turned};
 use fb_system::system::System;
-use fb_types::run::Form;
+use fb_types::run::{Form, StopMark};
+use fb_types::value::Reason;
 use fb_window::let_go::let_system_go;
 use std::alloc::Global;
 use std::mem::forget;
@@ -19,6 +20,9 @@ struct Talk {
     /// Whether the messages are handed over in the other order.
     turned: bool,
     stimuli: &'static str,
+    /// The least tick of the events of the second before it gets the messages, and with them. After its run there is none.
+    alone: Option<u64>,
+    with_messages: Option<u64>,
     /// The lines of the second.
     trace: &'static str,
 }
@@ -52,6 +56,8 @@ static LATCH: Talk = Talk {
     taken_below: 6,
     turned: false,
     stimuli: "tick,event,values\n3,F.S,\n5,W.EI,\n",
+    alone: Some(5),
+    with_messages: Some(5),
     // The stimulus of the tick of the arrival is taken first, and sees the value that was held before.
     trace: "5 R2 > W.EI G=FALSE\n5 R2 < W.EO0\n5 R2 > W.EI G=TRUE\n5 R2 < W.EO1\n",
 };
@@ -69,6 +75,8 @@ const SPLIT: Talk = Talk {
     taken_below: 2,
     turned: false,
     stimuli: "tick,event,values\n0,P.EI,\n",
+    alone: None,
+    with_messages: Some(1),
     trace: "1 R2 > M.EI1\n1 R2 < M.EO\n1 R2 > M.EI2\n1 R2 < M.EO\n",
 };
 
@@ -90,6 +98,8 @@ static PASS: Talk = Talk {
     sent_below: 1,
     taken_below: 2,
     turned: false,
+    alone: None,
+    with_messages: Some(1),
     trace: sixty!("", "1 R2 > M.EI1\n1 R2 < M.EO\n"),
 };
 
@@ -100,8 +110,12 @@ fn expect_heard(rt: &impl Abort, alloc: Global, system: &System, talk: &Talk) {
     let sent = turned(system, sender.sent, talk.turned);
     let inbox = handed(rt, alloc, system, sent);
     let receiver = opened(rt, alloc, system, 1);
+    assert!(rt; receiver.next() == talk.alone);
     let receiver = deliver_first(rt, receiver, 1, system, inbox);
+    assert!(rt; receiver.next() == talk.with_messages);
     let ran = run(rt, receiver, alloc, system, talk.taken_below, ENOUGH);
+    assert!(rt; sender.stop.is_none() && ran.stop.is_none());
+    assert!(rt; ran.sent.is_empty() && ran.next.is_none());
     expect_text(
         rt,
         alloc,
@@ -123,4 +137,52 @@ fn messages_come_after_a_want_of_memory(rt: HostRuntime) {
         expect_heard(&rt, rt.alloc(), &system, talk);
         let_system_go(system);
     }
+}
+
+/// A resource that runs without end once it has begun: a looper, whose third, fifth, seventh and ninth steps emit.
+static LOOPER: &str = "FUNCTION_BLOCK LOOPER\n\
+    EVENT_INPUT GO; END_EVENT\n\
+    EVENT_OUTPUT TICKED; END_EVENT\n\
+    EC_STATES IDLE; BUSY : -> TICKED; END_STATES\n\
+    EC_TRANSITIONS IDLE TO BUSY := GO; BUSY TO BUSY := 1; END_TRANSITIONS\n\
+    END_FUNCTION_BLOCK\n\
+    APPLICATION A FBS A : E_MERGE; L : LOOPER; C : E_MERGE; END_FBS END_APPLICATION";
+
+static IN_THREE: &str = "resource = [\n\
+    { device = 'D', name = 'R1', instances = ['A'] },\n\
+    { device = 'D', name = 'R2', instances = ['L'] },\n\
+    { device = 'D', name = 'R3', instances = ['C'] },\n\
+    ]\n";
+
+static LOOPER_LINES: &[u8] =
+    b"7 R2 > L.GO\n7 R2 < L.TICKED\n7 R2 < L.TICKED\n7 R2 < L.TICKED\n7 R2 < L.TICKED\n";
+
+static STOP: StopMark = StopMark {
+    tick: 7,
+    resource: 1,
+    reason: Reason::Steps,
+};
+
+/// The second of three resources by itself, below tick 9 with ten steps a tick.
+fn expect_stop(rt: &impl Abort, alloc: Global, system: &System) {
+    let looper = opened(rt, alloc, system, 1);
+    let ran = run(rt, looper, alloc, system, 9, 10);
+    assert!(rt; ran.stop == Some(STOP) && ran.sent.is_empty());
+    expect_text(
+        rt,
+        alloc,
+        system,
+        Form::One,
+        ran.lines.as_slice(),
+        LOOPER_LINES,
+    );
+    forget(ran);
+}
+
+#[test]
+fn a_resource_stops_by_itself(rt: HostRuntime) {
+    let stimuli = "tick,event,values\n7,C.EI1,\n7,L.GO,\n7,A.EI1,\n";
+    let system = accepted(&rt, rt.alloc(), LOOPER, IN_THREE, stimuli);
+    expect_stop(&rt, rt.alloc(), &system);
+    let_system_go(system);
 }

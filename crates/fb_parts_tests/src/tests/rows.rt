@@ -2,6 +2,7 @@
 
 use super::chain::accepted;
 use super::hand::{FALLING, HandPlan, RISING, SHUFFLED, run_by_hand};
+use super::serial::{expect_serial, inputs_of};
 use fb_system::system::System;
 use fb_types::run::Form;
 use fb_window::let_go::let_system_go;
@@ -334,5 +335,7 @@ fn rounds_have_their_bounds_and_lines(rt: HostRuntime) {
             expect_rounds(&rt, rt.alloc(), &system, row, *order);
         }
         let_system_go(system);
+        let inputs = inputs_of(row.declaration, row.deploy, row.stimuli);
+        let _trace = expect_serial(&rt, rt.alloc(), &inputs, row.horizon, row.steps);
     }
 }

@@ -3,9 +3,11 @@
 //! Each simulation is ended here, also where a call on it failed. So none is dropped in this crate, and the destructors of
 //! all that a simulation holds are not proved once more.
 
-use super::texts::{BETWEEN, BETWEEN_TRACE, CYCLE, CYCLE_TRACE, Case};
-use super::writers::with_room;
-use super::{ENOUGH, inputs_of};
+use super::inputs_of;
+use super::texts::{
+    ARRIVAL, BETWEEN, BETWEEN_TRACE, CYCLE, CYCLE_TRACE, Case, RING, RING_TRACE, TWICE,
+};
+use super::writers::{ANY, with_room};
 use fb_phase::OpenGate;
 use fb_sim::{Outcome, RunError, Simulation};
 use fb_types::run::Form;
@@ -37,7 +39,7 @@ struct Pieces {
 }
 
 /// A tick that was advanced to before, or at which it has stopped, writes nothing once more. A tick past the last is none.
-static PIECES: [Pieces; 5] = [
+static PIECES: [Pieces; 6] = [
     Pieces {
         case: CYCLE,
         ticks: &[4, 8],
@@ -63,6 +65,11 @@ static PIECES: [Pieces; 5] = [
         ticks: &[9, 9],
         trace: BETWEEN_TRACE,
     },
+    Pieces {
+        case: RING,
+        ticks: &[7, 20, 50],
+        trace: RING_TRACE,
+    },
 ];
 
 /// How a run is at a tick.
@@ -73,14 +80,15 @@ fn outcome_at(case: &Case, tick: u64) -> Outcome {
     }
 }
 
-/// Each advance to a tick, and the end, answers as the outcome at the greatest tick so far. All together write the trace.
+/// Each advance to a tick, and the end, answers as the outcome at the greatest tick so far. All together write the trace, into a writer
+/// that takes at most `step` bytes a call.
 fn expect_pieces<R: Abort + Threads + Wait + Sync>(
     rt: &R,
     alloc: Global,
-    workers: u64,
+    (workers, step): (u64, usize),
     pieces: &Pieces,
 ) {
-    let mut out = Vec::new(alloc);
+    let mut out = with_room(alloc, step, ANY);
     let mut most = 0;
     let mut simulation = opened(rt, alloc, &pieces.case, workers);
     for tick in pieces.ticks {
@@ -94,14 +102,16 @@ fn expect_pieces<R: Abort + Threads + Wait + Sync>(
     }
     let ended = simulation.finish(&mut out).expect(rt, "ended");
     assert!(rt; ended == outcome_at(&pieces.case, most));
-    assert!(rt; out.as_slice() == pieces.trace.as_bytes());
+    assert!(rt; out.got.as_slice() == pieces.trace.as_bytes());
 }
 
 #[test]
 fn pieces_make_the_whole(rt: HostRuntime) {
     for pieces in &PIECES {
         for workers in [1, 2, 7, 64] {
-            expect_pieces(&rt, rt.alloc(), workers, pieces);
+            for step in [1, 2, 3, ANY] {
+                expect_pieces(&rt, rt.alloc(), (workers, step), pieces);
+            }
         }
     }
 }
@@ -164,10 +174,11 @@ impl Tried {
     }
 }
 
-/// Advances the cycle tick by tick, also where an advance failed, and ends it.
-fn try_cycle<R: Threads + Wait + Sync>(
+/// Advances a case to half of its horizon and to the horizon twice, also where an advance failed, and ends it.
+fn try_pieces<R: Threads + Wait + Sync>(
     rt: &R,
     alloc: Global,
+    case: &Case,
     workers: u64,
     out: &mut Vec<u8>,
 ) -> Tried {
@@ -176,12 +187,12 @@ fn try_cycle<R: Threads + Wait + Sync>(
         has_failed: false,
         stays_failed: true,
     };
-    let inputs = inputs_of(CYCLE.declaration, CYCLE.deploy, CYCLE.stimuli);
-    let Ok(mut simulation) = Simulation::open(alloc, &inputs, ENOUGH, workers, Form::One) else {
+    let inputs = inputs_of(case.declaration, case.deploy, case.stimuli);
+    let Ok(mut simulation) = Simulation::open(alloc, &inputs, case.steps, workers, Form::One) else {
         return tried;
     };
     tried.is_open = true;
-    for tick in 1..=8 {
+    for tick in [case.horizon / 2, case.horizon, case.horizon] {
         let before = out.len();
         let found = simulation.advance(rt, tick, out, &OpenGate);
         tried.note(&found, out.len() > before);
@@ -192,19 +203,21 @@ fn try_cycle<R: Threads + Wait + Sync>(
     tried
 }
 
-/// Where memory is refused to it, a simulation has failed for good. `tools/refuse.py` runs this with each request refused in
-/// turn. Without that no call fails.
+/// A simulation that was once out of memory has failed for good. `tools/refuse.py` runs this with each request refused in turn. Without
+/// that no call fails.
 #[test]
 fn after_a_want_of_memory_nothing_is_written(rt: HostRuntime) {
-    for workers in [1, 2] {
-        let mut out = Vec::new(rt.alloc());
-        let mut tried = try_cycle(&rt, rt.alloc(), workers, &mut out);
-        if !tried.is_open {
-            // One request was refused, so the second try has its memory.
-            tried = try_cycle(&rt, rt.alloc(), workers, &mut out);
+    for case in [&CYCLE, &ARRIVAL, &BETWEEN, &TWICE, &RING] {
+        for workers in [1, 2] {
+            let mut out = Vec::new(rt.alloc());
+            let mut tried = try_pieces(&rt, rt.alloc(), case, workers, &mut out);
+            if !tried.is_open {
+                // One request was refused, so the second try has its memory.
+                tried = try_pieces(&rt, rt.alloc(), case, workers, &mut out);
+            }
+            assert!(rt; tried.is_open && tried.stays_failed);
+            assert!(rt; case.trace.as_bytes().starts_with(out.as_slice()));
+            assert!(rt; tried.has_failed || out.as_slice() == case.trace.as_bytes());
         }
-        assert!(rt; tried.is_open && tried.stays_failed);
-        assert!(rt; CYCLE.trace.as_bytes().starts_with(out.as_slice()));
-        assert!(rt; tried.has_failed || out.as_slice() == CYCLE.trace.as_bytes());
     }
 }

@@ -11,7 +11,7 @@ use std::sync::atomic::{AtomicBool, AtomicU64};
 use std::thread::Threads;
 
 /// A digit of a number to base 16 for each of the first ten numbers of jobs.
-static DIGITS: [u64; 10] = [
+pub static DIGITS: [u64; 10] = [
     0x1,
     0x10,
     0x100,
@@ -25,7 +25,7 @@ static DIGITS: [u64; 10] = [
 ];
 
 /// Each of the ten digits once.
-const EACH_ONCE: u64 = 0x11_1111_1111;
+pub const EACH_ONCE: u64 = 0x11_1111_1111;
 
 /// How numbers are squared, and what is seen of it. It is the gate too.
 #[derive(Drop)]

@@ -1,13 +1,13 @@
-use Rattle.std.proofs.Common.{Some}
+use Rattle.std.proofs.Common.{[], Some}
 use Rattle.fb_types.specs.declared.run.Form.TheVariants.{One}
-use Rattle.fb_sim_tests.proofs.Coming.{at_first, behind_it}
+use Rattle.fb_sim_tests.proofs.Coming.{goes_on}
 use Rattle.fb_sim_tests.proofs.tests.rounds.expect_rounds.Goals as goal
 
-pub round-requires-clause-come : goal.round-requires-clause-come
-round-requires-clause-come g c κs w =
-    at_first c.in-Ok.system (record { horizon = 5; steps = 10000; workers = c.args.workers; form = One }) c.in-Ok-open_core.core c.in-Ok-open_core.ensures
+pub loop-number-init : goal.loop-number-init
+loop-number-init g c = ([], c.opened-core.ensures c.args.arg4.case.horizon)
 
-pub round-requires-2-clause-come : goal.round-requires-2-clause-come
-round-requires-2-clause-come g c κs w =
-    behind_it c.in-Ok.system (record { horizon = 5; steps = 10000; workers = c.args.workers; form = One }) c.in-Ok-open_core.core c.in-Ok-open_core.ensures
-    c.in-Ok-Going.field-0 c.in-Ok-Going.core (Some c.new-out.result.items) (Some c.round.new.out.items) c.in-Ok-Going.field-0-is c.in-Ok-Going.ensures
+pub loop-number-preserved : goal.loop-number-preserved
+loop-number-preserved g c =
+    let case = c.args.arg4.case in
+    goes_on c.in-Ok.system (record { horizon = case.horizon; steps = case.steps; workers = c.args.arg3.workers; form = One }) c.loop-number.core c.in-Ok-Going.next
+    c.in-Ok-Going.field-0 (Some c.loop-number.out.got.items) (Some c.round.new.out.got.items) c.loop-number.invariant c.in-Ok-Going.field-0-is c.in-Ok-Going.ensures
