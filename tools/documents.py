@@ -128,8 +128,8 @@ def blocks_stand():
 
 def main():
     """Looks at the documents and returns the status."""
-    pages = ["README.md", *[f"docs/{it}" for it in sorted(os.listdir(f"{TOP}/docs")) if it.endswith(".md")], "bench/README.md", "examples/README.md"]
-    proved = [it for it in crates() if it.startswith("fb_") and not it.endswith("_tests")]
+    pages = ["README.md", "CONTRIBUTING.md", "CHANGELOG.md", *[f"docs/{it}" for it in sorted(os.listdir(f"{TOP}/docs")) if it.endswith(".md")], "bench/README.md", "examples/README.md"]
+    proved = [it for it in crates() if it != "fbsim" and not it.endswith("_tests")]
     faults = has_all("docs/ARCHITECTURE.md", crates()) + has_all("docs/PROOFS.md", proved)
     faults += modules_told() + proofs_told() + definitions_told() + blocks_stand()
     for page in pages:

@@ -5,7 +5,7 @@ use Rattle.std.proofs.lemmas.List.Elements.{All-filter}
 use Rattle.std.proofs.lemmas.List.Sorted.{All-permutation}
 use Rattle.fb_types.specs.Systems.{System}
 use Rattle.fb_types.specs.declared.run.Message.{Message}
-use Rattle.fb_take.specs.Exchanges.{AreFor, all_of, goes_to}
+use Rattle.fb_link.specs.Exchanges.{AreFor, all_of, goes_to}
 
 pub handed : (P : Message → Type 0) (sys : System) (r : ℕ) (sent : Vec Message Global) (boxes : List (Vec Message Global)) (ms : List Message)
     → boxes ≡ sent ∷ [] → All P sent.items → AreFor sys r (all_of boxes) ms → All P ms

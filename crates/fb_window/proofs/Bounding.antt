@@ -14,7 +14,7 @@ use Rattle.fb_types.specs.declared.latency.Entry.{Entry}
 use Rattle.fb_types.specs.declared.value.Reason.{Reason}
 use Rattle.fb_types.proofs.Lookups.{none_since, none_some, option_cases}
 use Rattle.fb_laws.specs.Sound.{IsSound}
-use Rattle.fb_take.specs.Arrivals.{arrival_at, IsEarliest}
+use Rattle.fb_link.specs.Arrivals.{arrival_at, IsEarliest}
 use Rattle.fb_laws.specs.Cuts.{IsCut, StopAllows, LinkAllows}
 use Rattle.fb_window.specs.Bounding.{IsInReach, IsNear, IsGreatest, AreGreatest}
 use Rattle.fb_types.proofs.ByPlace.{element_at}

@@ -14,8 +14,8 @@ use Rattle.fb_types.specs.declared.key.Key.{Key}
 use Rattle.fb_types.specs.declared.run.Message.{Message}
 use Rattle.fb_types.proofs.Lookups.{found-append, or_else_assoc}
 use Rattle.fb_take.specs.Posts.{arriving, receiver_of}
-use Rattle.fb_take.specs.Exchanges.{goes_to}
-use Rattle.fb_take.proofs.Dealt.{goes, stays}
+use Rattle.fb_link.specs.Exchanges.{goes_to}
+use Rattle.fb_link.proofs.Dealt.{goes, stays}
 use Rattle.fb_take.proofs.Lists.{set_here, set_apart}
 use Rattle.fb_resource.specs.Resources.{HasReceived, IsFor, StandsFor, with_messages}
 use Rattle.fb_resource.specs.declared.resource.Inner.{Inner}

@@ -22,7 +22,7 @@ use Rattle.fb_agenda.specs.Agendas.{IsNext, waiting}
 use Rattle.fb_system.specs.Lines.{BelongsTo}
 use Rattle.fb_laws.specs.Sound.{AreGood, IsSound}
 use Rattle.fb_laws.proofs.Accepting.{sound_of}
-use Rattle.fb_take.specs.Exchanges.{all_of}
+use Rattle.fb_link.specs.Exchanges.{all_of}
 use Rattle.fb_trace.specs.Merging.{AreMerged, AreRising}
 use Rattle.fb_laws.specs.Facts.{IsLawful}
 use Rattle.fb_laws.specs.Worlds.{World, IsCounted, IsOpening}

@@ -18,7 +18,7 @@ use Rattle.fb_types.proofs.Lookups.{none_some}
 use Rattle.fb_resource.specs.Resources.{HasReceived}
 use Rattle.fb_resource.specs.declared.resource.Inner.{Inner}
 use Rattle.fb_laws.proofs.Lines.{filter_all, filter_in, filter_nothing, filter_out}
-use Rattle.fb_take.specs.Exchanges.{AreFor, all_of}
+use Rattle.fb_link.specs.Exchanges.{AreFor, all_of}
 use Rattle.fb_trace.specs.Merging.{Rises, tick_of}
 use Rattle.fb_window.specs.Mails.{AreDelivered, ArePosted}
 use Rattle.fb_laws.specs.Finality.{Edge, until}

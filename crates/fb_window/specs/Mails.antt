@@ -6,7 +6,7 @@ use Rattle.fb_types.specs.Systems.{System}
 use Rattle.fb_types.specs.declared.run.Message.{Message}
 use Rattle.fb_resource.specs.Resources.{HasReceived}
 use Rattle.fb_resource.specs.declared.resource.Inner.{Inner}
-use Rattle.fb_take.specs.Exchanges.{AreFor, goes_to}
+use Rattle.fb_link.specs.Exchanges.{AreFor, goes_to}
 
 -- each has received the messages in the list at its place
 pub record AreDelivered (xs : List Inner) (boxes : List (Vec Message)) (ys : List Inner) : Type 0 where

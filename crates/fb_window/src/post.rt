@@ -5,14 +5,14 @@ ghost use Rattle.std.specs.Global.{Vec};
 ghost use Rattle.std.specs.Vec.Iter.{into_iter_items};
 ghost use Rattle.fb_types.specs.Headline.{system_of};
 ghost use Rattle.fb_types.specs.declared.run.Message as model;
-ghost use Rattle.fb_take.specs.Exchanges.{all_of};
+ghost use Rattle.fb_link.specs.Exchanges.{all_of};
 ghost use Rattle.fb_resource.specs.Resources.{HasReceived};
 ghost use Rattle.fb_resource.specs.declared.resource.Inner.{Inner};
 ghost use Rattle.fb_window.specs.Mails.{AreDelivered, ArePosted};
 
 use fb_resource::resource::Resource;
 use fb_system::system::System;
-use fb_take::exchange::exchange;
+use fb_link::exchange;
 use fb_types::run::Message;
 use std::alloc::{AllocError, Global};
 use std::vec::IntoIter;

@@ -4,6 +4,7 @@ use Rattle.std.specs.Prelude.{IsErrAnd}
 use Rattle.fb_types.specs.Headline.{Inputs, system_of}
 use Rattle.fb_read.specs.declared.error.ReadError.{ReadError}
 use Rattle.fb_read.specs.declared.error.ReadError.TheVariants as read
+use Rattle.fb_check.specs.Refusals as check
 use Rattle.fb_inputs.specs.Refusals as input
 use Rattle.fb_sim.specs.Given.{Given}
 use Rattle.fb_sim.specs.Serial.{Declares, IsRefusal, IsRightly}
@@ -42,7 +43,7 @@ dumps_none given trace old (run.Refused r) is = refusal r is
     refusal (of.Declaration e) is = unread e is
     refusal (of.Deployment e) is = numbered (of.Deployment e) is (input.number_of e) refl
     refusal (of.Stimuli e) is = numbered (of.Stimuli e) is (input.number_of e) refl
-    refusal (of.Check f) is = inl (record { error = run.Refused (of.Check f); refused = is; told = refl }, refl)
+    refusal (of.Check e) is = numbered (of.Check e) is (check.number_of e) refl
 dumps_none given trace old run.Memory is = inl refl
 dumps_none given trace old (run.Write n) is = absurd is
 dumps_none given trace old run.BadOption is = absurd is

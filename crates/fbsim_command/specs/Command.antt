@@ -53,10 +53,9 @@ abbrev pub IsDoneOf : Outcome → Done → Type 0
 IsDoneOf (sim_end.End h) done = done ≡ Ended
 IsDoneOf (sim_end.Stop mark) done = done ≡ Stopped
 
--- what a writer has when it is out of memory: of a run from one agenda nothing, and of one with workers a beginning of the trace
-abbrev pub Wants : (serial : Bool) → Given → Options → (old new : Held) → Type 0
-Wants true given o old new = AreWithin o × (new ≡ old)
-Wants false given o old new = (AreWithin o × (new ≡ old)) ⊎ WritesFront given o old new
+-- what a writer has when a run is out of memory: nothing, or a beginning of the trace
+abbrev pub Wants : Given → Options → (old new : Held) → Type 0
+Wants given o old new = (AreWithin o × (new ≡ old)) ⊎ WritesFront given o old new
 
 -- the inputs are run
 abbrev pub Runs : (serial : Bool) → Given → Options → (old new : Held) → End → Type 0
@@ -68,7 +67,7 @@ Runs serial given o old new (Ok Explained) = ⊥
 Runs serial given o old new (Ok Accepted) = ⊥
 Runs serial given o old new (Err (Refused refusal)) = AreWithin o × IsRefused given refusal × (new ≡ old)
 Runs serial given o old new (Err (Write n)) = sim.WritesPart given o old new n
-Runs serial given o old new (Err Memory) = Wants serial given o old new
+Runs serial given o old new (Err Memory) = Wants given o old new
 Runs serial given o old new (Err BadOption) = (AreWithin o → ⊥) × (new ≡ old)
 Runs serial given o old new (Err File) = ⊥
 Runs serial given o old new (Err (Line message)) = ⊥

@@ -5,7 +5,8 @@ use Rattle.fb_read.specs.declared.error.ReadError.{ReadError}
 use Rattle.fb_read.specs.declared.error.ReadError.TheVariants as read
 use Rattle.fb_inputs.specs.Refusals as input
 use Rattle.fb_inputs.specs.declared.error.InputError.{InputError}
-use Rattle.fb_check.specs.Faults as judge
+use Rattle.fb_check.specs.Refusals as check
+use Rattle.fb_check.specs.declared.error.CheckError.{CheckError}
 use Rattle.fb_sim.specs.declared.outcome.Refusal as sim
 use Rattle.fb_sim.specs.declared.outcome.Refusal.TheVariants as of
 use Rattle.fb_sim.specs.declared.outcome.RunError.{RunError}
@@ -39,11 +40,14 @@ numbered_input None = Memory
 abbrev pub failure_of_input : InputError → Failure
 failure_of_input e = numbered_input (input.number_of e)
 
+abbrev pub failure_of_check : CheckError → Failure
+failure_of_check e = numbered_input (check.number_of e)
+
 abbrev pub failure_of_refusal : sim.Refusal → Failure
 failure_of_refusal (of.Declaration e) = failure_of_read e
 failure_of_refusal (of.Deployment e) = failure_of_input e
 failure_of_refusal (of.Stimuli e) = failure_of_input e
-failure_of_refusal (of.Check f) = Refused (Numbered (judge.number_of f))
+failure_of_refusal (of.Check e) = failure_of_check e
 
 abbrev pub failure_of : RunError → Failure
 failure_of (run.Refused r) = failure_of_refusal r

@@ -1,13 +1,14 @@
 //! Why a call of the program does not do what is asked, and how that is reported.
 
 ghost use Rattle.std.specs.Prelude.{◌≡◌};
-ghost use Rattle.fbsim_command.specs.Failures.{failure_of, failure_of_read, failure_of_input, failure_of_refusal, failure_of_source, failure_of_wave};
+ghost use Rattle.fbsim_command.specs.Failures.{failure_of, failure_of_check, failure_of_read, failure_of_input, failure_of_refusal, failure_of_source, failure_of_wave};
 ghost use Rattle.fbsim_command.specs.declared.failure.Failure.TheVariants.{Memory};
 
 use crate::sources::SourceFault;
+use fb_check::error::CheckError;
 use fb_inputs::error::InputError;
 use fb_read::error::ReadError;
-use fb_sim::outcome::{Refusal, RunError};
+use fb_sim::{Refusal, RunError};
 use fb_wave::error::WaveError;
 use std::alloc::AllocError;
 use std::fmt;
@@ -72,6 +73,17 @@ impl From<InputError> for Failure {
     }
 }
 
+impl From<CheckError> for Failure {
+    ghost from_gives = { λ error failure. failure ≡ failure_of_check error };
+
+    fn from(error: CheckError) -> Failure {
+        match error.number() {
+            Some(number) => Failure::Refused(RefusalLine::Numbered(number)),
+            None => Failure::Memory,
+        }
+    }
+}
+
 impl From<Refusal> for Failure {
     ghost from_gives = { λ refusal failure. failure ≡ failure_of_refusal refusal };
 
@@ -80,7 +92,7 @@ impl From<Refusal> for Failure {
             Refusal::Declaration(error) => Failure::from(error),
             Refusal::Deployment(error) => Failure::from(error),
             Refusal::Stimuli(error) => Failure::from(error),
-            Refusal::Check(fault) => Failure::Refused(RefusalLine::Numbered(fault.number())),
+            Refusal::Check(error) => Failure::from(error),
         }
     }
 }

@@ -19,11 +19,9 @@ use crate::status::{Done, ExitStatus, status};
 use crate::texts::{Texts, read_files};
 use crate::wave::show;
 use fb_phase::OpenGate;
-use fb_sim::options::{Inputs, Options};
-use fb_sim::outcome::Outcome;
-use fb_sim::run::run;
-use fb_sim::serial::{check, run_serial};
-use fb_sim::told::{Told, run_told};
+use fb_sim::{
+    Inputs, Options, Outcome, ReportedRun, check, run, run_serial, run_with_progress,
+};
 use fb_why::explain::explain;
 use fb_why::table::Explanation;
 use std::alloc::{AllocError, Global};
@@ -80,7 +78,7 @@ fn run_and_tell<R: Threads + Wait + Sync, W: Write, E: Write>(
     ensures run { Runs false inputs.now options (W.contents out.old) (W.contents out.new) result.0 }
     ensures told { (reports : List ℕ) × AreReports inputs.now options (is_ended result.0) reports × Hears result.1 (E.contents err.old) (E.contents err.new) reports }
 {
-    let Told { end, is_heard } = run_told(rt, alloc, inputs, options, out, err);
+    let ReportedRun { end, is_heard } = run_with_progress(rt, alloc, inputs, options, out, err);
     match end {
         Ok(outcome) => (Ok(done_of(outcome)), is_heard),
         Err(error) => (Err(Failure::from(error)), is_heard),

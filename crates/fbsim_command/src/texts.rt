@@ -6,7 +6,7 @@ ghost use Rattle.fbsim_command.specs.Texts.{contents_of, given_of};
 
 use crate::line::Task;
 use crate::sources::{Source, SourceFault};
-use fb_sim::options::Inputs;
+use fb_sim::Inputs;
 use std::alloc::Global;
 
 /// One byte more than a declaration or a deployment may have, so that one that is too long shows.

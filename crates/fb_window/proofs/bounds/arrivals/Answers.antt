@@ -6,7 +6,7 @@ use Rattle.fb_types.specs.Parts.{count_of}
 use Rattle.fb_types.specs.Systems.{System}
 use Rattle.fb_laws.specs.Sound.{IsSound}
 use Rattle.fb_laws.proofs.Accepting.{sound_of}
-use Rattle.fb_take.specs.Arrivals.{IsEarliest}
+use Rattle.fb_link.specs.Arrivals.{IsEarliest}
 use Rattle.fb_laws.specs.Cuts.{IsCut, LinkAllows}
 use Rattle.fb_window.proofs.Bounding.{AreCut, cuts_first, cuts_here, cuts_past}
 use Rattle.fb_window.proofs.LinkLemmas.{inside}

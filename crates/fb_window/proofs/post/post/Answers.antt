@@ -3,7 +3,7 @@ use Rattle.std.specs.Global.{Vec}
 use Rattle.std.specs.Prelude.{slice_get}
 use Rattle.fb_types.specs.Headline.{system_of}
 use Rattle.fb_types.specs.declared.run.Message.{Message}
-use Rattle.fb_take.specs.Exchanges.{all_of}
+use Rattle.fb_link.specs.Exchanges.{all_of}
 use Rattle.fb_window.specs.Mails.{AreDelivered, ArePosted}
 use Rattle.fb_window.proofs.Walks.{boxes_empty, if_ok, posted_none, posted_of}
 use Rattle.fb_window.proofs.post.post.Goals as goal

@@ -9,7 +9,7 @@ use Rattle.fb_types.specs.declared.key.Key.{Key}
 use Rattle.fb_types.specs.declared.run.Line.{Line}
 use Rattle.fb_agenda.specs.Agendas.{IsNext, waiting}
 use Rattle.fb_system.specs.Lines.{BelongsTo}
-use Rattle.fb_take.specs.Exchanges.{all_of}
+use Rattle.fb_link.specs.Exchanges.{all_of}
 use Rattle.fb_laws.specs.Sound.{AreGood}
 use Rattle.fb_resource.specs.declared.resource.Inner.{Inner}
 use Rattle.fb_window.specs.Homes.{AreHome}
