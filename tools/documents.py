@@ -70,7 +70,7 @@ def proofs_told():
     """What is to be said of the functions, clauses and definitions that docs/PROOFS.md names."""
     page, faults = "docs/PROOFS.md", []
     for crate, cells in rows(page):
-        code, specs = sources(crate, "src"), sources(crate, "specs") + sources("fb_types", "specs") + sources("fb_names", "specs")
+        code, specs = sources(crate, "src"), sources(crate, "specs") + sources("fb_types", "specs") + sources("fb_check_names", "specs")
         for it in TEXTS.findall(cells[-1]):
             name = it.split("::")[-1]
             if it.startswith("fb_") or "/" in it or it.endswith(".."):

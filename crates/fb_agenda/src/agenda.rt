@@ -15,8 +15,7 @@ use crate::calendar::Calendar;
 use crate::later::Later;
 use crate::least::Least;
 use crate::{arrivals, queue, rising};
-use fb_types::key::Key;
-use fb_types::run::{Event, Message, Target, TimerAsk};
+use fb_types::{Event, Key, Message, Target, TimerAsk};
 use std::alloc::{AllocError, Global};
 use std::collections::VecDeque;
 use std::marker::Model;
@@ -29,8 +28,7 @@ pub struct Agenda {
     now: VecDeque<(Key, Target)>,
 }
 
-// Written out, and not derived: so it is proved here alone what is dropped with an agenda, and not in each crate that
-// drops one.
+// Drop is written by hand, so that callers need not prove it again (docs/DECISIONS.md, "Drop").
 impl Drop for Agenda {
     fn drop(self) {
         let Agenda { later: _, now: _ } = self;

@@ -11,8 +11,7 @@ ghost use Rattle.fb_agenda.specs.Arrivals.{HasKeys, KeepsOthers, LacksKeys, arri
 ghost use Rattle.fb_types.specs.declared.run.Event.TheVariants.{Arrival};
 
 use crate::calendar::Calendar;
-use fb_types::key::Key;
-use fb_types::run::{Event, Message};
+use fb_types::{Event, Key, Message};
 use std::alloc::AllocError;
 
 /// The key under which a message waits for its receiver.

@@ -13,8 +13,7 @@ ghost use Rattle.fb_agenda.specs.Agendas.{AreRising, IsFirst, IsFirstTick};
 ghost use Rattle.fb_agenda.specs.Calendars.{BeginsAt, Leads, Sets};
 
 use crate::rising;
-use fb_types::key::Key;
-use fb_types::run::Event;
+use fb_types::{Event, Key};
 use std::alloc::{AllocError, Global};
 use std::collections::{BTreeMap, VecDeque};
 use std::marker::Model;

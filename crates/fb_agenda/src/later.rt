@@ -4,8 +4,7 @@ ghost use Rattle.std.specs.Prelude.{◌≡◌, true, Some, OnOk, OnErr};
 ghost use Rattle.fb_agenda.specs.Calendars.{Sets};
 
 use crate::calendar::Calendar;
-use fb_types::key::Key;
-use fb_types::run::Event;
+use fb_types::{Event, Key};
 use std::alloc::AllocError;
 
 /// The events that wait besides the queue of the running tick.

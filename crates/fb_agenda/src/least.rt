@@ -3,8 +3,7 @@
 ghost use Rattle.std.specs.Prelude.{◌≡◌};
 ghost use Rattle.fb_agenda.specs.Places.{taken};
 
-use fb_types::key::Key;
-use fb_types::run::Event;
+use fb_types::{Event, Key};
 
 /// An event that was taken from an agenda, with its key.
 ///

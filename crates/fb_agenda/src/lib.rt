@@ -14,3 +14,6 @@ mod later;
 pub mod least;
 mod queue;
 mod rising;
+
+pub use agenda::Agenda;
+pub use least::Least;

@@ -13,8 +13,7 @@ ghost use Rattle.fb_agenda.specs.Calendars.{BeginsAt, IsPlaceOf};
 ghost use Rattle.fb_agenda.specs.Places.{taken};
 
 use crate::least::Least;
-use fb_types::key::Key;
-use fb_types::run::{Event, Target};
+use fb_types::{Event, Key, Target};
 use std::collections::VecDeque;
 
 /// Whether the key of a local event may be appended: the queue is empty, or its last key is an earlier one of the same tick

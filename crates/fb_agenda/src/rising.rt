@@ -10,8 +10,7 @@ ghost use Rattle.fb_types.specs.Keys.{Precedes, key_cmp, same_key};
 ghost use Rattle.fb_agenda.specs.Agendas.{AreRising, IsFirst, IsFirstTick};
 ghost use Rattle.fb_agenda.specs.Calendars.{BeginsAt, IsBetween, IsPlaceOf};
 
-use fb_types::key::Key;
-use fb_types::run::Event;
+use fb_types::{Event, Key};
 use std::alloc::AllocError;
 use std::cmp::Ordering;
 use std::collections::VecDeque;

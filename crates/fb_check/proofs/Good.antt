@@ -23,7 +23,7 @@ use Rattle.fb_types.specs.declared.deploy.Setting.{Setting}
 use Rattle.fb_types.proofs.Positions.{is_some-position, named-position, position_is}
 use Rattle.fb_types.proofs.Elements.{Contains-nil, Contains-cons_cases, Contains-here, Contains-there, Contains-map, map-Contains}
 use Rattle.fb_types.proofs.NameLaws.{same_from_same_name}
-use Rattle.fb_names.specs.Places.{IsIndex, place_in}
+use Rattle.fb_check_names.specs.Places.{IsIndex, place_in}
 use Rattle.fb_check.specs.Directory.{first_of, input_in, input_of, lists, leads_to, ports_at, ports_at_place, is_settable, can_set, AreTaken, CanTake, IsInputs, IsFound, IsDirectory}
 use Rattle.fb_system.specs.declared.rows.StimulusRow.{StimulusRow}
 use Rattle.fb_check.specs.declared.directory_making.Input.{Input}

@@ -10,7 +10,7 @@ use Rattle.fb_types.specs.Unknown.{Wanted, wanted, types_wanted, withs_wanted, c
 use Rattle.fb_types.specs.declared.library.Library.{Library}
 use Rattle.fb_types.specs.declared.library.BasicType.{BasicType}
 use Rattle.fb_types.specs.declared.deploy.Plan.{Plan}
-use Rattle.fb_names.specs.Parts.{ArePartsKnown, parts_wanted}
+use Rattle.fb_check_names.specs.Parts.{ArePartsKnown, parts_wanted}
 use Rattle.fb_types.proofs.ListTests.{fails_at, passes_at}
 use Rattle.fb_types.proofs.NameLaws.{contains_from_any, any_from_contains}
 

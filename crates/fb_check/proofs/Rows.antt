@@ -20,11 +20,11 @@ use Rattle.fb_types.specs.declared.library.Instance.{Instance}
 use Rattle.fb_types.specs.declared.library.Library.{Library}
 use Rattle.fb_types.specs.declared.library.Ports.{Ports}
 use Rattle.fb_types.specs.declared.library.Variable.{Variable}
-use Rattle.fb_names.proofs.Each.{each_parts, is_some-each}
+use Rattle.fb_check_names.proofs.Each.{each_parts, is_some-each}
 use Rattle.fb_types.proofs.Positions.{named-position, position_is}
-use Rattle.fb_names.specs.Numbers.{each_or_none, place_of}
+use Rattle.fb_check_names.specs.Numbers.{each_or_none, place_of}
 use Rattle.fb_types.proofs.ByPlace.{slice_get-push}
-use Rattle.fb_names.specs.Places.{place_in}
+use Rattle.fb_check_names.specs.Places.{place_in}
 use Rattle.fb_system.specs.declared.rows.SlotValue.{SlotValue}
 use Rattle.fb_system.specs.declared.rows.StimulusRow.{StimulusRow}
 use Rattle.fb_system.specs.Rows.{IsSet, AreSets, IsRow, AreRows, AreRowsUpTo}

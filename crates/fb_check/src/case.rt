@@ -1,11 +1,8 @@
 //! What is judged, and what is made of it on the way.
 
-use fb_names::catalog::Catalog;
-use fb_names::numbers::Resolved;
-use fb_system::rows::StimulusRow;
-use fb_types::deploy::{Plan, Stimulus};
-use fb_types::items::Items;
-use fb_types::library::Library;
+use fb_check_names::{Catalog, Resolved};
+use fb_system::StimulusRow;
+use fb_types::{Items, Library, Plan, Stimulus};
 
 /// A declaration, a deployment and stimuli, as they were read.
 #[derive(Clone, Copy)]

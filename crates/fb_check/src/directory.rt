@@ -2,17 +2,15 @@
 
 ghost use Rattle.std.specs.Prelude.{◌≡◌, map, option_map, IfOk};
 ghost use Rattle.std.specs.Option.{option_copied};
-ghost use Rattle.fb_names.specs.Places.{IsIndex};
+ghost use Rattle.fb_check_names.specs.Places.{IsIndex};
 ghost use Rattle.fb_types.specs.Blocks.{ports_of};
 ghost use Rattle.fb_types.specs.EventPorts.{ArePortsOfKinds};
 ghost use Rattle.fb_types.specs.Flat.{type_name, type_named};
 ghost use Rattle.fb_check.specs.Directory.{IsDirectory, IsFound};
 
 use crate::directory_making::{Pairs, TypeInputs, inputs_of_each, targets_of};
-use fb_names::places::{Places, place_of};
-use fb_types::event_ports::kind_named;
-use fb_types::items::Items;
-use fb_types::library::{Library, Ports};
+use fb_check_names::{Places, place_of};
+use fb_types::{Items, Library, Ports, kind_named};
 use std::alloc::{AllocError, Global};
 
 /// What stimuli may name: of each type its event inputs and its data inputs, and the ports of the

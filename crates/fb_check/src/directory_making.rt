@@ -3,11 +3,8 @@
 ghost use Rattle.std.specs.Prelude.{◌≡◌, map, IfOk, OnOk};
 ghost use Rattle.fb_check.specs.Directory.{AreInputs, IsInputs, IsExtended, AreEvents, AreWiths, AreVariables, AreTargets};
 
-use fb_system::rows::number_of;
-use fb_types::items::Items;
-use fb_types::library::{BlockType, Connection, EventPort, Ports, Variable};
-use fb_types::name::Name;
-use fb_types::value::Ty;
+use fb_system::number_of;
+use fb_types::{BlockType, Connection, EventPort, Items, Name, Ports, Ty, Variable};
 use std::alloc::{AllocError, Global};
 use std::collections::{BTreeMap, BTreeSet};
 

@@ -1,8 +1,8 @@
 //! The checks of how instances and connections are mapped, from E26 to E28.
 
 ghost use Rattle.std.specs.Prelude.{◌≡◌, IfOk, IfErr};
-ghost use Rattle.fb_joins.specs.Mapping.{IsMapping};
-ghost use Rattle.fb_names.specs.Numbers.{IsResolved};
+ghost use Rattle.fb_check_networks.specs.Mapping.{IsMapping};
+ghost use Rattle.fb_check_names.specs.Numbers.{IsResolved};
 ghost use Rattle.fb_system.specs.Linking.{holders_of};
 ghost use Rattle.fb_check.specs.Refusals.{IsRightly, inputs_in};
 ghost use Rattle.fb_check.specs.Verdicts.{HasPassed};
@@ -10,11 +10,9 @@ ghost use Rattle.fb_check.specs.Verdicts.{HasPassed};
 use crate::case::Case;
 use crate::error::CheckError;
 use crate::fault::Fault;
-use fb_joins::links::lacks_link;
-use fb_joins::mapping::{Mapping, holders_of, mapping_of};
-use fb_joins::uncarried::lacks_event;
-use fb_names::numbers::Resolved;
-use fb_types::items::Items;
+use fb_check_names::Resolved;
+use fb_check_networks::{Mapping, holders_of, lacks_event, lacks_link, mapping_of};
+use fb_types::Items;
 use std::alloc::Global;
 
 /// E26: each instance mapped once.

@@ -1,21 +1,17 @@
 //! The checks of types and networks, from E22 to E25.
 
 ghost use Rattle.std.specs.Prelude.{IfOk, IfErr};
-ghost use Rattle.fb_names.specs.Catalog.{IsCatalog};
-ghost use Rattle.fb_names.specs.Numbers.{IsResolved};
+ghost use Rattle.fb_check_names.specs.Catalog.{IsCatalog};
+ghost use Rattle.fb_check_names.specs.Numbers.{IsResolved};
 ghost use Rattle.fb_check.specs.Refusals.{IsRightly, inputs_in};
 ghost use Rattle.fb_check.specs.Verdicts.{HasPassed};
 
 use crate::case::Case;
 use crate::error::CheckError;
 use crate::fault::Fault;
-use fb_joins::heights::is_too_high;
-use fb_joins::parameters::has_wrong_parameter;
-use fb_joins::ranges::leads_out_of_range;
-use fb_joins::sources::has_two_sources;
-use fb_kinds::parts::has_wrong_part;
-use fb_names::catalog::Catalog;
-use fb_names::numbers::Resolved;
+use fb_check_names::{Catalog, Resolved};
+use fb_check_networks::{has_two_sources, has_wrong_parameter, is_too_high, leads_out_of_range};
+use fb_check_types::has_wrong_part;
 use std::alloc::Global;
 
 /// E22: expressions, statements and values of the right kind.

@@ -7,22 +7,17 @@ ghost use Rattle.fb_types.specs.EventPorts.{ArePortsOfKinds};
 ghost use Rattle.fb_types.specs.Repeated.{Twice};
 ghost use Rattle.fb_types.specs.Unknown.{NameUnknown};
 ghost use Rattle.fb_types.specs.declared.deploy.Plan.{Plan};
-ghost use Rattle.fb_names.specs.Catalog.{IsCatalog};
-ghost use Rattle.fb_names.specs.Numbers.{each_or_none};
-ghost use Rattle.fb_names.specs.Places.{names_in, place_in};
+ghost use Rattle.fb_check_names.specs.Catalog.{IsCatalog};
+ghost use Rattle.fb_check_names.specs.Numbers.{each_or_none};
+ghost use Rattle.fb_check_names.specs.Places.{names_in, place_in};
 ghost use Rattle.fb_check.specs.Directory.{IsDirectory, IsFound, CanTake, IsTaken, AreTaken, held_slot, input_in, ports_at_place, slot_of};
 
 use crate::directory::{Directory, directory_of, inputs_named};
 use crate::directory_making::TypeInputs;
-use fb_names::catalog::Catalog;
-use fb_names::places::{place_of, places_of};
-use fb_system::rows::{SlotValue, StimulusRow, number_of};
-use fb_types::deploy::{Setting, Stimulus};
-use fb_types::event_ports::all_ports;
-use fb_types::items::Items;
-use fb_types::library::{Library, Ports};
-use fb_types::name::Name;
-use fb_types::value::Value;
+use fb_check_names::{Catalog, place_of, places_of};
+use fb_system::rows::SlotValue;
+use fb_system::{StimulusRow, number_of};
+use fb_types::{Items, Library, Name, Ports, Setting, Stimulus, Value, all_ports};
 use std::alloc::{AllocError, Global};
 
 /// What a stimulus may name of the type of the instance of the application at a place.

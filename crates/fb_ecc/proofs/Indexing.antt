@@ -13,7 +13,7 @@ use Rattle.fb_types.specs.Blocks.{among, event_names}
 use Rattle.fb_types.specs.Repeated.{Twice}
 use Rattle.fb_types.specs.declared.library.EventPort.{EventPort}
 use Rattle.fb_types.proofs.NameLaws.{any_from_contains, same_from_same_name, same_name-flip, same_name-itself}
-use Rattle.fb_names.specs.Places.{IsIndex, place_in}
+use Rattle.fb_check_names.specs.Places.{IsIndex, place_in}
 use Rattle.fb_types.proofs.Elements.{Contains-cons_cases, Contains-here, Contains-there}
 use Rattle.fb_types.proofs.Positions.{is_some-position, position-cons, position-first}
 use Rattle.fb_st.proofs.Places.{position-later}

@@ -6,7 +6,7 @@ use Rattle.fb_types.specs.Blocks.{event_names, variable_names}
 use Rattle.fb_types.specs.Repeated.{algorithm_names, state_names}
 use Rattle.fb_types.specs.declared.library.BasicType.{BasicType}
 use Rattle.fb_types.specs.declared.library.State.{State}
-use Rattle.fb_names.specs.Places.{IsIndex}
+use Rattle.fb_check_names.specs.Places.{IsIndex}
 use Rattle.fb_ecc.specs.Numbered.{act_of, exits_from}
 use Rattle.fb_ecc.specs.declared.chart.ChartState.{ChartState}
 use Rattle.fb_ecc.specs.declared.numbers.Numbers.{Numbers}

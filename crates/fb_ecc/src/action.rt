@@ -11,14 +11,8 @@ ghost use Rattle.fb_ecc.specs.Places.{Ended, IsWellFormed, place};
 ghost use Rattle.fb_ecc.specs.Sound.{Each, IsSound, declared_by};
 
 use crate::chart::Act;
-use fb_st::exec::exec;
-use fb_st::frame::Frame;
-use fb_st::meter::Meter;
-use fb_types::items::Items;
-use fb_types::library::BasicType;
-use fb_types::reference::Reference;
-use fb_types::run::{Emission, Emits, Halt, Values};
-use fb_types::value::{Reason, Value};
+use fb_st::{Frame, Meter, exec};
+use fb_types::{BasicType, Emission, Emits, Halt, Items, Reason, Reference, Value, Values};
 use std::alloc::{AllocError, Global};
 
 /// What the variables hold, in their order.

@@ -7,17 +7,14 @@ ghost use Rattle.fb_types.specs.Names.{Name};
 ghost use Rattle.fb_types.specs.Blocks.{among, event_names, variable_names};
 ghost use Rattle.fb_types.specs.Repeated.{Twice};
 ghost use Rattle.fb_types.specs.declared.library.Variable.{Variable};
-ghost use Rattle.fb_names.specs.Places.{IsIndex};
+ghost use Rattle.fb_check_names.specs.Places.{IsIndex};
 ghost use Rattle.fb_ecc.specs.Indexed.{AreNumbers, entry_of, picked, row_within};
 ghost use Rattle.fb_ecc.specs.Numbered.{exit_of, act_of, row_of, names_with_each, chart_of};
 ghost use Rattle.fb_ecc.specs.Opened.{IsOfDeclaration};
 
 use crate::numbers::{Numbers, number, optional_number};
-use fb_names::places::{Places, place_of};
-use fb_types::items::Items;
-use fb_types::library::{Action, BasicType, EventPort, Transition};
-use fb_types::name::Name;
-use fb_types::reference::Reference;
+use fb_check_names::{Places, place_of};
+use fb_types::{Action, BasicType, EventPort, Items, Name, Reference, Transition};
 use std::alloc::{AllocError, Global};
 use std::collections::BTreeMap;
 

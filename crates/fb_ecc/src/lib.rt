@@ -1,10 +1,10 @@
 //! The reactions of basic blocks by their execution control charts (IEC 61499-1, 5.2).
 //!
-//! What is promised above: `reaction::react` goes through the chain of states of the definitions: variables, emissions,
+//! Guarantees to callers: `reaction::react` goes through the chain of states of the definitions: variables, emissions,
 //! steps, and the reason to stop; `state::BasicState::open` opens a block of a type of an accepted declaration, with the
 //! one chart that all blocks of the type share.
 //!
-//! To be read in this order: `state`, what a block is between reactions; `chart`, how it is made by `numbers`, and `shared`,
+//! Read in this order: `state`, what a block is between reactions; `chart`, how it is made by `numbers`, and `shared`,
 //! how the blocks of its type share it; `reaction`; `trial` and `action`.
 #![tactic(auto)]
 
@@ -15,3 +15,7 @@ pub mod reaction;
 pub mod shared;
 pub mod state;
 mod trial;
+
+pub use reaction::react;
+pub use shared::SharedChart;
+pub use state::BasicState;

@@ -2,14 +2,12 @@
 
 ghost use Rattle.std.specs.Prelude.{◌≡◌, IfOk, map, option_map, unwrap_or};
 ghost use Rattle.fb_types.specs.Repeated.{Twice};
-ghost use Rattle.fb_names.specs.Places.{IsIndex, place_in};
+ghost use Rattle.fb_check_names.specs.Places.{IsIndex, place_in};
 ghost use Rattle.fb_ecc.specs.Indexed.{AreNumbers};
 ghost use Rattle.fb_ecc.specs.Opened.{IsOfDeclaration};
 
-use fb_names::named::{Named, places};
-use fb_names::places::{Places, place_of};
-use fb_types::library::BasicType;
-use fb_types::name::Name;
+use fb_check_names::{Named, Places, place_of, places};
+use fb_types::{BasicType, Name};
 use std::alloc::{AllocError, Global};
 
 /// The places of the names of a basic type, each among those of its sort.
@@ -22,7 +20,7 @@ pub(crate) struct Numbers<'a> {
     pub outputs: Places<'a>,
 }
 
-// Written out, and not derived: so they are let go by one call wherever a chart is made or given up.
+// Drop is written by hand, so that callers need not prove it again (docs/DECISIONS.md, "Drop").
 impl<'a> Drop for Numbers<'a> {
     fn drop(self) {
         let Numbers {

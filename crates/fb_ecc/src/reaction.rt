@@ -12,12 +12,8 @@ ghost use Rattle.fb_ecc.specs.Sound.{Each, IsSound};
 use crate::action::perform_all;
 use crate::state::BasicState;
 use crate::trial::cleared;
-use fb_st::frame::Frame;
-use fb_st::meter::Meter;
-use fb_types::library::BasicType;
-use fb_types::reference::Reference;
-use fb_types::run::{Emits, Halt};
-use fb_types::value::Value;
+use fb_st::{Frame, Meter};
+use fb_types::{BasicType, Emits, Halt, Reference, Value};
 
 /// Gives the variables WITH an event the values that were sampled.
 fn sample(variables: &[Reference], values: &[Value], frame: &mut Frame)

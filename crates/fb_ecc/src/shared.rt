@@ -5,9 +5,7 @@ ghost use Rattle.fb_ecc.specs.Numbered.{chart_of, exits_at};
 ghost use Rattle.fb_ecc.specs.Opened.{IsOfDeclaration};
 
 use crate::chart::{Chart, ChartState, Exit};
-use fb_types::items::Items;
-use fb_types::library::BasicType;
-use fb_types::reference::Reference;
+use fb_types::{BasicType, Items, Reference};
 use std::alloc::{AllocError, Global};
 use std::marker::Model;
 use std::sync::Arc;

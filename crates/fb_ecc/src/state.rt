@@ -7,8 +7,8 @@ ghost use Rattle.fb_ecc.specs.Numbered.{chart_of};
 ghost use Rattle.fb_ecc.specs.Opened.{IsOfDeclaration, IsOpened, slot_of};
 
 use crate::shared::SharedChart;
-use fb_st::frame::{Frame, Slot};
-use fb_types::library::{BasicType, Variable};
+use fb_st::{Frame, Slot};
+use fb_types::{BasicType, Variable};
 use std::alloc::{AllocError, Global};
 
 /// A basic block: the state in which its chart is, its variables, and the chart of its type.
@@ -20,8 +20,7 @@ pub struct BasicState {
     pub(crate) chart: SharedChart,
 }
 
-// Written out, and not derived: so it is proved here alone what is let go with a block, and not in each crate that lets
-// one go.
+// Drop is written by hand, so that callers need not prove it again (docs/DECISIONS.md, "Drop").
 impl Drop for BasicState {
     fn drop(self) {
         let BasicState {

@@ -8,11 +8,8 @@ ghost use Rattle.fb_ecc.specs.Sound.{Each, IsSound};
 ghost use Rattle.fb_ecc.specs.Trials.{IsExit, transition_at, transitions_at, is_number_present, trial};
 
 use crate::chart::Exit;
-use fb_st::eval::holds;
-use fb_st::frame::Frame;
-use fb_st::meter::Meter;
-use fb_types::library::BasicType;
-use fb_types::value::Reason;
+use fb_st::{Frame, Meter, holds};
+use fb_types::{BasicType, Reason};
 
 /// Whether the event at this place is the one that is present. No event at all always is.
 #[inline(always)]

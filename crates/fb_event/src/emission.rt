@@ -6,8 +6,7 @@ ghost use Rattle.fb_event.specs.Emissions.{values_of, emission_at};
 ghost use Rattle.fb_event.specs.Reactions.{BeginsWith, IsEventOutput, IsWellFormed};
 
 use crate::state::KindState;
-use fb_types::run::{Emission, Emits, Values};
-use fb_types::value::Value;
+use fb_types::{Emission, Emits, Value, Values};
 use std::alloc::{AllocError, Global};
 
 /// Emits the events at these places in order, each with the values of all data outputs: of the fourteen

@@ -1,13 +1,17 @@
 //! The reactions of the fourteen event blocks. The table is this project's profile, in the manner of IEC 61499-1, Annex
 //! A; a tick is a millisecond of virtual time.
 //!
-//! What is promised above: `reaction::react` and `reaction::expire` give the memory, the emissions and the timer of the
+//! Guarantees to callers: `reaction::react` and `reaction::expire` give the memory, the emissions and the timer of the
 //! definitions. They know ports by number, and nothing of the system around the block.
 //!
-//! To be read in this order: `state`, what a block remembers; `reaction`; `step`, the table itself; `emission`.
+//! Read in this order: `state`, what a block remembers; `reaction`; `step`, the table itself; `emission`.
 #![tactic(auto)]
 
 mod emission;
 pub mod reaction;
 pub mod state;
 mod step;
+
+pub use fb_types::{EventKind, TimerAsk};
+pub use reaction::{expire, react};
+pub use state::EventState;

@@ -9,8 +9,7 @@ ghost use Rattle.fb_event.specs.Reactions.{BeginsWith, EmitsBehind, FitTheirType
 use crate::emission::emit_all;
 use crate::state::EventState;
 use crate::step::{Step, expiry, reaction};
-use fb_types::run::{Emits, Halt, TimerAsk};
-use fb_types::value::Value;
+use fb_types::{Emits, Halt, TimerAsk, Value};
 
 /// The reaction of an event block to the event input at a place of its event inputs, in a tick that is at most
 /// 10^12. `inputs` are the values of all its data inputs, in the order of the declaration, as they are

@@ -3,7 +3,7 @@
 ghost use Rattle.std.specs.Prelude.{◌≡◌};
 ghost use Rattle.fb_types.specs.EventBlocks.{memory_at_start};
 
-use fb_types::event_kind::EventKind;
+use fb_types::EventKind;
 use std::marker::Model;
 
 /// The timer of an event block.

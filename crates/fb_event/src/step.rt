@@ -8,8 +8,7 @@ ghost use Rattle.fb_event.specs.Reactions.{expiry_of};
 ghost use Rattle.fb_event.specs.Step.{IsTimerAfter, Performs, reaction_with, timed_with};
 
 use crate::state::{KindState, Timer};
-use fb_types::run::TimerAsk;
-use fb_types::value::Value;
+use fb_types::{TimerAsk, Value};
 
 // Places of event inputs.
 const EI0_OF_SELECT: u32 = 0;

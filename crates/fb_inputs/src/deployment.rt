@@ -8,7 +8,7 @@ ghost use Rattle.fb_inputs.specs.Deployments as spec;
 use crate::document::{PlanDraft, draft_of};
 use crate::error::InputError;
 use crate::table::{all_are_short, all_have_latencies, all_rise, links_of};
-use fb_types::deploy::{Deploy, Plan};
+use fb_types::{Deploy, Plan};
 use std::alloc::Global;
 use toml::Table;
 

@@ -8,9 +8,7 @@ ghost use Rattle.fb_inputs.specs.Documents as spec;
 
 use crate::beside::beside;
 use crate::text::name;
-use fb_types::deploy::ResourceEntry;
-use fb_types::items::Items;
-use fb_types::name::Name;
+use fb_types::{Items, Name, ResourceEntry};
 use std::alloc::{AllocError, Global};
 use toml::{Table, Value};
 

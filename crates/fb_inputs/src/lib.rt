@@ -1,9 +1,9 @@
 //! The readers of deployments and stimuli.
 //!
-//! What is promised above: `read_deploy` gives the plan that the definitions make of the tree of the TOML reader, and
+//! Guarantees to callers: `read_deploy` gives the plan that the definitions make of the tree of the TOML reader, and
 //! `read_stimuli` the stimuli that they make of the records of the CSV reader, or the number of the refusal.
 //!
-//! To be read in this order: `deployment`, `document` and `table`; `stimuli` and `row`; `beside`; `text`, `number`,
+//! Read in this order: `deployment`, `document` and `table`; `stimuli` and `row`; `beside`; `text`, `number`,
 //! `keyword` and `error`.
 #![tactic(auto)]
 
@@ -18,6 +18,8 @@ pub mod stimuli;
 pub mod table;
 pub mod text;
 
-pub use deployment::read_deploy;
+pub use deployment::{MOST_LINKS, MOST_RESOURCES, read_deploy};
 pub use error::InputError;
-pub use stimuli::read_stimuli;
+pub use stimuli::{MOST_ROWS, columns, is_heading, read_stimuli, records_of, rows_of, stimulus_of};
+pub use table::{MOST_ENTRIES, is_after, is_latency};
+pub use text::{name, parted};

@@ -4,7 +4,7 @@ ghost use Rattle.std.specs.Prelude.{◌≡◌, ◌<◌, ◌≤◌, ◌+◌, ◌-
 ghost use Rattle.std.specs.Str.{str_eq_ignore_ascii_case};
 ghost use Rattle.fb_inputs.specs.Numbers as spec;
 
-use fb_types::value::Value;
+use fb_types::Value;
 
 /// The greatest magnitude of a number below 0.
 const MOST_BELOW: u128 = 170_141_183_460_469_231_731_687_303_715_884_105_728;

@@ -7,10 +7,7 @@ ghost use Rattle.fb_inputs.specs.Rows as spec;
 use crate::beside::beside;
 use crate::number::value_of;
 use crate::text::{name, parted};
-use fb_types::deploy::Setting;
-use fb_types::items::Items;
-use fb_types::name::Name;
-use fb_types::value::Value;
+use fb_types::{Items, Name, Setting, Value};
 use std::alloc::{AllocError, Global};
 
 /// A variable, and the value that a row gives it, where it is one.

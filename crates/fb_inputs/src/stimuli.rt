@@ -13,8 +13,7 @@ use crate::error::InputError;
 use crate::number::natural;
 use crate::row::{Draft, draft_of, settings};
 use csv::{ByteRecord, ByteRecordsIntoIter, Error, ErrorKind, ReaderBuilder};
-use fb_types::deploy::Stimulus;
-use fb_types::items::Items;
+use fb_types::{Items, Stimulus};
 use std::alloc::Global;
 
 /// The greatest length of the bytes. A byte order mark counts.

@@ -4,9 +4,7 @@ ghost use Rattle.std.specs.Prelude.{◌≡◌, map, true, IfOk};
 ghost use Rattle.fb_inputs.specs.Deployments as spec;
 
 use crate::document::{LatencyDraft, LinkDraft};
-use fb_types::deploy::Link;
-use fb_types::items::Items;
-use fb_types::latency::{Entry, Latency};
+use fb_types::{Entry, Items, Latency, Link};
 use std::alloc::{AllocError, Global};
 
 /// The greatest latency.

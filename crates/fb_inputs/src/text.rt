@@ -5,8 +5,7 @@ ghost use Rattle.std.specs.List.{list_all};
 ghost use Rattle.fb_inputs.specs.Words as spec;
 
 use crate::keyword::is_keyword;
-use fb_types::items::Items;
-use fb_types::name::Name;
+use fb_types::{Items, Name};
 use std::alloc::{AllocError, Global};
 
 fn is_letter(b: u8) -> bool

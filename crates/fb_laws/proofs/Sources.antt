@@ -25,8 +25,8 @@ use Rattle.fb_types.specs.declared.value.Ty.TheVariants.{Uint, Bool as Boolean}
 use Rattle.fb_types.proofs.TwiceLaws.{Twice-append_left, Twice-both}
 use Rattle.fb_types.proofs.Elements.{Contains-map}
 use Rattle.fb_types.proofs.NameLaws.{same_from_same_name, named-Contains}
-use Rattle.fb_names.proofs.NameTwice.{block_twice}
-use Rattle.fb_names.specs.GivenTwice.{BlockTwice, names_of_ports}
+use Rattle.fb_check_names.proofs.NameTwice.{block_twice}
+use Rattle.fb_check_names.specs.GivenTwice.{BlockTwice, names_of_ports}
 use Rattle.fb_laws.specs.Typed.{variable_named, IsFitting}
 use Rattle.fb_types.proofs.ListTests.{passes_at}
 use Rattle.std.proofs.lemmas.Option.{none-some}

@@ -5,8 +5,8 @@ ghost use Rattle.fb_types.specs.Flat as spec;
 ghost use Rattle.fb_types.specs.Headline.{system_of};
 ghost use Rattle.fb_link.specs.Arrivals.{arrival_at, IsEarliest};
 
-use fb_system::system::System;
-use fb_types::latency::Latency;
+use fb_system::System;
+use fb_types::Latency;
 
 /// The latency that holds at a tick of sending: that of the last entry whose tick is at most the tick of sending.
 fn latency_at(latency: &Latency, sent_tick: u64) -> u64

@@ -6,8 +6,8 @@ ghost use Rattle.fb_types.specs.Headline.{system_of};
 ghost use Rattle.fb_types.specs.declared.run.Message as model;
 ghost use Rattle.fb_link.specs.Exchanges.{all_of, AreDealt, AreFor, AreSorted};
 
-use fb_system::system::System;
-use fb_types::run::Message;
+use fb_system::System;
+use fb_types::Message;
 use std::alloc::{AllocError, Global};
 
 /// An empty inbox for each resource.

@@ -29,8 +29,8 @@ use Rattle.fb_net.specs.declared.outbox.Outbox.{Outbox}
 use Rattle.fb_event.specs.Reactions.{FitTheirTypes}
 use Rattle.fb_net.specs.Leaves.{EventCame, HasTypedInputs, taken_reaction}
 use Rattle.fb_net.specs.Samples.{AreShown}
-use Rattle.fb_tree.specs.Worlds.{InForest, IsForest}
-use Rattle.fb_tree.specs.declared.resource.Forest.{Forest}
+use Rattle.fb_net.specs.Worlds.{InForest, IsForest}
+use Rattle.fb_net.specs.declared.resource.Forest.{Forest}
 use Rattle.fb_laws.specs.Typed.{AllFit, AreTyped, IsTypedSystem, variable_named}
 use Rattle.fb_laws.proofs.Kept.{taking_typed}
 use Rattle.fb_net.specs.Arrivals.{ComesTo, IsReady, StandTyped, Tells, entering, leaving, reacting, sampling}

@@ -22,14 +22,14 @@ use Rattle.fb_st.specs.Frames.{values_of}
 use Rattle.fb_ecc.specs.Places.{Ended, IsBlockOf, place, sampled}
 use Rattle.fb_ecc.specs.Sound.{IsSound}
 use Rattle.fb_ecc.specs.declared.state.BasicState.{BasicState}
-use Rattle.fb_tree.specs.Changes.{block_in, with_instance}
-use Rattle.fb_tree.specs.Worlds.{BasicStands, InForest, IsForest, NodeStands, ShellStands, StandsFor, seat_in, with_seated}
-use Rattle.fb_tree.specs.declared.block.BasicBlock.{BasicBlock}
-use Rattle.fb_tree.specs.declared.block.Block.{Block}
-use Rattle.fb_tree.specs.declared.block.Block.TheVariants as block
-use Rattle.fb_tree.specs.declared.resource.Forest.{Forest}
-use Rattle.fb_tree.proofs.Reading.{found_at}
-use Rattle.fb_tree.proofs.Writing.{AreNumbered, seated_forest}
+use Rattle.fb_net.specs.Changes.{block_in, with_instance}
+use Rattle.fb_net.specs.Worlds.{BasicStands, InForest, IsForest, NodeStands, ShellStands, StandsFor, seat_in, with_seated}
+use Rattle.fb_net.specs.declared.block.BasicBlock.{BasicBlock}
+use Rattle.fb_net.specs.declared.block.Block.{Block}
+use Rattle.fb_net.specs.declared.block.Block.TheVariants as block
+use Rattle.fb_net.specs.declared.resource.Forest.{Forest}
+use Rattle.fb_net.proofs.Shown.{found_at}
+use Rattle.fb_net.proofs.Writing.{AreNumbered, seated_forest}
 use Rattle.fb_net.specs.Leaves.{Changed, ChartCame, ChartEnded, EachWorld, IsOne, chart_start, charted_block}
 use Rattle.fb_net.proofs.Leaves.{basic_is}
 

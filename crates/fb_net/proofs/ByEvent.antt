@@ -34,9 +34,9 @@ use Rattle.fb_net.specs.Leaves.{EventCame, expiry_reaction}
 use Rattle.fb_net.specs.Samples.{HoldsAll, slots_set}
 use Rattle.fb_system.specs.Stimuli.{IsStimulusAt, set_of}
 use Rattle.fb_system.specs.declared.stimulus.StimulusAt.{StimulusAt}
-use Rattle.fb_tree.specs.Changes.{Changes}
-use Rattle.fb_tree.specs.Worlds.{InForest, IsForest}
-use Rattle.fb_tree.specs.declared.resource.Forest.{Forest}
+use Rattle.fb_net.specs.Changes.{Changes}
+use Rattle.fb_net.specs.Worlds.{InForest, IsForest}
+use Rattle.fb_net.specs.declared.resource.Forest.{Forest}
 use Rattle.fb_laws.specs.Typed.{AreTyped, IsTypedEvent}
 use Rattle.fb_laws.proofs.Kept.{held_typed, slots_typed}
 use Rattle.fb_net.specs.Arrivals.{Arrives, ComesTo, HasReacted, ReactedIn, StandTyped, expiring}

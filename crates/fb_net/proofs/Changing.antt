@@ -18,9 +18,9 @@ use Rattle.fb_system.specs.Stands.{ArePlaces, variable_at}
 use Rattle.fb_system.specs.Stimuli.{set_of}
 use Rattle.fb_system.specs.declared.rows.SlotValue.{SlotValue}
 use Rattle.fb_types.specs.declared.run.Place.{Place}
-use Rattle.fb_tree.specs.Changes.{Changes, Holds, block_in, input_sampled, slot_set, with_instance}
-use Rattle.fb_tree.specs.Worlds.{IsForest}
-use Rattle.fb_tree.specs.declared.resource.Forest.{Forest}
+use Rattle.fb_net.specs.Changes.{Changes, Holds, block_in, input_sampled, slot_set, with_instance}
+use Rattle.fb_net.specs.Worlds.{IsForest}
+use Rattle.fb_net.specs.declared.resource.Forest.{Forest}
 use Rattle.fb_net.specs.Samples.{HoldsAll, all_sampled, slots_set}
 
 -- ---- Worlds with another block

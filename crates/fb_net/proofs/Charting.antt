@@ -26,8 +26,8 @@ use Rattle.fb_net.specs.Outs.{gathered, Stands}
 use Rattle.fb_net.specs.declared.outbox.Outbox.{Outbox}
 use Rattle.fb_net.specs.Leaves.{ChartCame, ChartEnded, EachWorld, chart_start, charted_block}
 use Rattle.fb_net.specs.Samples.{AreSampled}
-use Rattle.fb_tree.specs.Worlds.{InForest, IsForest}
-use Rattle.fb_tree.specs.declared.resource.Forest.{Forest}
+use Rattle.fb_net.specs.Worlds.{InForest, IsForest}
+use Rattle.fb_net.specs.declared.resource.Forest.{Forest}
 use Rattle.fb_net.specs.Arrivals.{Arrives, HasReacted, IsReady, IsBegun, ReactedIn, Tells}
 use Rattle.fb_net.proofs.Sampling.{line-sampled, port-here, port_named, ports-of_kind, taken_line, variables-sampled}
 

@@ -27,9 +27,9 @@ use Rattle.fb_net.specs.declared.outbox.Outbox.{Outbox}
 use Rattle.fb_types.proofs.NameLaws.{any_from_contains, contains_from_any}
 use Rattle.fb_types.proofs.TwiceLaws.{Twice-append_left}
 use Rattle.fb_types.proofs.Elements.{Contains-cons_cases, Contains-nil}
-use Rattle.fb_names.proofs.NameTwice.{block_twice}
+use Rattle.fb_check_names.proofs.NameTwice.{block_twice}
 use Rattle.fb_system.specs.Ports.{IsPort}
-use Rattle.fb_tree.specs.declared.resource.Forest.{Forest}
+use Rattle.fb_net.specs.declared.resource.Forest.{Forest}
 use Rattle.fb_net.specs.Arrivals.{Arrives, ComesTo, HasReacted, ReactedIn, entering, leaving, reacting}
 use Rattle.fb_net.specs.Events.{Remembered}
 use Rattle.fb_net.proofs.Charting.{emitted_all-left, emitted_all-stop}

@@ -19,9 +19,9 @@ use Rattle.fb_types.specs.declared.run.Line.{Line}
 use Rattle.fb_types.specs.declared.value.Value.{Value}
 use Rattle.fb_system.specs.Lines.{BelongsTo, IsEmission}
 use Rattle.fb_system.specs.Ports.{IsCarried}
-use Rattle.fb_tree.specs.Changes.{Changes}
-use Rattle.fb_tree.specs.Worlds.{IsForest}
-use Rattle.fb_tree.specs.declared.resource.Forest.{Forest}
+use Rattle.fb_net.specs.Changes.{Changes}
+use Rattle.fb_net.specs.Worlds.{IsForest}
+use Rattle.fb_net.specs.declared.resource.Forest.{Forest}
 use Rattle.fb_net.specs.Emitting.{HasEmitted, carried_by, outputs_at, outputs_shown}
 use Rattle.fb_net.specs.Outs.{AreOuts, Gathered, IsOut, Stands, out_of}
 use Rattle.fb_net.specs.declared.outbox.Outbox.{Outbox}

@@ -17,14 +17,14 @@ use Rattle.fb_types.specs.declared.run.TimerAsk.{TimerAsk}
 use Rattle.fb_types.specs.declared.value.Value.{Value}
 use Rattle.fb_event.specs.Reactions.{FitTheirTypes, IsWellFormed, emissions_of, expiry_of, meanings, reaction_to}
 use Rattle.fb_event.specs.State.{State}
-use Rattle.fb_tree.specs.Changes.{Changes, block_in, remembered, with_instance}
-use Rattle.fb_tree.specs.Worlds.{EventStands, Found, InForest, IsForest, NodeStands, ShellStands, StandsFor, input_names, seat_in, with_seated}
-use Rattle.fb_tree.specs.declared.block.EventBlock.{EventBlock}
-use Rattle.fb_tree.specs.declared.block.Block.{Block}
-use Rattle.fb_tree.specs.declared.block.Block.TheVariants as block
-use Rattle.fb_tree.specs.declared.resource.Forest.{Forest}
-use Rattle.fb_tree.proofs.Reading.{found_at}
-use Rattle.fb_tree.proofs.Writing.{AreNumbered, seated_forest}
+use Rattle.fb_net.specs.Changes.{Changes, block_in, remembered, with_instance}
+use Rattle.fb_net.specs.Worlds.{EventStands, Found, InForest, IsForest, NodeStands, ShellStands, StandsFor, input_names, seat_in, with_seated}
+use Rattle.fb_net.specs.declared.block.EventBlock.{EventBlock}
+use Rattle.fb_net.specs.declared.block.Block.{Block}
+use Rattle.fb_net.specs.declared.block.Block.TheVariants as block
+use Rattle.fb_net.specs.declared.resource.Forest.{Forest}
+use Rattle.fb_net.proofs.Shown.{found_at}
+use Rattle.fb_net.proofs.Writing.{AreNumbered, seated_forest}
 use Rattle.fb_system.specs.Lines.{IsEmission}
 use Rattle.fb_net.specs.Leaves.{Changed, EventCame, HasAnswered, HasExpired, HasTypedInputs, IsOne, expiry_reaction}
 use Rattle.fb_net.proofs.Leaves.{event_is, reads_inputs, values_by_name}

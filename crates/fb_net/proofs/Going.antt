@@ -13,7 +13,7 @@ use Rattle.fb_types.specs.Reactions.{spread}
 use Rattle.fb_types.specs.Systems.{System}
 use Rattle.fb_types.specs.declared.run.Carried.{Carried}
 use Rattle.fb_types.specs.declared.run.Target.{Target}
-use Rattle.fb_fabric.specs.declared.reached.Reached.{Reached}
+use Rattle.fb_system.specs.declared.reached.Reached.{Reached}
 use Rattle.fb_types.specs.declared.value.Value.{Value}
 use Rattle.fb_system.specs.Ports.{IsCarried, IsTarget}
 use Rattle.fb_net.specs.Emitting.{GoesTo, others, out_at}

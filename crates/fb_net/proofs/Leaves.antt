@@ -12,10 +12,10 @@ use Rattle.fb_types.specs.declared.event_kind.EventKind.{EventKind}
 use Rattle.fb_types.specs.declared.event_kind.EventKind.TheVariants as kind
 use Rattle.fb_types.specs.declared.library.BasicType.{BasicType}
 use Rattle.fb_types.specs.declared.value.Value.{Value}
-use Rattle.fb_tree.specs.Worlds.{BasicStands, EventStands, NodeStands, ShellStands, StandsFor}
-use Rattle.fb_tree.specs.declared.block.BasicBlock.{BasicBlock}
-use Rattle.fb_tree.specs.declared.block.EventBlock.{EventBlock}
-use Rattle.fb_tree.specs.declared.block.Block.TheVariants as block
+use Rattle.fb_net.specs.Worlds.{BasicStands, EventStands, NodeStands, ShellStands, StandsFor}
+use Rattle.fb_net.specs.declared.block.BasicBlock.{BasicBlock}
+use Rattle.fb_net.specs.declared.block.EventBlock.{EventBlock}
+use Rattle.fb_net.specs.declared.block.Block.TheVariants as block
 
 -- a basic block stands at a path by what it is
 pub basic_is : (sys : System) (p : Path) (t : BasicType) (x : BasicBlock) (b : model.Block) → sys.kind p ≡ Some (Basic t)

@@ -1,3 +1,14 @@
+pub mod Apart
+pub mod Charts
+pub mod Holding
+pub mod Shown
+pub mod Sampled
+pub mod Writing
+pub mod Known
+pub mod Frames
+pub mod Begun
+pub mod Seating
+pub mod Copies
 pub mod Arriving
 pub mod Asked
 pub mod Charting

@@ -14,9 +14,9 @@ use Rattle.fb_types.specs.Values.{Values}
 use Rattle.fb_types.specs.declared.value.Value.{Value}
 use Rattle.fb_types.proofs.PathLaws.{same_path_itself}
 use Rattle.fb_types.proofs.ReactionLaws.{kept_at}
-use Rattle.fb_tree.specs.Changes.{Changes, block_in, output_shown}
-use Rattle.fb_tree.specs.Worlds.{IsForest}
-use Rattle.fb_tree.specs.declared.resource.Forest.{Forest}
+use Rattle.fb_net.specs.Changes.{Changes, block_in, output_shown}
+use Rattle.fb_net.specs.Worlds.{IsForest}
+use Rattle.fb_net.specs.declared.resource.Forest.{Forest}
 use Rattle.fb_net.specs.Emitting.{outputs_at, outputs_shown}
 
 -- ---- Lists

@@ -10,8 +10,8 @@ use Rattle.fb_types.specs.declared.run.Target.{Target}
 use Rattle.fb_types.specs.declared.value.Value.{Value}
 use Rattle.fb_system.specs.Stands.{ArePlaces, variable_at}
 use Rattle.fb_system.specs.Ports.{data_input, data_output}
-use Rattle.fb_tree.specs.Worlds.{InForest, IsForest}
-use Rattle.fb_tree.specs.declared.resource.Forest.{Forest}
+use Rattle.fb_net.specs.Worlds.{InForest, IsForest}
+use Rattle.fb_net.specs.declared.resource.Forest.{Forest}
 use Rattle.fb_net.specs.Samples.{AreShown, names_out}
 
 -- The values are what is read at the first of some places, in each world for which a forest stands.

@@ -9,7 +9,7 @@ use Rattle.fb_net.specs.Steps.{AreKept, EmitsWell, IsKept, IsSame, MayEmit, syst
 use Rattle.fb_net.specs.declared.taking.Taking.{Taking}
 use Rattle.fb_net.proofs.Emitting.{one_more_emitted}
 use Rattle.fb_net.proofs.Wholes.{kept-then}
-use Rattle.fb_tree.specs.Worlds.{InForest}
+use Rattle.fb_net.specs.Worlds.{InForest}
 
 -- what is said of system and key before holds after
 pub still : (P : Inputs → Key → Type 0) (a b : Taking) → IsSame a b → P a.system.now a.key.now → P b.system.now b.key.now

@@ -24,9 +24,9 @@ use Rattle.fb_system.specs.Stands.{ArePlaces}
 use Rattle.fb_net.specs.Outs.{Stands, gathered, out_of}
 use Rattle.fb_net.specs.declared.outbox.Outbox.{Outbox}
 use Rattle.fb_net.specs.Samples.{AreSampled, all_sampled, names_in}
-use Rattle.fb_tree.specs.Changes.{Changes}
-use Rattle.fb_tree.specs.Worlds.{InForest, IsForest}
-use Rattle.fb_tree.specs.declared.resource.Forest.{Forest}
+use Rattle.fb_net.specs.Changes.{Changes}
+use Rattle.fb_net.specs.Worlds.{InForest, IsForest}
+use Rattle.fb_net.specs.declared.resource.Forest.{Forest}
 use Rattle.fb_net.specs.Arrivals.{ComesTo, IsReady, sampling}
 
 -- ---- Values with their names

@@ -7,9 +7,9 @@ use Rattle.fb_types.specs.States as model
 use Rattle.fb_types.specs.declared.run.Carried.{Carried}
 use Rattle.fb_net.specs.Samples.{HoldsAll}
 use Rattle.fb_net.specs.Steps.{AreKept}
-use Rattle.fb_tree.specs.Changes.{Changes, block_in, with_instance}
-use Rattle.fb_tree.specs.Worlds.{InForest, IsForest}
-use Rattle.fb_tree.specs.declared.resource.Forest.{Forest}
+use Rattle.fb_net.specs.Changes.{Changes, block_in, with_instance}
+use Rattle.fb_net.specs.Worlds.{InForest, IsForest}
+use Rattle.fb_net.specs.declared.resource.Forest.{Forest}
 
 -- nothing has changed
 pub kept-same : (i : Inputs) (f : Forest) → AreKept i f f

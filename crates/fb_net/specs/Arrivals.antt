@@ -15,8 +15,8 @@ use Rattle.fb_types.specs.declared.run.TimerAsk.TheVariants.{Keep}
 use Rattle.fb_types.specs.declared.value.Reason.{Reason}
 use Rattle.fb_net.specs.Outs.{AreOuts, Gathered, Stands, gathered}
 use Rattle.fb_net.specs.declared.outbox.Outbox.{Outbox}
-use Rattle.fb_tree.specs.Worlds.{IsForest}
-use Rattle.fb_tree.specs.declared.resource.Forest.{Forest}
+use Rattle.fb_net.specs.Worlds.{IsForest}
+use Rattle.fb_net.specs.declared.resource.Forest.{Forest}
 use Rattle.fb_laws.specs.Typed.{AreTyped}
 
 -- ---- Before

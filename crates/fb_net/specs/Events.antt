@@ -18,8 +18,8 @@ use Rattle.fb_net.specs.declared.arrival.Arrival.{Arrival}
 use Rattle.fb_net.specs.declared.arrival.Arrival.TheVariants as arrives
 use Rattle.fb_net.specs.declared.outbox.Outbox.{Outbox}
 use Rattle.fb_system.specs.Ports.{IsCarried, IsTarget}
-use Rattle.fb_tree.specs.Worlds.{IsForest}
-use Rattle.fb_tree.specs.declared.resource.Forest.{Forest}
+use Rattle.fb_net.specs.Worlds.{IsForest}
+use Rattle.fb_net.specs.declared.resource.Forest.{Forest}
 
 -- ---- Events
 

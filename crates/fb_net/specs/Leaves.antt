@@ -22,13 +22,13 @@ use Rattle.fb_ecc.specs.Places.{Ended, IsBlockOf, sampled, place as chart_at}
 use Rattle.fb_ecc.specs.declared.state.BasicState.{BasicState}
 use Rattle.fb_event.specs.Reactions.{FitTheirTypes, IsWellFormed, emissions_of, expiry_of, meanings}
 use Rattle.fb_event.specs.State.{State}
-use Rattle.fb_tree.specs.Changes.{block_in, with_instance}
-use Rattle.fb_tree.specs.Worlds.{InForest, IsForest, input_names}
-use Rattle.fb_tree.specs.declared.block.BasicBlock.{BasicBlock}
-use Rattle.fb_tree.specs.declared.block.Block.{Block}
-use Rattle.fb_tree.specs.declared.block.Block.TheVariants as block
-use Rattle.fb_tree.specs.declared.block.EventBlock.{EventBlock}
-use Rattle.fb_tree.specs.declared.resource.Forest.{Forest}
+use Rattle.fb_net.specs.Changes.{block_in, with_instance}
+use Rattle.fb_net.specs.Worlds.{InForest, IsForest, input_names}
+use Rattle.fb_net.specs.declared.block.BasicBlock.{BasicBlock}
+use Rattle.fb_net.specs.declared.block.Block.{Block}
+use Rattle.fb_net.specs.declared.block.Block.TheVariants as block
+use Rattle.fb_net.specs.declared.block.EventBlock.{EventBlock}
+use Rattle.fb_net.specs.declared.resource.Forest.{Forest}
 
 -- The blocks stand for a world, in which the instance lies in the resource.
 abbrev pub IsOne : Inputs → Forest → (instance : ℕ) → Type 0

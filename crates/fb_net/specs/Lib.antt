@@ -1,3 +1,7 @@
+pub mod Blocks
+pub mod Changes
+pub mod Worlds
+pub mod Opening
 pub mod Arrivals
 pub mod Events
 pub mod Samples

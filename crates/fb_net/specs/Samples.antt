@@ -12,8 +12,8 @@ use Rattle.fb_types.specs.declared.run.Target.{Target}
 use Rattle.fb_types.specs.declared.value.Value.{Value}
 use Rattle.fb_system.specs.Stimuli.{set_of}
 use Rattle.fb_system.specs.declared.rows.SlotValue.{SlotValue}
-use Rattle.fb_tree.specs.Worlds.{InForest, IsForest}
-use Rattle.fb_tree.specs.declared.resource.Forest.{Forest}
+use Rattle.fb_net.specs.Worlds.{InForest, IsForest}
+use Rattle.fb_net.specs.declared.resource.Forest.{Forest}
 
 -- the names of the variables WITH the event at an event input, and at an event output
 abbrev pub names_in : System → Target → List Name

@@ -17,8 +17,8 @@ use Rattle.fb_net.specs.Events.{HasTaken, IsEventIn, Remembered, event_of}
 use Rattle.fb_net.specs.Outs.{AreOuts}
 use Rattle.fb_net.specs.declared.taking.Taking.{Taking}
 use Rattle.fb_system.specs.Ports.{IsPort}
-use Rattle.fb_tree.specs.Worlds.{InForest, IsForest}
-use Rattle.fb_tree.specs.declared.resource.Forest.{Forest}
+use Rattle.fb_net.specs.Worlds.{InForest, IsForest}
+use Rattle.fb_net.specs.declared.resource.Forest.{Forest}
 
 abbrev pub system_in : Taking → System
 system_in t = system_of t.system.now

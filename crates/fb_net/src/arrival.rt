@@ -3,8 +3,7 @@
 ghost use Rattle.std.specs.Prelude.{◌≡◌};
 ghost use Rattle.fb_net.specs.Events.{key_at};
 
-use fb_types::key::Key;
-use fb_types::run::{Message, Target};
+use fb_types::{Key, Message, Target};
 
 /// An event of a resource, whose time has come. It has the class and the numbers of its key.
 #[derive(Clone, Copy)]

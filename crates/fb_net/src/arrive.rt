@@ -12,7 +12,7 @@ ghost use Rattle.fb_net.specs.Steps.{ArePutOut, HasArrived, HasDone, HasTold, Is
 ghost use Rattle.fb_system.specs.Lines.{IsEmission};
 ghost use Rattle.fb_system.specs.Ports.{IsCompositeAt, IsTarget};
 ghost use Rattle.fb_system.specs.Stands.{ArePlaces};
-ghost use Rattle.fb_tree.specs.Worlds.{InForest};
+ghost use Rattle.fb_net.specs.Worlds.{InForest};
 ghost use Rattle.fb_laws.specs.Typed.{IsTypedSystem};
 
 use crate::basic_blocks::react_basic;
@@ -21,11 +21,11 @@ use crate::emit::{send_out, write_taken};
 use crate::event_blocks::react_event;
 use crate::samples::{sampled_values, shown_values};
 use crate::taking::Taking;
-use fb_names::numbers::TypeNumber;
-use fb_st::meter::Meter;
-use fb_types::event_kind::EventKind;
-use fb_types::library::{BasicType, BlockType};
-use fb_types::run::{Emission, Emits, Halt, Place, Target, TimerAsk, Values};
+use fb_check_names::TypeNumber;
+use fb_st::Meter;
+use fb_types::{
+    BasicType, BlockType, Emission, Emits, EventKind, Halt, Place, Target, TimerAsk, Values,
+};
 use std::alloc::AllocError;
 
 impl Taking<'_> {

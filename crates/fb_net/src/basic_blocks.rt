@@ -9,18 +9,15 @@ ghost use Rattle.fb_ecc.specs.Places.{IsWellFormed};
 ghost use Rattle.fb_ecc.specs.Sound.{IsSound};
 ghost use Rattle.fb_system.specs.Lines.{IsEmission};
 ghost use Rattle.fb_system.specs.Ports.{IsPort};
-ghost use Rattle.fb_tree.specs.Worlds.{IsForest};
+ghost use Rattle.fb_net.specs.Worlds.{IsForest};
 ghost use Rattle.fb_net.specs.Leaves.{ChartEnded, Changed, HasCharted, IsOne, IsReadyAt};
 
-use fb_ecc::reaction::react;
-use fb_st::meter::Meter;
-use fb_system::system::System;
-use fb_tree::block::Block;
-use fb_tree::resource::Forest;
-use fb_types::items::Items;
-use fb_types::library::BasicType;
-use fb_types::run::{Emits, Halt, Target};
-use fb_types::value::Value;
+use crate::block::Block;
+use crate::resource::Forest;
+use fb_ecc::react;
+use fb_st::Meter;
+use fb_system::System;
+use fb_types::{BasicType, Emits, Halt, Items, Target, Value};
 
 /// The reaction of a basic block, which lies in the resource, to one of its event inputs. `values` are the sampled
 /// values of the variables WITH the event. What it emits is put into `emits`, which is empty before.

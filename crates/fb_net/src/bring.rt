@@ -7,14 +7,13 @@ ghost use Rattle.fb_types.specs.Numbers.{path_at, ports_at};
 ghost use Rattle.fb_types.specs.declared.library.BasicType.{BasicType};
 ghost use Rattle.fb_system.specs.Ports.{IsCarried, IsPort};
 ghost use Rattle.fb_system.specs.Stands.{ArePlaces};
-ghost use Rattle.fb_tree.specs.Changes.{Changes};
+ghost use Rattle.fb_net.specs.Changes.{Changes};
 ghost use Rattle.fb_net.specs.Samples.{HoldsAll, all_sampled, names_in, slots_set};
 
+use crate::resource::Forest;
+use fb_system::System;
 use fb_system::stimulus::SlotValue;
-use fb_system::system::System;
-use fb_tree::resource::Forest;
-use fb_types::run::{Carried, Place, Target};
-use fb_types::value::Value;
+use fb_types::{Carried, Place, Target, Value};
 
 /// Gives the variables WITH an event input, which stand at `places`, the values that they sampled. The instance is an
 /// event block or a composite, and lies in the resource.

@@ -8,20 +8,16 @@ ghost use Rattle.fb_types.specs.Reactions.{spread};
 ghost use Rattle.fb_system.specs.Lines.{BelongsTo, IsEmission};
 ghost use Rattle.fb_system.specs.Ports.{IsCarried, IsPort, IsTarget};
 ghost use Rattle.fb_system.specs.Stands.{ArePlaces};
-ghost use Rattle.fb_tree.specs.Changes.{Changes};
+ghost use Rattle.fb_net.specs.Changes.{Changes};
 ghost use Rattle.fb_net.specs.Emitting.{PutsOut, carried_by, others, outputs_at, outputs_shown};
 ghost use Rattle.fb_net.specs.Outs.{IsOut, out_of};
 ghost use Rattle.fb_net.specs.Steps.{ArePutOut, EmitsAll, EmitsWell, IsKept, IsSame, MayEmit, ports_in};
 
 use crate::outbox::{Out, Outbox, Sending};
+use crate::resource::Forest;
 use crate::taking::Taking;
-use fb_system::system::System;
-use fb_tree::resource::Forest;
-use fb_types::few::Held;
-use fb_types::items::Items;
-use fb_types::key::Key;
-use fb_types::run::{Carried, Emission, Emits, Line, Place, Target, Values};
-use fb_types::value::Value;
+use fb_system::System;
+use fb_types::{Carried, Emission, Emits, Held, Items, Key, Line, Place, Target, Value, Values};
 use std::alloc::{AllocError, Global};
 use std::mem::replace;
 

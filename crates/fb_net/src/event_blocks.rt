@@ -7,16 +7,14 @@ ghost use Rattle.fb_types.specs.Numbers.{path_at};
 ghost use Rattle.fb_types.specs.Reactions.{World};
 ghost use Rattle.fb_system.specs.Lines.{IsEmission};
 ghost use Rattle.fb_system.specs.Ports.{IsPort};
-ghost use Rattle.fb_tree.specs.Worlds.{InForest, IsForest};
+ghost use Rattle.fb_net.specs.Worlds.{InForest, IsForest};
 ghost use Rattle.fb_net.specs.Leaves.{Changed, EventCame, HasExpired, HasTypedInputs, IsEventAt, IsOne, taken_reaction, expiry_reaction};
 
-use fb_event::reaction::{expire, react};
-use fb_system::system::System;
-use fb_tree::block::Block;
-use fb_tree::resource::Forest;
-use fb_types::event_kind::EventKind;
-use fb_types::items::Items;
-use fb_types::run::{Emits, Halt, Target, TimerAsk};
+use crate::block::Block;
+use crate::resource::Forest;
+use fb_event::{expire, react};
+use fb_system::System;
+use fb_types::{Emits, EventKind, Halt, Items, Target, TimerAsk};
 
 /// The reaction of an event block, which lies in the resource and has sampled its inputs, to one of its event inputs,
 /// in a tick that is at most 10^12. What it emits is put into `emits`, which is empty before.

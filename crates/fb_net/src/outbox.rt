@@ -3,8 +3,7 @@
 ghost use Rattle.std.specs.Prelude.{◌≡◌};
 ghost use Rattle.fb_net.specs.Outs.{asked};
 
-use fb_types::items::Items;
-use fb_types::run::{Carried, Line, Target, TimerAsk};
+use fb_types::{Carried, Items, Line, Target, TimerAsk};
 
 /// An event on its way to another resource, before it has a number and a tick of arrival.
 #[derive(Drop)]
@@ -29,8 +28,7 @@ pub struct Outbox {
     pub timer: TimerAsk,
 }
 
-// Written out, and not derived: so it is proved here alone what is let go with an outbox, and not in each crate that lets
-// one go.
+// Drop is written by hand, so that callers need not prove it again (docs/DECISIONS.md, "Drop").
 impl Drop for Outbox {
     fn drop(self) {
         let Outbox {

@@ -7,9 +7,9 @@ ghost use Rattle.fb_system.specs.Ports.{IsCompositeAt, IsPort};
 ghost use Rattle.fb_system.specs.Stands.{ArePlaces};
 ghost use Rattle.fb_net.specs.Samples.{AreSampled, AreShown, names_in, names_out};
 
-use fb_system::system::System;
-use fb_tree::resource::Forest;
-use fb_types::run::{Place, Target, Values};
+use crate::resource::Forest;
+use fb_system::System;
+use fb_types::{Place, Target, Values};
 use std::alloc::{AllocError, Global};
 
 /// What the data inputs WITH an event input sample, in the order in which they are declared. They stand at `places`, and

@@ -7,16 +7,15 @@ ghost use Rattle.fb_net.specs.Arrivals.{expiring};
 ghost use Rattle.fb_net.specs.Events.{Came, event_in};
 ghost use Rattle.fb_net.specs.Leaves.{IsOne};
 ghost use Rattle.fb_net.specs.Steps.{ArePutOut, HasDone, IsKept, IsSame, MayBegin, MayTake, WasTaken, system_in};
-ghost use Rattle.fb_tree.specs.Worlds.{InForest};
+ghost use Rattle.fb_net.specs.Worlds.{InForest};
 
 use crate::arrival::Arrival;
 use crate::bring::{hold_carried, set_slots};
 use crate::event_blocks::expire_event;
 use crate::taking::Taking;
-use fb_names::numbers::TypeNumber;
-use fb_st::meter::Meter;
-use fb_types::event_kind::EventKind;
-use fb_types::run::{Emits, Event, Halt, Message, TimerAsk};
+use fb_check_names::TypeNumber;
+use fb_st::Meter;
+use fb_types::{Emits, Event, EventKind, Halt, Message, TimerAsk};
 
 impl Taking<'_> {
     /// Takes a stimulus, which sets slots before its event arrives.

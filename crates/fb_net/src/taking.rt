@@ -4,9 +4,9 @@ ghost use Rattle.std.specs.Prelude.{◌<◌, ◌≤◌, ◌^◌, length};
 ghost use Rattle.fb_types.specs.Headline.{system_of};
 
 use crate::outbox::Outbox;
-use fb_system::system::System;
-use fb_tree::resource::Forest;
-use fb_types::key::Key;
+use crate::resource::Forest;
+use fb_system::System;
+use fb_types::Key;
 
 /// The taking of one event: the system and the key of the event, which stay, the blocks of the resource, and what is
 /// put out. Its methods are the steps of the taking, by what the event is, what it comes to, and what is emitted.

@@ -6,17 +6,17 @@ ghost use Rattle.fb_types.specs.Reactions.{World};
 ghost use Rattle.fb_types.specs.Simulation.{opening_state};
 ghost use Rattle.fb_types.specs.Takes.{world_of};
 ghost use Rattle.fb_net.specs.Outs.{AreOuts};
-ghost use Rattle.fb_tree.specs.Worlds.{IsForest};
+ghost use Rattle.fb_net.specs.Worlds.{IsForest};
 ghost use Rattle.fb_laws.specs.Typed.{AreTyped, IsTypedEvent};
 ghost use Rattle.fb_net.specs.Events.{HasTaken, IsEventIn, Remembered, event_in, event_of, key_at};
 
 use crate::arrival::Arrival;
 use crate::outbox::Outbox;
+use crate::resource::Forest;
 use crate::taking::Taking;
-use fb_st::meter::Meter;
-use fb_system::system::System;
-use fb_tree::resource::Forest;
-use fb_types::run::{Emits, Halt};
+use fb_st::Meter;
+use fb_system::System;
+use fb_types::{Emits, Halt};
 use std::alloc::{AllocError, Global};
 use std::marker::Model;
 
@@ -27,8 +27,7 @@ pub struct Tree {
     emits: Emits,
 }
 
-// Written out, and not derived: so it is proved here alone what is let go with a tree, and not in each crate that lets one
-// go.
+// Drop is written by hand, so that callers need not prove it again (docs/DECISIONS.md, "Drop").
 impl Drop for Tree {
     fn drop(self) {
         let Tree {
@@ -39,8 +38,8 @@ impl Drop for Tree {
 }
 
 impl Model for Tree {
-    ghost use Rattle.fb_tree.specs.declared.resource.Forest.{Forest};
-    ghost use Rattle.fb_tree.specs.contracts.resource.Forest.{the_row};
+    ghost use Rattle.fb_net.specs.declared.resource.Forest.{Forest};
+    ghost use Rattle.fb_net.specs.contracts.resource.Forest.{the_row};
 
     ghost Value = { Forest };
 
@@ -59,7 +58,7 @@ impl Tree {
         ensures opened { IfOk result (λ t. IsForest system.now t (world_of (opening_state (system_of system.now)) resource)) }
         ensures resource { IfOk result (λ t. t.resource ≡ resource) }
     {
-        let forest = fb_tree::build::build(alloc, system, resource)?;
+        let forest = crate::building::build(alloc, system, resource)?;
         let emits = Emits::new(alloc);
         Ok(Tree { forest, emits })
     }

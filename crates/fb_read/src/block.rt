@@ -9,11 +9,9 @@ use crate::fault::ParseFault;
 use crate::ports::variables;
 use crate::rule::{Rule, beside, ended, run_after};
 use crate::token::Mark;
-use fb_types::items::Items;
-use fb_types::library::{
-    Application, BasicType, BlockType, CompositeType, Library, Network, Ports,
+use fb_types::{
+    Application, BasicType, BlockType, CompositeType, Items, Library, Name, Network, Ports,
 };
-use fb_types::name::Name;
 
 /// What stands behind the name and the ports of a basic type.
 #[tactic(auto, unfolding(crate::specs::Blocks::basic))]

@@ -10,10 +10,7 @@ use crate::rule::{
 };
 use crate::statement::body;
 use crate::token::Mark;
-use fb_types::items::Items;
-use fb_types::library::{Action, Algorithm, Condition, State, Transition};
-use fb_types::name::Name;
-use fb_types::text::{Body, Expr};
+use fb_types::{Action, Algorithm, Body, Condition, Expr, Items, Name, State, Transition};
 
 impl Rule for Action {
     ghost parser = { spec.action };

@@ -11,10 +11,7 @@ use crate::fault::ParseFault;
 use crate::operator::operator_of;
 use crate::rule::Rule;
 use crate::token::{Magnitude, Mark, Placed, Token};
-use fb_types::items::Items;
-use fb_types::name::Name;
-use fb_types::text::BinaryOperator;
-use fb_types::value::Ty;
+use fb_types::{BinaryOperator, Items, Name, Ty};
 use std::alloc::Global;
 use std::marker::Model;
 

@@ -9,11 +9,7 @@ use crate::cursor::Cursor;
 use crate::fault::ParseFault;
 use crate::rule::{Rule, beside, ended};
 use crate::token::Mark;
-use fb_types::boxed::Boxed;
-use fb_types::items::Items;
-use fb_types::name::Name;
-use fb_types::reference::Reference;
-use fb_types::text::{BinaryOperator, Expr, UnaryOperator};
+use fb_types::{BinaryOperator, Boxed, Expr, Items, Name, Reference, UnaryOperator};
 use std::alloc::{AllocError, Global};
 
 /// How deep an expression may nest.

@@ -15,7 +15,7 @@ use crate::number::number;
 use crate::time::duration;
 use crate::token::{Magnitude, Mark, Token};
 use crate::word::{in_upper, is_letter, word_len};
-use fb_types::name::Name;
+use fb_types::Name;
 use std::alloc::{AllocError, Global};
 
 /// Why there is no token.

@@ -1,19 +1,19 @@
 //! The reader of declaration texts.
 //!
-//! What is promised above is the contract of `read::read_library`: the library that the text declares by the grammar,
+//! The guarantee to callers is the contract of `read::read_library`: the library that the text declares by the grammar,
 //! or the fault for which it is refused, and where it is refused but for memory, the text declares none. A text
 //! declares one library at most (`laws`).
 //!
-//! To be read in this order: `read`, the entry, and `error`; `token`, `tokens` and `front`, from bytes to tokens, with
+//! Read in this order: `read`, the entry, and `error`; `token`, `tokens` and `front`, from bytes to tokens, with
 //! `blank`, `word`, `keyword`, `number` and `time`; `cursor`, `rule` and `fault`, how a rule reads; `block`, `ports`,
-//! `network`, `chart`, `operator`, `expression` and `statement`, the rules; `laws`; `discard`, which frees what was read.
+//! `network`, `chart`, `operator`, `expression` and `statement`, the rules; `laws`; `discarding`, which frees what was read.
 #![tactic(auto)]
 
 mod blank;
 mod block;
 mod chart;
 mod cursor;
-pub mod discard;
+pub mod discarding;
 pub mod error;
 mod expression;
 mod fault;
@@ -32,5 +32,6 @@ mod token;
 mod tokens;
 mod word;
 
+pub use discarding::discard;
 pub use error::ReadError;
 pub use read::read_library;

@@ -8,10 +8,9 @@ use crate::cursor::Cursor;
 use crate::fault::ParseFault;
 use crate::rule::{Rule, beside, ended, many, pair, section, separated};
 use crate::token::Mark;
-use fb_types::items::Items;
-use fb_types::library::{Application, Connection, Instance, Network, Parameter, PortName};
-use fb_types::name::Name;
-use fb_types::value::Value;
+use fb_types::{
+    Application, Connection, Instance, Items, Name, Network, Parameter, PortName, Value,
+};
 
 impl Rule for PortName {
     ghost parser = { spec.port };

@@ -4,7 +4,7 @@ ghost use Rattle.std.specs.Prelude.{◌≡◌};
 ghost use Rattle.fb_read.specs.Operators.{operator_of};
 
 use crate::token::Mark;
-use fb_types::text::BinaryOperator;
+use fb_types::BinaryOperator;
 
 /// The level of a mark's operator, and that operator. Level 1 binds tightest.
 pub fn operator_of(mark: Mark) -> Option<(u8, BinaryOperator)>

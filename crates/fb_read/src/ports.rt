@@ -9,10 +9,7 @@ use crate::cursor::Cursor;
 use crate::fault::ParseFault;
 use crate::rule::{Rule, behind, beside, ended, listed, optional, section, separated};
 use crate::token::Mark;
-use fb_types::items::Items;
-use fb_types::library::{EventPort, Ports, Variable};
-use fb_types::name::Name;
-use fb_types::value::{Ty, Value};
+use fb_types::{EventPort, Items, Name, Ports, Ty, Value, Variable};
 use std::alloc::{AllocError, Global};
 
 /// Names of variables with the type and the initial value that they share.

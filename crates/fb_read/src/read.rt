@@ -14,7 +14,7 @@ use crate::front::LexFault;
 use crate::rule::Rule;
 use crate::token::Placed;
 use crate::tokens::lex;
-use fb_types::library::Library;
+use fb_types::Library;
 use std::alloc::Global;
 
 /// The greatest length of a text, in bytes. A byte order mark counts.

@@ -9,7 +9,7 @@ ghost use Rattle.fb_read.specs.Parser as spec;
 use crate::cursor::Cursor;
 use crate::fault::ParseFault;
 use crate::token::Mark;
-use fb_types::items::Items;
+use fb_types::Items;
 
 /// What a rule of the grammar reads. The cursor begins at the rule's first token and is left behind its
 /// last one, or at the token that the rule refuses.

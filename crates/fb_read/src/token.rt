@@ -1,6 +1,6 @@
 //! Tokens of the declaration text.
 
-use fb_types::name::Name;
+use fb_types::Name;
 use std::marker::Model;
 
 /// A keyword or a sign.

@@ -7,7 +7,7 @@ ghost use Rattle.fb_read.specs.Tokens.{AreTokens, Tells};
 use crate::blank::{at, skip};
 use crate::front::{LexFault, front};
 use crate::token::Placed;
-use fb_types::items::Items;
+use fb_types::Items;
 use std::alloc::Global;
 
 /// What stands behind one leading byte order mark.

@@ -4,7 +4,7 @@ ghost use Rattle.std.specs.Prelude.{◌≡◌, ◌<◌, ◌≤◌, length, IfOk,
 ghost use Rattle.fb_read.specs.Blank.{at};
 ghost use Rattle.fb_read.specs.Words as spec;
 
-use fb_types::items::Items;
+use fb_types::Items;
 use std::alloc::{AllocError, Global};
 
 /// Whether a name may begin with this byte.

@@ -12,16 +12,16 @@ use Rattle.fb_types.proofs.Lookups.{or_else_none}
 use Rattle.fb_agenda.specs.Agendas.{Contents, waiting}
 use Rattle.fb_types.specs.declared.run.Event.{Event}
 use Rattle.fb_net.specs.Events.{event_of}
-use Rattle.fb_take.specs.Openings.{IsOpened}
-use Rattle.fb_take.specs.Posts.{CountsAre}
-use Rattle.fb_take.specs.Takings.{AreReady, IsHere}
-use Rattle.fb_take.specs.Waiting.{meaning}
-use Rattle.fb_take.specs.declared.tick_counts.TickCounts.{TickCounts}
-use Rattle.fb_take.specs.declared.queues.Queues.{Queues}
-use Rattle.fb_take.proofs.Begins.{here_opened, metered_opened}
+use Rattle.fb_resource.specs.Openings.{IsOpened}
+use Rattle.fb_resource.specs.Posts.{CountsAre}
+use Rattle.fb_resource.specs.Takings.{AreReady, IsHere}
+use Rattle.fb_resource.specs.Waiting.{meaning}
+use Rattle.fb_resource.specs.declared.tick_counts.TickCounts.{TickCounts}
+use Rattle.fb_resource.specs.declared.queues.Queues.{Queues}
+use Rattle.fb_resource.proofs.Begins.{here_opened, metered_opened}
 use Rattle.fb_types.proofs.ByPlace.{slice_get-push}
-use Rattle.fb_tree.specs.Worlds.{IsForest}
-use Rattle.fb_tree.specs.declared.resource.Forest.{Forest}
+use Rattle.fb_net.specs.Worlds.{IsForest}
+use Rattle.fb_net.specs.declared.resource.Forest.{Forest}
 use Rattle.fb_resource.specs.Resources.{AreOpened, IsFresh, StandsFor}
 use Rattle.fb_resource.specs.declared.resource.Inner.{Inner}
 

@@ -1,3 +1,13 @@
+pub mod Alone
+pub mod Apart
+pub mod Begins
+pub mod Fuel
+pub mod Leaving
+pub mod Lists
+pub mod OpenIs
+pub mod PostLaws
+pub mod ReadyIs
+pub mod TakenIs
 pub mod Comes
 pub mod Fresh
 pub mod Received

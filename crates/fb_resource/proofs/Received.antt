@@ -18,8 +18,8 @@ use Rattle.fb_types.specs.declared.run.Event.TheVariants.{Arrival}
 use Rattle.fb_agenda.proofs.Placing.{arrival_class}
 use Rattle.fb_agenda.proofs.Timers.{timer_class}
 use Rattle.fb_net.specs.Events.{event_of, IsEventIn}
-use Rattle.fb_take.specs.Posts.{arriving, key_of, receiver_of}
-use Rattle.fb_take.specs.Waiting.{IsInOrder, MayWait, meaning}
+use Rattle.fb_resource.specs.Posts.{arriving, key_of, receiver_of}
+use Rattle.fb_resource.specs.Waiting.{IsInOrder, MayWait, meaning}
 use Rattle.fb_resource.specs.Resources.{HasReceived, IsFor, IsOf, StandsFor, with_messages}
 use Rattle.fb_resource.specs.declared.resource.Inner.{Inner}
 

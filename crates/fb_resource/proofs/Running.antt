@@ -19,10 +19,10 @@ use Rattle.fb_agenda.specs.Agendas.{Contents, waiting}
 use Rattle.fb_types.specs.declared.run.Event.{Event}
 use Rattle.fb_net.specs.Events.{event_of}
 use Rattle.fb_system.specs.Lines.{BelongsTo}
-use Rattle.fb_take.specs.Counts.{IsMetered}
-use Rattle.fb_take.specs.Posts.{IsMessage, arriving}
-use Rattle.fb_take.specs.Takings.{AreReady, IsTakenHere}
-use Rattle.fb_take.specs.declared.queues.Queues.{Queues}
+use Rattle.fb_resource.specs.Counts.{IsMetered}
+use Rattle.fb_resource.specs.Posts.{IsMessage, arriving}
+use Rattle.fb_resource.specs.Takings.{AreReady, IsTakenHere}
+use Rattle.fb_resource.specs.declared.queues.Queues.{Queues}
 use Rattle.fb_resource.specs.Resources.{HasRun, IsOf, RanTo, StandsFor, mark_of}
 use Rattle.fb_resource.specs.Runs.{ComesTo, HasEnded, HasTakenAll, IsRunning}
 use Rattle.fb_resource.specs.declared.resource.Inner.{Inner}

@@ -22,16 +22,16 @@ use Rattle.fb_types.proofs.value.Reason.TheSendSync as reason
 use Rattle.fb_types.proofs.text.UnaryOperator.TheSendSync as unary
 use Rattle.fb_types.proofs.text.BinaryOperator.TheSendSync as binary
 use Rattle.fb_types.proofs.text.Label.TheSendSync as label
-use Rattle.fb_fabric.proofs.wiring.Wiring.TheSendSync as wiring
+use Rattle.fb_system.proofs.wiring.Wiring.TheSendSync as wiring
 use Rattle.fb_system.proofs.kept.Kept.TheSendSync as kept
 use Rattle.fb_system.proofs.links.Links.TheSendSync as links
 use Rattle.fb_system.proofs.interfaces.Interfaces.TheSendSync as interfaces
 use Rattle.fb_system.proofs.rows.StimulusRow.TheSendSync as row
-use Rattle.fb_tree.proofs.block.BasicBlock.TheSendSync as basic
-use Rattle.fb_tree.proofs.block.CompositeBlock.TheSendSync as composite
-use Rattle.fb_tree.proofs.block.EventBlock.TheSendSync as event
-use Rattle.fb_take.proofs.tick_counts.TickCounts.TheSendSync as meter
-use Rattle.fb_take.proofs.queues.Queues.TheSendSync as queues
+use Rattle.fb_net.proofs.block.BasicBlock.TheSendSync as basic
+use Rattle.fb_net.proofs.block.CompositeBlock.TheSendSync as composite
+use Rattle.fb_net.proofs.block.EventBlock.TheSendSync as event
+use Rattle.fb_resource.proofs.tick_counts.TickCounts.TheSendSync as meter
+use Rattle.fb_resource.proofs.queues.Queues.TheSendSync as queues
 use Rattle.fb_types.specs.contracts.text.Expr as Expr
 use Rattle.fb_types.specs.contracts.text.Stmt as Stmt
 use Rattle.fb_types.specs.contracts.library.Condition as Condition
@@ -41,13 +41,13 @@ use Rattle.fb_types.specs.contracts.text.Body as Body
 use Rattle.fb_types.specs.contracts.library.BasicType as BasicType
 use Rattle.fb_types.specs.contracts.library.BlockType as BlockType
 use Rattle.fb_types.specs.contracts.library.Library as Library
-use Rattle.fb_fabric.specs.contracts.tables.Tables as Tables
-use Rattle.fb_fabric.specs.contracts.fabric.Fabric as Fabric
+use Rattle.fb_system.specs.contracts.tables.Tables as Tables
+use Rattle.fb_system.specs.contracts.netlist.Netlist as Netlist
 use Rattle.fb_system.specs.contracts.whole.Whole as Whole
 use Rattle.fb_system.specs.contracts.system.System as System
 use Rattle.fb_system.specs.contracts.system.System.TheInside as I
-use Rattle.fb_tree.specs.contracts.block.Block as Block
-use Rattle.fb_tree.specs.contracts.resource.Forest as Forest
+use Rattle.fb_net.specs.contracts.block.Block as Block
+use Rattle.fb_net.specs.contracts.resource.Forest as Forest
 use Rattle.fb_net.specs.contracts.tree.Tree as Tree
 use Rattle.fb_types.proofs.text.Expr.TheLaws.TheKnot as expr
 use Rattle.fb_types.proofs.text.Stmt.TheLaws.TheKnot as stmt
@@ -115,17 +115,17 @@ tables_send = search (sendable, crosses, library_send, wiring.the_send, items.th
 pub tables_sync : IsSync (Tables.the_field).row
 tables_sync = search (sendable, crosses, library_sync, wiring.the_sync, items.the_sync) depth 40
 
-pub fabric_send : IsSend Fabric.the_row
-fabric_send = search (sendable, crosses, tables_send) depth 40
+pub netlist_send : IsSend Netlist.the_row
+netlist_send = search (sendable, crosses, tables_send) depth 40
 
-pub fabric_sync : IsSync Fabric.the_row
-fabric_sync = search (sendable, crosses, tables_sync) depth 40
+pub netlist_sync : IsSync Netlist.the_row
+netlist_sync = search (sendable, crosses, tables_sync) depth 40
 
 pub whole_send : IsSend (Whole.the_field).row
-whole_send = search (sendable, crosses, deploy.the_send, stimulus.the_field_send, fabric_send, links.the_send, ports.the_field_send, interfaces.the_field_send, row.the_field_send, kept.the_field_send, items.the_send) depth 40
+whole_send = search (sendable, crosses, deploy.the_send, stimulus.the_field_send, netlist_send, links.the_send, ports.the_field_send, interfaces.the_field_send, row.the_field_send, kept.the_field_send, items.the_send) depth 40
 
 pub whole_sync : IsSync (Whole.the_field).row
-whole_sync = search (sendable, crosses, deploy.the_sync, stimulus.the_field_sync, fabric_sync, links.the_sync, ports.the_field_sync, interfaces.the_field_sync, row.the_field_sync, kept.the_field_sync, items.the_sync) depth 40
+whole_sync = search (sendable, crosses, deploy.the_sync, stimulus.the_field_sync, netlist_sync, links.the_sync, ports.the_field_sync, interfaces.the_field_sync, row.the_field_sync, kept.the_field_sync, items.the_sync) depth 40
 
 -- `search` finds no allocator's ghost members in a row, so the way to the `Arc` is written out
 pub system_send : IsSend System.the_row

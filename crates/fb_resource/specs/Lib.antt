@@ -1,2 +1,7 @@
+pub mod Counts
+pub mod Openings
+pub mod Posts
+pub mod Takings
+pub mod Waiting
 pub mod Resources
 pub mod Runs

@@ -17,10 +17,10 @@ use Rattle.fb_types.specs.declared.value.Reason.{Reason}
 use Rattle.fb_agenda.specs.Agendas.{waiting}
 use Rattle.fb_types.specs.declared.run.Event.{Event}
 use Rattle.fb_system.specs.Lines.{BelongsTo}
-use Rattle.fb_take.specs.Counts.{IsMetered}
-use Rattle.fb_take.specs.Posts.{CountsAre, IsMessage, arriving, receiver_of}
-use Rattle.fb_take.specs.Takings.{AreReady, IsHere}
-use Rattle.fb_take.specs.Waiting.{meaning}
+use Rattle.fb_resource.specs.Counts.{IsMetered}
+use Rattle.fb_resource.specs.Posts.{CountsAre, IsMessage, arriving, receiver_of}
+use Rattle.fb_resource.specs.Takings.{AreReady, IsHere}
+use Rattle.fb_resource.specs.Waiting.{meaning}
 use Rattle.fb_resource.specs.declared.resource.Inner.{Inner}
 use Rattle.fb_resource.specs.declared.resource.WindowDone.{WindowDone}
 use Rattle.fb_resource.specs.declared.resource.WindowDone.TheVariants.{NoMemory, Ran}

@@ -8,9 +8,9 @@ use Rattle.fb_types.specs.Parts.{count_of, machine}
 use Rattle.fb_types.specs.declared.key.Key.{Key}
 use Rattle.fb_agenda.specs.Agendas.{waiting}
 use Rattle.fb_types.specs.declared.run.Event.{Event}
-use Rattle.fb_take.specs.Counts.{IsMetered}
-use Rattle.fb_take.specs.Posts.{arriving}
-use Rattle.fb_take.specs.Takings.{AreReady}
+use Rattle.fb_resource.specs.Counts.{IsMetered}
+use Rattle.fb_resource.specs.Posts.{arriving}
+use Rattle.fb_resource.specs.Takings.{AreReady}
 use Rattle.fb_resource.specs.Resources.{RanTo, StandsFor}
 use Rattle.fb_resource.specs.declared.resource.Inner.{Inner}
 

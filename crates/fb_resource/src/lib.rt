@@ -1,15 +1,33 @@
-//! One resource by itself, and what the simulation of all resources has of it.
+//! One resource by itself: the taking of one event in it, its run below a tick, and what the simulation of all resources
+//! has of it.
 //!
-//! A resource runs by itself below a tick, takes messages in between, and tells when its next event is. What it does
-//! is what the definitions' resource does that it stands for, so what the laws here say of those holds of it.
+//! Guarantees to callers: `take` takes an event as the definitions say (`IsTakenHere`), from every state that blocks and
+//! counts may stand for, also where the resource stops. `open_agenda` and `open_agendas` put exactly the events of the
+//! opening on the agendas (`IsOpened`). A `Resource` runs by itself below a tick, takes messages in between, and answers
+//! when its next event is. What it does is what the resource of the definitions does, so the laws here hold of it.
 //!
-//! To be read in this order: `laws` and `determined`, what holds of the definitions; `resource`, what a resource
-//! holds; `open`, how it begins; `run`, its run below a tick; `receive`, how messages come to it.
+//! Read in this order: `tick_counts`, what is counted in a tick; `queues`, where events come from and go to; `one_taking`,
+//! the taking; `post`, what a taking puts out; `opening`, the agendas before the first event. Then `laws` and `determined`,
+//! what holds of the definitions; `resource`, what a resource holds; `open`, how it begins; `run`, its run below a tick;
+//! `receive`, how messages come to it.
 #![tactic(auto)]
 
 pub mod determined;
 pub mod laws;
+pub mod one_taking;
 pub mod open;
+pub mod opening;
+mod post;
+pub mod queues;
 pub mod receive;
 pub mod resource;
 pub mod run;
+pub mod tick_counts;
+
+pub use determined::{keys_rise, simulation_exists};
+pub use one_taking::take;
+pub use opening::{open_agenda, open_agendas};
+pub use queues::Queues;
+pub use resource::{Inner, Resource, WindowDone};
+pub use run::Output;
+pub use tick_counts::TickCounts;

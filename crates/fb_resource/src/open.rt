@@ -4,16 +4,16 @@ ghost use Rattle.std.specs.Prelude.{◌≡◌, ◌<◌, ℕ, None, Some, length,
 ghost use Rattle.fb_types.specs.Headline.{stimuli_of, system_of};
 ghost use Rattle.fb_types.specs.Parts.{local_of};
 ghost use Rattle.fb_types.specs.Simulation.{opening};
-ghost use Rattle.fb_take.specs.Openings.{IsOpened};
+ghost use Rattle.fb_resource.specs.Openings.{IsOpened};
 ghost use Rattle.fb_resource.specs.Resources.{AreOpened, IsFresh, IsOf, StandsFor};
 
+use crate::opening::{open_agenda, open_agendas};
+use crate::queues::Queues;
 use crate::resource::{Inner, Resource};
-use fb_agenda::agenda::Agenda;
-use fb_net::tree::Tree;
-use fb_system::system::System;
-use fb_take::tick_counts::TickCounts;
-use fb_take::open::{open_agenda, open_agendas};
-use fb_take::queues::Queues;
+use crate::tick_counts::TickCounts;
+use fb_agenda::Agenda;
+use fb_net::Tree;
+use fb_system::System;
 use std::alloc::{AllocError, Global};
 
 impl Resource {

@@ -5,7 +5,7 @@ ghost use Rattle.fb_agenda.specs.Arrivals.{AreNew};
 ghost use Rattle.fb_resource.specs.Resources.{HasReceived, IsSame};
 
 use crate::resource::Resource;
-use fb_types::run::Message;
+use fb_types::Message;
 use std::alloc::AllocError;
 
 impl Resource {

@@ -6,11 +6,10 @@ ghost use Rattle.fb_types.specs.declared.key.Key.{Key};
 ghost use Rattle.fb_agenda.specs.Agendas.{IsNext, waiting};
 ghost use Rattle.fb_resource.specs.Resources.{IsBusy};
 
-use fb_net::tree::Tree;
-use fb_take::tick_counts::TickCounts;
-use fb_take::queues::Queues;
-use fb_types::run::{Line, Message, StopMark};
-use fb_types::value::Reason;
+use crate::queues::Queues;
+use crate::tick_counts::TickCounts;
+use fb_net::Tree;
+use fb_types::{Line, Message, Reason, StopMark};
 use std::alloc::{AllocError, Global};
 use std::marker::Model;
 
@@ -36,8 +35,7 @@ pub struct Resource {
     pub(crate) inner: Box<Inner>,
 }
 
-// Written out, and not derived: so it is proved here alone what is let go with a resource, and not in each crate that
-// lets one go.
+// Drop is written by hand, so that callers need not prove it again (docs/DECISIONS.md, "Drop").
 impl Drop for Resource {
     fn drop(self) {
         let Resource { inner: _ } = self;

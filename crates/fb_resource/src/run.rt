@@ -5,11 +5,11 @@ ghost use Rattle.fb_resource.specs.Resources.{HasRun, IsOf, mark_of};
 ghost use Rattle.fb_resource.specs.Runs.{HasTakenAll, IsRunning};
 ghost use Rattle.fb_resource.specs.declared.resource.WindowDone.TheVariants.{Ran};
 
+use crate::one_taking::take;
 use crate::resource::{Inner, Resource, WindowDone};
-use fb_agenda::least::Least;
-use fb_system::system::System;
-use fb_take::take::take;
-use fb_types::run::{Line, Message, StopMark};
+use fb_agenda::Least;
+use fb_system::System;
+use fb_types::{Line, Message, StopMark};
 use std::alloc::{AllocError, Global};
 use std::mem;
 

@@ -13,11 +13,11 @@ use Rattle.fb_types.specs.declared.value.Reason.{Reason}
 use Rattle.fb_agenda.specs.Agendas.{Contents, waiting}
 use Rattle.fb_types.specs.declared.run.Event.{Event}
 use Rattle.fb_net.specs.Events.{event_of}
-use Rattle.fb_take.specs.Counts.{fuel}
-use Rattle.fb_take.specs.Waiting.{meaning}
-use Rattle.fb_take.specs.declared.tick_counts.TickCounts.{TickCounts}
-use Rattle.fb_take.proofs.Fuel.{fuel_falls}
-use Rattle.fb_take.proofs.Leaving.{Left, meaning_left, ready_left}
+use Rattle.fb_resource.specs.Counts.{fuel}
+use Rattle.fb_resource.specs.Waiting.{meaning}
+use Rattle.fb_resource.specs.declared.tick_counts.TickCounts.{TickCounts}
+use Rattle.fb_resource.proofs.Fuel.{fuel_falls}
+use Rattle.fb_resource.proofs.Leaving.{Left, meaning_left, ready_left}
 use Rattle.fb_sim.specs.Counts.{fuel_of_all}
 use Rattle.fb_sim.specs.Machines.{IsAt, IsReady, IsTaken}
 use Rattle.fb_sim.specs.Completions.{Completes}

@@ -5,16 +5,16 @@ use Rattle.std.proofs.lemmas.List.{length-replicate}
 use Rattle.fb_types.specs.Headline.{Inputs, AreAccepted, system_of, stimuli_of}
 use Rattle.fb_types.specs.Simulation.{opening_state, opening_agenda}
 use Rattle.fb_types.specs.Takes.{world_of}
-use Rattle.fb_tree.specs.Worlds.{IsForest}
-use Rattle.fb_tree.specs.declared.resource.Forest.{Forest}
-use Rattle.fb_take.specs.Counts.{IsMetered}
-use Rattle.fb_take.specs.Openings.{IsOpened}
-use Rattle.fb_take.specs.Posts.{CountsAre}
-use Rattle.fb_take.specs.Takings.{AreReady, IsHere}
-use Rattle.fb_take.specs.declared.tick_counts.TickCounts.{TickCounts}
-use Rattle.fb_take.proofs.Begins.{here_opened, metered_opened}
+use Rattle.fb_net.specs.Worlds.{IsForest}
+use Rattle.fb_net.specs.declared.resource.Forest.{Forest}
+use Rattle.fb_resource.specs.Counts.{IsMetered}
+use Rattle.fb_resource.specs.Openings.{IsOpened}
+use Rattle.fb_resource.specs.Posts.{CountsAre}
+use Rattle.fb_resource.specs.Takings.{AreReady, IsHere}
+use Rattle.fb_resource.specs.declared.tick_counts.TickCounts.{TickCounts}
+use Rattle.fb_resource.proofs.Begins.{here_opened, metered_opened}
 use Rattle.fb_types.proofs.ByPlace.{slice_get-push}
-use Rattle.fb_take.proofs.Lists.{of_replicate}
+use Rattle.fb_resource.proofs.Lists.{of_replicate}
 use Rattle.fb_sim.specs.Machines.{IsAt, IsReady}
 use Rattle.fb_sim.specs.Openings.{AreOpened}
 use Rattle.fb_sim.specs.declared.one_agenda.machine.Machine.{Machine}

@@ -4,11 +4,11 @@ use Rattle.std.specs.Prelude.{slice_get, slice_set, unwrap_or}
 use Rattle.std.proofs.lemmas.List.{length-set}
 use Rattle.fb_types.specs.Headline.{Inputs}
 use Rattle.fb_types.specs.declared.key.Key.{Key}
-use Rattle.fb_tree.specs.declared.resource.Forest.{Forest}
-use Rattle.fb_take.specs.Counts.{IsMetered}
-use Rattle.fb_take.specs.Takings.{AreReady}
-use Rattle.fb_take.specs.declared.tick_counts.TickCounts.{TickCounts}
-use Rattle.fb_take.proofs.Lists.{set_each}
+use Rattle.fb_net.specs.declared.resource.Forest.{Forest}
+use Rattle.fb_resource.specs.Counts.{IsMetered}
+use Rattle.fb_resource.specs.Takings.{AreReady}
+use Rattle.fb_resource.specs.declared.tick_counts.TickCounts.{TickCounts}
+use Rattle.fb_resource.proofs.Lists.{set_each}
 use Rattle.fb_sim.specs.Machines.{IsReady}
 use Rattle.fb_sim.specs.declared.one_agenda.machine.Machine.{Machine}
 

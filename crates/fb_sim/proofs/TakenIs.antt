@@ -15,14 +15,14 @@ use Rattle.fb_types.specs.declared.value.Reason.{Reason}
 use Rattle.fb_types.proofs.PathLaws.{same_path_is}
 use Rattle.fb_laws.proofs.Stays.{reacts_stays}
 use Rattle.fb_system.specs.Ports.{variable_of}
-use Rattle.fb_tree.specs.Worlds.{IsForest, StandsAt}
-use Rattle.fb_tree.specs.declared.resource.Forest.{Forest}
-use Rattle.fb_take.specs.Posts.{arriving}
-use Rattle.fb_take.specs.Takings.{IsHere, IsTakenHere}
-use Rattle.fb_take.specs.Waiting.{meaning}
-use Rattle.fb_take.specs.declared.tick_counts.TickCounts as counted
-use Rattle.fb_take.specs.declared.queues.Queues.{Queues}
-use Rattle.fb_take.proofs.Lists.{set_apart, set_here}
+use Rattle.fb_net.specs.Worlds.{IsForest, StandsAt}
+use Rattle.fb_net.specs.declared.resource.Forest.{Forest}
+use Rattle.fb_resource.specs.Posts.{arriving}
+use Rattle.fb_resource.specs.Takings.{IsHere, IsTakenHere}
+use Rattle.fb_resource.specs.Waiting.{meaning}
+use Rattle.fb_resource.specs.declared.tick_counts.TickCounts as counted
+use Rattle.fb_resource.specs.declared.queues.Queues.{Queues}
+use Rattle.fb_resource.proofs.Lists.{set_apart, set_here}
 use Rattle.fb_sim.specs.Machines.{IsAt, IsTaken}
 use Rattle.fb_sim.specs.declared.one_agenda.machine.Machine.{Machine}
 

@@ -7,12 +7,12 @@ use Rattle.fb_types.specs.States as model
 use Rattle.fb_types.specs.Takes.{Effect, Takes, agenda_after}
 use Rattle.fb_types.specs.declared.key.Key.{Key}
 use Rattle.fb_types.specs.declared.value.Reason.{Reason}
-use Rattle.fb_tree.specs.declared.resource.Forest.{Forest}
-use Rattle.fb_take.specs.Counts.{IsMetered}
-use Rattle.fb_take.specs.Posts.{CountsAre}
-use Rattle.fb_take.specs.Takings.{AreReady, IsHere}
-use Rattle.fb_take.specs.Waiting.{meaning}
-use Rattle.fb_take.specs.declared.tick_counts.TickCounts.{TickCounts}
+use Rattle.fb_net.specs.declared.resource.Forest.{Forest}
+use Rattle.fb_resource.specs.Counts.{IsMetered}
+use Rattle.fb_resource.specs.Posts.{CountsAre}
+use Rattle.fb_resource.specs.Takings.{AreReady, IsHere}
+use Rattle.fb_resource.specs.Waiting.{meaning}
+use Rattle.fb_resource.specs.declared.tick_counts.TickCounts.{TickCounts}
 use Rattle.fb_sim.specs.declared.one_agenda.machine.Machine.{Machine}
 
 -- The machine is one of the system: blocks and counts for each resource, and all messages are delivered.

@@ -3,8 +3,8 @@ use Rattle.std.specs.Prelude.{◌≡◌, ℕ, List, length, Some, slice_get}
 use Rattle.fb_types.specs.Headline.{Inputs, system_of}
 use Rattle.fb_types.specs.Simulation.{opening_state}
 use Rattle.fb_types.specs.Takes.{world_of}
-use Rattle.fb_tree.specs.Worlds.{IsForest}
-use Rattle.fb_tree.specs.declared.resource.Forest.{Forest}
+use Rattle.fb_net.specs.Worlds.{IsForest}
+use Rattle.fb_net.specs.declared.resource.Forest.{Forest}
 
 -- The blocks of so many resources are as they begin.
 pub record AreOpened (i : Inputs) (count : ℕ) (trees : List Forest) : Type 0 where

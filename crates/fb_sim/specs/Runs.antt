@@ -2,8 +2,8 @@
 use Rattle.std.specs.Prelude.{◌≡◌, ◌≤◌, ℕ, suc, List, Some, slice_get, slice_set}
 use Rattle.fb_types.specs.Takes.{begun}
 use Rattle.fb_types.specs.declared.key.Key.{Key}
-use Rattle.fb_take.specs.Counts.{meter_of}
-use Rattle.fb_take.specs.declared.tick_counts.TickCounts.{TickCounts}
+use Rattle.fb_resource.specs.Counts.{meter_of}
+use Rattle.fb_resource.specs.declared.tick_counts.TickCounts.{TickCounts}
 
 -- One step more of the tick was used in the key's resource, and the others have what they had.
 pub record IsSpent (limit : ℕ) (k : Key) (old new : List TickCounts) : Type 0 where

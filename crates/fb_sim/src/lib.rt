@@ -4,7 +4,7 @@
 //! the trace of the one-thread simulation of accepted inputs, and so does a `Simulation` that its caller advances.
 //! `run_with_progress` reports the progress of a run besides. There is no rule about simulation here.
 //!
-//! To be read in this order: `options` and `outcome`; `reading`, what comes before a run; `serial` with `one_agenda`, a
+//! Read in this order: `options` and `outcome`; `reading`, what comes before a run; `serial` with `one_agenda`, a
 //! run on one thread; `runs` with `drive` and `rounds`, a run with workers, with `progress`, `tally` and `work`;
 //! `simulation` and `state`; `with_progress`, a run that reports its progress.
 #![tactic(auto)]

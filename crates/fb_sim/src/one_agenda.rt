@@ -1,10 +1,10 @@
 //! A run on one thread: one agenda of all resources, of which the least event is always taken. The lines are written as
 //! the run goes on.
 //!
-//! `run_serial` uses it, and so does `run` with one worker. What one taking does is `fb_take`'s; here are the loop over it
+//! `run_serial` uses it, and so does `run` with one worker. What one taking does is `fb_resource`'s; here are the loop over it
 //! and the delivery of messages to the one agenda.
 //!
-//! To be read in this order: `machine` and `pause`, the state and the taking of events; `deliver`, messages; `open`, the
+//! Read in this order: `machine` and `pause`, the state and the taking of events; `deliver`, messages; `open`, the
 //! beginning; then the run itself, below.
 
 ghost use Rattle.std.specs.Prelude.{◌≡◌, [], IfOk, IfErr, Err};
@@ -30,8 +30,8 @@ use crate::options::Options;
 use crate::outcome::{Outcome, RunError};
 use crate::rounds::hand_out;
 use crate::runs::close;
-use fb_system::system::System;
-use fb_trace::last::RunEnd;
+use fb_system::System;
+use fb_trace::RunEnd;
 use std::alloc::Global;
 use std::io::Write;
 

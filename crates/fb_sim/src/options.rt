@@ -3,7 +3,7 @@
 ghost use Rattle.std.specs.Prelude.{◌↔◌, IsTrue};
 ghost use Rattle.fb_sim.specs.Serial.{AreWithin};
 
-use fb_types::run::Form;
+use fb_types::Form;
 use std::marker::Model;
 
 /// What is read. Contracts see the bytes.

@@ -3,12 +3,12 @@
 ghost use Rattle.std.specs.Prelude.{◌≡◌};
 ghost use Rattle.fb_sim.specs.declared.outcome.RunError.TheVariants.{Memory};
 
-use fb_check::error::CheckError;
-use fb_inputs::error::InputError;
+use fb_check::CheckError;
+use fb_inputs::InputError;
 use fb_phase::PhaseError;
-use fb_read::error::ReadError;
-use fb_types::run::StopMark;
-use fb_window::cores::Failed;
+use fb_read::ReadError;
+use fb_types::StopMark;
+use fb_window::Failed;
 use std::alloc::AllocError;
 use thiserror::Error;
 

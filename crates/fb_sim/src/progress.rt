@@ -1,7 +1,7 @@
 //! The progress of a run.
 
-use fb_types::run::StopMark;
-use fb_window::cores::Core;
+use fb_types::StopMark;
+use fb_window::Core;
 
 /// The progress of a run after a round.
 #[derive(Drop)]

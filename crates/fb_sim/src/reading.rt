@@ -7,18 +7,11 @@ ghost use Rattle.fb_sim.specs.Serial.{AreStimuli, Declares, IsDeclared, IsPlan, 
 
 use crate::options::Inputs;
 use crate::outcome::{Refusal, RunError};
-use fb_check::accept::accept;
-use fb_check::case::Case;
-use fb_check::error::CheckError;
-use fb_check::judge::judge;
-use fb_inputs::deployment::read_deploy;
-use fb_inputs::error::InputError;
-use fb_inputs::stimuli::read_stimuli;
-use fb_read::error::ReadError;
-use fb_read::read::read_library;
-use fb_system::system::System;
-use fb_types::deploy::{Deploy, Stimulus};
-use fb_types::library::Library;
+use fb_check::{Case, CheckError, accept, judge};
+use fb_inputs::{InputError, read_deploy, read_stimuli};
+use fb_read::{ReadError, read_library};
+use fb_system::System;
+use fb_types::{Deploy, Library, Stimulus};
 use std::alloc::Global;
 
 /// A declaration, a deployment and stimuli.

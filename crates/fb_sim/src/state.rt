@@ -4,8 +4,8 @@ ghost use Rattle.std.specs.Prelude.{◌≡◌};
 ghost use Rattle.fb_sim.specs.Sessions.{core_in, stage_of};
 ghost use Rattle.fb_sim.specs.declared.state.SessionState.TheVariants.{Failed};
 
-use fb_types::run::StopMark;
-use fb_window::cores::Core;
+use fb_types::StopMark;
+use fb_window::Core;
 use std::mem;
 
 /// How far a simulation is, with its core.

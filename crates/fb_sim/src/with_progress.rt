@@ -12,7 +12,7 @@ use crate::options::{Inputs, Options};
 use crate::outcome::{Outcome, RunError};
 use crate::simulation::Simulation;
 use fb_phase::OpenGate;
-use fb_trace::front::write_front;
+use fb_trace::write_front;
 use std::alloc::Global;
 use std::io::Write;
 use std::sync::Wait;

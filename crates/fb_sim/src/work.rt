@@ -2,8 +2,8 @@
 
 use fb_board::Deal;
 use fb_phase::Work;
-use fb_resource::resource::WindowDone;
-use fb_window::job::Job;
+use fb_resource::WindowDone;
+use fb_window::Job;
 use std::alloc::Global;
 
 /// Each job is a resource that runs to its bound.

@@ -13,7 +13,7 @@ mod texts;
 mod writers;
 
 use fb_sim::{Inputs, Options};
-use fb_types::run::Form;
+use fb_types::Form;
 
 /// More steps than any tick of these runs needs that does not stop.
 const ENOUGH: u64 = 10_000;

@@ -8,14 +8,12 @@ ghost use Rattle.fb_types.specs.Bodies.{Runs, Advances, label_fits, passed};
 ghost use Rattle.fb_st.specs.Frames.{declared_in, is_declared, types_in, values_of};
 ghost use Rattle.fb_st.specs.Flows.{end_of};
 
-use crate::eval::eval;
+use crate::evaluation::eval;
 use crate::frame::{Frame, small_of};
 use crate::meter::Flow;
 use crate::operator::whole_of;
 use crate::small::small_number;
-use fb_types::reference::Reference;
-use fb_types::text::{Expr, Label};
-use fb_types::value::{Reason, Value};
+use fb_types::{Expr, Label, Reason, Reference, Value};
 
 /// An assignment, once its step is begun.
 #[inline(always)]

@@ -6,8 +6,7 @@ ghost use Rattle.fb_st.specs.Faults.{after, met, told_after, zero_if_told};
 ghost use Rattle.fb_st.specs.Wanted.{gives_number, wholes};
 
 use crate::operator::{is_told, whole_of};
-use fb_types::text::BinaryOperator;
-use fb_types::value::{Reason, Value};
+use fb_types::{BinaryOperator, Reason, Value};
 
 /// Keeps a reason, unless there is one. The number is of no use then.
 #[inline(never)]

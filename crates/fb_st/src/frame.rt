@@ -9,9 +9,7 @@ ghost use Rattle.fb_st.specs.Variables.{least_of, most_of};
 ghost use Rattle.fb_st.specs.Frames.{place_of, values_of, declared_in, is_declared, names_of, types_in};
 
 use crate::operator::whole_of;
-use fb_types::name::Name;
-use fb_types::reference::Reference;
-use fb_types::value::{Reason, Ty, Value};
+use fb_types::{Name, Reason, Reference, Ty, Value};
 use std::alloc::{AllocError, Global};
 use std::marker::Model;
 

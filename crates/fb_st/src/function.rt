@@ -5,8 +5,7 @@ ghost use Rattle.std.specs.Int.{int_min, int_max};
 ghost use Rattle.fb_types.specs.Values.{judged, whole, absolute, value_if_known};
 
 use crate::operator::{negated, truth_value, whole_of};
-use fb_types::function::Function;
-use fb_types::value::{Reason, Value};
+use fb_types::{Function, Reason, Value};
 
 /// The function ABS.
 fn magnitude(number: i128) -> Result<Value, Reason>

@@ -7,7 +7,7 @@ ghost use Rattle.fb_st.specs.Frames.{declared_in};
 ghost use Rattle.fb_st.specs.Known.{AllKnown, AssignsKnown, BranchesKnown, ChoicesKnown};
 
 use crate::frame::Frame;
-use fb_types::text::{Body, Branch, Choice, Stmt};
+use fb_types::{Body, Branch, Choice, Stmt};
 
 /// Whether the frame has each variable that the algorithm assigns, as it has in an accepted text.
 pub fn knows(body: &Body, frame: &Frame) -> bool

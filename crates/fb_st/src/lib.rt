@@ -1,16 +1,16 @@
 //! Structured Text (IEC 61131-3, 7.3): values of expressions and runs of statements.
 //!
-//! What is promised above: `eval::eval` gives the value of an expression, or the reason for which it has none;
-//! `exec::exec` runs an algorithm as the definitions say, steps counted; a `frame::Frame` keeps variables within their
+//! Guarantees to callers: `evaluation::eval` gives the value of an expression, or the reason for which it has none;
+//! `execution::exec` runs an algorithm as the definitions say, steps counted; a `frame::Frame` keeps variables within their
 //! types.
 //!
-//! To be read in this order: `frame`, the variables; `eval` with `operator`, `fault` and `function`; `small`, the common way
-//! of expressions whose numbers fit 64 bits; `meter`, the steps; `exec` with `assign`; `known`.
+//! Read in this order: `frame`, the variables; `evaluation` with `operator`, `fault` and `function`; `small`, the common way
+//! of expressions whose numbers fit 64 bits; `meter`, the steps; `execution` with `assign`; `known`.
 #![tactic(auto)]
 
 mod assign;
-pub mod eval;
-pub mod exec;
+pub mod evaluation;
+pub mod execution;
 mod fault;
 pub mod frame;
 mod function;
@@ -18,3 +18,9 @@ pub mod known;
 pub mod meter;
 mod operator;
 mod small;
+
+pub use evaluation::{eval, holds};
+pub use execution::exec;
+pub use frame::{Frame, Slot};
+pub use known::knows;
+pub use meter::{Flow, Meter};

@@ -2,7 +2,7 @@
 
 ghost use Rattle.std.specs.Prelude.{◌≡◌, suc, OnOk, IfErr};
 
-use fb_types::value::Reason;
+use fb_types::Reason;
 
 /// How a statement ends where no reason stops the run.
 #[derive(Clone, Copy, PartialEq, Eq)]

@@ -4,8 +4,7 @@ ghost use Rattle.std.specs.Prelude.{◌≡◌, false, ◌+ℤ◌, ◌-ℤ◌, �
 ghost use Rattle.fb_types.specs.Values.{judged, told, whole, truth, binary_value, same_value, quotient, modulus};
 ghost use Rattle.fb_st.specs.Wanted.{wholes, gives_number, both_joined};
 
-use fb_types::text::BinaryOperator;
-use fb_types::value::{Reason, Value};
+use fb_types::{BinaryOperator, Reason, Value};
 
 /// The whole number that a value is. A truth value, which no accepted text has here, counts as 0.
 #[inline(always)]

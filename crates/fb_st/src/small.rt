@@ -8,8 +8,7 @@ ghost use Rattle.fb_types.specs.Values.{told, value_of, binary_value, and_then};
 ghost use Rattle.fb_st.specs.Frames.{values_of};
 
 use crate::frame::Frame;
-use fb_types::text::{BinaryOperator, Expr};
-use fb_types::value::Value;
+use fb_types::{BinaryOperator, Expr, Value};
 
 /// The number that an expression comes to, where it and all numbers on the way to it fit. `None` says nothing of it.
 /// Most have one operator or two, at numbers and variables: there is no call on the way, and no register to be kept for

@@ -12,8 +12,8 @@ use Rattle.fb_types.specs.declared.library.Instance.{Instance}
 use Rattle.fb_types.specs.declared.library.Library.{Library}
 use Rattle.fb_types.specs.declared.library.Parameter.{Parameter}
 use Rattle.fb_types.specs.declared.library.Ports.{Ports}
-use Rattle.fb_names.specs.Numbers.{each_or_none, parameter_numbers, place_of}
-use Rattle.fb_fabric.specs.Layouts.{path_of}
+use Rattle.fb_check_names.specs.Numbers.{each_or_none, parameter_numbers, place_of}
+use Rattle.fb_system.specs.Layouts.{path_of}
 use Rattle.fb_system.specs.Begins.{begins_with, parameter_names}
 use Rattle.fb_system.proofs.Initial.{inputs_begin, outputs_begin}
 use Rattle.fb_system.proofs.Naming.{inputs_once, parameters_once, parameters_placed}
@@ -103,7 +103,7 @@ NumbersAt lib n ks = (x : Instance) → instance_at lib (path_of lib n) ≡ Some
 
 pub inputs_seen :
     (v w : Whole) (i : Inputs) (n : ℕ) (p : Ports) (x : Instance) (xs : List Parameter) (ks : List ℕ) → v ≡ w → inputs_of w ≡ i → AreAccepted i
-    → instance_at v.fabric (path_of v.fabric n) ≡ Some x → NumbersAt v.fabric n ks → p ≡ ports_at (system_of i) (path_at (system_of i) n) → xs ≡ x.parameters
+    → instance_at v.netlist (path_of v.netlist n) ≡ Some x → NumbersAt v.netlist n ks → p ≡ ports_at (system_of i) (path_at (system_of i) n) → xs ≡ x.parameters
     → IsBegun i (path_at (system_of i) n) p xs ks
 inputs_seen v w i n p x xs ks e s ok at numbers is read =
     let lib = library_seen v w i e s in

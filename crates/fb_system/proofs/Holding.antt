@@ -13,8 +13,8 @@ use Rattle.fb_types.proofs.ByPlace.{element_of_place, slice_get-append_here, sli
 use Rattle.fb_types.proofs.Positions.{is_some-position, position_is}
 use Rattle.fb_types.proofs.Elements.{Contains-cons_cases, Contains-here, Contains-nil, Contains-there, Contains-map}
 use Rattle.fb_types.proofs.NameLaws.{any_from_contains}
-use Rattle.fb_fabric.proofs.Distinct.{below, below_through, IsThrough, paths_from}
-use Rattle.fb_fabric.specs.Layouts.{path_of, place_at, route_to}
+use Rattle.fb_system.proofs.Distinct.{below, below_through, IsThrough, paths_from}
+use Rattle.fb_system.specs.Layouts.{path_of, place_at, route_to}
 use Rattle.fb_types.proofs.Options.{some_from_is_some}
 use Rattle.fb_system.specs.Linking.{holder_at, IsLinked, Linked}
 use Rattle.fb_system.specs.Systems.{inputs_of, StandFor}
@@ -101,16 +101,16 @@ resource_by_place lib plan x k place linked h found =
 
 pub home_there : (v w : Whole) (i : Inputs) (k : ℕ) → StandFor w → v ≡ w → inputs_of w ≡ i → k < length (paths_of i.library) → k < length v.homes
 home_there v w i k is e s h =
-    let lt : k < length (paths_of w.fabric) = subst (λ (i : Inputs). k < length (paths_of i.library)) (sym s) h in
-    subst (λ (w : Whole). k < length w.homes) (sym e) (slice_get_within w.homes k (resource_of w.deploy (path_of w.fabric k)) (is.homes k lt))
+    let lt : k < length (paths_of w.netlist) = subst (λ (i : Inputs). k < length (paths_of i.library)) (sym s) h in
+    subst (λ (w : Whole). k < length w.homes) (sym e) (slice_get_within w.homes k (resource_of w.deploy (path_of w.netlist k)) (is.homes k lt))
 
 pub home_seen :
     (v w : Whole) (i : Inputs) (k d : ℕ) → StandFor w → v ≡ w → inputs_of w ≡ i → k < length (paths_of i.library)
     → get_or v.homes k d ≡ resource_of i.plan (path_of i.library k)
 home_seen v w i k d is e s h =
-    let lt : k < length (paths_of w.fabric) = subst (λ (i : Inputs). k < length (paths_of i.library)) (sym s) h in
+    let lt : k < length (paths_of w.netlist) = subst (λ (i : Inputs). k < length (paths_of i.library)) (sym s) h in
     ap (λ (w : Whole). get_or w.homes k d) e
-    ∙ get_or_from_slice_get w.homes k (resource_of w.deploy (path_of w.fabric k)) d (is.homes k lt)
+    ∙ get_or_from_slice_get w.homes k (resource_of w.deploy (path_of w.netlist k)) d (is.homes k lt)
     ∙ ap (λ (i : Inputs). resource_of i.plan (path_of i.library k)) s
 
 -- ---- Making

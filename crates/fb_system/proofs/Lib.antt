@@ -1,6 +1,23 @@
+mod Lists
+mod Differing
+mod EndPlaces
+mod Wired
+mod Leading
+mod Looking
+mod Around
+mod Views
+mod Made
+mod Standing
+pub mod Steps
+pub mod Inside
+pub mod Distinct
+pub mod Parts
+pub mod Sites
+pub mod Laid
+pub mod Reading
 mod Seen
 mod Holding
-mod WithPlaces
+mod WithPlacesLaws
 mod Stimuli
 mod Beginning
 pub mod Ways
@@ -8,7 +25,7 @@ pub mod Linked
 pub mod EventBlocks
 pub mod Rising
 pub mod Listed
-pub mod Declared
+pub mod Written
 pub mod Named
 pub mod Placing
 pub mod Naming

@@ -14,12 +14,12 @@ use Rattle.fb_types.specs.declared.deploy.Link.{Link}
 use Rattle.fb_types.specs.declared.deploy.ResourceEntry.{ResourceEntry}
 use Rattle.fb_types.proofs.NameLaws.{same_name-Decides, same_from_same_name}
 use Rattle.fb_types.proofs.Positions.{position-cons, position_is, position_of_once}
-use Rattle.fb_names.proofs.NameTwice.{plan_twice}
-use Rattle.fb_names.specs.Numbers.{IsResolved, each_or_none, link_ends, place_of}
-use Rattle.fb_names.specs.declared.numbers.LinkEnds.{LinkEnds}
-use Rattle.fb_names.specs.declared.numbers.Resolved.{Resolved}
+use Rattle.fb_check_names.proofs.NameTwice.{plan_twice}
+use Rattle.fb_check_names.specs.Numbers.{IsResolved, each_or_none, link_ends, place_of}
+use Rattle.fb_check_names.specs.declared.numbers.LinkEnds.{LinkEnds}
+use Rattle.fb_check_names.specs.declared.numbers.Resolved.{Resolved}
 use Rattle.fb_types.proofs.Options.{and_then_parts, map_parts}
-use Rattle.fb_names.proofs.Each.{each_parts}
+use Rattle.fb_check_names.proofs.Each.{each_parts}
 use Rattle.fb_system.specs.Linking.{IsLinked, holders_of, joins}
 
 -- ---- Elements of two lists, of which one was made of the other

@@ -16,7 +16,7 @@ use Rattle.fb_types.specs.Blocks.{among, event_names, variable_names, variables_
 use Rattle.fb_types.specs.Repeated.{Twice}
 use Rattle.fb_types.specs.declared.library.EventPort.{EventPort}
 use Rattle.fb_types.specs.declared.library.Variable.{Variable}
-use Rattle.fb_names.specs.Places.{place_in}
+use Rattle.fb_check_names.specs.Places.{place_in}
 use Rattle.fb_types.proofs.Positions.{is_some-position, position_is, position_of_once, slice_get-Contains}
 use Rattle.fb_types.proofs.Elements.{Contains-here, Contains-there, Contains-map, map-Contains}
 use Rattle.fb_types.proofs.NameLaws.{same_name-itself, same_from_same_name, any_from_contains, contains_from_any}

@@ -18,13 +18,13 @@ use Rattle.fb_types.specs.declared.library.Instance.{Instance}
 use Rattle.fb_types.specs.declared.library.Library.{Library}
 use Rattle.fb_types.specs.declared.library.Network.{Network}
 use Rattle.fb_types.specs.declared.library.Ports.{Ports}
-use Rattle.fb_names.specs.GivenTwice.{NetworkTwice}
+use Rattle.fb_check_names.specs.GivenTwice.{NetworkTwice}
 use Rattle.fb_types.proofs.TwiceLaws.{Twice-append_left, Twice-append_right}
 use Rattle.fb_types.proofs.NameLaws.{any_from_contains, named-Contains}
 use Rattle.fb_types.proofs.Elements.{Contains-here, Contains-there, Contains-map, Contains-flat_map}
-use Rattle.fb_names.proofs.NameTwice.{block_twice, network_twice}
-use Rattle.fb_names.specs.Numbers.{each_or_none, place_of, parameter_numbers}
-use Rattle.fb_names.proofs.Resolving.{of_network}
+use Rattle.fb_check_names.proofs.NameTwice.{block_twice, network_twice}
+use Rattle.fb_check_names.specs.Numbers.{each_or_none, place_of, parameter_numbers}
+use Rattle.fb_check_names.proofs.Resolving.{of_network}
 use Rattle.fb_system.specs.Begins.{parameter_names}
 
 -- ---- Lists

@@ -16,8 +16,8 @@ use Rattle.fb_types.proofs.LoopSteps.{twice_of_part}
 use Rattle.fb_types.proofs.Positions.{position_is, slice_get-Contains}
 use Rattle.fb_types.proofs.Elements.{Contains-here, Contains-there}
 use Rattle.fb_types.proofs.TwiceLaws.{Twice-push}
-use Rattle.fb_names.specs.Numbers.{each_or_none, place_of}
-use Rattle.fb_names.proofs.Each.{each-length, each_at}
+use Rattle.fb_check_names.specs.Numbers.{each_or_none, place_of}
+use Rattle.fb_check_names.proofs.Each.{each-length, each_at}
 use Rattle.fb_system.specs.Begins.{begin_value, parameter_names}
 use Rattle.fb_system.proofs.Named.{named_other, named_new}
 

@@ -18,11 +18,11 @@ use Rattle.fb_types.specs.declared.deploy.Stimulus.{Stimulus}
 use Rattle.fb_types.specs.declared.library.Library.{Library}
 use Rattle.fb_types.specs.declared.library.Ports.{Ports}
 use Rattle.fb_types.specs.declared.run.Target.{Target}
-use Rattle.fb_names.specs.Numbers.{kind_of_number}
-use Rattle.fb_names.specs.declared.numbers.TypeNumber.{TypeNumber}
-use Rattle.fb_fabric.specs.Layouts.{AreComponents, AreNumbers, IsParent, path_of, route_to}
-use Rattle.fb_fabric.specs.Fabrics as fabric
-use Rattle.fb_fabric.specs.declared.reached.Reached.{Reached}
+use Rattle.fb_check_names.specs.Numbers.{kind_of_number}
+use Rattle.fb_check_names.specs.declared.numbers.TypeNumber.{TypeNumber}
+use Rattle.fb_system.specs.Layouts.{AreComponents, AreNumbers, IsParent, path_of, route_to}
+use Rattle.fb_system.specs.Netlists as netlist
+use Rattle.fb_system.specs.declared.reached.Reached.{Reached}
 use Rattle.fb_types.specs.declared.run.Place.{Place}
 use Rattle.fb_system.specs.Tables.{AreInterfaces}
 use Rattle.fb_system.specs.declared.interfaces.Interfaces.{Interfaces}
@@ -55,8 +55,8 @@ few_of i h =
 
 -- ---- The tables are those of the inputs
 
-pub library_seen : (v w : Whole) (i : Inputs) → v ≡ w → inputs_of w ≡ i → v.fabric ≡ i.library
-library_seen v w i e s = ap (λ (w : Whole). w.fabric) e ∙ ap (λ (i : Inputs). i.library) s
+pub library_seen : (v w : Whole) (i : Inputs) → v ≡ w → inputs_of w ≡ i → v.netlist ≡ i.library
+library_seen v w i e s = ap (λ (w : Whole). w.netlist) e ∙ ap (λ (i : Inputs). i.library) s
 
 pub plan_seen : (v w : Whole) (i : Inputs) → v ≡ w → inputs_of w ≡ i → v.deploy ≡ i.plan
 plan_seen v w i e s = ap (λ (w : Whole). w.deploy) e ∙ ap (λ (i : Inputs). i.plan) s
@@ -64,10 +64,10 @@ plan_seen v w i e s = ap (λ (w : Whole). w.deploy) e ∙ ap (λ (i : Inputs). i
 pub accepted_seen : (w : Whole) (i : Inputs) → StandFor w → inputs_of w ≡ i → AreAccepted i
 accepted_seen w i is s = subst (λ (i : Inputs). AreAccepted i) s is.accepted
 
-pub within_seen : (v w : Whole) (i : Inputs) (k : ℕ) → v ≡ w → inputs_of w ≡ i → k < length (paths_of i.library) → k < length (paths_of v.fabric)
+pub within_seen : (v w : Whole) (i : Inputs) (k : ℕ) → v ≡ w → inputs_of w ≡ i → k < length (paths_of i.library) → k < length (paths_of v.netlist)
 within_seen v w i k e s h = subst (λ (lib : Library). k < length (paths_of lib)) (sym (library_seen v w i e s)) h
 
-pub count_seen : (v w : Whole) (i : Inputs) → v ≡ w → inputs_of w ≡ i → length (paths_of v.fabric) ≡ length (paths_of i.library)
+pub count_seen : (v w : Whole) (i : Inputs) → v ≡ w → inputs_of w ≡ i → length (paths_of v.netlist) ≡ length (paths_of i.library)
 count_seen v w i e s = ap (λ (lib : Library). length (paths_of lib)) (library_seen v w i e s)
 
 pub stand_seen : (v w : Whole) → v ≡ w → StandFor w → StandFor v
@@ -78,96 +78,96 @@ stand_seen v w e is = subst (λ (w : Whole). StandFor w) (sym e) is
 abbrev Numbered : Library → Type 0
 Numbered lib = (k : ℕ) → k < length (paths_of lib) → number_of (paths_of lib) (path_of lib k) ≡ k
 
-pub numbered_seen : (v w : Whole) (i : Inputs) → v ≡ w → inputs_of w ≡ i → Numbered v.fabric → Numbered i.library
+pub numbered_seen : (v w : Whole) (i : Inputs) → v ≡ w → inputs_of w ≡ i → Numbered v.netlist → Numbered i.library
 numbered_seen v w i e s h = subst (λ (lib : Library). Numbered lib) (library_seen v w i e s) h
 
 pub kind_seen :
-    (v w : Whole) (i : Inputs) (k : ℕ) (t : TypeNumber) → v ≡ w → inputs_of w ≡ i → kind_of_number v.fabric t ≡ kind_at v.fabric (path_of v.fabric k)
+    (v w : Whole) (i : Inputs) (k : ℕ) (t : TypeNumber) → v ≡ w → inputs_of w ≡ i → kind_of_number v.netlist t ≡ kind_at v.netlist (path_of v.netlist k)
     → kind_of_number i.library t ≡ kind_at i.library (path_of i.library k)
 kind_seen v w i k t e s h =
     subst (λ (lib : Library). kind_of_number lib t ≡ kind_at lib (path_of lib k)) (library_seen v w i e s) h
 
 pub text_seen :
-    (v w : Whole) (i : Inputs) (k : ℕ) (bytes : List ℕ) → v ≡ w → inputs_of w ≡ i → bytes ≡ path_text (path_of v.fabric k)
+    (v w : Whole) (i : Inputs) (k : ℕ) (bytes : List ℕ) → v ≡ w → inputs_of w ≡ i → bytes ≡ path_text (path_of v.netlist k)
     → bytes ≡ path_text (path_of i.library k)
 text_seen v w i k bytes e s h = subst (λ (lib : Library). bytes ≡ path_text (path_of lib k)) (library_seen v w i e s) h
 
 pub parent_seen :
-    (v w : Whole) (i : Inputs) (k : ℕ) (o : Option ℕ) → v ≡ w → inputs_of w ≡ i → IsParent v.fabric k o → IsParent i.library k o
+    (v w : Whole) (i : Inputs) (k : ℕ) (o : Option ℕ) → v ≡ w → inputs_of w ≡ i → IsParent v.netlist k o → IsParent i.library k o
 parent_seen v w i k o e s h = subst (λ (lib : Library). IsParent lib k o) (library_seen v w i e s) h
 
 pub route_seen :
-    (v w : Whole) (i : Inputs) (k : ℕ) (places : List ℕ) → v ≡ w → inputs_of w ≡ i → places ≡ route_to v.fabric (path_of v.fabric k)
+    (v w : Whole) (i : Inputs) (k : ℕ) (places : List ℕ) → v ≡ w → inputs_of w ≡ i → places ≡ route_to v.netlist (path_of v.netlist k)
     → places ≡ route_to i.library (path_of i.library k)
 route_seen v w i k places e s h =
     subst (λ (lib : Library). places ≡ route_to lib (path_of lib k)) (library_seen v w i e s) h
 
 pub components_seen :
-    (v w : Whole) (i : Inputs) (k : ℕ) (numbers : List ℕ) → v ≡ w → inputs_of w ≡ i → AreComponents v.fabric (path_of v.fabric k) numbers
+    (v w : Whole) (i : Inputs) (k : ℕ) (numbers : List ℕ) → v ≡ w → inputs_of w ≡ i → AreComponents v.netlist (path_of v.netlist k) numbers
     → AreComponents i.library (path_of i.library k) numbers
 components_seen v w i k numbers e s h =
     subst (λ (lib : Library). AreComponents lib (path_of lib k) numbers) (library_seen v w i e s) h
 
 pub top_seen :
-    (v w : Whole) (i : Inputs) (numbers : List ℕ) → v ≡ w → inputs_of w ≡ i → AreNumbers v.fabric [] v.fabric.application.network.instances numbers
+    (v w : Whole) (i : Inputs) (numbers : List ℕ) → v ≡ w → inputs_of w ≡ i → AreNumbers v.netlist [] v.netlist.application.network.instances numbers
     → AreNumbers i.library [] i.library.application.network.instances numbers
 top_seen v w i numbers e s h =
     subst (λ (lib : Library). AreNumbers lib [] lib.application.network.instances numbers) (library_seen v w i e s) h
 
 -- ---- Events
 
-pub port_there : (v w : Whole) (i : Inputs) (t : Target) → v ≡ w → inputs_of w ≡ i → IsPort (system_of i) t → fabric.IsPort v.fabric t
+pub port_there : (v w : Whole) (i : Inputs) (t : Target) → v ≡ w → inputs_of w ≡ i → IsPort (system_of i) t → netlist.IsPort v.netlist t
 port_there v w i t e s h =
-    subst (λ (lib : Library). fabric.IsPort lib t) (sym (library_seen v w i e s)) (record { instance = h.instance; event = h.event })
+    subst (λ (lib : Library). netlist.IsPort lib t) (sym (library_seen v w i e s)) (record { instance = h.instance; event = h.event })
 
-reached_up : (i : Inputs) (o : Option Reached) → IfSome o (λ (r : Reached). fabric.IsTarget i.library r.target) → IfSome o (λ (r : Reached). IsTarget (system_of i) r.target)
+reached_up : (i : Inputs) (o : Option Reached) → IfSome o (λ (r : Reached). netlist.IsTarget i.library r.target) → IfSome o (λ (r : Reached). IsTarget (system_of i) r.target)
 reached_up i None h = h
 reached_up i (Some r) h = record { port = record { instance = h.port.instance; event = h.port.event }; composite = h.composite }
 
 pub reached_within :
-    (v w : Whole) (i : Inputs) (o : Option Reached) → v ≡ w → inputs_of w ≡ i → IfSome o (λ (r : Reached). fabric.IsTarget v.fabric r.target)
+    (v w : Whole) (i : Inputs) (o : Option Reached) → v ≡ w → inputs_of w ≡ i → IfSome o (λ (r : Reached). netlist.IsTarget v.netlist r.target)
     → IfSome o (λ (r : Reached). IsTarget (system_of i) r.target)
 reached_within v w i o e s h =
-    reached_up i o (subst (λ (lib : Library). IfSome o (λ (r : Reached). fabric.IsTarget lib r.target)) (library_seen v w i e s) h)
+    reached_up i o (subst (λ (lib : Library). IfSome o (λ (r : Reached). netlist.IsTarget lib r.target)) (library_seen v w i e s) h)
 
 pub reached_leads :
     (v w : Whole) (i : Inputs) (from : Target) (place : ℕ) (o : Option Reached) → v ≡ w → inputs_of w ≡ i
-    → option_map (λ (r : Reached). fabric.port_of v.fabric r.target) o ≡ slice_get (targets_of v.fabric (fabric.port_of v.fabric from)) place
+    → option_map (λ (r : Reached). netlist.port_of v.netlist r.target) o ≡ slice_get (targets_of v.netlist (netlist.port_of v.netlist from)) place
     → option_map (λ (r : Reached). port_of (system_of i) r.target) o ≡ slice_get ((system_of i).targets (port_of (system_of i) from)) place
 reached_leads v w i from place o e s h =
-    subst (λ (lib : Library). option_map (λ (r : Reached). fabric.port_of lib r.target) o ≡ slice_get (targets_of lib (fabric.port_of lib from)) place)
+    subst (λ (lib : Library). option_map (λ (r : Reached). netlist.port_of lib r.target) o ≡ slice_get (targets_of lib (netlist.port_of lib from)) place)
     (library_seen v w i e s) h
 
 pub reached_more :
     (v w : Whole) (i : Inputs) (from : Target) (place : ℕ) (o : Option Reached) → v ≡ w → inputs_of w ≡ i
-    → IfSome o (λ (r : Reached). IsTrue r.more ↔ (place + 1 < length (targets_of v.fabric (fabric.port_of v.fabric from))))
+    → IfSome o (λ (r : Reached). IsTrue r.more ↔ (place + 1 < length (targets_of v.netlist (netlist.port_of v.netlist from))))
     → IfSome o (λ (r : Reached). IsTrue r.more ↔ (place + 1 < length ((system_of i).targets (port_of (system_of i) from))))
 reached_more v w i from place o e s h =
-    subst (λ (lib : Library). IfSome o (λ (r : Reached). IsTrue r.more ↔ (place + 1 < length (targets_of lib (fabric.port_of lib from)))))
+    subst (λ (lib : Library). IfSome o (λ (r : Reached). IsTrue r.more ↔ (place + 1 < length (targets_of lib (netlist.port_of lib from)))))
     (library_seen v w i e s) h
 
 -- ---- Variables
 
-pub variable_there : (v w : Whole) (i : Inputs) (x : Place) → v ≡ w → inputs_of w ≡ i → IsVariable (system_of i) x → fabric.IsVariable v.fabric x
+pub variable_there : (v w : Whole) (i : Inputs) (x : Place) → v ≡ w → inputs_of w ≡ i → IsVariable (system_of i) x → netlist.IsVariable v.netlist x
 variable_there v w i x e s h =
-    subst (λ (lib : Library). fabric.IsVariable lib x) (sym (library_seen v w i e s)) (record { instance = h.instance; variable = h.variable })
+    subst (λ (lib : Library). netlist.IsVariable lib x) (sym (library_seen v w i e s)) (record { instance = h.instance; variable = h.variable })
 
-sources_up : (i : Inputs) (o : Option Place) → IfSome o (fabric.IsSource i.library) → IfSome o (IsSource (system_of i))
+sources_up : (i : Inputs) (o : Option Place) → IfSome o (netlist.IsSource i.library) → IfSome o (IsSource (system_of i))
 sources_up i None h = h
 sources_up i (Some x) h = record { variable = record { instance = h.variable.instance; variable = h.variable.variable }; composite = h.composite }
 
 pub sources_seen :
-    (v w : Whole) (i : Inputs) (o : Option Place) → v ≡ w → inputs_of w ≡ i → IfSome o (fabric.IsSource v.fabric)
+    (v w : Whole) (i : Inputs) (o : Option Place) → v ≡ w → inputs_of w ≡ i → IfSome o (netlist.IsSource v.netlist)
     → IfSome o (IsSource (system_of i))
 sources_seen v w i o e s h =
-    sources_up i o (subst (λ (lib : Library). IfSome o (fabric.IsSource lib)) (library_seen v w i e s) h)
+    sources_up i o (subst (λ (lib : Library). IfSome o (netlist.IsSource lib)) (library_seen v w i e s) h)
 
 pub comes_seen :
     (v w : Whole) (i : Inputs) (to : Place) (o : Option Place) → v ≡ w → inputs_of w ≡ i
-    → option_map (fabric.variable_of v.fabric) o ≡ source_of v.fabric (fabric.variable_of v.fabric to)
+    → option_map (netlist.variable_of v.netlist) o ≡ source_of v.netlist (netlist.variable_of v.netlist to)
     → option_map (variable_of (system_of i)) o ≡ (system_of i).source (variable_of (system_of i) to)
 comes_seen v w i to o e s h =
-    subst (λ (lib : Library). option_map (fabric.variable_of lib) o ≡ source_of lib (fabric.variable_of lib to)) (library_seen v w i e s) h
+    subst (λ (lib : Library). option_map (netlist.variable_of lib) o ≡ source_of lib (netlist.variable_of lib to)) (library_seen v w i e s) h
 
 -- ---- The deployment
 
@@ -226,7 +226,7 @@ latency_read v w i p links l d sent e s r q h =
 
 abbrev whole_of : Plan → List Stimulus → Library → Linked → List Ports → Interfaces → List StimulusRow → List ℕ → Kept → Whole
 whole_of plan stimuli lib links blocks interfaces rows homes kept =
-    record { deploy = plan; stimuli = stimuli; fabric = lib; links = links; event_blocks = blocks; interfaces = interfaces; rows = rows; homes = homes; kept = kept }
+    record { deploy = plan; stimuli = stimuli; netlist = lib; links = links; event_blocks = blocks; interfaces = interfaces; rows = rows; homes = homes; kept = kept }
 
 -- what a result that is Ok promised
 pub ok_read : {A E : Type 0} (r : Result A E) (P : A → Type 0) (a : A) → IfOk r P → r ≡ Ok a → P a

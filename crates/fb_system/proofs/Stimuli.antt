@@ -15,7 +15,7 @@ use Rattle.fb_types.specs.declared.library.EventPort.{EventPort}
 use Rattle.fb_types.specs.declared.library.Instance.{Instance}
 use Rattle.fb_types.specs.declared.library.Library.{Library}
 use Rattle.fb_types.specs.declared.library.Ports.{Ports}
-use Rattle.fb_fabric.specs.Layouts.{AreNumbers, path_of}
+use Rattle.fb_system.specs.Layouts.{AreNumbers, path_of}
 use Rattle.fb_system.specs.Rows.{AreRows, IsRow, set_at}
 use Rattle.fb_system.specs.declared.rows.SlotValue.{SlotValue}
 use Rattle.fb_system.specs.declared.rows.StimulusRow.{StimulusRow}

@@ -4,7 +4,7 @@ use Rattle.std.specs.Prelude.{position, is_some}
 use Rattle.std.proofs.lemmas.List.{take_more, take_all, length-take}
 use Rattle.fb_types.specs.Keys.{or_else}
 use Rattle.fb_types.proofs.Positions.{position-append_old, position-push_new, is_some-position}
-use Rattle.fb_names.specs.declared.numbers.LinkEnds.{LinkEnds}
+use Rattle.fb_check_names.specs.declared.numbers.LinkEnds.{LinkEnds}
 use Rattle.fb_system.specs.Linking.{AreWays, first_between, joins, way_between}
 
 -- ---- The first of a list with one element more

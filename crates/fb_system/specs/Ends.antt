@@ -4,7 +4,7 @@ use Rattle.fb_types.specs.Numbers.{port_of}
 use Rattle.fb_types.specs.Systems.{System}
 use Rattle.fb_types.specs.declared.run.Place.{Place}
 use Rattle.fb_types.specs.declared.run.Target.{Target}
-use Rattle.fb_fabric.specs.declared.reached.Reached.{Reached}
+use Rattle.fb_system.specs.declared.reached.Reached.{Reached}
 use Rattle.fb_system.specs.Ports.{IsSource, IsTarget, variable_of}
 use Rattle.fb_system.specs.declared.ends.SourceRow.{SourceRow}
 use Rattle.fb_system.specs.declared.ends.TargetRow.{TargetRow}

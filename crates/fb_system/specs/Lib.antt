@@ -1,3 +1,9 @@
+pub mod Netlists
+pub mod Networks
+pub mod Layouts
+pub mod Layers
+pub mod NetworkTables
+pub mod Wirings
 pub mod Lines
 pub mod Ports
 pub mod Stimuli

@@ -4,8 +4,8 @@ use Rattle.fb_types.specs.Flat.{holder, link_between, end_of, paths_of, resource
 use Rattle.fb_types.specs.declared.library.Library.{Library}
 use Rattle.fb_types.specs.declared.library.Instance.{Instance}
 use Rattle.fb_types.specs.declared.deploy.Plan.{Plan}
-use Rattle.fb_names.specs.declared.numbers.LinkEnds.{LinkEnds}
-use Rattle.fb_fabric.specs.Layouts.{path_of}
+use Rattle.fb_check_names.specs.declared.numbers.LinkEnds.{LinkEnds}
+use Rattle.fb_system.specs.Layouts.{path_of}
 
 -- for each instance of the application the resource that holds it, and the resources of each link
 pub record Linked : Type 0 where

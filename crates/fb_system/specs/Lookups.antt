@@ -8,7 +8,7 @@ use Rattle.fb_types.specs.Repeated.{Twice}
 use Rattle.fb_types.specs.declared.library.EventPort.{EventPort}
 use Rattle.fb_types.specs.declared.library.Ports.{Ports}
 use Rattle.fb_types.specs.declared.library.Variable.{Variable}
-use Rattle.fb_names.specs.Places.{place_in}
+use Rattle.fb_check_names.specs.Places.{place_in}
 
 -- Variables of different names that stand one after another among all names, the first at a place.
 pub record StandFrom (first : ℕ) (vs : List Variable) (places : BTreeMap (Bor Name) ℕ) : Type 0 where

@@ -2,7 +2,7 @@
 use Rattle.std.specs.Prelude.{◌≡◌, []}
 use Rattle.fb_types.specs.EventPorts.{ArePortsOfKinds}
 use Rattle.fb_types.specs.Headline.{Inputs, AreAccepted, system_of}
-use Rattle.fb_names.specs.Numbers.{IsResolved}
+use Rattle.fb_check_names.specs.Numbers.{IsResolved}
 use Rattle.fb_system.specs.Tables.{AreInterfaces}
 use Rattle.fb_system.specs.Linking.{AreHomes, IsLinked, holders_of}
 use Rattle.fb_system.specs.Rows.{AreRows}
@@ -21,16 +21,16 @@ pub record IsGiven (i : Inputs) (x : Given) : Type 0 where
 
 -- the inputs that the tables were made from
 abbrev pub inputs_of : Whole → Inputs
-inputs_of w = record { library = w.fabric; plan = w.deploy; stimuli = w.stimuli }
+inputs_of w = record { library = w.netlist; plan = w.deploy; stimuli = w.stimuli }
 
 -- Accepted inputs, with the tables by which their numbers are looked up.
 pub record StandFor (w : Whole) : Type 0 where
   pub accepted : AreAccepted (inputs_of w)
-  pub links : IsLinked w.fabric w.deploy w.links
+  pub links : IsLinked w.netlist w.deploy w.links
   pub event_blocks : ArePortsOfKinds w.event_blocks
-  pub interfaces : AreInterfaces w.fabric w.interfaces
-  pub rows : AreRows w.fabric w.stimuli w.rows
-  pub homes : AreHomes w.fabric w.deploy w.homes
+  pub interfaces : AreInterfaces w.netlist w.interfaces
+  pub rows : AreRows w.netlist w.stimuli w.rows
+  pub homes : AreHomes w.netlist w.deploy w.homes
 
 -- .. and the rows that are kept among them: heads of lines, and ends of connections
 pub record HaveRows (w : Whole) : Type 0 where

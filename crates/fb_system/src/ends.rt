@@ -4,9 +4,8 @@ ghost use Rattle.std.specs.Prelude.{◌≡◌, [], IfSome};
 ghost use Rattle.fb_types.specs.Systems.{System};
 ghost use Rattle.fb_system.specs.Ends.{AreSources, AreTargets, ComesFrom, LeadsTo};
 
-use fb_fabric::reached::Reached;
-use fb_types::items::Items;
-use fb_types::run::{Place, Target};
+use crate::reached::Reached;
+use fb_types::{Items, Place, Target};
 use std::alloc::Global;
 
 /// No more rows of a sort than these are kept: they take 1 MB.

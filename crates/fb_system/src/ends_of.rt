@@ -8,8 +8,7 @@ ghost use Rattle.fb_system.specs.Ends.{AreSources, AreTargets};
 use crate::ends::{Ends, FirstRows, MOST_ENDS, SourceRow, TargetRow};
 use crate::rows::number_of;
 use crate::system::System;
-use fb_types::items::Items;
-use fb_types::run::{Place, Target};
+use fb_types::{Items, Place, Target};
 use std::alloc::{AllocError, Global};
 
 /// How many of the event outputs, or of the event inputs, of an instance have rows. Its event inputs are connected to what

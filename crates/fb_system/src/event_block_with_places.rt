@@ -9,11 +9,7 @@ ghost use Rattle.fb_system.specs.Stands.{ArePlaces, ArePlacesOfEach, AreWithPlac
 ghost use Rattle.fb_system.specs.Tables.{AreOfEventBlocks};
 
 use crate::with_places::WithPlaces;
-use fb_types::event_kind::EventKind;
-use fb_types::event_ports::ports_of;
-use fb_types::items::Items;
-use fb_types::library::{EventPort, Ports, Variable};
-use fb_types::name::Name;
+use fb_types::{EventKind, EventPort, Items, Name, Ports, Variable, ports_of};
 use std::alloc::{AllocError, Global};
 
 fn is_among(names: &[Name], name: &Name) -> bool

@@ -2,8 +2,8 @@
 
 use crate::interfaces::Interfaces;
 use crate::rows::StimulusRow;
-use fb_names::numbers::Resolved;
-use fb_types::items::Items;
+use fb_check_names::Resolved;
+use fb_types::Items;
 
 /// What is known of accepted inputs by number.
 #[derive(Drop)]

@@ -4,7 +4,7 @@ ghost use Rattle.std.specs.Prelude.{◌≡◌, ◌<◌, ◌≤◌, [], take, IfS
 ghost use Rattle.fb_types.specs.Systems.{System};
 ghost use Rattle.fb_system.specs.Heads.{AreHeads, IsHead};
 
-use fb_types::items::Items;
+use fb_types::Items;
 use std::alloc::Global;
 
 /// How many bytes a row has. A longer head is not kept.

@@ -9,8 +9,7 @@ ghost use Rattle.fb_system.specs.Heads.{AreHeads, IsOfHead, IsRowOfHead, first_t
 use crate::heads::{Firsts, Head, HeadOf, Heads, MOST_ROWS, ROW};
 use crate::rows::number_of;
 use crate::system::System;
-use fb_types::items::Items;
-use fb_types::library::{Ports, Variable};
+use fb_types::{Items, Ports, Variable};
 use std::alloc::{AllocError, Global};
 
 /// The name of the event of a head.

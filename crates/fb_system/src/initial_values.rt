@@ -4,12 +4,10 @@ ghost use Rattle.std.specs.Prelude.{◌≡◌, IfOk, Some, map};
 ghost use Rattle.fb_types.specs.Blocks.{initial_of, variable_names};
 ghost use Rattle.fb_types.specs.Repeated.{Twice};
 ghost use Rattle.fb_types.specs.Unknown.{data_ins};
-ghost use Rattle.fb_names.specs.Numbers.{each_or_none, place_of};
+ghost use Rattle.fb_check_names.specs.Numbers.{each_or_none, place_of};
 ghost use Rattle.fb_system.specs.Begins.{begins_with, parameter_names};
 
-use fb_types::items::Items;
-use fb_types::library::{Parameter, Ports, Variable};
-use fb_types::value::Value;
+use fb_types::{Items, Parameter, Ports, Value, Variable};
 use std::alloc::{AllocError, Global};
 
 /// What variables begin with.

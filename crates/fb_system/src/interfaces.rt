@@ -7,16 +7,14 @@ ghost use Rattle.fb_types.specs.Unknown.{NameUnknown};
 ghost use Rattle.fb_types.specs.declared.deploy.Plan.{Plan};
 ghost use Rattle.fb_types.specs.declared.library.BlockType.{BlockType as Declared};
 ghost use Rattle.fb_types.specs.declared.library.Library.{Library as Declaration};
-ghost use Rattle.fb_names.specs.Catalog.{IsCatalog};
+ghost use Rattle.fb_check_names.specs.Catalog.{IsCatalog};
 ghost use Rattle.fb_system.specs.Stands.{AreWithPlaces};
 ghost use Rattle.fb_system.specs.Tables.{AreBlocks, AreInterfaces, AreOfBlocks};
 
 use crate::event_block_with_places::of_event_blocks;
 use crate::with_places::{WithPlaces, with_places};
-use fb_names::catalog::{BlockPlaces, Catalog};
-use fb_types::event_kind::EventKind;
-use fb_types::items::Items;
-use fb_types::library::{BlockType, Library};
+use fb_check_names::{BlockPlaces, Catalog};
+use fb_types::{BlockType, EventKind, Items, Library};
 use std::alloc::{AllocError, Global};
 
 /// The types of a declaration and the event blocks: for each event the places of the variables WITH it.
@@ -25,7 +23,7 @@ pub struct Interfaces {
     event_blocks: Items<WithPlaces>,
 }
 
-// Written out, and not derived: so what lets interfaces go does so by one call.
+// Drop is written by hand, so that callers need not prove it again (docs/DECISIONS.md, "Drop").
 impl Drop for Interfaces {
     fn drop(self) {
         let Interfaces {

@@ -18,7 +18,7 @@ pub(crate) struct Kept {
     pub ends: Ends,
 }
 
-// Written out, and not derived, as that of the tables.
+// Drop is written by hand, so that callers need not prove it again (docs/DECISIONS.md, "Drop").
 impl Drop for Kept {
     fn drop(self) {
         let Kept { heads: _, ends: _ } = self;

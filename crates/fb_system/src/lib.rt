@@ -1,16 +1,21 @@
 //! An accepted declaration with its deployment and stimuli, and what is looked up of it by number.
 //!
-//! What is promised above: a `system::System` keeps in its type that its inputs are accepted, and each of its accessors
-//! answers what the flat system of the definitions has. Contracts see the inputs alone. A share of a system is the same
-//! one.
+//! Guarantees to callers: a `System` keeps in its type that its inputs are accepted, and each of its accessors answers what
+//! the flat system of the definitions has. Contracts see the inputs alone. A share of a system is the same one. A lookup
+//! does not grow with the number of instances; tables of connections are kept by type and not by instance.
 //!
-//! To be read in this order: `system`, what is asked; `stimulus`; `whole`, what is kept; `types`. Then the tables:
-//! `links`, resources and links; `homes`, the resources of all instances; `interfaces` with `with_places` and
-//! `event_block_with_places`, the variables WITH each event; `kept`, what is found in one step: `heads` with `heads_of`,
-//! the heads of lines, and `ends` with `ends_of`, where connections lead to and come from; `initial_values`, what variables
-//! begin with; `rows`, the stimuli by number. The check above fills them: `given`.
+//! Read in this order: `system`, what is asked; `stimulus`; `whole`, what is kept; `types`. Then the tables. Instances and
+//! connections: `layout`, the tree of composites as a list; `wiring`, where the connections of a network lead, and
+//! `wiring_table`, how that is kept; `netlist`, what is asked of both, and `reached`, what it answers of an event; `tables`
+//! and `declared`, how it is found; `making`. Then `links`, resources and links; `homes`, the resources of all instances;
+//! `interfaces` with `with_places` and `event_block_with_places`, the variables WITH each event; `kept`, what is found in one
+//! step: `heads` with `heads_of`, the heads of lines, and `ends` with `ends_of`, where connections lead to and come from;
+//! `initial_values`, what variables begin with; `rows`, the stimuli by number. The check above fills them: `given`.
+//! `beside` hands owned values on beside calls that may fail, so that each is dropped at one place.
 #![tactic(auto)]
 
+pub mod beside;
+mod declared;
 mod ends;
 mod ends_of;
 mod event_block_with_places;
@@ -21,10 +26,30 @@ mod homes;
 mod initial_values;
 pub mod interfaces;
 mod kept;
+pub mod layout;
 pub mod links;
+mod making;
+pub mod netlist;
+pub mod reached;
 pub mod rows;
 pub mod stimulus;
 pub mod system;
+mod tables;
 mod types;
 mod whole;
+pub mod wiring;
+mod wiring_table;
 pub mod with_places;
+
+pub use given::Given;
+pub use heads::{Head, HeadOf, ROW};
+pub use interfaces::{Interfaces, interfaces_of};
+pub use layout::{InstanceRow, Layout};
+pub use links::Links;
+pub use netlist::Netlist;
+pub use reached::Reached;
+pub use rows::{StimulusRow, number_of};
+pub use stimulus::StimulusAt;
+pub use system::System;
+pub use wiring::Wiring;
+pub use with_places::WithPlaces;

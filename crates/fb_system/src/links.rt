@@ -5,11 +5,11 @@ ghost use Rattle.fb_types.specs.Keys.{or_else};
 ghost use Rattle.fb_types.specs.Repeated.{NameTwice};
 ghost use Rattle.fb_types.specs.declared.deploy.Plan.{Plan};
 ghost use Rattle.fb_types.specs.declared.library.Library.{Library};
-ghost use Rattle.fb_names.specs.Numbers.{IsResolved};
+ghost use Rattle.fb_check_names.specs.Numbers.{IsResolved};
 ghost use Rattle.fb_system.specs.Linking.{AreWays, IsLinked, holder_at, holders_of, joins, link_at, receiver_at, sender_at, way_between, way_to};
 
-use fb_names::numbers::{LinkEnds, Resolved};
-use fb_types::items::Items;
+use fb_check_names::{LinkEnds, Resolved};
+use fb_types::Items;
 use std::alloc::{AllocError, Global};
 use std::marker::Model;
 
@@ -27,7 +27,7 @@ pub struct Links {
     ways: Ways,
 }
 
-// Written out, and not derived: so what lets links go does so by one call.
+// Drop is written by hand, so that callers need not prove it again (docs/DECISIONS.md, "Drop").
 impl Drop for Links {
     fn drop(self) {
         let Links {

@@ -2,8 +2,7 @@
 
 ghost use Rattle.std.specs.Prelude.{◌≡◌, IfOk};
 
-use fb_types::items::Items;
-use fb_types::value::Value;
+use fb_types::{Items, Value};
 use std::alloc::AllocError;
 
 /// A value for the slot of the data input at a place.

@@ -1,7 +1,7 @@
 //! Stimuli by number.
 
 pub use crate::rows::SlotValue;
-use fb_types::run::Target;
+use fb_types::Target;
 
 /// A stimulus of a system: its tick in milliseconds, the event input at which it comes, and the slots that it sets.
 #[derive(Clone, Copy)]

@@ -10,35 +10,31 @@ ghost use Rattle.fb_types.specs.Blocks.{inputs_with, outputs_with};
 ghost use Rattle.fb_system.specs.Stands.{ArePlaces, AreWithPlaces};
 ghost use Rattle.fb_system.specs.Stimuli.{IsStimulusAt, initial_inputs, initial_outputs};
 ghost use Rattle.fb_types.specs.Text.{path_text};
-ghost use Rattle.fb_fabric.specs.Layouts.{AreComponents, AreNumbers, IsParent, route_to};
-ghost use Rattle.fb_names.specs.Numbers.{kind_of_number};
+ghost use Rattle.fb_system.specs.Layouts.{AreComponents, AreNumbers, IsParent, route_to};
+ghost use Rattle.fb_check_names.specs.Numbers.{kind_of_number};
 ghost use Rattle.fb_system.specs.Ends.{ComesFrom, LeadsTo};
 ghost use Rattle.fb_system.specs.Heads.{IsHead};
 ghost use Rattle.fb_system.specs.Linking.{AreHomes, IsLinked};
 ghost use Rattle.fb_system.specs.Ports.{IsPort, IsSource, IsTarget, IsVariable, variable_of};
 ghost use Rattle.fb_system.specs.Systems.{inputs_of, IsBare, IsGiven, IsKept, StandFor};
 
+use crate::beside::beside;
 use crate::given::Given;
 use crate::heads::{Head, HeadOf};
 use crate::homes::add_homes;
 use crate::initial_values::{input_values, output_values};
 use crate::kept::{Kept, rows_of};
 use crate::links::Links;
+use crate::netlist::Netlist;
+use crate::reached::Reached;
 use crate::stimulus::StimulusAt;
 use crate::types::{ports_of_type, with_places_of_type};
 use crate::whole::{Whole, row_at};
 use crate::with_places::WithPlaces;
-use fb_fabric::beside::beside;
-use fb_fabric::fabric::Fabric;
-use fb_fabric::reached::Reached;
-use fb_names::numbers::TypeNumber;
-use fb_types::deploy::{Deploy, Plan, Stimulus};
-use fb_types::event_ports::all_ports;
-use fb_types::items::Items;
-use fb_types::latency::Latency;
-use fb_types::library::{Library, Ports};
-use fb_types::run::{Place, Target};
-use fb_types::value::Value;
+use fb_check_names::TypeNumber;
+use fb_types::{
+    Deploy, Items, Latency, Library, Place, Plan, Ports, Stimulus, Target, Value, all_ports,
+};
 use std::alloc::{AllocError, Global};
 use std::marker::Model;
 use std::sync::Arc;
@@ -49,8 +45,7 @@ pub struct System {
     whole: Arc<Whole, Global>,
 }
 
-// Written out, and not derived: so it is proved here alone what is let go with a system, and not in each crate that lets
-// one go.
+// Drop is written by hand, so that callers need not prove it again (docs/DECISIONS.md, "Drop").
 impl Drop for System {
     fn drop(self) {
         let System { whole: _ } = self;
@@ -96,14 +91,14 @@ impl System {
             rows,
         } = given;
         let links = Links::of(alloc, holders, &numbers);
-        let fabric = Fabric::of(alloc, library, numbers);
+        let netlist = Netlist::of(alloc, library, numbers);
         let rest = (deploy, stimuli, interfaces, rows);
-        let (rest, links, fabric, event_blocks) = beside(rest, links, fabric, all_ports(alloc))?;
+        let (rest, links, netlist, event_blocks) = beside(rest, links, netlist, all_ports(alloc))?;
         let (deploy, stimuli, interfaces, rows) = rest;
         let tables = Whole {
             deploy,
             stimuli: Items::from_vec(stimuli),
-            fabric,
+            netlist,
             links,
             event_blocks,
             interfaces,
@@ -116,7 +111,7 @@ impl System {
 
     /// The system of tables that stand for accepted inputs once they have the resources of all instances.
     fn of_tables(alloc: Global, mut tables: Whole) -> Result<System, AllocError>
-        requires stands { (homes : List ℕ) → (IsLinked tables.fabric tables.deploy tables.links → AreHomes tables.fabric tables.deploy homes) → StandFor (record tables { homes = homes }) }
+        requires stands { (homes : List ℕ) → (IsLinked tables.netlist tables.deploy tables.links → AreHomes tables.netlist tables.deploy homes) → StandFor (record tables { homes = homes }) }
         requires bare { IsBare tables.kept }
         ensures { IfOk result (λ s. s ≡ inputs_of tables) }
     {
@@ -164,14 +159,14 @@ impl System {
     {
         let whole = &*self.whole;
         let _plan = whole.deploy.plan();
-        whole.fabric.facts();
+        whole.netlist.facts();
     }
 
     /// The declaration.
     pub fn library(&self) -> &Library
         ensures { result.now ≡ self.now.library }
     {
-        self.whole.fabric.library()
+        self.whole.netlist.library()
     }
 
     /// The resources and links.
@@ -192,7 +187,7 @@ impl System {
     pub fn count(&self) -> usize
         ensures { result ≡ length (system_of self.now).paths }
     {
-        self.whole.fabric.count()
+        self.whole.netlist.count()
     }
 
     /// The type of an instance.
@@ -200,7 +195,7 @@ impl System {
         requires { instance < length (system_of self.now).paths }
         ensures { kind_of_number self.now.library result ≡ (system_of self.now).kind (path_at (system_of self.now) instance) }
     {
-        self.whole.fabric.kind(instance)
+        self.whole.netlist.kind(instance)
     }
 
     /// The instance names from the outermost, joined by full stops.
@@ -208,7 +203,7 @@ impl System {
         requires { instance < length (system_of self.now).paths }
         ensures { result.now ≡ path_text (path_at (system_of self.now) instance) }
     {
-        self.whole.fabric.path(instance)
+        self.whole.netlist.path(instance)
     }
 
     /// The number of the composite that an instance is in, less than its own, or none where it is one of the application.
@@ -216,7 +211,7 @@ impl System {
         requires { instance < length (system_of self.now).paths }
         ensures { IsParent self.now.library instance result }
     {
-        self.whole.fabric.parent(instance)
+        self.whole.netlist.parent(instance)
     }
 
     /// The places on the way to an instance, each in its network, from the outermost.
@@ -224,7 +219,7 @@ impl System {
         requires { instance < length (system_of self.now).paths }
         ensures { result.now ≡ route_to self.now.library (path_at (system_of self.now) instance) }
     {
-        self.whole.fabric.route(instance)
+        self.whole.netlist.route(instance)
     }
 
     /// The numbers of the instances inside a composite, in the order of the text. There are none in any other instance.
@@ -232,14 +227,14 @@ impl System {
         requires { instance < length (system_of self.now).paths }
         ensures { AreComponents self.now.library (path_at (system_of self.now) instance) result.now }
     {
-        self.whole.fabric.components(instance)
+        self.whole.netlist.components(instance)
     }
 
     /// The numbers of the instances of the application itself, in the order of the text.
     pub fn top(&self) -> &[u32]
         ensures { AreNumbers self.now.library [] self.now.library.application.network.instances result.now }
     {
-        self.whole.fabric.top()
+        self.whole.netlist.top()
     }
 
     /// Where the event connection leads that stands at a place among those that leave a port, in the order of the text:
@@ -267,7 +262,7 @@ impl System {
         requires { IsPort (system_of self.now) from }
         ensures { LeadsTo (system_of self.now) from place result }
     {
-        self.whole.fabric.reached(from, place)
+        self.whole.netlist.reached(from, place)
     }
 
     /// What a variable is connected to: a data input to what is around the instance, a data output of a composite to
@@ -290,7 +285,7 @@ impl System {
         requires { IsVariable (system_of self.now) to }
         ensures { ComesFrom (system_of self.now) to result }
     {
-        self.whole.fabric.source(to)
+        self.whole.netlist.source(to)
     }
 
     /// The resource that holds an instance.
@@ -364,7 +359,7 @@ impl System {
         ensures { result.now ≡ ports_at (system_of self.now) (path_at (system_of self.now) instance) }
     {
         let whole = &*self.whole;
-        ports_of_type(whole, whole.fabric.kind(instance))
+        ports_of_type(whole, whole.netlist.kind(instance))
     }
 
     /// For each event of an instance's type, the places of the variables WITH it.
@@ -374,7 +369,7 @@ impl System {
         ensures { AreWithPlaces (ports_at (system_of self.now) (path_at (system_of self.now) instance)) result.now }
     {
         let whole = &*self.whole;
-        with_places_of_type(whole, whole.fabric.kind(instance))
+        with_places_of_type(whole, whole.netlist.kind(instance))
     }
 
     /// The row with the text of a head, where one is kept: those of the first 65,536 events are, as far as they fit.
@@ -412,13 +407,13 @@ impl System {
         requires { instance < length (system_of self.now).paths }
         ensures { IfOk result (λ vs. vs ≡ initial_inputs (system_of self.now) (path_at (system_of self.now) instance)) }
     {
-        let fabric = &self.whole.fabric;
-        let declared = fabric.declared(instance);
+        let netlist = &self.whole.netlist;
+        let declared = netlist.declared(instance);
         input_values(
             alloc,
             self.ports(instance),
             declared.parameters.as_slice(),
-            fabric.parameters(instance),
+            netlist.parameters(instance),
         )
     }
 

@@ -3,31 +3,31 @@
 ghost use Rattle.std.specs.Prelude.{◌≡◌, Some, option_map};
 ghost use Rattle.fb_types.specs.Blocks.{Kind, ports_of};
 ghost use Rattle.fb_system.specs.Stands.{AreWithPlaces};
-ghost use Rattle.fb_names.specs.Numbers.{kind_of_number};
+ghost use Rattle.fb_check_names.specs.Numbers.{kind_of_number};
 ghost use Rattle.fb_system.specs.Systems.{StandFor};
 
 use crate::whole::Whole;
 use crate::with_places::WithPlaces;
-use fb_names::numbers::TypeNumber;
-use fb_types::library::Ports;
+use fb_check_names::TypeNumber;
+use fb_types::Ports;
 
 /// The interface of a type.
 pub(crate) fn ports_of_type(tables: &Whole, kind: TypeNumber) -> &Ports
     requires tables { StandFor tables.now }
-    requires known { (k : Kind) × (kind_of_number tables.now.fabric kind ≡ Some k) }
-    ensures { option_map ports_of (kind_of_number tables.now.fabric kind) ≡ Some result.now }
+    requires known { (k : Kind) × (kind_of_number tables.now.netlist kind ≡ Some k) }
+    ensures { option_map ports_of (kind_of_number tables.now.netlist kind) ≡ Some result.now }
 {
     match kind {
         TypeNumber::Event(kind) => &tables.event_blocks.as_slice()[kind.place()],
-        TypeNumber::Declared(place) => tables.fabric.library().blocks.as_slice()[place].ports(),
+        TypeNumber::Declared(place) => tables.netlist.library().blocks.as_slice()[place].ports(),
     }
 }
 
 /// For each event of a type, the places of the variables WITH it.
 pub(crate) fn with_places_of_type(tables: &Whole, kind: TypeNumber) -> &WithPlaces
     requires tables { StandFor tables.now }
-    requires known { (k : Kind) × (kind_of_number tables.now.fabric kind ≡ Some k) }
-    ensures { (k : Kind) → kind_of_number tables.now.fabric kind ≡ Some k → AreWithPlaces (ports_of k) result.now }
+    requires known { (k : Kind) × (kind_of_number tables.now.netlist kind ≡ Some k) }
+    ensures { (k : Kind) → kind_of_number tables.now.netlist kind ≡ Some k → AreWithPlaces (ports_of k) result.now }
 {
     match kind {
         TypeNumber::Event(kind) => tables.interfaces.of_event_block(kind),

@@ -5,18 +5,16 @@ ghost use Rattle.std.specs.Prelude.{◌≡◌, ◌<◌, Some, length, slice_get}
 use crate::interfaces::Interfaces;
 use crate::kept::Kept;
 use crate::links::Links;
+use crate::netlist::Netlist;
 use crate::rows::StimulusRow;
-use fb_fabric::fabric::Fabric;
-use fb_types::deploy::{Deploy, Stimulus};
-use fb_types::items::Items;
-use fb_types::library::Ports;
+use fb_types::{Deploy, Items, Ports, Stimulus};
 
 /// Accepted inputs, with the tables by which their numbers are looked up.
 pub(crate) struct Whole {
     pub deploy: Deploy,
     pub stimuli: Items<Stimulus>,
     /// The declaration, its instances, and what their ports are connected to.
-    pub fabric: Fabric,
+    pub netlist: Netlist,
     /// The resources of the instances, and the links.
     pub links: Links,
     /// The interfaces of the event blocks, in the order of their kinds.
@@ -39,7 +37,7 @@ impl Whole {
         let Whole {
             deploy,
             stimuli,
-            fabric,
+            netlist,
             links,
             event_blocks,
             interfaces,
@@ -50,7 +48,7 @@ impl Whole {
         Whole {
             deploy,
             stimuli,
-            fabric,
+            netlist,
             links,
             event_blocks,
             interfaces,
@@ -61,13 +59,13 @@ impl Whole {
     }
 }
 
-// Written out, and not derived: so each way on which a system wants memory lets the tables go by one call.
+// Drop is written by hand, so that callers need not prove it again (docs/DECISIONS.md, "Drop").
 impl Drop for Whole {
     fn drop(self) {
         let Whole {
             deploy: _,
             stimuli: _,
-            fabric: _,
+            netlist: _,
             links: _,
             event_blocks: _,
             interfaces: _,

@@ -7,10 +7,8 @@ ghost use Rattle.fb_system.specs.Stands.{ArePlaces, ArePlacesOfEach, AreWithPlac
 ghost use Rattle.fb_system.specs.Lookups.{AreEvents, IsPlaced, IsList, StandFrom};
 
 use crate::rows::number_of;
-use fb_names::places::{Places, place_of};
-use fb_types::items::Items;
-use fb_types::library::{EventPort, Ports, Variable};
-use fb_types::name::Name;
+use fb_check_names::{Places, place_of};
+use fb_types::{EventPort, Items, Name, Ports, Variable};
 use std::alloc::{AllocError, Global};
 
 /// For each event of a type the places of the variables WITH it, from 0, in the order in which the variables

@@ -11,9 +11,8 @@ ghost use Rattle.fb_trace.specs.Progress.{Gathers, IsPartWritten};
 use crate::fault::WriteFault;
 use crate::page::Page;
 use crate::pieces::put_place;
-use fb_system::system::System;
-use fb_types::run::StopMark;
-use fb_types::value::Reason;
+use fb_system::System;
+use fb_types::{Reason, StopMark};
 use std::io::Write;
 
 /// How a run ends.

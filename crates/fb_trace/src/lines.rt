@@ -17,10 +17,8 @@ use crate::number::Noted;
 use crate::page::{Page, SIZE};
 use crate::pieces::{put_head, put_key, put_values};
 use crate::start::{START, append_start};
-use fb_system::heads::Head;
-use fb_system::system::System;
-use fb_types::library::Ports;
-use fb_types::run::{Form, Line};
+use fb_system::{Head, System};
+use fb_types::{Form, Line, Ports};
 use std::io::Write;
 
 /// Puts the values of a line behind the first, each with the name of its variable.

@@ -7,10 +7,8 @@ ghost use Rattle.fb_system.specs.Stands.{ArePlaces};
 ghost use Rattle.fb_system.specs.Lines.{BelongsTo, line_variables};
 ghost use Rattle.fb_trace.specs.Starts.{head_of_line};
 
-use fb_system::heads::HeadOf;
-use fb_system::system::System;
-use fb_types::library::{Ports, Variable};
-use fb_types::run::Line;
+use fb_system::{HeadOf, System};
+use fb_types::{Line, Ports, Variable};
 
 /// What the head of a line is of.
 #[inline(always)]

@@ -10,11 +10,8 @@ ghost use Rattle.fb_trace.specs.Progress.{Gathers, Puts};
 use crate::fault::WriteFault;
 use crate::number::{NOTED, Noted};
 use crate::page::{Page, SHORT, SIZE};
-use fb_system::system::System;
-use fb_types::key::Key;
-use fb_types::library::Variable;
-use fb_types::run::Form;
-use fb_types::value::Value;
+use fb_system::System;
+use fb_types::{Form, Key, Value, Variable};
 use std::io::Write;
 
 /// A part of a key, and a blank.

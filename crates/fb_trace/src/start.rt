@@ -6,8 +6,8 @@ ghost use Rattle.fb_trace.specs.Starts.{first_value};
 use crate::number::{NOTED, Noted};
 use crate::page::{Page, SIZE};
 use crate::pieces::{VALUE, append_value};
-use fb_system::heads::{Head, ROW};
-use fb_types::value::Value;
+use fb_system::{Head, ROW};
+use fb_types::Value;
 
 /// The rows of a tick and of a head, and a value, take no more bytes.
 pub(crate) const START: usize = NOTED + ROW + VALUE;

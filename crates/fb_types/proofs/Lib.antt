@@ -19,7 +19,7 @@ pub mod SimulationLaws
 pub mod Derivations
 pub mod Cycle
 pub mod Delay
-pub mod Link
+pub mod LinkLaws
 pub mod HeldCopy
 pub mod Stepper
 pub mod Looper

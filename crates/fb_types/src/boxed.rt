@@ -10,8 +10,7 @@ pub struct Boxed<T> {
     inner: Box<T>,
 }
 
-// Written out, and not derived: so it is proved in this crate alone what is let go with it, and not in each crate that
-// lets one go.
+// Drop is written by hand, so that callers need not prove it again (docs/DECISIONS.md, "Drop").
 impl<T: Drop> Drop for Boxed<T> {
     fn drop(self) {
         let Boxed { inner: _ } = self;

@@ -17,8 +17,7 @@ pub struct ResourceEntry {
     pub instances: Items<Name>,
 }
 
-// Written out, and not derived, here and below: so it is proved in this crate alone what is let go with such a value, and
-// not in each crate that lets one go.
+// Drop is written by hand, so that callers need not prove it again (docs/DECISIONS.md, "Drop").
 impl Drop for ResourceEntry {
     fn drop(self) {
         let ResourceEntry {
@@ -70,8 +69,7 @@ pub struct Deploy {
     plan: Plan,
 }
 
-// Written out, and not derived: so it is proved here alone what is let go with a deployment, and not in each crate that
-// lets one go.
+// Drop is written by hand, so that callers need not prove it again (docs/DECISIONS.md, "Drop").
 impl Drop for Deploy {
     fn drop(self) {
         let Deploy { plan: _ } = self;

@@ -29,8 +29,7 @@ pub struct Few<T> {
     alloc: Global,
 }
 
-// Written out, and not derived: so it is proved in this crate alone what is let go with a list, and not in each crate that
-// lets one go.
+// Drop is written by hand, so that callers need not prove it again (docs/DECISIONS.md, "Drop").
 impl<T: Drop> Drop for Few<T> {
     fn drop(self) {
         let Few { held: _, alloc: _ } = self;

@@ -12,8 +12,7 @@ pub struct Items<T> {
     all: Vec<T>,
 }
 
-// Written out, and not derived: so it is proved in this crate alone what is let go with a list, and not in each crate that
-// lets one go.
+// Drop is written by hand, so that callers need not prove it again (docs/DECISIONS.md, "Drop").
 impl<T: Drop> Drop for Items<T> {
     fn drop(self) {
         let Items { all: _ } = self;

@@ -20,8 +20,7 @@ pub struct Latency {
     entries: Items<Entry>,
 }
 
-// Written out, and not derived: so it is proved in this crate alone what is let go with a table, and not in each crate that
-// lets one go.
+// Drop is written by hand, so that callers need not prove it again (docs/DECISIONS.md, "Drop").
 impl Drop for Latency {
     fn drop(self) {
         let Latency { entries: _ } = self;

@@ -1,10 +1,10 @@
 //! The data that the crates of the simulator share, and the model that all their contracts cite.
 //!
-//! What is promised above: a `Deploy` and a `Latency` keep their limits in their types, keys are ordered as the
+//! Guarantees to callers: a `Deploy` and a `Latency` keep their limits in their types, keys are ordered as the
 //! definitions say, and a container is seen as what it contains. Of the definitions: a system has one simulation at
 //! most, and the worked examples have the traces that were worked out by hand.
 //!
-//! To be read in this order: `library`, `text`, `value`, `sort`, `function` and `name`, what is read; `deploy` and
+//! Read in this order: `library`, `text`, `value`, `sort`, `function` and `name`, what is read; `deploy` and
 //! `latency`; `event_kind` and `event_ports`, the event blocks; `key` and `run`, what a simulation gives; `items`, `few`,
 //! `short`, `boxed` and `reference`; `laws`. The definitions stand in `specs/`.
 #![tactic(auto)]
@@ -27,3 +27,27 @@ mod short;
 pub mod sort;
 pub mod text;
 pub mod value;
+
+pub use boxed::Boxed;
+pub use deploy::{Deploy, Link, Plan, ResourceEntry, Setting, Stimulus};
+pub use event_kind::EventKind;
+pub use event_ports::{all_ports, kind_named, ports_of};
+pub use few::{Few, Held};
+pub use function::Function;
+pub use items::Items;
+pub use key::{Key, compare};
+pub use latency::{Entry, Latency};
+pub use library::{
+    Action, Algorithm, Application, BasicType, BlockType, CompositeType, Condition, Connection,
+    EventPort, Instance, Library, Network, Parameter, PortName, Ports, State, Transition, Variable,
+    block_named, has_variable, instance_named,
+};
+pub use name::Name;
+pub use reference::Reference;
+pub use run::{
+    Carried, Emission, Emits, Event, Form, Halt, Line, Message, Place, StopMark, Target, TimerAsk,
+    Values,
+};
+pub use sort::Sort;
+pub use text::{BinaryOperator, Body, Branch, Choice, Expr, Label, Stmt, UnaryOperator};
+pub use value::{Reason, Ty, Value};

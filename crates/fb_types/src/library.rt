@@ -19,8 +19,7 @@ pub struct EventPort {
     pub with: Items<Name>,
 }
 
-// Written out, and not derived, here and below: so it is proved in this crate alone what is let go with such a value, and
-// not in each crate that lets one go.
+// Drop is written by hand, so that callers need not prove it again (docs/DECISIONS.md, "Drop").
 impl Drop for EventPort {
     fn drop(self) {
         let EventPort { name: _, with: _ } = self;
@@ -328,8 +327,7 @@ pub struct Library {
     pub application: Application,
 }
 
-// Written out, and not derived: so it is proved here alone what is let go with a library, and not in each crate that
-// lets one go.
+// Drop is written by hand, so that callers need not prove it again (docs/DECISIONS.md, "Drop").
 impl Drop for Library {
     fn drop(self) {
         let Library {

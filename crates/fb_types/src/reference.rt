@@ -15,8 +15,7 @@ pub struct Reference {
     place: AtomicUsize,
 }
 
-// Written out, and not derived: so it is proved in this crate alone what is let go with it, and not in each crate that
-// lets one go.
+// Drop is written by hand, so that callers need not prove it again (docs/DECISIONS.md, "Drop").
 impl Drop for Reference {
     fn drop(self) {
         let Reference { name: _, place: _ } = self;

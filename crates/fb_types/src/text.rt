@@ -44,8 +44,7 @@ pub enum Expr {
     Call(Name, Items<Expr>),
 }
 
-// Written out, and not derived, here and below: so it is proved in this crate alone what is let go with such a value, and
-// not in each crate that lets one go.
+// Drop is written by hand, so that callers need not prove it again (docs/DECISIONS.md, "Drop").
 impl Drop for Expr {
     fn drop(self) {
         match self {

@@ -8,7 +8,7 @@ use Rattle.fb_types.specs.Systems.{System}
 use Rattle.fb_types.specs.Numbers.{path_at, ports_at}
 use Rattle.fb_types.specs.Text.{path_text}
 use Rattle.fb_types.specs.declared.library.Library.{Library}
-use Rattle.fb_fabric.specs.Layouts.{route_to, place_at}
+use Rattle.fb_system.specs.Layouts.{route_to, place_at}
 use Rattle.fb_wave.specs.Scopes.{closed, opened, own_name, ports_declared, ports_begun, instances_declared, instances_begun, resources_declared}
 use Rattle.fb_wave.specs.Signals.{size_of, first_signal}
 use Rattle.fb_wave.proofs.Numbering.{first_signal-next, paths_from}

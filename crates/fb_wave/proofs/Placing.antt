@@ -13,7 +13,7 @@ use Rattle.fb_types.specs.declared.library.Instance.{Instance}
 use Rattle.fb_types.specs.declared.library.Variable.{Variable}
 use Rattle.fb_types.proofs.Positions.{position_of_once}
 use Rattle.fb_system.specs.Stands.{ArePlaces, variable_at}
-use Rattle.fb_tree.proofs.Known.{stood}
+use Rattle.fb_net.proofs.Known.{stood}
 use Rattle.fb_wave.specs.Told.{place_of}
 
 name_of : Variable → Name

@@ -1,7 +1,7 @@
 -- The ports of a table (this project's profile).
 use Rattle.std.specs.Prelude.{◌≡◌, All, map}
 use Rattle.fb_types.specs.Headline.{system_of}
-use Rattle.fb_names.specs.Places.{IsIndex}
+use Rattle.fb_check_names.specs.Places.{IsIndex}
 use Rattle.fb_wave.specs.Ports.{IsPortOf, port_text}
 use Rattle.fb_wave.specs.declared.table.PortTable.{PortTable}
 

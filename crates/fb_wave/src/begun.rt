@@ -4,7 +4,7 @@ ghost use Rattle.std.specs.Prelude.{◌≡◌, ◌++◌, OnOk};
 ghost use Rattle.fb_wave.specs.Scopes as spec;
 
 use crate::digits::put_line;
-use fb_types::value::Ty;
+use fb_types::Ty;
 use std::alloc::AllocError;
 
 /// Puts that a port has had no event.

@@ -6,7 +6,7 @@ ghost use Rattle.fb_wave.specs.Levels.{AreLevels};
 
 use crate::digits::{put_binary, put_line};
 use crate::levels::{Level, Levels};
-use fb_types::value::Value;
+use fb_types::Value;
 use std::alloc::AllocError;
 
 /// A number in 64 bits, one below 0 as its complement to 2^64.

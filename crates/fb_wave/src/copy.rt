@@ -16,9 +16,9 @@ use crate::line::read_line;
 use crate::page::DumpPage;
 use crate::table::{Guess, PortTable};
 use crate::words::cut;
-use fb_system::system::System;
-use fb_trace::last::RunEnd;
-use fb_types::run::Form;
+use fb_system::System;
+use fb_trace::RunEnd;
+use fb_types::Form;
 use std::alloc::Global;
 use std::io::{BufRead, Write};
 

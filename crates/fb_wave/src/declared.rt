@@ -5,7 +5,7 @@ ghost use Rattle.fb_wave.specs.Changes.{line};
 ghost use Rattle.fb_wave.specs.Scopes as spec;
 
 use crate::digits::put_decimal;
-use fb_types::value::Ty;
+use fb_types::Ty;
 use std::alloc::AllocError;
 
 /// Declares a signal. The front has its kind, and ends in the letter that stands before its number where the dump calls it.

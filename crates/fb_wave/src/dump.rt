@@ -15,10 +15,9 @@ use crate::change::{put_changes, put_time};
 use crate::firsts::firsts_of;
 use crate::head::put_head;
 use crate::levels::Levels;
-use fb_system::system::System;
-use fb_trace::last::RunEnd;
-use fb_types::run::Line;
-use fb_types::value::{Reason, Value};
+use fb_system::System;
+use fb_trace::RunEnd;
+use fb_types::{Line, Reason, Value};
 use std::alloc::{AllocError, Global};
 
 /// A dump, as far as lines of a trace were told. It keeps a cell for each signal.

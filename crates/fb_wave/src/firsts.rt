@@ -5,8 +5,8 @@ ghost use Rattle.fb_types.specs.Headline.{system_of};
 ghost use Rattle.fb_wave.specs.Signals as spec;
 ghost use Rattle.fb_wave.specs.Writing.{AreFirsts};
 
-use fb_system::system::System;
-use fb_types::library::Ports;
+use fb_system::System;
+use fb_types::Ports;
 use std::alloc::{AllocError, Global};
 
 /// The sum of two numbers of signals. One that is too great counts as want of memory, which keeps each signal.

@@ -9,7 +9,7 @@ ghost use Rattle.fb_wave.specs.Writing.{AreFirsts};
 
 use crate::scopes::{put_closed, put_opened};
 use crate::signals::{HeadPart, put_ports};
-use fb_system::system::System;
+use fb_system::System;
 use std::alloc::AllocError;
 
 /// What stands behind so many bytes.

@@ -8,10 +8,9 @@ ghost use Rattle.fb_wave.specs.Lines.{IsLast, IsStop};
 
 use crate::number::{magnitude, tick};
 use crate::words::{behind, cut};
-use fb_system::system::System;
-use fb_trace::last::RunEnd;
-use fb_types::run::StopMark;
-use fb_types::value::Reason;
+use fb_system::System;
+use fb_trace::RunEnd;
+use fb_types::{Reason, StopMark};
 
 /// The number of the resource with a name.
 fn resource_of(system: &System, name: &[u8]) -> Option<u32>

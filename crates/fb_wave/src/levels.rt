@@ -4,7 +4,7 @@ ghost use Rattle.std.specs.Prelude.{◌≡◌, ◌<◌, ℕ, List, ◌++◌, [],
 ghost use Rattle.fb_wave.specs.Levels as spec;
 ghost use Rattle.fb_wave.specs.Levels.{AreLevels};
 
-use fb_types::value::Value;
+use fb_types::Value;
 use std::alloc::{AllocError, Global};
 
 /// What a signal shows.

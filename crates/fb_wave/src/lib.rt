@@ -1,10 +1,10 @@
 //! Waveforms: reads the trace of a system and writes it as a value change dump (IEEE 1364-2005, 18).
 //!
-//! What is promised above: where a text was shown, it is the trace of some lines of the system with an end behind them, in one of
+//! Guarantees to callers: where a text was shown, it is the trace of some lines of the system with an end behind them, in one of
 //! the two forms, and the writer got exactly the dump that the definitions have of these, as a function of the whole list. Where it
 //! is refused or fails, the writer got the first bytes of a dump.
 //!
-//! To be read in this order: `wave`, the entry, with `error`; `copy`, which goes line by line, and `page`, where text waits. Then
+//! Read in this order: `wave`, the entry, with `error`; `copy`, which goes line by line, and `page`, where text waits. Then
 //! how lines are read: `words`, what parts a line; `number` and `values`, what words stand for; `ports`, the event ports of a
 //! system; `table`, finds them by what lines have of them; `line`; `last`. Then how they are told: `levels` and `change`, what
 //! signals show and how changes are told; `scopes`, `declared`, `begun` and `signals`, what stands before them; `digits`; `firsts` and `head`;
@@ -32,3 +32,6 @@ mod table;
 mod values;
 pub mod wave;
 mod words;
+
+pub use error::WaveError;
+pub use wave::write_wave;

@@ -12,9 +12,8 @@ use crate::number::{number, tick};
 use crate::ports::{Port, holder_of};
 use crate::table::{Guess, PortTable};
 use crate::values::values_of;
-use fb_system::system::System;
-use fb_types::key::Key;
-use fb_types::run::{Form, Line, Values};
+use fb_system::System;
+use fb_types::{Form, Key, Line, Values};
 use std::alloc::{AllocError, Global};
 
 /// The class and the parts of a key.

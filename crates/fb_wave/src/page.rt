@@ -6,7 +6,7 @@ ghost use Rattle.fb_trace.specs.Progress.{bounded};
 ghost use Rattle.fb_wave.specs.Copying.{IsCutShort, IsFlushed};
 
 use crate::error::WaveError;
-use fb_trace::front::write_front;
+use fb_trace::write_front;
 use std::alloc::Global;
 use std::io::Write;
 

@@ -7,9 +7,8 @@ ghost use Rattle.fb_types.specs.Systems.{System as Flat};
 ghost use Rattle.fb_wave.specs.Ports as spec;
 ghost use Rattle.fb_wave.specs.Ports.{IsPortOf};
 
-use fb_system::system::System;
-use fb_types::library::{EventPort, Ports};
-use fb_types::name::Name;
+use fb_system::System;
+use fb_types::{EventPort, Name, Ports};
 use std::alloc::{AllocError, Global};
 
 /// An event port.

@@ -6,8 +6,7 @@ ghost use Rattle.fb_wave.specs.Scopes as spec;
 ghost use Rattle.fb_wave.specs.Signals.{size_of};
 
 use crate::{begun, declared};
-use fb_types::library::{EventPort, Ports, Variable};
-use fb_types::name::Name;
+use fb_types::{EventPort, Name, Ports, Variable};
 use std::alloc::AllocError;
 
 /// What a part of the head tells of each signal.

@@ -2,16 +2,16 @@
 
 ghost use Rattle.std.specs.Prelude.{◌≡◌, ◌≤◌, ◌++◌, All, IfOk, IfSome, length, map};
 ghost use Rattle.fb_types.specs.Headline.{system_of};
-ghost use Rattle.fb_names.specs.Places.{names_in};
+ghost use Rattle.fb_check_names.specs.Places.{names_in};
 ghost use Rattle.fb_wave.specs.Ports as spec;
 ghost use Rattle.fb_wave.specs.Ports.{IsPortOf};
 ghost use Rattle.fb_wave.specs.Tables.{IsTable};
 
 use crate::ports::{Port, port_text};
 use crate::words::{behind, is_end};
-use fb_names::places::{Places, place_of, places_of};
-use fb_system::system::System;
-use fb_types::name::Name;
+use fb_check_names::{Places, place_of, places_of};
+use fb_system::System;
+use fb_types::Name;
 use std::alloc::{AllocError, Global};
 
 /// The ports of a system, and the places of their texts among those of all.

@@ -7,9 +7,7 @@ ghost use Rattle.fb_wave.specs.Reading.{AreRead, AreUnread, HasNoDigits, IsBound
 
 use crate::number::magnitude;
 use crate::words::{behind, cut};
-use fb_types::library::Variable;
-use fb_types::run::Values;
-use fb_types::value::{Ty, Value};
+use fb_types::{Ty, Value, Values, Variable};
 use std::alloc::{AllocError, Global};
 
 /// The number below 0 of which a text has the digits behind the sign.

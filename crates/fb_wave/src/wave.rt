@@ -10,7 +10,7 @@ use crate::error::WaveError;
 use crate::page::DumpPage;
 use crate::ports::ports_of;
 use crate::table::{Guess, PortTable, texts_of};
-use fb_system::system::System;
+use fb_system::System;
 use std::alloc::Global;
 use std::io::{BufRead, Write};
 

@@ -18,11 +18,11 @@ use Rattle.fb_types.specs.declared.library.Library.{Library}
 use Rattle.fb_types.specs.declared.library.Network.{Network}
 use Rattle.fb_types.specs.declared.library.Ports.{Ports}
 use Rattle.fb_types.specs.declared.library.Variable.{Variable}
-use Rattle.fb_names.specs.GivenTwice.{BlockTwice, NetworkTwice, PortTwice, TypeTwice, names_of_ports}
+use Rattle.fb_check_names.specs.GivenTwice.{BlockTwice, NetworkTwice, PortTwice, TypeTwice, names_of_ports}
 use Rattle.fb_types.proofs.NameLaws.{contains_from_any}
 use Rattle.fb_types.proofs.Elements.{Contains-here, Contains-there, Contains-flat_map, Contains-map}
 use Rattle.fb_types.proofs.ByPlace.{element_of_place}
-use Rattle.fb_names.proofs.NameTwice.{block_twice, network_twice, plan_twice, types_twice}
+use Rattle.fb_check_names.proofs.NameTwice.{block_twice, network_twice, plan_twice, types_twice}
 use Rattle.fb_why.specs.Heights.{IsHeld}
 use Rattle.fb_why.specs.Applies.{HeightApplies, JoinedApplies, TwiceApplies, UnlinkedApplies, UnmappedApplies, UnservedApplies}
 use Rattle.fb_why.specs.Pairs.{IsPair}

@@ -4,8 +4,8 @@ use Rattle.std.specs.Bool.{Decides}
 use Rattle.std.specs.Option.{option_cmp}
 use Rattle.std.specs.Ordering.{is_eq, ordering_then}
 use Rattle.std.specs.declared.cmp.Ordering.TheVariants as order
-use Rattle.fb_names.specs.Ends.{End}
-use Rattle.fb_names.proofs.Seen.{IsExact, end_cmp, name_cmp, pair_cmp-exact}
+use Rattle.fb_check_names.specs.Ends.{End}
+use Rattle.fb_check_names.proofs.Seen.{IsExact, end_cmp, name_cmp, pair_cmp-exact}
 use Rattle.fb_why.specs.Pairs.{Key, key_ports}
 
 abbrev pub key_cmp : Key → Key → Ordering

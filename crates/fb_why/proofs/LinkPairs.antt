@@ -15,7 +15,7 @@ use Rattle.fb_types.proofs.LoopSteps.{more_of_part}
 use Rattle.fb_types.proofs.NameLaws.{same_from_same_name, same_name-Decides}
 use Rattle.fb_types.proofs.Positions.{is_some-position}
 use Rattle.fb_types.proofs.TwiceLaws.{once_push}
-use Rattle.fb_names.specs.Ends.{link_ends}
+use Rattle.fb_check_names.specs.Ends.{link_ends}
 use Rattle.fb_why.specs.Pairs.{IsPair}
 use Rattle.fb_why.specs.Unlinked.{is_joining}
 use Rattle.fb_why.proofs.Firsts.{at_hand}

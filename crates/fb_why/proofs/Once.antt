@@ -23,12 +23,12 @@ use Rattle.fb_types.specs.declared.library.Variable.{Variable}
 use Rattle.fb_types.specs.declared.deploy.Link.{Link}
 use Rattle.fb_types.specs.declared.deploy.Plan.{Plan}
 use Rattle.fb_types.specs.declared.deploy.ResourceEntry.{ResourceEntry}
-use Rattle.fb_names.specs.Ends.{link_ends}
-use Rattle.fb_names.specs.GivenTwice.{BlockTwice, NetworkTwice, PortTwice, TypeTwice, names_of_ports}
+use Rattle.fb_check_names.specs.Ends.{link_ends}
+use Rattle.fb_check_names.specs.GivenTwice.{BlockTwice, NetworkTwice, PortTwice, TypeTwice, names_of_ports}
 use Rattle.fb_types.proofs.NameLaws.{any_from_contains, same_name-flip}
 use Rattle.fb_types.proofs.Elements.{Contains-here, Contains-there, map-Contains}
-use Rattle.fb_names.proofs.NameTwice.{name_once}
-use Rattle.fb_names.proofs.TwiceIn.{map-TwiceIn}
+use Rattle.fb_check_names.proofs.NameTwice.{name_once}
+use Rattle.fb_check_names.proofs.TwiceIn.{map-TwiceIn}
 use Rattle.fb_why.specs.declared.twice.InBlock.{InBlock}
 use Rattle.fb_why.specs.declared.twice.InBlock.TheVariants.{Port, WithInput, WithOutput, State, Algorithm, Inside}
 use Rattle.fb_why.specs.Twice.{IsTwiceInBlock, IsTwiceInPorts, is_own_name, parameter_names}

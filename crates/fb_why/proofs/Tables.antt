@@ -13,7 +13,7 @@ use Rattle.fb_types.proofs.LoopSteps.{more_of_part}
 use Rattle.fb_types.proofs.TwiceLaws.{once_push}
 use Rattle.fb_types.proofs.ByPlace.{slice_get-append_left, slice_get-append_here}
 use Rattle.fb_types.proofs.Elements.{Contains-nil}
-use Rattle.fb_names.proofs.Seen.{IsExact}
+use Rattle.fb_check_names.proofs.Seen.{IsExact}
 use Rattle.fb_why.specs.Pairs.{IsPair}
 
 -- ---- Places in longer lists

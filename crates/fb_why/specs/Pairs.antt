@@ -5,7 +5,7 @@ use Rattle.fb_types.specs.Names.{Name, Port}
 use Rattle.fb_types.specs.Flat.{port_in}
 use Rattle.fb_types.specs.Repeated.{Twice}
 use Rattle.fb_types.specs.declared.library.Connection.{Connection}
-use Rattle.fb_names.specs.Ends.{end_port}
+use Rattle.fb_check_names.specs.Ends.{end_port}
 
 -- The same stands at both places, the earlier one first.
 pub record IsPair {A : Type 0} (xs : List A) (places : ℕ × ℕ) : Type 0 where

@@ -7,8 +7,8 @@ use Rattle.fb_types.specs.declared.deploy.Plan.{Plan}
 use Rattle.fb_types.specs.declared.deploy.Setting.{Setting}
 use Rattle.fb_types.specs.declared.deploy.Stimulus.{Stimulus}
 use Rattle.fb_types.specs.declared.library.Library.{Library}
-use Rattle.fb_names.specs.Catalog.{IsCatalog}
-use Rattle.fb_names.specs.declared.catalog.Catalog.{Catalog}
+use Rattle.fb_check_names.specs.Catalog.{IsCatalog}
+use Rattle.fb_check_names.specs.declared.catalog.Catalog.{Catalog}
 use Rattle.fb_check.specs.Faults.{number_of}
 use Rattle.fb_check.specs.declared.fault.Fault.{Fault}
 use Rattle.fb_why.specs.Stimuli.{Fits, IsUnfit}

@@ -3,7 +3,7 @@
 ghost use Rattle.std.specs.Prelude.{◌≡◌};
 ghost use Rattle.fb_types.specs.Blocks.{among};
 
-use fb_types::name::Name;
+use fb_types::Name;
 
 /// Whether a list has the name.
 pub(crate) fn is_among(names: &[Name], name: &Name) -> bool

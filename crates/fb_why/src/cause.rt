@@ -3,7 +3,7 @@
 ghost use Rattle.std.specs.Prelude.{◌≡◌};
 ghost use Rattle.fb_why.specs.Causes.{IsCause, text_number};
 
-use fb_read::error::ReadError;
+use fb_read::ReadError;
 
 /// What is refused of a declaration and a deployment that are read.
 #[derive(Clone, Copy)]

@@ -14,11 +14,8 @@ use crate::twice::twice_place;
 use crate::unlinked::unlinked_place;
 use crate::unmapped::unmapped_place;
 use crate::unserved::unserved_place;
-use fb_types::deploy::Plan;
-use fb_types::library::Library;
-use fb_why_kinds::misfits::misfit_place;
-use fb_why_kinds::misjoins::misjoin_place;
-use fb_why_kinds::unknown::unknown_place;
+use fb_types::{Library, Plan};
+use fb_why_kinds::{misfit_place, misjoin_place, unknown_place};
 use std::alloc::{AllocError, Global};
 
 /// Where a data connection leads to a type that does not hold all values.

@@ -8,8 +8,7 @@ use crate::limit::limit_place;
 use crate::spot::{Finding, Spot, found};
 use crate::stimulus::stimulus_place;
 use crate::tell::{tell_limit, tell_stimulus};
-use fb_types::deploy::{Plan, Stimulus};
-use fb_types::library::Library;
+use fb_types::{Library, Plan, Stimulus};
 use std::alloc::{AllocError, Global};
 
 /// Where the refusal applies to inputs.

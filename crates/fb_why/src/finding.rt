@@ -10,13 +10,9 @@ use crate::declared::finding_in;
 use crate::fed::finding_with;
 use crate::refused::{bytes_finding, text_finding};
 use crate::spot::Finding;
-use fb_inputs::deployment::read_deploy;
-use fb_inputs::error::InputError;
-use fb_inputs::stimuli::read_stimuli;
-use fb_read::error::ReadError;
-use fb_read::read::read_library;
-use fb_types::deploy::{Deploy, Plan, Stimulus};
-use fb_types::library::Library;
+use fb_inputs::{InputError, read_deploy, read_stimuli};
+use fb_read::{ReadError, read_library};
+use fb_types::{Deploy, Library, Plan, Stimulus};
 use fb_why_bytes::discard::discard;
 use std::alloc::{AllocError, Global};
 

@@ -8,10 +8,8 @@ ghost use Rattle.fb_types.specs.declared.library.BlockType.{BlockType};
 ghost use Rattle.fb_why.specs.Heights as spec;
 ghost use Rattle.fb_why.specs.Heights.{IsTooHighAt};
 
-use fb_names::named::Named;
-use fb_types::event_ports::kind_named;
-use fb_types::library::{BlockType, Instance, Library};
-use fb_types::name::Name;
+use fb_check_names::Named;
+use fb_types::{BlockType, Instance, Library, Name, kind_named};
 use std::alloc::{AllocError, Global};
 
 /// How many steps may lead down from a composite type. One that holds no composite type has height 1, and a height may

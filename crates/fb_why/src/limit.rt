@@ -6,8 +6,7 @@ ghost use Rattle.fb_why.specs.Stimuli.{IsOver};
 
 use crate::place::Limit;
 use crate::verdict::{has_number, least_fault};
-use fb_types::deploy::{Plan, Stimulus};
-use fb_types::library::Library;
+use fb_types::{Library, Plan, Stimulus};
 use std::alloc::{AllocError, Global};
 
 /// The most stimuli that there may be.

@@ -1,17 +1,14 @@
 //! The first thing of a list that stood in it before.
 
 ghost use Rattle.std.specs.Prelude.{◌≡◌, map, IfOk};
-ghost use Rattle.fb_names.specs.Ends.{link_ends};
-ghost use Rattle.fb_names.specs.Places.{names_in};
+ghost use Rattle.fb_check_names.specs.Ends.{link_ends};
+ghost use Rattle.fb_check_names.specs.Places.{names_in};
 ghost use Rattle.fb_why.specs.Pairs.{Paired, compared, key_ports};
 ghost use Rattle.fb_why.specs.Sources.{targets};
 
 use crate::unlinked::place_of_link;
-use fb_names::named::{Named, push_names};
-use fb_names::repeats::end_names;
-use fb_types::deploy::Link;
-use fb_types::library::Connection;
-use fb_types::name::Name;
+use fb_check_names::{Named, end_names, push_names};
+use fb_types::{Connection, Link, Name};
 use std::alloc::{AllocError, Global};
 use std::collections::BTreeMap;
 

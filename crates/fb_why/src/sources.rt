@@ -5,7 +5,7 @@ ghost use Rattle.fb_types.specs.Joined.{TwoSources};
 ghost use Rattle.fb_why.specs.Sources.{IsJoinedAt, IsJoinedIn, IsJoinedInside, IsParted};
 
 use crate::pair::{Repeat, target_pair};
-use fb_types::library::{BlockType, Library};
+use fb_types::{BlockType, Library};
 use std::alloc::{AllocError, Global};
 
 /// Two data connections of one network that lead to one port.

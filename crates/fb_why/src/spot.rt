@@ -9,9 +9,8 @@ use crate::sources::Joined;
 use crate::twice::GivenTwice;
 use crate::unlinked::Unlinked;
 use crate::unmapped::Unmapped;
-use fb_why_bytes::place::{DeployPlace, StimuliPlace};
-use fb_why_bytes::text_place::TextPlace;
-use fb_why_kinds::place::{Misfit, Misjoin, UnknownName};
+use fb_why_bytes::{DeployPlace, StimuliPlace, TextPlace};
+use fb_why_kinds::{Misfit, Misjoin, UnknownName};
 use std::alloc::AllocError;
 
 /// A place at which a refusal applies.

@@ -8,10 +8,9 @@ ghost use Rattle.fb_why.specs.Trials as spec;
 use crate::place::{StimulusFault, StimulusPlace};
 use crate::trial::{is_bare_refused, is_one_refused, is_refused};
 use crate::verdict::{has_number, least_fault};
-use fb_check::stimuli::has_bad_stimulus;
-use fb_names::catalog::{Catalog, catalog_of};
-use fb_types::deploy::{Plan, Stimulus};
-use fb_types::library::Library;
+use fb_check::has_bad_stimulus;
+use fb_check_names::{Catalog, catalog_of};
+use fb_types::{Library, Plan, Stimulus};
 use std::alloc::{AllocError, Global};
 
 /// So many halvings leave one stimulus of as many as there may be.

@@ -1,10 +1,8 @@
 //! The texts that tell of stimuli that do not fit, and of limits that are passed.
 
 use crate::place::{Limit, StimulusFault, StimulusPlace};
-use fb_types::deploy::{Setting, Stimulus};
-use fb_types::library::{Connection, Library};
-use fb_types::name::Name;
-use fb_why_kinds::words::Text;
+use fb_types::{Connection, Library, Name, Setting, Stimulus};
+use fb_why_kinds::Text;
 use std::alloc::{AllocError, Global};
 
 /// What stands behind a place, as in 1st.

@@ -7,11 +7,9 @@ use crate::tell_twice::push_given;
 use crate::tell_unlinked::push_unlinked;
 use crate::tell_unmapped::push_unmapped;
 use crate::tell_unserved::push_unserved;
-use fb_types::deploy::Plan;
-use fb_types::library::Library;
-use fb_why_kinds::tell_kinds::{tell_misfit, tell_misjoin};
+use fb_types::{Library, Plan};
 use fb_why_kinds::tell_unknown::tell_unknown;
-use fb_why_kinds::words::Text;
+use fb_why_kinds::{Text, tell_misfit, tell_misjoin};
 use std::alloc::{AllocError, Global};
 
 /// The line that tells of the place, and of what is wrong there.

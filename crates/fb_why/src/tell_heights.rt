@@ -1,9 +1,8 @@
 //! The text that tells of a composite type that holds itself, or is too high (E25).
 
 use crate::heights::Descent;
-use fb_types::library::{BlockType, CompositeType, Library};
-use fb_why_kinds::tell_sites::push_instance;
-use fb_why_kinds::words::Text;
+use fb_types::{BlockType, CompositeType, Library};
+use fb_why_kinds::{Text, push_instance};
 
 /// Adds which composite type leads too far down, and through which of its instances.
 pub fn push_descent(text: &mut Text, library: &Library, place: Descent) {

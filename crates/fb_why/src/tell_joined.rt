@@ -2,8 +2,8 @@
 
 use crate::pair::Repeat;
 use crate::sources::Joined;
-use fb_types::library::{BlockType, Library, Network};
-use fb_why_kinds::words::Text;
+use fb_types::{BlockType, Library, Network};
+use fb_why_kinds::Text;
 
 /// Adds which two data connections lead to one port.
 pub fn push_joined(text: &mut Text, library: &Library, place: Joined) {

@@ -2,12 +2,9 @@
 
 use crate::pair::Repeat;
 use crate::twice::{GivenTwice, InBlock, InNetwork};
-use fb_names::named::Named;
-use fb_types::deploy::Plan;
-use fb_types::library::{BlockType, EventPort, Library, Network};
-use fb_types::name::Name;
-use fb_why_kinds::tell_sites::push_instance;
-use fb_why_kinds::words::Text;
+use fb_check_names::Named;
+use fb_types::{BlockType, EventPort, Library, Name, Network, Plan};
+use fb_why_kinds::{Text, push_instance};
 
 const AGAIN: &str = " is given twice";
 

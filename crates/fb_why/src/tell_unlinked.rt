@@ -1,9 +1,8 @@
 //! The text that tells of a connection between two resources that have no link (E27).
 
 use crate::unlinked::{Unlinked, resource_of};
-use fb_types::deploy::Plan;
-use fb_types::library::{Application, Connection, PortName};
-use fb_why_kinds::words::Text;
+use fb_types::{Application, Connection, Plan, PortName};
+use fb_why_kinds::Text;
 
 /// Adds which connection has no link, and which link it would need.
 pub fn push_unlinked(text: &mut Text, application: &Application, plan: &Plan, place: Unlinked) {

@@ -2,10 +2,8 @@
 
 use crate::pair::Repeat;
 use crate::unmapped::Unmapped;
-use fb_types::deploy::{Plan, ResourceEntry};
-use fb_types::library::Application;
-use fb_types::name::Name;
-use fb_why_kinds::words::Text;
+use fb_types::{Application, Name, Plan, ResourceEntry};
+use fb_why_kinds::Text;
 
 /// Adds where an instance is not mapped to one resource.
 pub fn push_unmapped(text: &mut Text, application: &Application, plan: &Plan, place: Unmapped) {

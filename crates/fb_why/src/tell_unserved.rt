@@ -1,9 +1,8 @@
 //! The text that tells of a data connection between two resources that no event serves (E28).
 
 use crate::tell_unlinked::push_resource;
-use fb_types::deploy::Plan;
-use fb_types::library::Application;
-use fb_why_kinds::words::Text;
+use fb_types::{Application, Plan};
+use fb_why_kinds::Text;
 
 /// Adds which data connection no event serves, and which event would.
 pub fn push_unserved(text: &mut Text, application: &Application, plan: &Plan, place: usize) {

@@ -4,11 +4,9 @@ ghost use Rattle.std.specs.Prelude.{◌≡◌, ◌↔◌, ◌∷◌, [], IfOk, I
 ghost use Rattle.fb_types.specs.Accepted.{BadStimulus};
 ghost use Rattle.fb_why.specs.Trials as spec;
 
-use fb_check::stimuli::has_bad_stimulus;
-use fb_names::catalog::Catalog;
-use fb_types::deploy::{Setting, Stimulus};
-use fb_types::items::Items;
-use fb_types::library::Library;
+use fb_check::has_bad_stimulus;
+use fb_check_names::Catalog;
+use fb_types::{Items, Library, Setting, Stimulus};
 use std::alloc::{AllocError, Global};
 use std::slice::from_ref;
 

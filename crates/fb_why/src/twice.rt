@@ -7,19 +7,17 @@ ghost use Rattle.fb_types.specs.declared.library.BlockType.{BlockType};
 ghost use Rattle.fb_types.specs.declared.library.BlockType.TheVariants as block;
 ghost use Rattle.fb_types.specs.declared.library.EventPort.{EventPort};
 ghost use Rattle.fb_types.specs.declared.library.Instance.{Instance};
-ghost use Rattle.fb_names.specs.Places.{names_in};
-ghost use Rattle.fb_names.specs.GivenTwice.{BlockTwice, NetworkTwice, PortTwice, names_of_ports};
+ghost use Rattle.fb_check_names.specs.Places.{names_in};
+ghost use Rattle.fb_check_names.specs.GivenTwice.{BlockTwice, NetworkTwice, PortTwice, names_of_ports};
 ghost use Rattle.fb_why.specs.Pairs.{IsPair, Paired};
 ghost use Rattle.fb_why.specs.Twice.{IsEventBlock, IsParameterTwice, IsTwiceAt, IsTwiceInBlock, IsTwiceInNetwork, IsTwiceInPorts, IsTwiceInSome, IsWithTwice, is_own_name, parameter_names};
 
 use crate::pair::{Repeat, called_pair, connection_pair, link_pair, name_pair};
-use fb_names::named::{Named, push_names};
-use fb_types::deploy::Plan;
-use fb_types::event_ports::kind_named;
-use fb_types::library::{
-    BasicType, BlockType, CompositeType, EventPort, Instance, Library, Network, Ports, Variable,
+use fb_check_names::{Named, push_names};
+use fb_types::{
+    BasicType, BlockType, CompositeType, EventPort, Instance, Library, Name, Network, Plan, Ports,
+    Variable, kind_named,
 };
-use fb_types::name::Name;
 use std::alloc::{AllocError, Global};
 
 /// What a network gives twice.

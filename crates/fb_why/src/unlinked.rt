@@ -11,9 +11,7 @@ ghost use Rattle.fb_types.specs.declared.library.Connection.{Connection};
 ghost use Rattle.fb_why.specs.Unlinked.{IsUnlinkedAt, is_joining, is_linked};
 
 use crate::among::is_among;
-use fb_types::deploy::{Link, Plan, ResourceEntry};
-use fb_types::library::{Connection, Library, PortName};
-use fb_types::name::Name;
+use fb_types::{Connection, Library, Link, Name, Plan, PortName, ResourceEntry};
 
 /// A connection of the application between two resources that have no link, by its place among those of its sort.
 #[derive(Clone, Copy)]

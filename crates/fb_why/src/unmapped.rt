@@ -5,14 +5,12 @@ ghost use Rattle.std.specs.List.{list_all, list_any};
 ghost use Rattle.fb_types.specs.Names.{same_name};
 ghost use Rattle.fb_types.specs.Mapped.{NotMapped, mapped};
 ghost use Rattle.fb_types.specs.declared.library.Instance.{Instance};
-ghost use Rattle.fb_names.specs.Places.{names_in};
+ghost use Rattle.fb_check_names.specs.Places.{names_in};
 ghost use Rattle.fb_why.specs.Unmapped.{AllListed, IsUnmappedAmong, IsUnmappedAt, is_listed};
 
 use crate::pair::{Repeat, name_pair};
-use fb_names::named::push_names;
-use fb_types::deploy::{Plan, ResourceEntry};
-use fb_types::library::{Instance, Library};
-use fb_types::name::Name;
+use fb_check_names::push_names;
+use fb_types::{Instance, Library, Name, Plan, ResourceEntry};
 use std::alloc::{AllocError, Global};
 
 /// Where an instance of the application is not mapped to one resource.

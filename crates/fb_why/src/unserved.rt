@@ -11,13 +11,10 @@ ghost use Rattle.fb_why.specs.Unserved.{IsUnservedAt, begin_together, brings, ca
 
 use crate::among::is_among;
 use crate::unlinked::resource_of;
-use fb_types::deploy::Plan;
-use fb_types::event_kind::EventKind;
-use fb_types::event_ports::kind_named;
-use fb_types::library::{
-    Connection, EventPort, Library, PortName, Ports, block_named, has_variable, instance_named,
+use fb_types::{
+    Connection, EventKind, EventPort, Library, Name, Plan, PortName, Ports, block_named,
+    has_variable, instance_named, kind_named,
 };
-use fb_types::name::Name;
 
 /// Whether an event of this name has a variable WITH it.
 fn has_event(events: &[EventPort], event: &Name, variable: &Name) -> bool

@@ -3,12 +3,8 @@
 ghost use Rattle.std.specs.Prelude.{◌≡◌, IfOk};
 ghost use Rattle.fb_why.specs.Trials as spec;
 
-use fb_check::case::Case;
-use fb_check::error::CheckError;
-use fb_check::fault::Fault;
-use fb_check::judge::judge;
-use fb_types::deploy::{Plan, Stimulus};
-use fb_types::library::Library;
+use fb_check::{Case, CheckError, Fault, judge};
+use fb_types::{Library, Plan, Stimulus};
 use std::alloc::{AllocError, Global};
 
 /// The least fault of the inputs, or `None` where they are accepted.

@@ -11,7 +11,7 @@ ghost use Rattle.fb_why_bytes.specs.TextVerdicts.{IsNoLibrary};
 
 use crate::text_place::TextPlace;
 use crate::text_verdict::{TextVerdict, verdict_on};
-use fb_read::error::ReadError;
+use fb_read::ReadError;
 use std::alloc::{AllocError, Global};
 
 /// The greatest length of a text, in bytes.

@@ -1,3 +1,3 @@
 //! Libraries that are no longer wanted.
 
-pub use fb_read::discard::discard;
+pub use fb_read::discarding::discard;

@@ -7,7 +7,7 @@ use crate::applies::{MOST_BYTES, applies};
 use crate::scan::{Stretch, stretches};
 use crate::text_place::{TextPlace, line_feeds, place_at};
 use crate::text_verdict::{TextVerdict, verdict_on};
-use fb_read::error::ReadError;
+use fb_read::ReadError;
 use std::alloc::{AllocError, Global};
 
 /// Whether a text is refused for its syntax before its end. Behind one more line feed a fault at the end has a line of its

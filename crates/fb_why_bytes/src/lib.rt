@@ -1,11 +1,11 @@
 //! Where bytes that are refused are at fault: the text of a declaration (E01 to E05), a deployment and stimuli (E10 to E16).
 //!
-//! What is promised above: `find::text_place` gives a place of the text, with its line and column, at which the refusal
+//! Guarantees to callers: `find::text_place` gives a place of the text, with its line and column, at which the refusal
 //! applies. `stimuli::stimuli_place` gives a place of what is refused, by the number of the refusal, and none exactly where the
 //! stimuli are taken. `deployment::deployment_place` gives a place at which something is wrong, and none only where the shape of
 //! the deployment is right. Of the texts that tell a place nothing is promised.
 //!
-//! To be read in this order: `text_place`; `text_verdict`, what the reader of declarations says of a text, and `discard`, which
+//! Read in this order: `text_place`; `text_verdict`, what the reader of declarations says of a text, and `discard`, which
 //! frees what it read; `applies`, whether a refusal applies at a place; `scan` and `find`, where it may; `expected` and
 //! `tell_text`. Then `place`; `row_verdict`, by which the reader of stimuli itself judges a row or a word; `words`, `row`,
 //! `stimuli`; `names`, `table`, `numbers`, `deployment`; `text`, `tell_stimuli`, `tell_deployment`. All of it runs behind a
@@ -32,3 +32,8 @@ mod text;
 pub mod text_place;
 mod text_verdict;
 mod words;
+
+pub use deployment::deployment_place;
+pub use place::{DeployKey, DeployPlace, RowFault, StimuliPlace, TableFault, TablePlace};
+pub use stimuli::stimuli_place;
+pub use text_place::{TextPlace, behind_mark, place_at};

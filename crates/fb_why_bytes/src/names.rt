@@ -4,7 +4,7 @@ ghost use Rattle.std.specs.Prelude.{◌≡◌, IfOk, is_some};
 ghost use Rattle.fb_inputs.specs.Words as inputs;
 ghost use Rattle.fb_why_bytes.specs.Names.{is_one_name};
 
-use fb_inputs::text::name;
+use fb_inputs::name;
 use std::alloc::{AllocError, Global};
 
 /// Whether a text is a name.

@@ -10,7 +10,7 @@ ghost use Rattle.fb_why_bytes.specs.RowVerdicts.{IsFine, IsRefusedFor, IsShapeFa
 use crate::place::RowFault;
 use crate::row_verdict::{RowVerdict, has_numbers, has_shape, is_taken, judge_row};
 use crate::words::words_of;
-use fb_inputs::stimuli::MOST_ROWS;
+use fb_inputs::MOST_ROWS;
 use std::alloc::{AllocError, Global};
 
 /// A tick and an event with which nothing is wrong.

@@ -3,8 +3,7 @@
 ghost use Rattle.std.specs.Prelude.{◌≡◌, ◌∷◌, [], IfOk};
 ghost use Rattle.fb_why_bytes.specs.RowVerdicts as spec;
 
-use fb_inputs::error::InputError;
-use fb_inputs::stimuli::stimulus_of;
+use fb_inputs::{InputError, stimulus_of};
 use std::alloc::{AllocError, Global};
 
 /// What is said of a row.

@@ -10,8 +10,8 @@ ghost use Rattle.fb_why_bytes.specs.RowVerdicts.{IsFine, IsJudged, IsRefusedFor}
 use crate::place::{RowFault, StimuliPlace};
 use crate::row::row_fault;
 use csv::{ByteRecord, ByteRecordsIntoIter, Error};
-use fb_inputs::error::InputError;
-use fb_inputs::stimuli::{MOST_BYTES, columns, rows_of};
+use fb_inputs::stimuli::MOST_BYTES;
+use fb_inputs::{InputError, columns, rows_of};
 use std::alloc::{AllocError, Global};
 
 /// What is wrong with a record behind the heading, before which so many others come.

@@ -4,7 +4,7 @@ use crate::place::{RowFault, StimuliPlace};
 use crate::text::Text;
 use crate::words::words_of;
 use csv::{ByteRecord, Error};
-use fb_inputs::stimuli::records_of;
+use fb_inputs::records_of;
 use std::alloc::{AllocError, Global};
 
 /// Where stimuli are refused, and what was wanted there.

@@ -4,7 +4,7 @@ use crate::applies::MOST_BYTES;
 use crate::expected::expected;
 use crate::text::{Text, front};
 use crate::text_place::TextPlace;
-use fb_read::error::ReadError;
+use fb_read::ReadError;
 use std::alloc::{AllocError, Global};
 
 /// How much of a token is told, in bytes.

@@ -10,10 +10,10 @@ use Rattle.fb_types.specs.declared.library.BlockType.TheVariants as block
 use Rattle.fb_types.specs.declared.library.Library.{Library}
 use Rattle.fb_types.specs.declared.deploy.Plan.{Plan}
 use Rattle.fb_types.proofs.Elements.{Contains-nil, Contains-cons_cases, Contains-here, Contains-there, flat_map-Contains}
-use Rattle.fb_kinds.specs.Checks.{is_known_block}
-use Rattle.fb_kinds.proofs.Checks.{known_answer}
-use Rattle.fb_names.specs.Unknown.{NetworkUnknown, DeploymentUnknown}
-use Rattle.fb_names.proofs.Resolving.{all_known}
+use Rattle.fb_check_types.specs.Checks.{is_known_block}
+use Rattle.fb_check_types.proofs.Checks.{known_answer}
+use Rattle.fb_check_names.specs.Unknown.{NetworkUnknown, DeploymentUnknown}
+use Rattle.fb_check_names.proofs.Resolving.{all_known}
 use Rattle.fb_why_kinds.specs.declared.place.UnknownName.{UnknownName}
 use Rattle.fb_why_kinds.specs.declared.place.UnknownName.TheVariants.{InstanceType, Parameter, End, With, Transition, Action, Guard, Body, Mapped, LinkEnd}
 use Rattle.fb_why_kinds.specs.Unknown.{IsUnknownIn, IsUnknownAt, IsBlockKnown}

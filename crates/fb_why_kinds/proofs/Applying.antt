@@ -19,8 +19,8 @@ use Rattle.fb_types.specs.declared.library.Variable.{Variable}
 use Rattle.fb_types.proofs.ListTests.{fails_from}
 use Rattle.fb_types.proofs.ByPlace.{element_of_place}
 use Rattle.fb_types.proofs.Elements.{Contains-flat_map, Contains-nil, Contains-here, Contains-there}
-use Rattle.fb_kinds.specs.Checks.{algorithm_right, chart_right, in_place, is_guard_right, is_right_block}
-use Rattle.fb_kinds.proofs.Checks.{chart_right_met, wrong_answer}
+use Rattle.fb_check_types.specs.Checks.{algorithm_right, chart_right, in_place, is_guard_right, is_right_block}
+use Rattle.fb_check_types.proofs.Checks.{chart_right_met, wrong_answer}
 use Rattle.fb_why_kinds.specs.declared.place.Misfit.{Misfit}
 use Rattle.fb_why_kinds.specs.declared.place.Misfit.TheVariants as misfit
 use Rattle.fb_why_kinds.specs.declared.place.Misjoin.{Misjoin}

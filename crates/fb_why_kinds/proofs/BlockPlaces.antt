@@ -13,9 +13,9 @@ use Rattle.fb_types.specs.declared.library.Library.{Library}
 use Rattle.fb_types.specs.declared.library.Ports.{Ports}
 use Rattle.fb_types.specs.declared.library.State.{State}
 use Rattle.fb_types.specs.declared.library.Transition.{Transition}
-use Rattle.fb_kinds.specs.Checks.{all_met, with_inputs, with_outputs, transition_met, actions_met}
-use Rattle.fb_kinds.proofs.Checks.{withs_met, chart_met}
-use Rattle.fb_names.specs.Types.{ports_of_block}
+use Rattle.fb_check_types.specs.Checks.{all_met, with_inputs, with_outputs, transition_met, actions_met}
+use Rattle.fb_check_types.proofs.Checks.{withs_met, chart_met}
+use Rattle.fb_check_names.specs.Types.{ports_of_block}
 use Rattle.fb_why_kinds.specs.declared.place.ActionPart.{ActionPart}
 use Rattle.fb_why_kinds.specs.declared.place.Direction.{Direction}
 use Rattle.fb_why_kinds.specs.declared.place.TransitionPart.{TransitionPart}

@@ -9,11 +9,11 @@ use Rattle.fb_types.specs.Syntax.{Stmt, Empty, Exit, Return, Assign, If, Case, F
 use Rattle.fb_types.specs.declared.library.Algorithm.{Algorithm}
 use Rattle.fb_types.specs.declared.library.BasicType.{BasicType}
 use Rattle.fb_types.specs.declared.text.Choice.{Choice, out-Choice}
-use Rattle.fb_kinds.specs.Checks.{algorithm_right, in_place}
-use Rattle.fb_kinds.specs.Trees.{choice_of, choices_of}
+use Rattle.fb_check_types.specs.Checks.{algorithm_right, in_place}
+use Rattle.fb_check_types.specs.Trees.{choice_of, choices_of}
 use Rattle.fb_why_kinds.specs.declared.place.StatementPart.{StatementPart}
 use Rattle.fb_why_kinds.specs.declared.statements.Standing as code
-use Rattle.fb_kinds.proofs.Says.{choice_says}
+use Rattle.fb_check_types.proofs.Says.{choice_says}
 use Rattle.fb_why_kinds.specs.Statements.{Standing, WrongAmong, all_standing, standing_of, choice_right, conditions_right, each_in_body, each_in_branches, each_in_choices, each_inside, own_right, stands_right}
 
 -- ---- Truth values

@@ -12,10 +12,10 @@ use Rattle.fb_types.specs.declared.library.Library.{Library}
 use Rattle.fb_types.specs.declared.deploy.Link.{Link}
 use Rattle.fb_types.specs.declared.deploy.Plan.{Plan}
 use Rattle.fb_types.specs.declared.deploy.ResourceEntry.{ResourceEntry}
-use Rattle.fb_kinds.proofs.Checks.{and_true}
-use Rattle.fb_names.specs.Unknown.{DeploymentUnknown}
+use Rattle.fb_check_types.proofs.Checks.{and_true}
+use Rattle.fb_check_names.specs.Unknown.{DeploymentUnknown}
 use Rattle.fb_types.proofs.ListTests.{list_all-flat_map, list_all-agree}
-use Rattle.fb_names.proofs.NetworkUnknown.{met, met_wanted, list_all-all_of}
+use Rattle.fb_check_names.proofs.NetworkUnknown.{met, met_wanted, list_all-all_of}
 use Rattle.fb_why_kinds.specs.declared.place.Side.{Side}
 use Rattle.fb_why_kinds.specs.Unknown.{Unmet, mapped_wanted, link_wanted, side_of, is_instance, is_resource, are_mapped, are_sides_met}
 use Rattle.fb_why_kinds.proofs.NetworkPlaces.{any_map, unmet_is}

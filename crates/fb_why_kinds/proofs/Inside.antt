@@ -8,9 +8,9 @@ use Rattle.fb_types.specs.declared.text.Stmt as read
 use Rattle.fb_types.specs.declared.text.Stmt.{Stmt}
 use Rattle.fb_types.specs.declared.text.Branch.{Branch, out-Branch}
 use Rattle.fb_types.specs.declared.text.Choice.{Choice, out-Choice}
-use Rattle.fb_kinds.specs.Trees.{all_of, branch_of, branches_of, choice_of, choices_of}
+use Rattle.fb_check_types.specs.Trees.{all_of, branch_of, branches_of, choice_of, choices_of}
 use Rattle.fb_why_kinds.specs.Statements.{Standing, each_in_body, each_in_branches, each_in_choices, each_inside}
-use Rattle.fb_kinds.proofs.Says.{branch_says, case_says, choice_says, for_says, if_says, repeat_says, while_says}
+use Rattle.fb_check_types.proofs.Says.{branch_says, case_says, choice_says, for_says, if_says, repeat_says, while_says}
 
 abbrev inside : Bool → Stmt → List Standing
 inside l s = each_inside l (stmt_of s)

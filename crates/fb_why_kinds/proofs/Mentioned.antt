@@ -11,9 +11,9 @@ use Rattle.fb_types.specs.declared.text.Stmt.{Stmt}
 use Rattle.fb_types.specs.declared.text.UnaryOperator.{UnaryOperator}
 use Rattle.fb_types.specs.declared.text.Branch.{Branch, out-Branch}
 use Rattle.fb_types.specs.declared.text.Choice.{Choice, out-Choice}
-use Rattle.fb_kinds.specs.Trees.{all_of, arguments_of, branch_of, branches_of, choice_of, choices_of}
+use Rattle.fb_check_types.specs.Trees.{all_of, arguments_of, branch_of, branches_of, choice_of, choices_of}
 use Rattle.fb_why_kinds.specs.Mentions.{mentions_of_control}
-use Rattle.fb_kinds.proofs.Says.{assign_says, binary_says, branch_says, call_says, case_says, choice_says, for_says, group_says, if_says, repeat_says, unary_says, variable_says, while_says}
+use Rattle.fb_check_types.proofs.Says.{assign_says, binary_says, branch_says, call_says, case_says, choice_says, for_says, group_says, if_says, repeat_says, unary_says, variable_says, while_says}
 
 -- ---- Expressions
 

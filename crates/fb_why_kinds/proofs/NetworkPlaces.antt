@@ -18,10 +18,10 @@ use Rattle.fb_types.specs.declared.library.Parameter.{Parameter}
 use Rattle.fb_types.specs.declared.library.PortName.{PortName}
 use Rattle.fb_types.specs.declared.library.Ports.{Ports}
 use Rattle.fb_types.proofs.NameLaws.{any_from_contains, find-named}
-use Rattle.fb_kinds.specs.Checks.{is_met, all_met}
+use Rattle.fb_check_types.specs.Checks.{is_met, all_met}
 use Rattle.fb_types.proofs.ListTests.{list_all-map, list_all-flat_map}
-use Rattle.fb_names.specs.Unknown.{NetworkUnknown}
-use Rattle.fb_names.proofs.NetworkUnknown.{met, met_wanted, list_all-all_of}
+use Rattle.fb_check_names.specs.Unknown.{NetworkUnknown}
+use Rattle.fb_check_names.proofs.NetworkUnknown.{met, met_wanted, list_all-all_of}
 use Rattle.fb_why_kinds.specs.declared.place.FlowKind.{FlowKind}
 use Rattle.fb_why_kinds.specs.declared.place.FlowKind.TheVariants.{Events, Data}
 use Rattle.fb_why_kinds.specs.declared.place.Side.{Side}

@@ -5,10 +5,10 @@ use Rattle.std.specs.List.{list_all}
 use Rattle.std.proofs.lemmas.Bool.{true≢false, and_parts}
 use Rattle.fb_types.specs.Kinds.{KindWrong, parameters_right}
 use Rattle.fb_types.specs.declared.library.Library.{Library}
-use Rattle.fb_names.specs.Parts.{PartWrong}
+use Rattle.fb_check_names.specs.Parts.{PartWrong}
 use Rattle.fb_types.proofs.ListTests.{list_all-both, passes_at}
-use Rattle.fb_kinds.specs.Checks.{is_right_block}
-use Rattle.fb_kinds.proofs.Checks.{wrong_answer}
+use Rattle.fb_check_types.specs.Checks.{is_right_block}
+use Rattle.fb_check_types.proofs.Checks.{wrong_answer}
 use Rattle.fb_why_kinds.specs.declared.place.Misfit.{Misfit}
 use Rattle.fb_why_kinds.specs.Misfits.{IsMisfitAt, are_set_right, are_set_right_inside, is_all_right}
 use Rattle.fb_why_kinds.proofs.NetworkTests.{network_passes}

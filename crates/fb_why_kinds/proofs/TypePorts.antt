@@ -15,7 +15,7 @@ use Rattle.fb_types.specs.declared.library.BlockType.{BlockType}
 use Rattle.fb_types.specs.declared.library.Library.{Library}
 use Rattle.fb_types.specs.declared.library.Ports.{Ports}
 use Rattle.fb_types.proofs.NameLaws.{find-named, any-named}
-use Rattle.fb_names.specs.Types.{ports_of_block}
+use Rattle.fb_check_names.specs.Types.{ports_of_block}
 use Rattle.fb_why_kinds.proofs.Typed.{declared_type, type_from}
 
 pub event_ports_are :

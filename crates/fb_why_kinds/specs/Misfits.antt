@@ -15,7 +15,7 @@ use Rattle.fb_types.specs.declared.library.Network.{Network}
 use Rattle.fb_types.specs.declared.library.Parameter.{Parameter}
 use Rattle.fb_types.specs.declared.library.Transition.{Transition}
 use Rattle.fb_types.specs.declared.library.Variable.{Variable}
-use Rattle.fb_kinds.specs.Checks.{in_place, is_guard_right, is_right_block}
+use Rattle.fb_check_types.specs.Checks.{in_place, is_guard_right, is_right_block}
 use Rattle.fb_why_kinds.specs.declared.place.Misfit.{Misfit}
 use Rattle.fb_why_kinds.specs.declared.place.Misfit.TheVariants as misfit
 use Rattle.fb_why_kinds.specs.declared.place.StatementPart.{StatementPart}

@@ -7,7 +7,7 @@ use Rattle.fb_types.specs.declared.library.BlockType.{BlockType}
 use Rattle.fb_types.specs.declared.library.Connection.{Connection}
 use Rattle.fb_types.specs.declared.library.Library.{Library}
 use Rattle.fb_types.specs.declared.value.Ty.{Ty}
-use Rattle.fb_joins.specs.Joins.{is_out}
+use Rattle.fb_check_networks.specs.Joins.{is_out}
 use Rattle.fb_why_kinds.specs.declared.place.Misjoin.{Misjoin}
 use Rattle.fb_why_kinds.specs.Sites.{each_inside, network_at, network_inside}
 

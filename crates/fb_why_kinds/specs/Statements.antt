@@ -4,7 +4,7 @@ use Rattle.fb_types.specs.Syntax.{Stmt, Empty, Exit, Return, Assign, If, Case, F
 use Rattle.fb_types.specs.Kinds.{Place, is_sort, sort_of, sort_of_type, same_sort, is_whole, is_condition}
 use Rattle.fb_types.specs.declared.library.BasicType.{BasicType}
 use Rattle.fb_types.specs.declared.sort.Sort.TheVariants.{WholeNumber}
-use Rattle.fb_kinds.specs.Checks.{in_place}
+use Rattle.fb_check_types.specs.Checks.{in_place}
 use Rattle.fb_why_kinds.specs.declared.place.StatementPart.{StatementPart}
 use Rattle.fb_why_kinds.specs.declared.place.StatementPart.TheVariants as part
 use Rattle.fb_why_kinds.specs.declared.statements.Standing as code

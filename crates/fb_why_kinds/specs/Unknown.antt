@@ -18,9 +18,9 @@ use Rattle.fb_types.specs.declared.library.Transition.{Transition}
 use Rattle.fb_types.specs.declared.deploy.Link.{Link}
 use Rattle.fb_types.specs.declared.deploy.Plan.{Plan}
 use Rattle.fb_types.specs.declared.deploy.ResourceEntry.{ResourceEntry}
-use Rattle.fb_kinds.specs.Checks.{is_met, all_met, guard_mentions, is_known_block}
-use Rattle.fb_names.specs.Unknown.{NetworkUnknown}
-use Rattle.fb_names.specs.Types.{ports_of_block}
+use Rattle.fb_check_types.specs.Checks.{is_met, all_met, guard_mentions, is_known_block}
+use Rattle.fb_check_names.specs.Unknown.{NetworkUnknown}
+use Rattle.fb_check_names.specs.Types.{ports_of_block}
 use Rattle.fb_why_kinds.specs.declared.place.FlowKind.{FlowKind}
 use Rattle.fb_why_kinds.specs.declared.place.FlowKind.TheVariants.{Events, Data}
 use Rattle.fb_why_kinds.specs.declared.place.UnknownName.{UnknownName}

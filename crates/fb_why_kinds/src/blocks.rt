@@ -6,8 +6,8 @@ ghost use Rattle.fb_types.specs.Syntax.{body_of};
 ghost use Rattle.fb_types.specs.Unknown.{Mention, chart_wanted, is_known, mentioned, mentions_body, withs_wanted};
 ghost use Rattle.fb_types.specs.declared.library.Algorithm.{Algorithm};
 ghost use Rattle.fb_types.specs.declared.library.Transition.{Transition};
-ghost use Rattle.fb_kinds.specs.Checks.{all_known, all_met, body_known, guard_known, guard_mentions};
-ghost use Rattle.fb_names.specs.Types.{ports_of_block};
+ghost use Rattle.fb_check_types.specs.Checks.{all_known, all_met, body_known, guard_known, guard_mentions};
+ghost use Rattle.fb_check_names.specs.Types.{ports_of_block};
 ghost use Rattle.fb_why_kinds.specs.Mentions.{meant, meant_all};
 ghost use Rattle.fb_why_kinds.specs.Sites.{basic_at};
 ghost use Rattle.fb_why_kinds.specs.Unknown.{IsBlockKnown, IsUnknownIn, UnknownAmong};
@@ -17,8 +17,8 @@ use crate::lookup::BlockTypes;
 use crate::mentions::{Mention, is_mention_known, push_body, push_expression};
 use crate::networks::{PlacedNetwork, unknown_in_network};
 use crate::place::{Direction, Site, UnknownName};
-use fb_names::ports::PortSort;
-use fb_types::library::{Algorithm, BasicType, BlockType, Library, Transition};
+use fb_check_names::PortSort;
+use fb_types::{Algorithm, BasicType, BlockType, Library, Transition};
 use std::alloc::{AllocError, Global};
 
 /// Where a WITH list of a block type has a name that is no variable.

@@ -9,15 +9,14 @@ ghost use Rattle.fb_types.specs.declared.library.EventPort.{EventPort};
 ghost use Rattle.fb_types.specs.declared.library.State.{State};
 ghost use Rattle.fb_types.specs.declared.library.Transition.{Transition};
 ghost use Rattle.fb_types.specs.Names.{Name};
-ghost use Rattle.fb_kinds.specs.Checks.{action_met, actions_met, transition_met};
-ghost use Rattle.fb_names.specs.Sorts.{names_of_sort};
+ghost use Rattle.fb_check_types.specs.Checks.{action_met, actions_met, transition_met};
+ghost use Rattle.fb_check_names.specs.Sorts.{names_of_sort};
 ghost use Rattle.fb_why_kinds.specs.Unknown.{Unmet, action_wanted, transition_wanted};
 
 use crate::lookup::{has_port, is_called};
 use crate::place::{ActionPart, TransitionPart};
-use fb_names::ports::PortSort;
-use fb_types::library::{Action, BasicType, EventPort, Ports, State, Transition};
-use fb_types::name::Name;
+use fb_check_names::PortSort;
+use fb_types::{Action, BasicType, EventPort, Name, Ports, State, Transition};
 
 /// The first name that is no variable of the sort.
 fn unknown_variable(ports: &Ports, sort: PortSort, names: &[Name]) -> Option<usize>

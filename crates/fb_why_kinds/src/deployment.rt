@@ -5,14 +5,12 @@ ghost use Rattle.std.specs.List.{list_all};
 ghost use Rattle.fb_types.specs.Names.{Name};
 ghost use Rattle.fb_types.specs.declared.deploy.Link.{Link};
 ghost use Rattle.fb_types.specs.declared.deploy.ResourceEntry.{ResourceEntry};
-ghost use Rattle.fb_names.specs.Unknown.{DeploymentUnknown};
+ghost use Rattle.fb_check_names.specs.Unknown.{DeploymentUnknown};
 ghost use Rattle.fb_why_kinds.specs.Unknown.{IsUnknownAt, are_sides_met, are_mapped, is_instance, is_resource, side_of};
 
 use crate::lookup::is_called;
 use crate::place::{Side, UnknownName};
-use fb_types::deploy::{Link, Plan, ResourceEntry};
-use fb_types::library::{Instance, Library};
-use fb_types::name::Name;
+use fb_types::{Instance, Library, Link, Name, Plan, ResourceEntry};
 
 /// The first name that is no instance.
 fn unknown_name(instances: &[Instance], names: &[Name]) -> Option<usize>

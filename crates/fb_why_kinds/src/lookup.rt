@@ -4,18 +4,14 @@ ghost use Rattle.std.specs.Prelude.{◌≡◌, IfOk, option_map};
 ghost use Rattle.std.specs.List.{list_any};
 ghost use Rattle.std.specs.Option.{option_copied};
 ghost use Rattle.fb_types.specs.Blocks.{among, ports_of};
-ghost use Rattle.fb_names.specs.Sorts.{names_of_sort};
+ghost use Rattle.fb_check_names.specs.Sorts.{names_of_sort};
 ghost use Rattle.fb_types.specs.Names.{same_name};
 ghost use Rattle.fb_types.specs.EventPorts.{ArePortsOfKinds};
 ghost use Rattle.fb_types.specs.Flat as spec;
 ghost use Rattle.fb_types.specs.Repeated.{block_type_names};
 
-use fb_names::named::Named;
-use fb_names::ports::PortSort;
-use fb_types::event_ports::{all_ports, kind_named};
-use fb_types::items::Items;
-use fb_types::library::{Library, Ports, block_named};
-use fb_types::name::Name;
+use fb_check_names::{Named, PortSort};
+use fb_types::{Items, Library, Name, Ports, all_ports, block_named, kind_named};
 use std::alloc::{AllocError, Global};
 
 /// The block types of a declaration, and the ports of the event blocks in the order of their kinds.

@@ -4,15 +4,11 @@ ghost use Rattle.std.specs.Prelude.{◌≡◌, ◌∷◌, ◌++◌, [], IfOk};
 ghost use Rattle.fb_types.specs.Blocks.{among, variable_names, variables_of};
 ghost use Rattle.fb_types.specs.Syntax.{body_of, expr_of, stmt_of};
 ghost use Rattle.fb_types.specs.Unknown.{is_known, mentions, mentions_all, mentions_body, mentions_branches, mentions_choices, mentions_in};
-ghost use Rattle.fb_kinds.specs.Trees.{all_of, arguments_of, branches_of, choices_of};
+ghost use Rattle.fb_check_types.specs.Trees.{all_of, arguments_of, branches_of, choices_of};
 ghost use Rattle.fb_why_kinds.specs.Mentions.{meant, meant_all, mentions_of_control, mentions_of_step};
 
-use fb_kinds::variables::type_among;
-use fb_types::function::Function;
-use fb_types::library::BasicType;
-use fb_types::name::Name;
-use fb_types::reference::Reference;
-use fb_types::text::{Body, Branch, Choice, Expr, Stmt};
+use fb_check_types::type_among;
+use fb_types::{BasicType, Body, Branch, Choice, Expr, Function, Name, Reference, Stmt};
 use std::alloc::{AllocError, Global};
 
 /// A variable or a function that a text names.

@@ -9,7 +9,7 @@ ghost use Rattle.fb_types.specs.declared.library.Algorithm.{Algorithm};
 ghost use Rattle.fb_types.specs.declared.library.BlockType.{BlockType};
 ghost use Rattle.fb_types.specs.declared.library.Transition.{Transition};
 ghost use Rattle.fb_types.specs.Syntax.{body_of};
-ghost use Rattle.fb_kinds.specs.Checks.{algorithm_right, chart_right, is_guard_right};
+ghost use Rattle.fb_check_types.specs.Checks.{algorithm_right, chart_right, is_guard_right};
 ghost use Rattle.fb_why_kinds.specs.Misfits.{InitialIn, IsMisfitAt, MisfitAmong, are_initials_right, is_all_right};
 ghost use Rattle.fb_why_kinds.specs.Sites.{basic_at};
 ghost use Rattle.fb_why_kinds.specs.Statements.{WrongAmong, each_in_body};
@@ -17,8 +17,8 @@ ghost use Rattle.fb_why_kinds.specs.Statements.{WrongAmong, each_in_body};
 use crate::parameters::misfit_in_network;
 use crate::place::{Misfit, Site, StatementPart, Variables};
 use crate::statements::wrong_statement;
-use fb_kinds::sorts::is_condition;
-use fb_types::library::{Algorithm, BasicType, BlockType, Library, Transition, Variable};
+use fb_check_types::is_condition;
+use fb_types::{Algorithm, BasicType, BlockType, Library, Transition, Variable};
 use std::alloc::{AllocError, Global};
 
 /// The first of some variables that is declared with a value that is none of its type.

@@ -12,10 +12,9 @@ ghost use Rattle.fb_why_kinds.specs.Misjoins.{IsMisjoinedAt, IsMisjoinedInside, 
 use crate::networks::PlacedNetwork;
 use crate::place::{Misjoin, Site};
 use crate::types::type_named;
-use fb_joins::values::is_within;
-use fb_kinds::variables::port_type;
-use fb_types::library::{BlockType, Connection, Library, PortName, instance_named};
-use fb_types::value::Ty;
+use fb_check_networks::is_within;
+use fb_check_types::port_type;
+use fb_types::{BlockType, Connection, Library, PortName, Ty, instance_named};
 
 /// The type of the variable at an end of a data connection.
 pub(crate) fn type_at_end(library: &Library, scope: &PlacedNetwork, end: &PortName) -> Option<Ty>

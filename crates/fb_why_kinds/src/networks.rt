@@ -9,16 +9,16 @@ ghost use Rattle.fb_types.specs.Unknown.{data_ins};
 ghost use Rattle.fb_types.specs.declared.library.Connection.{Connection};
 ghost use Rattle.fb_types.specs.declared.library.Instance.{Instance};
 ghost use Rattle.fb_types.specs.declared.library.Parameter.{Parameter};
-ghost use Rattle.fb_names.specs.Unknown.{NetworkUnknown};
+ghost use Rattle.fb_check_names.specs.Unknown.{NetworkUnknown};
 ghost use Rattle.fb_why_kinds.specs.Sites.{connections_of, network_at, placed};
-ghost use Rattle.fb_names.specs.Sorts.{names_of_sort};
+ghost use Rattle.fb_check_names.specs.Sorts.{names_of_sort};
 ghost use Rattle.fb_why_kinds.specs.declared.place.UnknownName.TheVariants.{End};
 ghost use Rattle.fb_why_kinds.specs.Unknown.{IsUnknownIn, UnmetParameter, are_ends_known, are_parameters_met, inputs_of, is_side_known, is_type_met, outputs_of};
 
 use crate::lookup::{BlockTypes, has_port};
 use crate::place::{FlowKind, Side, Site, UnknownName};
-use fb_names::ports::PortSort;
-use fb_types::library::{
+use fb_check_names::PortSort;
+use fb_types::{
     CompositeType, Connection, Instance, Network, Parameter, PortName, Ports, instance_named,
 };
 

@@ -12,7 +12,7 @@ ghost use Rattle.fb_why_kinds.specs.Types.{meant};
 
 use crate::place::{Misfit, Site};
 use crate::types::{Kind, type_named};
-use fb_types::library::{Instance, Library, Network, Parameter};
+use fb_types::{Instance, Library, Network, Parameter};
 
 /// Whether a parameter is a value of the type of the input that it sets, where the type has the input.
 fn is_right(kind: Kind, parameter: &Parameter) -> bool

@@ -4,19 +4,16 @@ ghost use Rattle.std.specs.Prelude.{◌≡◌, ◌∷◌, ◌++◌, [], IfOk, Ma
 ghost use Rattle.std.specs.List.{list_all};
 ghost use Rattle.fb_types.specs.Kinds.{place_in};
 ghost use Rattle.fb_types.specs.Syntax.{Assign, For, body_of, expr_of, no_stmt, stmt_of, step_of};
-ghost use Rattle.fb_kinds.specs.Checks.{algorithm_right, in_place};
-ghost use Rattle.fb_kinds.specs.Trees.{all_of, branches_of, choices_of};
+ghost use Rattle.fb_check_types.specs.Checks.{algorithm_right, in_place};
+ghost use Rattle.fb_check_types.specs.Trees.{all_of, branches_of, choices_of};
 ghost use Rattle.fb_why_kinds.specs.Statements.{WrongAmong, all_standing, choice_right, conditions_right, each_in_body, each_in_branches, each_in_choices, each_inside, own_right, part_right, stands_right, standing_of};
 
 use crate::place::StatementPart;
 use crate::types::is_input;
-use fb_kinds::sorts::{
+use fb_check_types::{
     Typing, are_same, is_condition, is_sort, is_step_whole, is_whole, sort_of_type,
 };
-use fb_types::library::{Algorithm, BasicType};
-use fb_types::reference::Reference;
-use fb_types::sort::Sort;
-use fb_types::text::{Body, Branch, Choice, Expr, Stmt};
+use fb_types::{Algorithm, BasicType, Body, Branch, Choice, Expr, Reference, Sort, Stmt};
 use std::alloc::{AllocError, Global};
 
 /// A statement, and whether it stands in a loop.

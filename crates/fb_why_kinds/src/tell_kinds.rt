@@ -9,12 +9,8 @@ use crate::tell_sites::{
 };
 use crate::types::type_named;
 use crate::words::{Text, type_words};
-use fb_kinds::sorts::{Typing, sort_of, sort_of_type};
-use fb_types::library::{BasicType, BlockType, Library, Variable};
-use fb_types::reference::Reference;
-use fb_types::sort::Sort;
-use fb_types::text::{Choice, Expr, Stmt};
-use fb_types::value::Ty;
+use fb_check_types::{Typing, sort_of, sort_of_type};
+use fb_types::{BasicType, BlockType, Choice, Expr, Library, Reference, Sort, Stmt, Ty, Variable};
 use std::alloc::{AllocError, Global};
 
 /// The line that tells where a value, an expression or a statement has the wrong kind.

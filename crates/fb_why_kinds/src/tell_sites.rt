@@ -3,7 +3,7 @@
 use crate::networks::PlacedNetwork;
 use crate::place::Site;
 use crate::words::Text;
-use fb_types::library::{BasicType, BlockType, Instance, Library, Transition};
+use fb_types::{BasicType, BlockType, Instance, Library, Transition};
 
 /// Words for a block type.
 pub(crate) fn push_block(text: &mut Text, library: &Library, block: usize) {

@@ -8,10 +8,8 @@ use crate::tell_sites::{
     instance_of, push_basic, push_block, push_instance, push_site, push_transition, scope_of,
 };
 use crate::words::Text;
-use fb_names::ports::PortSort;
-use fb_types::deploy::Plan;
-use fb_types::library::{Action, BasicType, CompositeType, Instance, Library, instance_named};
-use fb_types::name::Name;
+use fb_check_names::PortSort;
+use fb_types::{Action, BasicType, CompositeType, Instance, Library, Name, Plan, instance_named};
 use std::alloc::{AllocError, Global};
 
 /// The line that tells the place: where it is, what stands there, and what was wanted.

@@ -3,15 +3,11 @@
 ghost use Rattle.std.specs.Prelude.{◌≡◌, [], ◌∷◌, option_map};
 ghost use Rattle.fb_types.specs.Blocks as blocks;
 ghost use Rattle.fb_types.specs.Flat as flat;
-ghost use Rattle.fb_kinds.specs.Roles as roles;
+ghost use Rattle.fb_check_types.specs.Roles as roles;
 ghost use Rattle.fb_why_kinds.specs.Types.{joinable, meant};
 
-use fb_kinds::variables::{port_type, variable_type};
-use fb_types::event_kind::EventKind;
-use fb_types::event_ports::kind_named;
-use fb_types::library::{BasicType, BlockType, Library, block_named};
-use fb_types::name::Name;
-use fb_types::value::Ty;
+use fb_check_types::{port_type, variable_type};
+use fb_types::{BasicType, BlockType, EventKind, Library, Name, Ty, block_named, kind_named};
 
 /// What the type of an instance is.
 #[derive(Clone, Copy)]

@@ -9,8 +9,7 @@ use crate::deployment::unknown_in_deployment;
 use crate::lookup::BlockTypes;
 use crate::networks::{PlacedNetwork, unknown_in_network};
 use crate::place::{Site, UnknownName};
-use fb_types::deploy::Plan;
-use fb_types::library::Library;
+use fb_types::{Library, Plan};
 use std::alloc::{AllocError, Global};
 
 /// The place, where the types of the declaration are at hand.

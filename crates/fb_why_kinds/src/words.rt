@@ -1,10 +1,7 @@
 //! Texts that are put together of words, names and numbers.
 
-use fb_names::named::Named;
-use fb_names::ports::PortSort;
-use fb_types::library::{Connection, PortName, Ports};
-use fb_types::name::Name;
-use fb_types::value::{Ty, Value};
+use fb_check_names::{Named, PortSort};
+use fb_types::{Connection, Name, PortName, Ports, Ty, Value};
 use std::alloc::{AllocError, Global};
 
 /// A text that grows. Where there is no memory for a part of it, it grows no more, and there is no text in the end: what writes

@@ -13,7 +13,7 @@ use Rattle.fb_types.specs.States as model
 use Rattle.fb_types.specs.declared.key.Key.{Key}
 use Rattle.fb_types.specs.declared.run.Message.{Message}
 use Rattle.fb_types.proofs.Lookups.{none_since, or_else_nones, or_else_parts, same_cases}
-use Rattle.fb_take.specs.Posts.{IsMessage, arriving, receiver_of}
+use Rattle.fb_resource.specs.Posts.{IsMessage, arriving, receiver_of}
 use Rattle.fb_link.specs.Exchanges.{keyed}
 use Rattle.fb_laws.specs.Facts.{IsLawful}
 use Rattle.fb_laws.specs.Worlds.{World}

@@ -14,7 +14,7 @@ use Rattle.fb_types.specs.States as model
 use Rattle.fb_types.specs.declared.key.Key.{Key}
 use Rattle.fb_types.specs.declared.run.Line.{Line}
 use Rattle.fb_types.specs.declared.run.Message.{Message}
-use Rattle.fb_take.specs.Posts.{IsMessage, arriving, receiver_of}
+use Rattle.fb_resource.specs.Posts.{IsMessage, arriving, receiver_of}
 use Rattle.fb_link.specs.Exchanges.{AreFor, all_of, goes_to}
 use Rattle.fb_laws.specs.Facts.{IsLawful}
 use Rattle.fb_laws.specs.Worlds.{World}

@@ -13,10 +13,10 @@ use Rattle.fb_types.specs.Systems.{System}
 use Rattle.fb_types.specs.declared.key.Key.{Key}
 use Rattle.fb_types.specs.declared.run.Message.{Message}
 use Rattle.fb_types.proofs.Lookups.{found-append, or_else_assoc}
-use Rattle.fb_take.specs.Posts.{arriving, receiver_of}
+use Rattle.fb_resource.specs.Posts.{arriving, receiver_of}
 use Rattle.fb_link.specs.Exchanges.{goes_to}
 use Rattle.fb_link.proofs.Dealt.{goes, stays}
-use Rattle.fb_take.proofs.Lists.{set_here, set_apart}
+use Rattle.fb_resource.proofs.Lists.{set_here, set_apart}
 use Rattle.fb_resource.specs.Resources.{HasReceived, IsFor, StandsFor, with_messages}
 use Rattle.fb_resource.specs.declared.resource.Inner.{Inner}
 use Rattle.fb_window.specs.Mails.{AreGiven}

@@ -9,7 +9,7 @@ use Rattle.fb_types.specs.declared.run.Line.{Line}
 use Rattle.fb_types.specs.declared.run.Message.{Message}
 use Rattle.fb_types.proofs.Lookups.{option_cases}
 use Rattle.fb_system.specs.Lines.{BelongsTo}
-use Rattle.fb_take.specs.Posts.{IsMessage}
+use Rattle.fb_resource.specs.Posts.{IsMessage}
 use Rattle.fb_resource.specs.declared.resource.Inner.{Inner}
 use Rattle.fb_trace.specs.Merging.{flat}
 use Rattle.fb_trace.proofs.Together.{kept}

@@ -13,7 +13,7 @@ use Rattle.fb_types.specs.declared.run.Line.{Line}
 use Rattle.fb_types.specs.declared.run.Message.{Message}
 use Rattle.fb_types.specs.declared.value.Reason.{Reason}
 use Rattle.fb_types.proofs.Lookups.{none_some, option_cases}
-use Rattle.fb_take.specs.Posts.{IsMessage, arriving}
+use Rattle.fb_resource.specs.Posts.{IsMessage, arriving}
 use Rattle.fb_resource.specs.Resources.{IsOf, StandsFor, RanTo}
 use Rattle.fb_resource.specs.declared.resource.Inner.{Inner}
 use Rattle.fb_window.specs.Homes.{HasCome, IsHomeAt, AreHome}

@@ -15,8 +15,8 @@ ghost use Rattle.fb_window.specs.Settling.{AreLegal};
 
 use crate::cores::{Bounds, Core, MAX_RESOURCES};
 use crate::links::SystemLinks;
-use fb_resource::resource::Resource;
 use fb_link::earliest;
+use fb_resource::Resource;
 
 impl Core {
     /// How far each resource may run, in ticks (milliseconds): to the greatest bound below which no later message can

@@ -2,8 +2,8 @@
 
 use crate::job::Job;
 use crate::links::SystemLinks;
-use fb_resource::resource::Resource;
-use fb_types::run::{Line, StopMark};
+use fb_resource::Resource;
+use fb_types::{Line, StopMark};
 use std::alloc::AllocError;
 use std::snapshot::Snapshot;
 

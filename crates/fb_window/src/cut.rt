@@ -9,8 +9,8 @@ ghost use Rattle.fb_laws.specs.Finality.{until};
 ghost use Rattle.fb_window.specs.Frontiers.{AreCut, IsSplit, edge_of};
 
 use crate::frontier::Frontier;
-use fb_trace::merge::merge;
-use fb_types::run::Line;
+use fb_trace::merge;
+use fb_types::Line;
 use std::alloc::{AllocError, Global};
 
 /// The lines of a resource that are final, and the others. Where there are only the one or the other, none is moved.

@@ -4,8 +4,8 @@ ghost use Rattle.std.specs.Prelude.{◌≡◌, ◌≤◌, ℕ, false, true, IfNo
 ghost use Rattle.fb_resource.specs.declared.resource.Inner.{Inner};
 ghost use Rattle.fb_window.specs.Frontiers.{AreAllPast, AreLive, IsEnd, IsFirstStop};
 
-use fb_resource::resource::Resource;
-use fb_types::run::StopMark;
+use fb_resource::Resource;
+use fb_types::StopMark;
 
 /// How far resources are.
 #[derive(Clone, Copy)]

@@ -5,7 +5,7 @@ ghost use Rattle.fb_laws.specs.Finality.{until};
 ghost use Rattle.fb_window.specs.Frontiers.{IsFrontier, edge_of};
 
 use crate::bounds::floor;
-use fb_resource::resource::Resource;
+use fb_resource::Resource;
 
 /// A place among the lines, which are in order by tick, then resource: those before it are final, and where it is
 /// within, those of its own resource at its tick are too.

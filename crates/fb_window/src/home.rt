@@ -11,8 +11,8 @@ ghost use Rattle.fb_window.specs.Homes.{AreHome, IsHomeTo};
 ghost use Rattle.fb_window.specs.Jobs.{Does, jobs_of, resting_of};
 
 use crate::cores::Failed;
-use fb_resource::resource::{Resource, WindowDone};
-use fb_types::run::{Line, Message};
+use fb_resource::{Resource, WindowDone};
+use fb_types::{Line, Message};
 use std::alloc::{AllocError, Global};
 use std::vec::IntoIter;
 

@@ -4,8 +4,8 @@ ghost use Rattle.std.specs.Prelude.{◌≡◌, ◌^◌, ◌≤◌, None};
 ghost use Rattle.fb_resource.specs.Resources.{IsOf};
 ghost use Rattle.fb_window.specs.Jobs.{Does, MayRun};
 
-use fb_resource::resource::{Resource, WindowDone};
-use fb_system::system::System;
+use fb_resource::{Resource, WindowDone};
+use fb_system::System;
 use std::alloc::Global;
 use std::marker::Model;
 

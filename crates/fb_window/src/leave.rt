@@ -8,8 +8,8 @@ ghost use Rattle.fb_window.specs.Settling.{HasLeft};
 
 use crate::cores::{Away, Bounds, Core, Failed};
 use crate::job::Job;
-use fb_resource::resource::Resource;
-use fb_system::system::System;
+use fb_resource::Resource;
+use fb_system::System;
 use std::alloc::{AllocError, Global};
 use std::snapshot::Snapshot;
 

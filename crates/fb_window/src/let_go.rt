@@ -3,8 +3,8 @@
 
 use crate::cores::Core;
 use crate::job::Job;
-use fb_resource::resource::Resource;
-use fb_system::system::System;
+use fb_resource::Resource;
+use fb_system::System;
 
 /// Lets a system go.
 pub fn let_system_go(system: System) {

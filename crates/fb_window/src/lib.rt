@@ -5,7 +5,7 @@
 //! exchanged, and the lines that have become final are handed out (`settle`). What the rounds come to is told by the
 //! law of schedules (`laws`), which knows nothing of this code.
 //!
-//! To be read in this order: `laws`; `cores`, `links` and `open`, what a core is; `bounds`; `leave` and `job`; `settle`, with
+//! Read in this order: `laws`; `cores`, `links` and `open`, what a core is; `bounds`; `leave` and `job`; `settle`, with
 //! `home`, `post`, `frontier`, `cut`, `ends` and `beside`; `walk`, with `nexts`; `let_go`.
 #![tactic(auto)]
 
@@ -26,3 +26,8 @@ mod open;
 mod post;
 pub mod settle;
 mod walk;
+
+pub use cores::{Away, Bounds, Core, Failed, MAX_RESOURCES, Settled};
+pub use job::Job;
+pub use let_go::{let_jobs_go, let_resource_go, let_system_go};
+pub use links::{LinkRow, SystemLinks};

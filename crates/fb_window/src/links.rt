@@ -5,9 +5,8 @@ ghost use Rattle.fb_types.specs.Headline.{AreAccepted};
 ghost use Rattle.fb_types.specs.Limits.{IsWithinLimits};
 ghost use Rattle.fb_window.specs.LinkRows.{AreLinksOf};
 
-use fb_system::system::System;
-use fb_types::items::Items;
-use fb_types::latency::Latency;
+use fb_system::System;
+use fb_types::{Items, Latency};
 use std::alloc::{AllocError, Global};
 use std::marker::Model;
 use std::snapshot::Snapshot;
@@ -32,8 +31,7 @@ pub struct SystemLinks {
     system: Snapshot<System>,
 }
 
-// Written out, and not derived: so it is proved here alone what is dropped with the links, and not in each crate that
-// drops a core.
+// Drop is written by hand, so that callers need not prove it again (docs/DECISIONS.md, "Drop").
 impl Drop for SystemLinks {
     fn drop(self) {
         let SystemLinks { rows: _, system: _ } = self;

@@ -6,7 +6,7 @@ ghost use Rattle.fb_resource.specs.declared.resource.Inner.{Inner};
 ghost use Rattle.fb_types.specs.declared.key.Key.{Key};
 ghost use Rattle.fb_window.specs.Noting.{AreNoted, IsNoted};
 
-use fb_resource::resource::Resource;
+use fb_resource::Resource;
 use std::alloc::{AllocError, Global};
 
 /// For each resource the tick of its next event, or the horizon where none comes before it. So a turn need not ask each

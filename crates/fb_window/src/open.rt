@@ -8,9 +8,9 @@ ghost use Rattle.fb_window.specs.Standing.{IsAt};
 
 use crate::cores::Core;
 use crate::links::SystemLinks;
-use fb_resource::resource::Resource;
-use fb_system::system::System;
-use fb_types::run::Line;
+use fb_resource::Resource;
+use fb_system::System;
+use fb_types::Line;
 use std::alloc::{AllocError, Global};
 
 /// So many lists without a line.

@@ -10,10 +10,10 @@ ghost use Rattle.fb_resource.specs.Resources.{HasReceived};
 ghost use Rattle.fb_resource.specs.declared.resource.Inner.{Inner};
 ghost use Rattle.fb_window.specs.Mails.{AreDelivered, ArePosted};
 
-use fb_resource::resource::Resource;
-use fb_system::system::System;
 use fb_link::exchange;
-use fb_types::run::Message;
+use fb_resource::Resource;
+use fb_system::System;
+use fb_types::Message;
 use std::alloc::{AllocError, Global};
 use std::vec::IntoIter;
 

@@ -21,8 +21,8 @@ use crate::ends::{End, end_of};
 use crate::frontier::frontier_of;
 use crate::home::come_home;
 use crate::post::post;
-use fb_resource::resource::WindowDone;
-use fb_system::system::System;
+use fb_resource::WindowDone;
+use fb_system::System;
 use std::alloc::Global;
 
 impl Away {

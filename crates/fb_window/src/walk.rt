@@ -19,9 +19,9 @@ use crate::cores::{Core, Failed};
 use crate::ends::first_stop;
 use crate::home::put_behind;
 use crate::nexts::Nexts;
-use fb_resource::resource::Resource;
-use fb_system::system::System;
-use fb_types::run::{Message, StopMark};
+use fb_resource::Resource;
+use fb_system::System;
+use fb_types::{Message, StopMark};
 use std::alloc::{AllocError, Global};
 
 /// Puts messages on the agenda of the resource at a place, and notes when it has its next event.

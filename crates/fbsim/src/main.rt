@@ -6,8 +6,7 @@
 #[cfg(test)]
 mod tests;
 
-use fbsim_command::failure::Failure;
-use fbsim_command::files::Files;
+use fbsim_command::{Failure, Files};
 pub use fbsim_command::{Call, LineFault, Source, SourceFault, Streams, command, parse};
 use std::process::ExitCode;
 use std::sync::Wait;

@@ -5,11 +5,11 @@ ghost use Rattle.fbsim_command.specs.Failures.{failure_of, failure_of_check, fai
 ghost use Rattle.fbsim_command.specs.declared.failure.Failure.TheVariants.{Memory};
 
 use crate::sources::SourceFault;
-use fb_check::error::CheckError;
-use fb_inputs::error::InputError;
-use fb_read::error::ReadError;
+use fb_check::CheckError;
+use fb_inputs::InputError;
+use fb_read::ReadError;
 use fb_sim::{Refusal, RunError};
-use fb_wave::error::WaveError;
+use fb_wave::WaveError;
 use std::alloc::AllocError;
 use std::fmt;
 

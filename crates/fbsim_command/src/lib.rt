@@ -20,6 +20,9 @@ pub mod status;
 mod texts;
 mod wave;
 
-pub use line::{Call, LineFault, parse};
-pub use program::command;
+pub use failure::{Failure, RefusalLine};
+pub use files::{Files, Opened};
+pub use line::{Action, Call, LineFault, Task, Wave, parse};
+pub use program::{command, command_exit};
 pub use sources::{Source, SourceFault, Streams};
+pub use status::{Done, ExitStatus};

@@ -16,7 +16,7 @@ ghost use Rattle.clap.specs.declared.builder.command.Command.TheViews.{out-Comma
 use clap::builder::ValueParser;
 use clap::error::ErrorKind;
 use clap::{Arg, ArgAction, ArgMatches, Command, Error};
-use fb_types::run::Form;
+use fb_types::Form;
 use std::alloc::{AllocError, Global};
 
 /// One call of the program: its subcommand with the file names, numbers and flags.

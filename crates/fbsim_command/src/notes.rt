@@ -8,7 +8,7 @@ use crate::failure::{Failure, RefusalLine};
 use crate::line::Task;
 use crate::sources::SourceFault;
 use crate::texts::{Part, Texts, Unread};
-use fb_why::finding::finding_of;
+use fb_why::finding_of;
 use std::alloc::Global;
 
 /// The number of a fault of the grammar, whose line says where it is besides.

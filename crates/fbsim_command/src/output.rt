@@ -5,7 +5,7 @@ ghost use Rattle.std.specs.Io.KnownBytes.{Appends};
 ghost use Rattle.fbsim_command.specs.Failures.{WritesPart};
 
 use crate::failure::Failure;
-use fb_trace::front::write_front;
+use fb_trace::write_front;
 use std::io::Write;
 
 /// Writes a text.

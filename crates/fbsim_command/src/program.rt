@@ -19,11 +19,8 @@ use crate::status::{Done, ExitStatus, status};
 use crate::texts::{Texts, read_files};
 use crate::wave::show;
 use fb_phase::OpenGate;
-use fb_sim::{
-    Inputs, Options, Outcome, ReportedRun, check, run, run_serial, run_with_progress,
-};
-use fb_why::explain::explain;
-use fb_why::table::Explanation;
+use fb_sim::{Inputs, Options, Outcome, ReportedRun, check, run, run_serial, run_with_progress};
+use fb_why::{Explanation, explain};
 use std::alloc::{AllocError, Global};
 use std::io;
 use std::io::Write;

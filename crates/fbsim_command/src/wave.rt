@@ -9,7 +9,7 @@ use crate::sources::{Source, Streams};
 use crate::status::Done;
 use crate::texts::read_files;
 use fb_sim::{Inputs, let_go, open};
-use fb_wave::wave::write_wave;
+use fb_wave::write_wave;
 use std::alloc::Global;
 use std::io::{BufRead, Write};
 

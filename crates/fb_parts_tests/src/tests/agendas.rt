@@ -1,9 +1,7 @@
 //! An agenda by itself. What is taken follows from the keys.
 
-use fb_agenda::agenda::Agenda;
-use fb_agenda::least::Least;
-use fb_types::key::Key;
-use fb_types::run::{Event, Target, TimerAsk};
+use fb_agenda::{Agenda, Least};
+use fb_types::{Event, Key, Target, TimerAsk};
 use std::mem::forget;
 
 const TARGET: Target = Target {

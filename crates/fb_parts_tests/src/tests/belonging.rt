@@ -5,9 +5,9 @@ ghost use Rattle.fb_types.specs.Headline.{system_of};
 ghost use Rattle.fb_system.specs.Lines.{BelongsTo};
 ghost use Rattle.fb_trace.specs.End.{EndsIn};
 
-use fb_system::system::System;
-use fb_trace::last::RunEnd;
-use fb_types::run::Line;
+use fb_system::System;
+use fb_trace::RunEnd;
+use fb_types::Line;
 
 fn belongs(system: &System, line: &Line) -> bool
     ensures { IsTrue result → BelongsTo (system_of system.now) line.now }

@@ -1,14 +1,8 @@
 //! What a body leaves where it stops, and which names a frame has. The expected values are worked by hand.
 
 use fb_read::read_library;
-use fb_st::exec::exec;
-use fb_st::frame::Frame;
-use fb_st::known::knows;
-use fb_st::meter::{Flow, Meter};
-use fb_types::library::{Algorithm, BlockType};
-use fb_types::name::Name;
-use fb_types::reference::Reference;
-use fb_types::value::{Reason, Ty, Value};
+use fb_st::{Flow, Frame, Meter, exec, knows};
+use fb_types::{Algorithm, BlockType, Name, Reason, Reference, Ty, Value};
 use std::alloc::Global;
 use std::mem::forget;
 use std::process::Abort;

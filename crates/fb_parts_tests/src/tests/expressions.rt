@@ -1,8 +1,7 @@
 //! How comparisons in a row are grouped, which no accepted text has.
 
 use fb_read::read_library;
-use fb_types::library::{BasicType, BlockType};
-use fb_types::text::{BinaryOperator, Expr};
+use fb_types::{BasicType, BinaryOperator, BlockType, Expr};
 use std::mem::forget;
 
 static GUARDS: &str = "FUNCTION_BLOCK F EC_STATES S; END_STATES\n\

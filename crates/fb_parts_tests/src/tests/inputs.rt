@@ -1,10 +1,7 @@
 //! What a deployment and stimuli are read as, where no trace shows it: devices, names that stand for nothing, values that no type holds.
 
-use fb_inputs::deployment::read_deploy;
-use fb_inputs::stimuli::read_stimuli;
-use fb_types::deploy::{Deploy, Plan, Setting};
-use fb_types::name::Name;
-use fb_types::value::Value;
+use fb_inputs::{read_deploy, read_stimuli};
+use fb_types::{Deploy, Name, Plan, Setting, Value};
 use std::mem::forget;
 use std::process::Abort;
 

@@ -5,10 +5,9 @@ ghost use Rattle.std.specs.Prelude.{◌<◌, ◌≤◌, ◌^◌};
 
 use crate::tests::chain::accepted;
 use fb_link::{arrival, earliest};
-use fb_system::system::System;
-use fb_types::items::Items;
-use fb_types::latency::{Entry, Latency};
-use fb_window::let_go::let_system_go;
+use fb_system::System;
+use fb_types::{Entry, Items, Latency};
+use fb_window::let_system_go;
 use std::mem::forget;
 use std::process::Abort;
 

@@ -1,11 +1,9 @@
 //! One stimulus more than there may be, which no text can show, since one of so many rows is refused before.
 
-use fb_check::accept::accept;
+use fb_check::accept;
 use fb_read::read_library;
-use fb_types::deploy::{Deploy, Stimulus};
-use fb_types::items::Items;
-use fb_types::name::Name;
-use fb_window::let_go::let_system_go;
+use fb_types::{Deploy, Items, Name, Stimulus};
+use fb_window::let_system_go;
 use std::alloc::Global;
 use std::process::Abort;
 

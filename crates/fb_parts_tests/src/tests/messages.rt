@@ -1,10 +1,9 @@
 //! Messages that one resource sends and another takes.
 
 use super::chain::{ENOUGH, accepted, deliver_first, expect_text, handed, opened, run, turned};
-use fb_system::system::System;
-use fb_types::run::{Form, StopMark};
-use fb_types::value::Reason;
-use fb_window::let_go::let_system_go;
+use fb_system::System;
+use fb_types::{Form, Reason, StopMark};
+use fb_window::let_system_go;
 use std::alloc::Global;
 use std::mem::forget;
 use std::process::Abort;

@@ -2,12 +2,10 @@
 
 use super::belonging::{all_belong, ends_in};
 use super::chain::{accepted, expect_text};
-use fb_system::system::System;
-use fb_trace::last::{RunEnd, write_last};
-use fb_types::key::Key;
-use fb_types::run::{Form, Line, StopMark, Values};
-use fb_types::value::{Reason, Value};
-use fb_window::let_go::let_system_go;
+use fb_system::System;
+use fb_trace::{RunEnd, write_last};
+use fb_types::{Form, Key, Line, Reason, StopMark, Value, Values};
+use fb_window::let_system_go;
 use std::alloc::Global;
 use std::mem::forget;
 use std::process::Abort;

@@ -3,9 +3,9 @@
 use super::chain::accepted;
 use super::hand::{FALLING, HandPlan, RISING, SHUFFLED, run_by_hand};
 use super::serial::{expect_serial, inputs_of};
-use fb_system::system::System;
-use fb_types::run::Form;
-use fb_window::let_go::let_system_go;
+use fb_system::System;
+use fb_types::Form;
+use fb_window::let_system_go;
 use std::alloc::Global;
 use std::process::Abort;
 

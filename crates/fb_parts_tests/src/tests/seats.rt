@@ -1,12 +1,8 @@
 //! The blocks of a resource, each at the seat of its instance.
 
-use fb_event::state::EventState;
-use fb_tree::block::{Block, CompositeBlock, EventBlock};
-use fb_tree::resource::Forest;
-use fb_tree::shell::Shell;
-use fb_types::event_kind::EventKind;
-use fb_types::items::Items;
-use fb_types::value::Value;
+use fb_event::EventState;
+use fb_net::{Block, CompositeBlock, EventBlock, Forest, Shell};
+use fb_types::{EventKind, Items, Value};
 use std::alloc::Global;
 use std::collections::BTreeMap;
 use std::mem::forget;

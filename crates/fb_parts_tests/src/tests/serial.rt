@@ -1,11 +1,9 @@
 //! Rounds that are made by hand write what `run_serial` writes.
 
 use super::hand::{FALLING, HandPlan, RISING, run_by_hand};
-use fb_sim::options::{Inputs, Options};
-use fb_sim::reading::open;
-use fb_sim::serial::run_serial;
-use fb_types::run::Form;
-use fb_window::let_go::let_system_go;
+use fb_sim::{Inputs, Options, open, run_serial};
+use fb_types::Form;
+use fb_window::let_system_go;
 use std::alloc::Global;
 use std::fmt::Write;
 use std::process::Abort;

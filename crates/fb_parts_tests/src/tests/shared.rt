@@ -1,10 +1,6 @@
 //! Lists, names, references and keys: each public function once.
 
-use fb_types::boxed::Boxed;
-use fb_types::items::Items;
-use fb_types::key::{Key, compare};
-use fb_types::name::Name;
-use fb_types::reference::Reference;
+use fb_types::{Boxed, Items, Key, Name, Reference, compare};
 use std::alloc::Global;
 use std::cmp::Ordering;
 use std::mem::ManuallyDrop;

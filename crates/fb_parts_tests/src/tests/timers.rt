@@ -4,12 +4,8 @@ ghost use Rattle.std.specs.Prelude.{IsTrue};
 ghost use Rattle.fb_types.specs.Blocks.{ports_of_event_block};
 ghost use Rattle.fb_event.specs.Reactions.{FitTheirTypes};
 
-use fb_event::reaction::{expire, react};
-use fb_event::state::EventState;
-use fb_types::event_kind::EventKind;
-use fb_types::few::Held;
-use fb_types::run::{Emission, Emits, TimerAsk, Values};
-use fb_types::value::Value;
+use fb_event::{EventState, expire, react};
+use fb_types::{Emission, Emits, EventKind, Held, TimerAsk, Value, Values};
 use std::alloc::Global;
 use std::mem::forget;
 use std::process::Abort;

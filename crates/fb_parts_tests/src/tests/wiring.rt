@@ -1,9 +1,9 @@
 //! A network of two components: which ends its connections join, at components and at the boundary.
 //! And one in which the second component is connected at a port with a high number alone.
 
-use fb_fabric::wiring::Wiring;
-use fb_names::numbers::{NetworkNumbers, Wire, WireEnd};
-use fb_types::items::Items;
+use fb_check_names::{NetworkNumbers, Wire, WireEnd};
+use fb_system::Wiring;
+use fb_types::Items;
 use std::alloc::Global;
 use std::mem::forget;
 use std::process::Abort;

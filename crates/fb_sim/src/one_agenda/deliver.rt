@@ -4,13 +4,12 @@ ghost use Rattle.std.specs.Prelude.{◌≡◌, ◌<◌, ℕ, [], map, All, OnOk}
 ghost use Rattle.fb_types.specs.Headline.{system_of};
 ghost use Rattle.fb_types.specs.Keys.{found, or_else};
 ghost use Rattle.fb_types.specs.declared.key.Key as keys;
-ghost use Rattle.fb_take.specs.Posts.{IsMessage, arriving, key_of};
-ghost use Rattle.fb_take.specs.Waiting.{IsInOrder, meaning};
+ghost use Rattle.fb_resource.specs.Posts.{IsMessage, arriving, key_of};
+ghost use Rattle.fb_resource.specs.Waiting.{IsInOrder, meaning};
 
-use fb_agenda::agenda::Agenda;
-use fb_system::system::System;
-use fb_types::key::Key;
-use fb_types::run::{Event, Message};
+use fb_agenda::Agenda;
+use fb_system::System;
+use fb_types::{Event, Key, Message};
 use std::alloc::AllocError;
 
 /// The key under which a message waits.

@@ -15,15 +15,11 @@ ghost use Rattle.fb_sim.specs.Runs.{IsSpent};
 
 use crate::one_agenda::deliver::deliver;
 use crate::one_agenda::pause::Pause;
-use fb_agenda::least::Least;
-use fb_net::tree::Tree;
-use fb_system::system::System;
-use fb_take::queues::Queues;
-use fb_take::take::take;
-use fb_take::tick_counts::TickCounts;
-use fb_types::key::Key;
-use fb_types::run::{Event, Line, StopMark};
-use fb_types::value::Reason;
+use fb_agenda::Least;
+use fb_net::Tree;
+use fb_resource::{Queues, TickCounts, take};
+use fb_system::System;
+use fb_types::{Event, Key, Line, Reason, StopMark};
 use std::alloc::AllocError;
 
 /// The one agenda of all resources, with what takings give, and the blocks and the counts of each.

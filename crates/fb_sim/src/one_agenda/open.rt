@@ -7,11 +7,9 @@ ghost use Rattle.fb_sim.specs.Machines.{IsAt, IsReady};
 ghost use Rattle.fb_sim.specs.Openings.{AreOpened};
 
 use crate::one_agenda::machine::Machine;
-use fb_net::tree::Tree;
-use fb_system::system::System;
-use fb_take::open::open_agenda;
-use fb_take::queues::Queues;
-use fb_take::tick_counts::TickCounts;
+use fb_net::Tree;
+use fb_resource::{Queues, TickCounts, open_agenda};
+use fb_system::System;
 use std::alloc::{AllocError, Global};
 
 /// The blocks of all resources, as they begin.

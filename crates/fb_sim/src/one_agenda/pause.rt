@@ -1,6 +1,6 @@
 //! Where a run pauses.
 
-use fb_types::run::StopMark;
+use fb_types::StopMark;
 
 /// Why a run of all resources pauses.
 #[derive(Clone, Copy)]

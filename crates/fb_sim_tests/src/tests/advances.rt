@@ -10,7 +10,7 @@ use super::texts::{
 use super::writers::{ANY, with_room};
 use fb_phase::OpenGate;
 use fb_sim::{Outcome, RunError, Simulation};
-use fb_types::run::Form;
+use fb_types::Form;
 use std::alloc::Global;
 use std::process::Abort;
 use std::sync::Wait;

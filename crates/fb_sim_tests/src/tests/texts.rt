@@ -2,8 +2,7 @@
 
 use super::ENOUGH;
 use fb_sim::Outcome;
-use fb_types::run::StopMark;
-use fb_types::value::Reason;
+use fb_types::{Reason, StopMark};
 
 /// A run, and what it comes to. An empty text stands for no deployment, or for no stimuli.
 #[derive(Clone, Copy)]

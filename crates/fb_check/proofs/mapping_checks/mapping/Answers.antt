@@ -1,7 +1,7 @@
 use Rattle.std.proofs.Common.{arith}
 use Rattle.std.proofs.lemmas.Option.{MatchOption-at_some, MatchOption-at_none}
 use Rattle.fb_types.specs.Mapped.{NotMapped}
-use Rattle.fb_joins.specs.Mapping.{IsMapping}
+use Rattle.fb_check_networks.specs.Mapping.{IsMapping}
 use Rattle.fb_check.proofs.Verdict.{once, passes_26, least_26}
 use Rattle.fb_check.proofs.mapping_checks.mapping.Goals as goal
 

@@ -1,8 +1,8 @@
 use Rattle.std.proofs.Common.{inl, inr}
 use Rattle.fb_types.specs.Kinds.{KindWrong}
 use Rattle.fb_types.specs.declared.library.Library.{Library}
-use Rattle.fb_names.specs.Parts.{PartWrong}
-use Rattle.fb_joins.specs.Parameters.{ParameterWrong}
+use Rattle.fb_check_names.specs.Parts.{PartWrong}
+use Rattle.fb_check_networks.specs.Parameters.{ParameterWrong}
 use Rattle.fb_check.proofs.Verdict.{not_so, least_22, passes_22}
 use Rattle.fb_check.proofs.network_checks.judge_kinds.Goals as goal
 use Rattle.fb_check.proofs.network_checks.judge_kinds.Goals.{then-has_wrong_part-via-then-has_wrong_part, then-has_wrong_part-via-else-has_wrong_part+then-has_wrong_parameter}

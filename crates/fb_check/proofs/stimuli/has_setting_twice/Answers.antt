@@ -3,7 +3,7 @@ use Rattle.std.specs.Prelude.{IsTrue}
 use Rattle.fb_types.specs.Accepted.{set_names}
 use Rattle.fb_types.specs.Names.{Name}
 use Rattle.fb_types.specs.Repeated.{Twice}
-use Rattle.fb_names.specs.Places.{IsIndex, names_in}
+use Rattle.fb_check_names.specs.Places.{IsIndex, names_in}
 use Rattle.fb_check.proofs.Good.{none_exactly}
 use Rattle.fb_check.proofs.stimuli.has_setting_twice.Goals as goal
 

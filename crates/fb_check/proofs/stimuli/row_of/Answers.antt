@@ -3,7 +3,7 @@ use Rattle.std.specs.Option.{option_copied}
 use Rattle.std.specs.Prelude.{is_some}
 use Rattle.std.proofs.lemmas.Bool.{true≢false}
 use Rattle.fb_types.specs.Repeated.{instance_names}
-use Rattle.fb_names.specs.Places.{place_in}
+use Rattle.fb_check_names.specs.Places.{place_in}
 use Rattle.fb_check.specs.Directory.{IsFound, ports_at_place}
 use Rattle.fb_check.specs.declared.directory_making.TypeInputs.{TypeInputs}
 use Rattle.fb_check.proofs.Found.{unknown_instance}

@@ -1,6 +1,6 @@
 use Rattle.std.proofs.Common.{sym, ◌∙◌, ap}
-use Rattle.fb_names.specs.Numbers.{each_or_none}
-use Rattle.fb_names.proofs.Each.{each_more, each_stops, each_all}
+use Rattle.fb_check_names.specs.Numbers.{each_or_none}
+use Rattle.fb_check_names.proofs.Each.{each_more, each_stops, each_all}
 use Rattle.fb_check.specs.Directory.{slot_of}
 use Rattle.fb_check.proofs.stimuli.slots_of.Goals as goal
 

@@ -1,5 +1,5 @@
 use Rattle.std.proofs.Common.{◌≡◌, Some, take}
-use Rattle.fb_names.specs.Numbers.{each_or_none}
+use Rattle.fb_check_names.specs.Numbers.{each_or_none}
 use Rattle.fb_check.specs.Directory.{slot_of}
 use Rattle.fb_check.proofs.stimuli.slots_of.Given as goal
 

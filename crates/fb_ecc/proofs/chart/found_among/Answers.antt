@@ -2,7 +2,7 @@ use Rattle.std.proofs.Common.{◌≡◌, ◌+◌, ◌++◌, ◌∷◌, [], List,
 use Rattle.std.proofs.lemmas.List.{take_more}
 use Rattle.fb_types.specs.Names.{Name}
 use Rattle.fb_types.specs.Blocks.{among}
-use Rattle.fb_names.specs.Places.{place_in}
+use Rattle.fb_check_names.specs.Places.{place_in}
 use Rattle.fb_ecc.specs.Indexed.{entry_of, picked}
 use Rattle.fb_ecc.proofs.Indexing.{picked_none, picks_found, picks_none}
 use Rattle.fb_ecc.proofs.chart.found_among.Goals as goal

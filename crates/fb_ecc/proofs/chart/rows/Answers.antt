@@ -3,7 +3,7 @@ use Rattle.std.specs.Prelude.{position}
 use Rattle.fb_types.specs.Names.{same_name}
 use Rattle.fb_types.specs.Repeated.{state_names}
 use Rattle.fb_types.specs.declared.library.Transition.{Transition}
-use Rattle.fb_names.specs.Places.{place_in}
+use Rattle.fb_check_names.specs.Places.{place_in}
 use Rattle.fb_ecc.specs.declared.chart.Exit.{Exit}
 use Rattle.fb_ecc.proofs.Charts.{rows_left, rows_stay}
 use Rattle.fb_ecc.proofs.chart.rows.Goals as goal

@@ -1,5 +1,5 @@
 use Rattle.std.proofs.Common.{◌∙◌, ap, rules, sym}
-use Rattle.fb_tree.specs.declared.block.Block.TheVariants as block
+use Rattle.fb_net.specs.declared.block.Block.TheVariants as block
 use Rattle.fb_net.proofs.Basics.{changed_here}
 use Rattle.fb_net.proofs.basic_blocks.react_at.Goals as goal
 

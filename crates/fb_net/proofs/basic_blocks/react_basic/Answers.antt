@@ -1,9 +1,9 @@
 use Rattle.std.proofs.Common.{◌∙◌, List, ap, refl, subst, sym, ℕ}
 use Rattle.std.specs.Prelude.{slice_get, slice_set}
 use Rattle.fb_types.specs.Reactions.{World}
-use Rattle.fb_tree.specs.Worlds.{IsForest, seat_in}
-use Rattle.fb_tree.specs.declared.block.Block.{Block}
-use Rattle.fb_tree.specs.declared.block.Block.TheVariants as block
+use Rattle.fb_net.specs.Worlds.{IsForest, seat_in}
+use Rattle.fb_net.specs.declared.block.Block.{Block}
+use Rattle.fb_net.specs.declared.block.Block.TheVariants as block
 use Rattle.fb_net.specs.Leaves.{ChartEnded}
 use Rattle.fb_net.proofs.Basics.{basic_there, ended_from, is_block, is_sound, whole_from}
 use Rattle.fb_net.proofs.basic_blocks.react_basic.Goals as goal

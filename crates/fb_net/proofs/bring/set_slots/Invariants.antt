@@ -1,6 +1,6 @@
 use Rattle.std.proofs.Common.{take}
 use Rattle.fb_types.specs.Headline.{system_of}
-use Rattle.fb_tree.specs.Changes.{Changes}
+use Rattle.fb_net.specs.Changes.{Changes}
 use Rattle.fb_net.proofs.Changing.{one_by_one, value_set}
 use Rattle.fb_net.proofs.bring.set_slots.Given as goal
 

@@ -3,7 +3,7 @@ use Rattle.std.proofs.lemmas.List.{length_push}
 use Rattle.std.proofs.lemmas.Slice.Zip.{zip_turn, zip_end}
 use Rattle.fb_types.specs.Blocks.{Bound}
 use Rattle.fb_types.specs.Headline.{system_of}
-use Rattle.fb_tree.specs.Changes.{Changes}
+use Rattle.fb_net.specs.Changes.{Changes}
 use Rattle.fb_net.specs.Emitting.{outputs_shown}
 use Rattle.fb_net.proofs.Publishing.{all-outputs, nothing_shown, one_more_shown}
 use Rattle.fb_net.proofs.emit.publish_all.Goals as goal

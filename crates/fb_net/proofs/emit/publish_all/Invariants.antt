@@ -1,6 +1,6 @@
 use Rattle.std.proofs.Common.{length, take}
 use Rattle.fb_types.specs.Headline.{system_of}
-use Rattle.fb_tree.specs.Changes.{Changes}
+use Rattle.fb_net.specs.Changes.{Changes}
 use Rattle.fb_net.specs.Emitting.{outputs_at, outputs_shown}
 use Rattle.fb_net.proofs.emit.publish_all.Given as goal
 

@@ -1,5 +1,5 @@
 use Rattle.std.proofs.Common.{◌∙◌, ap, rules, sym}
-use Rattle.fb_tree.specs.declared.block.Block.TheVariants as block
+use Rattle.fb_net.specs.declared.block.Block.TheVariants as block
 use Rattle.fb_net.proofs.Basics.{changed_here}
 use Rattle.fb_net.proofs.Events.{all_new, has_answered}
 use Rattle.fb_net.proofs.event_blocks.expire_at.Goals as goal

@@ -4,10 +4,10 @@ use Rattle.std.proofs.lemmas.Result.{on_ok_weaker}
 use Rattle.fb_types.specs.Headline.{system_of}
 use Rattle.fb_types.specs.Numbers.{path_at}
 use Rattle.fb_event.specs.Reactions.{reaction_to}
-use Rattle.fb_tree.specs.Changes.{block_in}
-use Rattle.fb_tree.specs.Worlds.{seat_in}
-use Rattle.fb_tree.specs.declared.block.Block.TheVariants as block
-use Rattle.fb_tree.proofs.Reading.{found_at}
+use Rattle.fb_net.specs.Changes.{block_in}
+use Rattle.fb_net.specs.Worlds.{seat_in}
+use Rattle.fb_net.specs.declared.block.Block.TheVariants as block
+use Rattle.fb_net.proofs.Shown.{found_at}
 use Rattle.fb_net.specs.Leaves.{taken_reaction}
 use Rattle.fb_net.proofs.Events.{all_new, came, fit, has_answered, remembers, taken_agrees, typed, whole}
 use Rattle.fb_net.proofs.event_blocks.react_event.Goals as goal

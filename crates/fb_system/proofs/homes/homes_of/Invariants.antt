@@ -2,4 +2,4 @@ use Rattle.fb_system.proofs.Holding.{HomesSoFar}
 use Rattle.fb_system.proofs.homes.homes_of.Given as goal
 
 abbrev pub invariant-loop-instance : goal.invariant-loop-instance
-invariant-loop-instance l = HomesSoFar l.fabric l.links l.instance l.homes
+invariant-loop-instance l = HomesSoFar l.netlist l.links l.instance l.homes

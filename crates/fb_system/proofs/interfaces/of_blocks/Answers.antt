@@ -1,10 +1,10 @@
 use Rattle.std.proofs.Common.{length, refl, sym, subst, arith}
 use Rattle.std.proofs.lemmas.Option.{slice_get_read}
 use Rattle.fb_types.specs.declared.library.Ports.{Ports}
-use Rattle.fb_names.specs.declared.catalog.BlockPlaces.{BlockPlaces}
+use Rattle.fb_check_names.specs.declared.catalog.BlockPlaces.{BlockPlaces}
 use Rattle.fb_system.specs.Lookups.{IsPlaced}
 use Rattle.fb_system.specs.Stands.{AreWithPlaces}
-use Rattle.fb_system.proofs.Declared.{blocks_more}
+use Rattle.fb_system.proofs.Written.{blocks_more}
 use Rattle.fb_system.proofs.interfaces.of_blocks.Goals as goal
 
 pub with_places-requires : goal.with_places-requires

@@ -4,8 +4,8 @@ use Rattle.std.proofs.lemmas.Option.{slice_get_read, slice_get_within}
 use Rattle.fb_types.specs.Blocks.{ports_of, ports_of_event_block}
 use Rattle.fb_types.specs.EventPorts.{kind_place}
 use Rattle.fb_types.specs.declared.library.Ports.{Ports}
-use Rattle.fb_names.specs.Numbers.{kind_of_number}
-use Rattle.fb_names.specs.declared.numbers.TypeNumber.{TypeNumber}
+use Rattle.fb_check_names.specs.Numbers.{kind_of_number}
+use Rattle.fb_check_names.specs.declared.numbers.TypeNumber.{TypeNumber}
 use Rattle.fb_system.proofs.types.ports_of_type.Goals as goal
 
 pub bounds-as_slice-place : goal.bounds-as_slice-place
@@ -24,4 +24,4 @@ returns-in-Event c =
     let within : kind_place k < length all = slice_get_within all (kind_place k) (ports_of_event_block k) there in
     let read : slice_get all c.place.result ≡ Some x =
     slice_get_read all (length all) c.place.result x refl (subst (λ (n : ℕ). n < length all) (sym c.place.ensures) within) (rw c.as_slice.ensures at c.index-as_slice-place.is) in
-    ap (λ (t : TypeNumber). option_map ports_of (kind_of_number c.args.tables.now.fabric t)) c.in-Event.is ∙ sym there ∙ ap (slice_get all) (sym c.place.ensures) ∙ read
+    ap (λ (t : TypeNumber). option_map ports_of (kind_of_number c.args.tables.now.netlist t)) c.in-Event.is ∙ sym there ∙ ap (slice_get all) (sym c.place.ensures) ∙ read

@@ -2,7 +2,7 @@ use Rattle.std.proofs.Common.{List, map, subst, sym, ◌∙◌}
 use Rattle.std.proofs.lemmas.List.{take_all}
 use Rattle.fb_types.specs.Repeated.{Twice}
 use Rattle.fb_types.specs.declared.deploy.Link.{Link}
-use Rattle.fb_names.specs.Ends.{link_ends}
+use Rattle.fb_check_names.specs.Ends.{link_ends}
 use Rattle.fb_why.proofs.LinkPairs.{link_once, link_pair_at}
 use Rattle.fb_why.proofs.pair.link_pair.Goals as goal
 

@@ -1,6 +1,6 @@
 use Rattle.std.proofs.Common.{Bor}
 use Rattle.fb_types.specs.Names.{Name}
-use Rattle.fb_names.proofs.Seen.{name_cmp, name_cmp-exact}
+use Rattle.fb_check_names.proofs.Seen.{name_cmp, name_cmp-exact}
 use Rattle.fb_why.proofs.Tables.{pair_of_part, table_more_of_part}
 use Rattle.fb_why.proofs.pair.name_pair.Goals as goal
 

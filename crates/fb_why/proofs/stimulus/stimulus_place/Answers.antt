@@ -2,7 +2,7 @@ use Rattle.std.proofs.Common.{◌≡◌, false, true, Option, rules}
 use Rattle.std.specs.Prelude.{MatchOption}
 use Rattle.fb_types.specs.Accepted.{BadStimulus, IsLeastFault}
 use Rattle.fb_types.specs.Repeated.{NameTwice}
-use Rattle.fb_names.specs.Catalog.{IsCatalog}
+use Rattle.fb_check_names.specs.Catalog.{IsCatalog}
 use Rattle.fb_why.specs.Stimuli.{IsBadAt}
 use Rattle.fb_why.specs.Trials.{has_number}
 use Rattle.fb_why.specs.declared.place.StimulusPlace.{StimulusPlace}

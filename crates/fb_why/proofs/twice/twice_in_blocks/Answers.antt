@@ -1,6 +1,6 @@
 use Rattle.std.proofs.lemmas.Option.{MatchOption-at_none, MatchOption-at_some}
 use Rattle.fb_types.specs.declared.library.BlockType.{BlockType}
-use Rattle.fb_names.specs.GivenTwice.{BlockTwice}
+use Rattle.fb_check_names.specs.GivenTwice.{BlockTwice}
 use Rattle.fb_why.specs.Twice.{IsTwiceInBlock}
 use Rattle.fb_types.proofs.LoopSteps.{all_next, all_of_taken}
 use Rattle.fb_why.proofs.Firsts.{at_hand}

@@ -4,7 +4,7 @@ use Rattle.std.proofs.lemmas.Option.{MatchOption-at_none}
 use Rattle.fb_types.specs.Names.{Name}
 use Rattle.fb_types.specs.Repeated.{Twice}
 use Rattle.fb_types.specs.declared.library.EventPort.{EventPort}
-use Rattle.fb_names.specs.GivenTwice.{names_of_ports}
+use Rattle.fb_check_names.specs.GivenTwice.{names_of_ports}
 use Rattle.fb_why.specs.Pairs.{IsPair}
 use Rattle.fb_why.specs.Twice.{IsWithTwice}
 use Rattle.fb_why.proofs.Once.{IsWithOnce, ports_once}

@@ -7,7 +7,7 @@ use Rattle.fb_types.specs.declared.deploy.Link.{Link}
 use Rattle.fb_types.specs.declared.deploy.ResourceEntry.{ResourceEntry}
 use Rattle.fb_types.specs.declared.library.BlockType.{BlockType}
 use Rattle.fb_types.specs.declared.library.Network.{Network}
-use Rattle.fb_names.specs.GivenTwice.{NetworkTwice}
+use Rattle.fb_check_names.specs.GivenTwice.{NetworkTwice}
 use Rattle.fb_why.specs.Pairs.{IsPair}
 use Rattle.fb_why.specs.Twice.{IsTwiceInNetwork, IsTwiceInSome}
 use Rattle.fb_why.specs.declared.twice.InBlock.{InBlock}

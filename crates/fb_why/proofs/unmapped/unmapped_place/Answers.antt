@@ -1,5 +1,5 @@
 use Rattle.std.proofs.Common.{◌∙◌, ap}
-use Rattle.fb_names.specs.Places.{names_in}
+use Rattle.fb_check_names.specs.Places.{names_in}
 use Rattle.fb_why.proofs.Listed.{unmapped_answer}
 use Rattle.fb_why.proofs.unmapped.unmapped_place.Goals as goal
 

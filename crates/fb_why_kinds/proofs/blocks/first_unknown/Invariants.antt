@@ -1,5 +1,5 @@
 use Rattle.std.proofs.Common.{◌≡◌, drop}
-use Rattle.fb_kinds.specs.Checks.{all_known}
+use Rattle.fb_check_types.specs.Checks.{all_known}
 use Rattle.fb_why_kinds.specs.Mentions.{meant_all}
 use Rattle.fb_why_kinds.proofs.blocks.first_unknown.Given as goal
 

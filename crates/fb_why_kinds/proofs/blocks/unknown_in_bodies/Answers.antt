@@ -1,7 +1,7 @@
 use Rattle.std.proofs.Common.{◌≡◌, true}
 use Rattle.fb_types.specs.Syntax.{body_of}
 use Rattle.fb_types.specs.Unknown.{mentions_body}
-use Rattle.fb_kinds.specs.Checks.{body_known}
+use Rattle.fb_check_types.specs.Checks.{body_known}
 use Rattle.fb_why_kinds.specs.Unknown.{UnknownAmong}
 use Rattle.std.proofs.lemmas.Option.{MatchOption-at_none, MatchOption-at_some}
 use Rattle.fb_why_kinds.proofs.Searches.{at_hand, holds_on}

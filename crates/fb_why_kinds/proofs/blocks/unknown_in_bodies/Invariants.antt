@@ -1,6 +1,6 @@
 use Rattle.std.proofs.Common.{◌≡◌, drop}
 use Rattle.std.specs.List.{list_all}
-use Rattle.fb_kinds.specs.Checks.{body_known}
+use Rattle.fb_check_types.specs.Checks.{body_known}
 use Rattle.fb_why_kinds.proofs.blocks.unknown_in_bodies.Given as goal
 
 abbrev pub invariant-loop-place : goal.invariant-loop-place

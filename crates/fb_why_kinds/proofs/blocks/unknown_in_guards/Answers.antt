@@ -1,5 +1,5 @@
 use Rattle.std.proofs.Common.{◌≡◌, true}
-use Rattle.fb_kinds.specs.Checks.{guard_known, guard_mentions}
+use Rattle.fb_check_types.specs.Checks.{guard_known, guard_mentions}
 use Rattle.fb_why_kinds.specs.Unknown.{UnknownAmong}
 use Rattle.std.proofs.lemmas.Option.{MatchOption-at_none, MatchOption-at_some}
 use Rattle.fb_why_kinds.proofs.Searches.{at_hand, holds_on}

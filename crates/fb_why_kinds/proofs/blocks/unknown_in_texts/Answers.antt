@@ -5,8 +5,8 @@ use Rattle.fb_types.specs.Syntax.{body_of}
 use Rattle.fb_types.specs.Unknown.{mentions_body}
 use Rattle.fb_types.specs.declared.library.Algorithm.{Algorithm}
 use Rattle.fb_types.specs.declared.library.Transition.{Transition}
-use Rattle.fb_kinds.specs.Checks.{body_known, guard_known, guard_mentions}
-use Rattle.fb_kinds.proofs.Checks.{mentions_met}
+use Rattle.fb_check_types.specs.Checks.{body_known, guard_known, guard_mentions}
+use Rattle.fb_check_types.proofs.Checks.{mentions_met}
 use Rattle.fb_types.proofs.Options.{match_none}
 use Rattle.fb_why_kinds.specs.Unknown.{UnknownAmong}
 use Rattle.fb_why_kinds.proofs.blocks.unknown_in_texts.Goals as goal

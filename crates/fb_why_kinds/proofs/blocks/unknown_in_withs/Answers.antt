@@ -1,4 +1,4 @@
-use Rattle.fb_names.specs.Types.{ports_of_block}
+use Rattle.fb_check_names.specs.Types.{ports_of_block}
 use Rattle.fb_why_kinds.specs.declared.place.Direction.TheVariants.{Input, Output}
 use Rattle.fb_why_kinds.proofs.BlockPlaces.{with_place, withs_known_of}
 use Rattle.fb_why_kinds.proofs.NetworkPlaces.{none_answer}

@@ -1,6 +1,6 @@
 use Rattle.std.proofs.Common.{◌≡◌, drop}
 use Rattle.std.specs.List.{list_all}
-use Rattle.fb_kinds.specs.Checks.{action_met}
+use Rattle.fb_check_types.specs.Checks.{action_met}
 use Rattle.fb_why_kinds.proofs.charts.unknown_in_actions.Given as goal
 
 abbrev pub invariant-loop-place : goal.invariant-loop-place

@@ -2,7 +2,7 @@ use Rattle.std.proofs.Common.{List, sym, ◌∙◌, ap}
 use Rattle.std.specs.Prelude.{slice_get}
 use Rattle.std.specs.List.{list_all}
 use Rattle.fb_types.specs.declared.library.Action.{Action}
-use Rattle.fb_kinds.specs.Checks.{action_met, actions_met}
+use Rattle.fb_check_types.specs.Checks.{action_met, actions_met}
 use Rattle.fb_why_kinds.proofs.Searches.{at_hand, holds_on}
 use Rattle.fb_why_kinds.proofs.charts.unknown_in_states.Goals as goal
 

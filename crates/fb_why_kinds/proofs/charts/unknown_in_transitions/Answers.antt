@@ -1,4 +1,4 @@
-use Rattle.fb_kinds.specs.Checks.{transition_met}
+use Rattle.fb_check_types.specs.Checks.{transition_met}
 use Rattle.fb_why_kinds.proofs.Searches.{at_hand, holds_on}
 use Rattle.fb_why_kinds.proofs.charts.unknown_in_transitions.Goals as goal
 

@@ -1,6 +1,6 @@
 use Rattle.std.proofs.Common.{sym, ◌∙◌}
 use Rattle.fb_types.specs.Blocks.{among}
-use Rattle.fb_names.specs.Sorts.{names_of_sort}
+use Rattle.fb_check_names.specs.Sorts.{names_of_sort}
 use Rattle.fb_why_kinds.proofs.Searches.{at_hand, holds_on}
 use Rattle.fb_why_kinds.proofs.charts.unknown_variable.Goals as goal
 

@@ -1,7 +1,7 @@
 use Rattle.std.proofs.Common.{◌≡◌, drop}
 use Rattle.std.specs.List.{list_all}
 use Rattle.fb_types.specs.Blocks.{among}
-use Rattle.fb_names.specs.Sorts.{names_of_sort}
+use Rattle.fb_check_names.specs.Sorts.{names_of_sort}
 use Rattle.fb_why_kinds.proofs.charts.unknown_variable.Given as goal
 
 abbrev pub invariant-loop-place : goal.invariant-loop-place

@@ -4,7 +4,7 @@ use Rattle.std.specs.List.{list_all}
 use Rattle.fb_types.specs.Blocks.{among}
 use Rattle.fb_types.specs.Names.{Name}
 use Rattle.fb_types.specs.declared.library.EventPort.{EventPort}
-use Rattle.fb_names.specs.Sorts.{names_of_sort}
+use Rattle.fb_check_names.specs.Sorts.{names_of_sort}
 use Rattle.fb_why_kinds.proofs.Searches.{at_hand, holds_on}
 use Rattle.fb_why_kinds.proofs.charts.unknown_with.Goals as goal
 

@@ -2,7 +2,7 @@ use Rattle.std.proofs.Common.{◌≡◌, drop}
 use Rattle.std.specs.List.{list_all}
 use Rattle.fb_types.specs.Blocks.{among}
 use Rattle.fb_types.specs.declared.library.EventPort.{EventPort}
-use Rattle.fb_names.specs.Sorts.{names_of_sort}
+use Rattle.fb_check_names.specs.Sorts.{names_of_sort}
 use Rattle.fb_why_kinds.proofs.charts.unknown_with.Given as goal
 
 abbrev pub invariant-loop-place : goal.invariant-loop-place

@@ -2,7 +2,7 @@ use Rattle.std.proofs.Common.{List, refl}
 use Rattle.fb_types.specs.Syntax.{expr_of}
 use Rattle.fb_types.specs.Unknown.{mentions, mentions_all}
 use Rattle.fb_types.specs.declared.text.Expr.{Expr}
-use Rattle.fb_kinds.specs.Trees.{arguments_of}
+use Rattle.fb_check_types.specs.Trees.{arguments_of}
 use Rattle.fb_why_kinds.specs.Mentions.{meant_all}
 use Rattle.fb_why_kinds.proofs.Added.{all_added, list_added, one_added, then_added}
 use Rattle.fb_why_kinds.proofs.Mentioned.{binary_names, call_names, group_names, unary_names, variable_names}

@@ -1,6 +1,6 @@
 use Rattle.std.proofs.Common.{◌≡◌, ◌++◌, drop}
 use Rattle.fb_types.specs.Unknown.{mentions_all}
-use Rattle.fb_kinds.specs.Trees.{arguments_of}
+use Rattle.fb_check_types.specs.Trees.{arguments_of}
 use Rattle.fb_why_kinds.specs.Mentions.{meant_all}
 use Rattle.fb_why_kinds.proofs.mentions.+expression.Given as goal
 

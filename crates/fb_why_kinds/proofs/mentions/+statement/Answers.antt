@@ -4,7 +4,7 @@ use Rattle.fb_types.specs.Unknown.{mentions, mentions_body, mentions_branches, m
 use Rattle.fb_types.specs.declared.text.Branch.{Branch}
 use Rattle.fb_types.specs.declared.text.Choice.{Choice}
 use Rattle.fb_types.specs.declared.text.Stmt.{Stmt}
-use Rattle.fb_kinds.specs.Trees.{all_of, branch_of, branches_of, choice_of, choices_of}
+use Rattle.fb_check_types.specs.Trees.{all_of, branch_of, branches_of, choice_of, choices_of}
 use Rattle.fb_why_kinds.specs.Mentions.{meant_all}
 use Rattle.fb_why_kinds.proofs.Added.{both_added, list_added, one_added, then_added}
 use Rattle.fb_why_kinds.proofs.Mentioned.{assign_names, branch_names, case_names, choice_names, for_names, if_names, repeat_names, while_names}

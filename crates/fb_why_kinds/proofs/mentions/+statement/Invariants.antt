@@ -1,6 +1,6 @@
 use Rattle.std.proofs.Common.{◌≡◌, ◌++◌, drop}
 use Rattle.fb_types.specs.Unknown.{mentions_body, mentions_branches, mentions_choices}
-use Rattle.fb_kinds.specs.Trees.{all_of, branches_of, choices_of}
+use Rattle.fb_check_types.specs.Trees.{all_of, branches_of, choices_of}
 use Rattle.fb_why_kinds.specs.Mentions.{meant_all}
 use Rattle.fb_why_kinds.proofs.mentions.+statement.Given as goal
 

@@ -4,8 +4,8 @@ use Rattle.std.specs.List.{list_all}
 use Rattle.fb_types.specs.Syntax.{body_of}
 use Rattle.fb_types.specs.declared.library.Algorithm.{Algorithm}
 use Rattle.fb_types.proofs.Options.{match_none}
-use Rattle.fb_kinds.specs.Checks.{algorithm_right, is_guard_right}
-use Rattle.fb_kinds.proofs.Checks.{chart_right_met}
+use Rattle.fb_check_types.specs.Checks.{algorithm_right, is_guard_right}
+use Rattle.fb_check_types.proofs.Checks.{chart_right_met}
 use Rattle.fb_why_kinds.specs.Statements.{WrongAmong, each_in_body}
 use Rattle.fb_why_kinds.proofs.misfits.misfit_in_chart.Goals as goal
 

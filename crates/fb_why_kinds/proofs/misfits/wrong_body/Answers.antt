@@ -1,6 +1,6 @@
 use Rattle.std.proofs.Common.{◌≡◌, true, false}
 use Rattle.fb_types.specs.Syntax.{body_of}
-use Rattle.fb_kinds.specs.Checks.{algorithm_right}
+use Rattle.fb_check_types.specs.Checks.{algorithm_right}
 use Rattle.fb_why_kinds.specs.Statements.{WrongAmong, each_in_body}
 use Rattle.std.proofs.lemmas.Option.{MatchOption-at_none, MatchOption-at_some}
 use Rattle.fb_why_kinds.proofs.Searches.{at_hand, holds_on}

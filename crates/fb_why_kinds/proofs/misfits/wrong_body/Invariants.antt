@@ -1,6 +1,6 @@
 use Rattle.std.proofs.Common.{◌≡◌, drop}
 use Rattle.std.specs.List.{list_all}
-use Rattle.fb_kinds.specs.Checks.{algorithm_right}
+use Rattle.fb_check_types.specs.Checks.{algorithm_right}
 use Rattle.fb_why_kinds.proofs.misfits.wrong_body.Given as goal
 
 abbrev pub invariant-loop-place : goal.invariant-loop-place

@@ -1,5 +1,5 @@
 use Rattle.std.proofs.Common.{sym, ◌∙◌}
-use Rattle.fb_kinds.specs.Checks.{is_guard_right}
+use Rattle.fb_check_types.specs.Checks.{is_guard_right}
 use Rattle.fb_why_kinds.proofs.Searches.{at_hand, holds_on}
 use Rattle.fb_why_kinds.proofs.misfits.wrong_guard.Goals as goal
 

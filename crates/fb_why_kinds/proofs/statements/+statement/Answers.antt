@@ -3,7 +3,7 @@ use Rattle.fb_types.specs.Syntax.{stmt_of}
 use Rattle.fb_types.specs.declared.text.Branch.{Branch}
 use Rattle.fb_types.specs.declared.text.Choice.{Choice}
 use Rattle.fb_types.specs.declared.text.Stmt.{Stmt}
-use Rattle.fb_kinds.specs.Trees.{all_of, branch_of, branches_of, choice_of, choices_of}
+use Rattle.fb_check_types.specs.Trees.{all_of, branch_of, branches_of, choice_of, choices_of}
 use Rattle.fb_why_kinds.specs.Statements.{all_standing, each_in_body, each_in_branches, each_in_choices, each_inside}
 use Rattle.fb_why_kinds.proofs.Added.{all_added, both_added, list_added, one_added, then_added}
 use Rattle.fb_why_kinds.proofs.Inside.{inside_branch, inside_case, inside_choice, inside_if, inside_loop}

@@ -1,5 +1,5 @@
 use Rattle.std.proofs.Common.{◌≡◌, ◌++◌, drop}
-use Rattle.fb_kinds.specs.Trees.{all_of, branches_of, choices_of}
+use Rattle.fb_check_types.specs.Trees.{all_of, branches_of, choices_of}
 use Rattle.fb_why_kinds.specs.Statements.{all_standing, each_in_body, each_in_branches, each_in_choices}
 use Rattle.fb_why_kinds.proofs.statements.+statement.Given as goal
 

@@ -1,6 +1,6 @@
 use Rattle.std.proofs.Common.{◌≡◌, drop}
 use Rattle.fb_types.specs.Kinds.{place_in}
-use Rattle.fb_kinds.specs.Trees.{choices_of}
+use Rattle.fb_check_types.specs.Trees.{choices_of}
 use Rattle.fb_why_kinds.specs.Statements.{conditions_right}
 use Rattle.fb_why_kinds.proofs.statements.wrong_choice.Given as goal
 

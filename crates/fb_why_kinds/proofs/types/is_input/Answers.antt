@@ -4,7 +4,7 @@ use Rattle.fb_types.specs.Blocks.{named}
 use Rattle.fb_types.specs.declared.library.Variable.{Variable}
 use Rattle.fb_types.proofs.Options.{is_some-option_map}
 use Rattle.fb_types.proofs.NameLaws.{any-named}
-use Rattle.fb_kinds.specs.Roles.{type_named}
+use Rattle.fb_check_types.specs.Roles.{type_named}
 use Rattle.fb_why_kinds.proofs.types.is_input.Goals as goal
 
 pub returns : goal.returns

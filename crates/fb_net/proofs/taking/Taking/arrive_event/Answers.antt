@@ -7,7 +7,7 @@ use Rattle.fb_types.specs.Reactions.{World}
 use Rattle.fb_types.specs.declared.key.Key.{Key}
 use Rattle.fb_system.specs.Lines.{IsEmission}
 use Rattle.fb_system.specs.Ports.{IsPort}
-use Rattle.fb_tree.specs.Worlds.{InForest, IsForest}
+use Rattle.fb_net.specs.Worlds.{InForest, IsForest}
 use Rattle.fb_net.specs.Emitting.{EmitsSo}
 use Rattle.fb_net.specs.Leaves.{EventCame, HasTypedInputs, taken_reaction}
 use Rattle.fb_net.specs.Outs.{AreOuts, IsOut, asked}

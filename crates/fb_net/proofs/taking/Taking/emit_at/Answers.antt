@@ -4,7 +4,7 @@ use Rattle.fb_types.specs.Numbers.{carried_of, event_output}
 use Rattle.fb_types.specs.Reactions.{spread}
 use Rattle.fb_types.specs.declared.run.Line.{Line}
 use Rattle.fb_types.specs.declared.value.Value.{Value}
-use Rattle.fb_tree.specs.Changes.{Changes}
+use Rattle.fb_net.specs.Changes.{Changes}
 use Rattle.fb_net.specs.Emitting.{carried_by, outputs_at, outputs_shown}
 use Rattle.fb_net.specs.Outs.{out_of}
 use Rattle.fb_net.specs.declared.outbox.Outbox.{Outbox}

@@ -6,7 +6,7 @@ use Rattle.fb_types.specs.Numbers.{path_at, ports_at}
 use Rattle.fb_types.specs.declared.value.Value.{Value}
 use Rattle.fb_system.specs.Stands.{variable_at}
 use Rattle.fb_net.specs.Samples.{all_sampled, names_in}
-use Rattle.fb_tree.specs.Changes.{Changes}
+use Rattle.fb_net.specs.Changes.{Changes}
 use Rattle.fb_net.proofs.Changing.{changes_as}
 use Rattle.fb_net.proofs.Sampling.{one-sampled, sampling-stands}
 use Rattle.fb_net.proofs.Wholes.{kept-changed}

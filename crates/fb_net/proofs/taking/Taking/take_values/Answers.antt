@@ -3,7 +3,7 @@ use Rattle.std.proofs.lemmas.Result.{on_ok_weaker}
 use Rattle.fb_types.specs.Headline.{system_of}
 use Rattle.fb_types.specs.declared.value.Value.{Value}
 use Rattle.fb_net.specs.Samples.{all_sampled, names_in}
-use Rattle.fb_tree.specs.Changes.{Changes}
+use Rattle.fb_net.specs.Changes.{Changes}
 use Rattle.fb_net.proofs.Sampling.{one_place, sampling-stands}
 use Rattle.fb_net.proofs.Wholes.{kept-changed, kept-same}
 use Rattle.fb_net.proofs.taking.Taking.take_values.Goals as goal

@@ -1,7 +1,7 @@
 use Rattle.std.proofs.Common.{subst, sym, refl, arith}
 use Rattle.std.proofs.lemmas.List.{take_all}
 use Rattle.std.proofs.lemmas.List.Elements.{All-more}
-use Rattle.fb_take.specs.Posts.{IsMessage}
+use Rattle.fb_resource.specs.Posts.{IsMessage}
 use Rattle.fb_resource.specs.Resources.{IsFor}
 use Rattle.fb_parts_tests.proofs.tests.chain.are_for.Goals as goal
 

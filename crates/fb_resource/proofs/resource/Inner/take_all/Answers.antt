@@ -1,9 +1,9 @@
 use Rattle.std.proofs.Common.{◌<◌, ◌≤◌, refl, sym, subst, ◌∙◌, arith}
 use Rattle.std.specs.Prelude.{unwrap_or}
 use Rattle.fb_laws.proofs.Accepting.{sound_of}
-use Rattle.fb_take.specs.Takings.{IsHere}
-use Rattle.fb_take.proofs.Fuel.{fuel_falls}
-use Rattle.fb_take.proofs.Leaving.{ready_left}
+use Rattle.fb_resource.specs.Takings.{IsHere}
+use Rattle.fb_resource.proofs.Fuel.{fuel_falls}
+use Rattle.fb_resource.proofs.Leaving.{ready_left}
 use Rattle.fb_resource.specs.declared.resource.Inner.{Inner}
 use Rattle.fb_resource.proofs.Running.{comes_first, comes_more, ran_rest, ran_stop, running_first, running_more, running_rest}
 use Rattle.fb_resource.proofs.Standing.{HasLeft}

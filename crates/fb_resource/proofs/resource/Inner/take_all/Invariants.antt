@@ -2,7 +2,7 @@ use Rattle.std.proofs.Common.{◌≡◌, ◌≤◌, None}
 use Rattle.fb_types.specs.Headline.{system_of}
 use Rattle.fb_types.specs.Machines.{Local}
 use Rattle.fb_types.specs.Parts.{machine}
-use Rattle.fb_take.specs.Counts.{fuel}
+use Rattle.fb_resource.specs.Counts.{fuel}
 use Rattle.fb_resource.specs.Resources.{StandsFor}
 use Rattle.fb_resource.specs.Runs.{ComesTo, IsRunning}
 use Rattle.fb_resource.proofs.resource.Inner.take_all.Given as goal

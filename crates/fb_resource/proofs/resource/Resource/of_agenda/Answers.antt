@@ -1,6 +1,6 @@
 use Rattle.std.proofs.Common.{◌≡◌, ℕ, Some, None, subst, sym}
 use Rattle.std.proofs.lemmas.Result.{IfOk-weaker}
-use Rattle.fb_take.specs.Openings.{IsOpened}
+use Rattle.fb_resource.specs.Openings.{IsOpened}
 use Rattle.fb_resource.specs.Resources.{IsFresh}
 use Rattle.fb_resource.specs.declared.resource.Inner.{Inner}
 use Rattle.fb_resource.proofs.Fresh.{fresh}

@@ -2,7 +2,7 @@ use Rattle.std.specs.Prelude.{slice_get}
 use Rattle.std.proofs.Common.{◌≡◌, Some, ◌++◌, ◌∷◌, [], length, ap, subst, sym, ◌∙◌, append_assoc, append-nil, arith}
 use Rattle.std.specs.Vec.Iter.{into_iter_items}
 use Rattle.std.proofs.lemmas.List.{length_push, nil_from_length}
-use Rattle.fb_take.specs.Openings.{AreOpenedApart, IsOpened}
+use Rattle.fb_resource.specs.Openings.{AreOpenedApart, IsOpened}
 use Rattle.fb_resource.specs.Resources.{IsFresh}
 use Rattle.fb_resource.proofs.Fresh.{AreFresh, all_opened, at_middle, fresh_more}
 use Rattle.fb_resource.proofs.resource.Resource.open_all.Goals as goal

@@ -1,6 +1,6 @@
 use Rattle.std.proofs.Common.{◌≡◌, ◌++◌, length}
 use Rattle.std.specs.Vec.Iter.{into_iter_items, into_iter_len}
-use Rattle.fb_take.specs.Openings.{AreOpenedApart}
+use Rattle.fb_resource.specs.Openings.{AreOpenedApart}
 use Rattle.fb_resource.proofs.Fresh.{AreFresh}
 use Rattle.fb_resource.proofs.resource.Resource.open_all.Given as goal
 

@@ -4,9 +4,9 @@ use Rattle.fb_types.specs.Headline.{system_of}
 use Rattle.fb_types.specs.Keys.{found, or_else}
 use Rattle.fb_types.specs.declared.run.Message.{Message}
 use Rattle.fb_types.specs.declared.run.Event.TheVariants.{Arrival}
-use Rattle.fb_take.specs.Posts.{IsMessage, IsPut, arriving, key_of}
-use Rattle.fb_take.specs.Waiting.{meaning}
-use Rattle.fb_take.proofs.PostLaws.{all_before, next_of, order_put}
+use Rattle.fb_resource.specs.Posts.{IsMessage, IsPut, arriving, key_of}
+use Rattle.fb_resource.specs.Waiting.{meaning}
+use Rattle.fb_resource.proofs.PostLaws.{all_before, next_of, order_put}
 use Rattle.fb_sim.proofs.DeliverIs.{delivered_more, message_waits}
 use Rattle.fb_sim.proofs.one_agenda.deliver.deliver.Goals as goal
 

@@ -3,8 +3,8 @@ use Rattle.std.specs.Vec.Iter.{drain_items, DrainKeeps}
 use Rattle.fb_types.specs.Keys.{found, or_else}
 use Rattle.fb_types.specs.declared.key.Key.{Key}
 use Rattle.fb_types.specs.declared.run.Message.{Message}
-use Rattle.fb_take.specs.Posts.{arriving}
-use Rattle.fb_take.specs.Waiting.{IsInOrder, meaning}
+use Rattle.fb_resource.specs.Posts.{arriving}
+use Rattle.fb_resource.specs.Waiting.{IsInOrder, meaning}
 use Rattle.fb_sim.proofs.one_agenda.deliver.deliver_each.Given as goal
 
 abbrev pub invariant-loop-message : goal.invariant-loop-message

@@ -1,4 +1,4 @@
-use Rattle.fb_system.proofs.WithPlaces.{inputs_read}
+use Rattle.fb_system.proofs.WithPlacesLaws.{inputs_read}
 use Rattle.fb_system.proofs.system.System.inputs_with.Goals as goal
 
 pub returns : goal.returns

@@ -1,4 +1,4 @@
-use Rattle.fb_system.proofs.WithPlaces.{with_places_of_instance}
+use Rattle.fb_system.proofs.WithPlacesLaws.{with_places_of_instance}
 use Rattle.fb_system.proofs.Seen.{stand_seen, within_seen}
 use Rattle.fb_system.proofs.system.System.with_places.Goals as goal
 

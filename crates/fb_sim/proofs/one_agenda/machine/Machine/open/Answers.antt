@@ -1,6 +1,6 @@
 use Rattle.std.proofs.Common.{length, replicate, None, sym, ap, subst, ◌∙◌}
 use Rattle.fb_types.specs.Headline.{system_of}
-use Rattle.fb_take.specs.Openings.{IsOpened}
+use Rattle.fb_resource.specs.Openings.{IsOpened}
 use Rattle.fb_sim.proofs.OpenIs.{at_opened, ready_opened}
 use Rattle.fb_sim.proofs.one_agenda.machine.Machine.open.Goals as goal
 

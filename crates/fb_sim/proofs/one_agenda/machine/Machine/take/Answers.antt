@@ -3,7 +3,7 @@ use Rattle.std.proofs.lemmas.List.Elements.{All-nil}
 use Rattle.std.proofs.lemmas.Option.{slice_get_read}
 use Rattle.fb_types.specs.declared.run.Message.{Message}
 use Rattle.fb_net.specs.Events.{event_of}
-use Rattle.fb_take.specs.Posts.{IsMessage}
+use Rattle.fb_resource.specs.Posts.{IsMessage}
 use Rattle.fb_sim.proofs.ReadyIs.{ready_after}
 use Rattle.fb_sim.proofs.TakenIs.{taken_at}
 use Rattle.fb_sim.proofs.one_agenda.machine.Machine.take.Goals as goal

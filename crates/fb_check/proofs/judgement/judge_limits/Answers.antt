@@ -1,0 +1,12 @@
+use Rattle.std.proofs.Common.{◌<◌, length, inl, inr, arith}
+use Rattle.fb_types.specs.Flat.{paths_of}
+use Rattle.fb_check.proofs.Verdict.{not_so, passes_30, last}
+use Rattle.fb_check.proofs.judgement.judge_limits.Goals as goal
+
+pub returns-clause-ok : goal.returns-clause-ok
+returns-clause-ok c =
+    let lib = c.args.case.now.library.now in
+    let few = not_so c.in_ok-has_too_many_instances.field-0 (4096 < length (paths_of lib)) (c.in_ok-has_too_many_instances.ensures lib c.args.case.now.plan.now c.requires.resolved) c.if-branch.false in
+    last c.args.case.now.library.now c.args.case.now.plan.now c.args.case.now.stimuli.now
+    (passes_30 c.args.case.now.library.now c.args.case.now.plan.now c.args.case.now.stimuli.now c.requires.passed
+    (λ over. elim over [ inl paths ↦ few paths | inr many ↦ omega (arith, many, c.if-case-gt-MOST_STIMULI.false) ]))

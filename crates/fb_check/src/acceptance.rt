@@ -1,0 +1,60 @@
+//! The system that stands for what was read, where it is accepted.
+
+ghost use Rattle.std.specs.Prelude.{◌≡◌, IfOk, IfErr};
+ghost use Rattle.fb_types.specs.Headline.{AreAccepted, inputs};
+ghost use Rattle.fb_system.specs.Systems.{IsGiven};
+ghost use Rattle.fb_check.specs.Refusals.{IsRightly, inputs_in};
+
+use crate::case::{Case, Judged};
+use crate::error::CheckError;
+use crate::judgement::judged;
+use fb_system::{Given, System, interfaces_of};
+use fb_types::{Deploy, Library, Stimulus};
+use std::alloc::Global;
+
+/// Inputs by number, where they are accepted.
+fn elaborate(alloc: Global, case: &Case) -> Result<Given, CheckError>
+    ensures accepted { IfOk result (λ _. AreAccepted (inputs_in case.now)) }
+    ensures given { IfOk result (IsGiven (inputs_in case.now)) }
+    ensures refused { IfErr result (IsRightly (inputs_in case.now)) }
+{
+    let Judged {
+        catalog,
+        numbers,
+        holders,
+        rows,
+    } = judged(alloc, case)?;
+    let interfaces = interfaces_of(alloc, case.library, &catalog)?;
+    Ok(Given {
+        numbers,
+        holders,
+        interfaces,
+        rows,
+    })
+}
+
+/// The system that stands for a declaration, a deployment and stimuli.
+///
+/// # Errors
+///
+/// `Refused` with the least number that applies where the inputs are not accepted, and `Memory`. A type with 2^32
+/// ports or more counts as want of memory.
+pub fn accept(
+    alloc: Global,
+    library: Library,
+    deploy: Deploy,
+    stimuli: Vec<Stimulus>,
+) -> Result<System, CheckError>
+    ensures system { IfOk result (λ s. s ≡ inputs library deploy stimuli.items) }
+    ensures accepted { IfOk result (λ s. AreAccepted s) }
+    ensures refused { IfErr result (IsRightly (inputs library deploy stimuli.items)) }
+{
+    let case = Case {
+        library: &library,
+        plan: deploy.plan(),
+        stimuli: stimuli.as_slice(),
+    };
+    let given = elaborate(alloc, &case)?;
+    let system = System::of(alloc, library, deploy, stimuli, given)?;
+    Ok(system)
+}

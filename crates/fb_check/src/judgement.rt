@@ -1,0 +1,134 @@
+//! The checks in the order of their numbers.
+
+ghost use Rattle.std.specs.Prelude.{◌≡◌, IfOk, IfErr};
+ghost use Rattle.fb_check_names.specs.Catalog.{IsCatalog};
+ghost use Rattle.fb_check_names.specs.Numbers.{IsResolved};
+ghost use Rattle.fb_system.specs.Linking.{holders_of};
+ghost use Rattle.fb_system.specs.Rows.{AreRows};
+ghost use Rattle.fb_check.specs.Refusals.{IsRightly, inputs_in};
+ghost use Rattle.fb_check.specs.Verdicts.{AreAccepted, HasPassed};
+
+use crate::case::{Case, Judged};
+use crate::error::CheckError;
+use crate::fault::Fault;
+use crate::mapping_checks::judge_mapping;
+use crate::network_checks::judge_networks;
+use crate::stimuli::rows_of;
+use fb_check_names::{Catalog, Resolved, catalog_of, resolve};
+use fb_check_networks::has_too_many_instances;
+use fb_check_types::are_parts_known;
+use fb_system::StimulusRow;
+use fb_types::Items;
+use std::alloc::Global;
+
+/// The most stimuli that may be handed in.
+const MOST_STIMULI: usize = 100_000;
+
+/// E20: the places of all names, where none is given twice.
+fn catalog<'a>(alloc: Global, case: &Case<'a>) -> Result<Catalog<'a>, CheckError>
+    ensures ok { IfOk result (IsCatalog case.now.library.now case.now.plan.now) }
+    ensures refused { IfErr result (IsRightly (inputs_in case.now)) }
+{
+    match catalog_of(alloc, case.library, case.plan)? {
+        Some(catalog) => Ok(catalog),
+        None => Err(CheckError::Refused(Fault::NameTwice)),
+    }
+}
+
+/// E21: the numbers of all names, where each stands for something.
+fn numbers(alloc: Global, case: &Case, catalog: &Catalog) -> Result<Resolved, CheckError>
+    requires { IsCatalog case.now.library.now case.now.plan.now catalog.now }
+    ensures ok { IfOk result (IsResolved case.now.library.now case.now.plan.now) }
+    ensures refused { IfErr result (IsRightly (inputs_in case.now)) }
+{
+    if !are_parts_known(case.library, catalog) {
+        return Err(CheckError::Refused(Fault::NameUnknown));
+    }
+    match resolve(alloc, case.library, case.plan, catalog)? {
+        Some(resolved) => Ok(resolved),
+        None => Err(CheckError::Refused(Fault::NameUnknown)),
+    }
+}
+
+/// E29: the stimuli by number, where each fits.
+fn judge_stimuli(
+    alloc: Global,
+    case: &Case,
+    catalog: &Catalog,
+) -> Result<Items<StimulusRow>, CheckError>
+    requires catalog { IsCatalog case.now.library.now case.now.plan.now catalog.now }
+    requires passed { HasPassed 29 case.now }
+    ensures rows { IfOk result (AreRows case.now.library.now case.now.stimuli.now) }
+    ensures ok { IfOk result (λ _. HasPassed 30 case.now) }
+    ensures refused { IfErr result (IsRightly (inputs_in case.now)) }
+{
+    match rows_of(alloc, case.library, catalog, case.stimuli)? {
+        Some(rows) => Ok(rows),
+        None => Err(CheckError::Refused(Fault::BadStimulus)),
+    }
+}
+
+/// E30: not over a limit.
+fn judge_limits(alloc: Global, case: &Case, resolved: &Resolved) -> Result<(), CheckError>
+    requires resolved { IsResolved case.now.library.now case.now.plan.now resolved.now }
+    requires passed { HasPassed 30 case.now }
+    ensures ok { IfOk result (λ _. AreAccepted case.now) }
+    ensures refused { IfErr result (IsRightly (inputs_in case.now)) }
+{
+    if case.stimuli.len() > MOST_STIMULI || has_too_many_instances(alloc, resolved)? {
+        return Err(CheckError::Refused(Fault::OverLimit));
+    }
+    Ok(())
+}
+
+/// The checks from E22 on, by the places and the numbers of names. For each instance of the application the resource
+/// that holds it, and the stimuli by number.
+fn judge_by_numbers(
+    alloc: Global,
+    case: &Case,
+    catalog: &Catalog,
+    resolved: &Resolved,
+) -> Result<(Items<usize>, Items<StimulusRow>), CheckError>
+    requires catalog { IsCatalog case.now.library.now case.now.plan.now catalog.now }
+    requires resolved { IsResolved case.now.library.now case.now.plan.now resolved.now }
+    ensures accepted { IfOk result (λ _. AreAccepted case.now) }
+    ensures holders { IfOk result (λ made. made.0 ≡ holders_of case.now.library.now case.now.plan.now) }
+    ensures rows { IfOk result (λ made. AreRows case.now.library.now case.now.stimuli.now made.1) }
+    ensures refused { IfErr result (IsRightly (inputs_in case.now)) }
+{
+    judge_networks(alloc, case, catalog, resolved)?;
+    let holders = judge_mapping(alloc, case, resolved)?;
+    let rows = judge_stimuli(alloc, case, catalog)?;
+    judge_limits(alloc, case, resolved)?;
+    Ok((holders, rows))
+}
+
+/// What is made of inputs that are accepted. Else the error is as with `judge`.
+pub fn judged<'a>(alloc: Global, case: &Case<'a>) -> Result<Judged<'a>, CheckError>
+    ensures accepted { IfOk result (λ _. AreAccepted case.now) }
+    ensures catalog { IfOk result (λ j. IsCatalog case.now.library.now case.now.plan.now j.catalog) }
+    ensures numbers { IfOk result (λ j. IsResolved case.now.library.now case.now.plan.now j.numbers) }
+    ensures holders { IfOk result (λ j. j.holders ≡ holders_of case.now.library.now case.now.plan.now) }
+    ensures rows { IfOk result (λ j. AreRows case.now.library.now case.now.stimuli.now j.rows) }
+    ensures refused { IfErr result (IsRightly (inputs_in case.now)) }
+{
+    let catalog = catalog(alloc, case)?;
+    let numbers = numbers(alloc, case, &catalog)?;
+    let (holders, rows) = judge_by_numbers(alloc, case, &catalog, &numbers)?;
+    Ok(Judged {
+        catalog,
+        numbers,
+        holders,
+        rows,
+    })
+}
+
+/// Whether the inputs are accepted: `Ok` where none of the conditions from E20 to E30 holds, else the fault with the
+/// least number that applies.
+pub fn judge(alloc: Global, case: &Case) -> Result<(), CheckError>
+    ensures accepted { IfOk result (λ _. AreAccepted case.now) }
+    ensures refused { IfErr result (IsRightly (inputs_in case.now)) }
+{
+    judged(alloc, case)?;
+    Ok(())
+}

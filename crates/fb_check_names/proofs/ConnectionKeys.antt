@@ -1,0 +1,39 @@
+-- The names at both ends of a connection, as the key of a set or a table.
+use Rattle.std.proofs.Common.{◌≡◌, Option, Ordering, Bor, refl, sym, subst}
+use Rattle.std.specs.Bool.{Decides}
+use Rattle.std.specs.Option.{option_cmp}
+use Rattle.std.specs.Ordering.{is_eq, ordering_then}
+use Rattle.std.specs.declared.cmp.Ordering.TheVariants as order
+use Rattle.fb_types.specs.Names.{Name, Port}
+use Rattle.fb_check_names.specs.Ends.{End}
+use Rattle.fb_check_names.proofs.Seen.{IsExact, end_cmp, name_cmp, pair_cmp-exact, pair_ports}
+
+-- where a connection begins the component, if there is one, and the port, and so where it leads
+abbrev pub Key : Type 0
+Key = Option (Bor Name) × Bor Name × Option (Bor Name) × Bor Name
+
+abbrev pub key_cmp : Key → Key → Ordering
+key_cmp p q =
+    ordering_then (ordering_then (ordering_then (option_cmp name_cmp p.0 q.0) (name_cmp p.1 q.1)) (option_cmp name_cmp p.2 q.2)) (name_cmp p.3 q.3)
+
+abbrev begins : Key → End
+begins k = (k.0, k.1)
+
+abbrev leads : Key → End
+leads k = (k.2, k.3)
+
+-- the two ports
+abbrev pub key_ports : Key → Port × Port
+key_ports k = pair_ports (begins k, leads k)
+
+then_assoc : (r s t : Ordering) → ordering_then (ordering_then r s) t ≡ ordering_then r (ordering_then s t)
+then_assoc order.Less s t = refl
+then_assoc order.Equal s t = refl
+then_assoc order.Greater s t = refl
+
+-- two keys are equal exactly where their ports are
+pub key_cmp-exact : IsExact key_cmp key_ports
+key_cmp-exact p q =
+    subst (λ (r : Ordering). Decides (is_eq r) (key_ports p ≡ key_ports q))
+    (sym (then_assoc (end_cmp (begins p) (begins q)) (option_cmp name_cmp p.2 q.2) (name_cmp p.3 q.3)))
+    (pair_cmp-exact (begins p, leads p) (begins q, leads q))

@@ -1,0 +1,108 @@
+-- A declaration and a deployment by numbers: types, ports, instances and resources by their places (IEC 61499-1, 5.3 and 7).
+use Rattle.std.specs.Prelude.{◌≡◌, ℕ, List, [], ◌∷◌, map, length, Option, Some, None, position, slice_get, option_map, option_and_then}
+use Rattle.fb_types.specs.Names.{Name, same_name}
+use Rattle.fb_types.specs.Blocks.{Kind, Event, event_block_named, ports_of}
+use Rattle.fb_types.specs.Flat.{kind_of, type_name, kind_of_instance, resource_names_of}
+use Rattle.fb_types.specs.Repeated.{Placed, instance_names}
+use Rattle.fb_types.specs.Unknown.{NameUnknown, event_ins, event_outs, data_ins, data_outs}
+use Rattle.fb_types.specs.declared.library.Library.{Library}
+use Rattle.fb_types.specs.declared.library.BasicType.{BasicType}
+use Rattle.fb_types.specs.declared.library.BlockType.TheVariants as block
+use Rattle.fb_types.specs.declared.library.CompositeType.{CompositeType}
+use Rattle.fb_types.specs.declared.library.Ports.{Ports}
+use Rattle.fb_types.specs.declared.library.Connection.{Connection}
+use Rattle.fb_types.specs.declared.library.Instance.{Instance}
+use Rattle.fb_types.specs.declared.library.PortName.{PortName}
+use Rattle.fb_types.specs.declared.deploy.Plan.{Plan}
+use Rattle.fb_types.specs.declared.deploy.Link.{Link}
+use Rattle.fb_types.specs.declared.deploy.ResourceEntry.{ResourceEntry}
+use Rattle.fb_check_names.specs.declared.numbers.TypeNumber.{TypeNumber}
+use Rattle.fb_check_names.specs.declared.numbers.TypeNumber.TheVariants as number
+use Rattle.fb_check_names.specs.declared.numbers.WireEnd.{WireEnd}
+use Rattle.fb_check_names.specs.declared.numbers.Wire.{Wire}
+use Rattle.fb_check_names.specs.declared.numbers.LinkEnds.{LinkEnds}
+use Rattle.fb_check_names.specs.declared.numbers.NetworkNumbers.{NetworkNumbers}
+use Rattle.fb_check_names.specs.declared.numbers.Resolved.{Resolved}
+
+-- what f makes of each element, or none where it makes nothing of one
+abbrev pub each_or_none : {A B : Type 0} → (A → Option B) → List A → Option (List B)
+each_or_none f [] = Some []
+each_or_none f (x ∷ xs) = option_and_then (λ y. option_map (λ ys. y ∷ ys) (each_or_none f xs)) (f x)
+
+abbrev pub place_of : List Name → Name → Option ℕ
+place_of ns n = position (same_name n) ns
+
+-- ---- Types
+
+-- the event block with the name, else the block type of the declaration
+abbrev pub type_number : Library → Name → Option TypeNumber
+type_number lib n =
+    elim (event_block_named n) [
+      | Some k ↦ Some (number.Event k)
+      | None ↦ option_map (λ t. number.Declared t) (place_of (map type_name lib.blocks) n)
+    ]
+
+abbrev pub kind_of_number : Library → TypeNumber → Option Kind
+kind_of_number lib (number.Event k) = Some (Event k)
+kind_of_number lib (number.Declared t) = option_map kind_of (slice_get lib.blocks t)
+
+-- ---- Ends of connections
+
+-- the ports of the component at a place
+abbrev pub ports_at_place : Library → Placed → ℕ → Option Ports
+ports_at_place lib n i = option_map ports_of (option_and_then (kind_of_instance lib) (slice_get n.1.instances i))
+
+abbrev pub end_at : Option ℕ → List Name → PortName → Option WireEnd
+end_at component ports e = option_map (λ k. record { component = component; port = k }) (place_of ports e.port)
+
+-- an end among the ports of the one sort at a component, or of the other at the boundary
+abbrev pub end_number : Library → Placed → (component boundary : Ports → List Name) → PortName → Option WireEnd
+end_number lib n component boundary e =
+    elim e.component [
+      | None ↦ option_and_then (λ t. end_at None (boundary t.ports) e) n.0
+      | Some c ↦ option_and_then (λ i. option_and_then (λ p. end_at (Some i) (component p) e) (ports_at_place lib n i)) (place_of (instance_names n.1) c)
+    ]
+
+abbrev pub both_ends : Option WireEnd → Option WireEnd → Option Wire
+both_ends a b = option_and_then (λ x. option_map (λ y. record { from = x; to = y }) b) a
+
+abbrev pub event_wire : Library → Placed → Connection → Option Wire
+event_wire lib n c = both_ends (end_number lib n event_outs event_ins c.from) (end_number lib n event_ins event_outs c.to)
+
+abbrev pub data_wire : Library → Placed → Connection → Option Wire
+data_wire lib n c = both_ends (end_number lib n data_outs data_ins c.from) (end_number lib n data_ins data_outs c.to)
+
+-- ---- Networks
+
+-- the places of the data inputs that an instance's parameters set
+abbrev pub parameter_numbers : Library → Instance → Option (List ℕ)
+parameter_numbers lib i =
+    elim (kind_of_instance lib i) [ None ↦ None | Some k ↦ each_or_none (λ x. place_of (data_ins (ports_of k)) x.name) i.parameters ]
+
+pub record IsNetwork (lib : Library) (n : Placed) (x : NetworkNumbers) : Type 0 where
+  pub types : each_or_none (λ i. type_number lib i.block_type) n.1.instances ≡ Some x.types
+  pub parameters : each_or_none (parameter_numbers lib) n.1.instances ≡ Some x.parameters
+  pub event_wires : each_or_none (event_wire lib n) n.1.event_connections ≡ Some x.event_wires
+  pub data_wires : each_or_none (data_wire lib n) n.1.data_connections ≡ Some x.data_wires
+
+-- ---- Deployments
+
+abbrev pub held_numbers : Library → ResourceEntry → Option (List ℕ)
+held_numbers lib r = each_or_none (place_of (instance_names lib.application.network)) r.instances
+
+abbrev pub link_ends : Plan → Link → Option LinkEnds
+link_ends plan l =
+    option_and_then (λ x. option_map (λ y. record { from = x; to = y }) (place_of (resource_names_of plan) l.to)) (place_of (resource_names_of plan) l.from)
+
+-- ---- All numbers
+
+-- Each name stands for something, and these are the numbers.
+pub record IsResolved (lib : Library) (plan : Plan) (r : Resolved) : Type 0 where
+  pub known : ¬ (NameUnknown lib plan)
+  pub application : IsNetwork lib (None, lib.application.network) r.application
+  pub counted : length r.blocks ≡ length lib.blocks
+  pub basics : (k : ℕ) (t : BasicType) → slice_get lib.blocks k ≡ Some (block.Basic t) → slice_get r.blocks k ≡ Some None
+  pub composites : (k : ℕ) (t : CompositeType) → slice_get lib.blocks k ≡ Some (block.Composite t)
+      → (x : NetworkNumbers) × (slice_get r.blocks k ≡ Some (Some x)) × IsNetwork lib (Some t, t.network) x
+  pub held : each_or_none (held_numbers lib) plan.resources ≡ Some r.held
+  pub links : each_or_none (link_ends plan) plan.links ≡ Some r.links

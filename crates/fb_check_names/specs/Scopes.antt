@@ -1,0 +1,41 @@
+-- A network with the places of its names (IEC 61499-1, 5.3).
+use Rattle.std.specs.Prelude.{◌≡◌, List, Option, Some, option_map, option_and_then}
+use Rattle.std.specs.Option.{ForSome}
+use Rattle.fb_types.specs.Names.{Name}
+use Rattle.fb_types.specs.Repeated.{Placed, instance_names}
+use Rattle.fb_types.specs.declared.library.Library.{Library}
+use Rattle.fb_types.specs.declared.library.Connection.{Connection}
+use Rattle.fb_types.specs.declared.library.Instance.{Instance}
+use Rattle.fb_types.specs.declared.library.PortName.{PortName}
+use Rattle.fb_types.specs.declared.library.Ports.{Ports}
+use Rattle.fb_check_names.specs.Places.{IsIndex}
+use Rattle.fb_check_names.specs.Numbers.{each_or_none, place_of, type_number, ports_at_place, end_at, end_number, both_ends}
+use Rattle.fb_check_names.specs.Sorts.{names_of_sort, ArePlacesOf}
+use Rattle.fb_check_names.specs.declared.ends.NetworkScope.{NetworkScope}
+use Rattle.fb_check_names.specs.declared.ends.WireSorts.{WireSorts}
+use Rattle.fb_check_names.specs.declared.numbers.WireEnd.{WireEnd}
+use Rattle.fb_check_names.specs.declared.numbers.TypeNumber.{TypeNumber}
+use Rattle.fb_check_names.specs.declared.numbers.Wire.{Wire}
+
+-- the network, with the composite type that it is inside of
+abbrev pub placed : NetworkScope → Placed
+placed s = (option_map (λ c. c.0.now) s.composite, s.network.now)
+
+pub record IsScope (s : NetworkScope) : Type 0 where
+  pub boundary : ForSome s.composite (λ c. ArePlacesOf c.0.now.ports c.1.now)
+  pub instances : IsIndex (instance_names s.network.now) s.instances.now
+
+-- the types of all instances
+abbrev pub AreTyped : Library → List Instance → List TypeNumber → Type 0
+AreTyped lib is ks = each_or_none (λ i. type_number lib i.block_type) is ≡ Some ks
+
+-- an end at a component, among its ports of a sort
+abbrev pub component_number : Library → Placed → (Ports → List Name) → Name → PortName → Option WireEnd
+component_number lib n sort c e =
+    option_and_then (λ i. option_and_then (λ p. end_at (Some i) (sort p) e) (ports_at_place lib n i)) (place_of (instance_names n.1) c)
+
+-- a connection from ports of the one sort to ports of the other
+abbrev pub wire_number : Library → Placed → WireSorts → Connection → Option Wire
+wire_number lib n f c =
+    both_ends (end_number lib n (names_of_sort f.outputs) (names_of_sort f.inputs) c.from)
+    (end_number lib n (names_of_sort f.inputs) (names_of_sort f.outputs) c.to)

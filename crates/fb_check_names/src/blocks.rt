@@ -1,0 +1,61 @@
+//! The networks of all composite types by numbers.
+
+ghost use Rattle.std.specs.Prelude.{◌≡◌, Some, IfOk, MatchOption, slice_get};
+ghost use Rattle.fb_check_names.specs.Types.{AreTypes};
+ghost use Rattle.fb_check_names.specs.Unknown.{AreBlocks, BlockUnknown, IsBlockNumbers};
+
+use crate::ends::NetworkScope;
+use crate::networks::network_numbers;
+use crate::numbers::NetworkNumbers;
+use crate::types::Types;
+use fb_types::{BlockType, Items};
+use std::alloc::{AllocError, Global};
+
+/// The network of the block type at a place by numbers, none for a basic type. It is `None` where the network names
+/// something unknown.
+fn block_numbers(
+    alloc: Global,
+    types: &Types,
+    place: usize,
+    block: &BlockType,
+) -> Result<Option<Option<NetworkNumbers>>, AllocError>
+    requires types { AreTypes types.now }
+    requires place { slice_get types.now.library.now.blocks place ≡ Some block.now }
+    ensures { IfOk result (λ o. MatchOption o (BlockUnknown types.now.library.now) (IsBlockNumbers types.now.library.now block.now)) }
+{
+    match block {
+        BlockType::Basic(_) => Ok(Some(None)),
+        BlockType::Composite(composite) => {
+            let places = &types.catalog.blocks[place];
+            let scope = NetworkScope {
+                composite: Some((composite, &places.ports)),
+                network: &composite.network,
+                instances: &places.instances,
+            };
+            match network_numbers(alloc, types, &scope)? {
+                Some(numbers) => Ok(Some(Some(numbers))),
+                None => Ok(None),
+            }
+        }
+    }
+}
+
+/// For each block type of the declaration its network, none for a basic type. It is `None` where a composite type's
+/// network names something unknown.
+pub fn blocks_of(
+    alloc: Global,
+    types: &Types,
+) -> Result<Option<Items<Option<NetworkNumbers>>>, AllocError>
+    requires { AreTypes types.now }
+    ensures { IfOk result (λ o. MatchOption o (BlockUnknown types.now.library.now) (AreBlocks types.now.library.now)) }
+{
+    let blocks = types.library.blocks.as_slice();
+    let mut all = Items::new(alloc);
+    for (place, block) in blocks.iter().enumerate() {
+        match block_numbers(alloc, types, place, block)? {
+            Some(numbers) => all.push(numbers)?,
+            None => return Ok(None),
+        }
+    }
+    Ok(Some(all))
+}

@@ -1,0 +1,88 @@
+//! The places of all names of a declaration and a deployment.
+
+ghost use Rattle.std.specs.Prelude.{◌≡◌, IfOk, MatchOption};
+ghost use Rattle.fb_types.specs.Repeated.{NameTwice};
+ghost use Rattle.fb_check_names.specs.Catalog.{IsCatalog};
+
+use crate::both::both;
+use crate::placing::Places;
+use crate::spaces::{blocks_places, network_places, resource_places, type_places};
+use fb_types::{Library, Plan};
+use std::alloc::{AllocError, Global};
+
+/// The places of the names of a block type.
+pub struct BlockPlaces<'a> {
+    /// Event inputs, event outputs, inputs, outputs and internal variables, numbered in this order as one list.
+    pub ports: Places<'a>,
+    /// The states of a basic type, else none.
+    pub states: Places<'a>,
+    /// The algorithms of a basic type, else none.
+    pub algorithms: Places<'a>,
+    /// The instances of a composite type, else none.
+    pub instances: Places<'a>,
+}
+
+// Drop is written by hand, so that callers need not prove it again (docs/DECISIONS.md, "Drop").
+impl Drop for BlockPlaces<'_> {
+    fn drop(self) {
+        let BlockPlaces {
+            ports: _,
+            states: _,
+            algorithms: _,
+            instances: _,
+        } = self;
+    }
+}
+
+/// The places of the names of a declaration and a deployment, in which no name is given twice.
+pub struct Catalog<'a> {
+    /// The block types of the declaration. The event blocks are not among them.
+    pub types: Places<'a>,
+    /// For each block type of the declaration, its names.
+    pub blocks: Vec<BlockPlaces<'a>>,
+    /// The instances of the application.
+    pub instances: Places<'a>,
+    /// The resources.
+    pub resources: Places<'a>,
+}
+
+impl Drop for Catalog<'_> {
+    fn drop(self) {
+        let Catalog {
+            types: _,
+            blocks: _,
+            instances: _,
+            resources: _,
+        } = self;
+    }
+}
+
+/// The places of all names, or `None` where a name, a connection or a link is given twice.
+pub fn catalog_of<'a>(
+    alloc: Global,
+    library: &'a Library,
+    plan: &'a Plan,
+) -> Result<Option<Catalog<'a>>, AllocError>
+    ensures { IfOk result (λ o. MatchOption o (NameTwice library.now plan.now) (IsCatalog library.now plan.now)) }
+{
+    let blocks = library.blocks.as_slice();
+    let declared = both(type_places(alloc, blocks), blocks_places(alloc, blocks));
+    let placed = both(
+        network_places(alloc, &library.application.network),
+        resource_places(alloc, plan),
+    );
+    let found = both(declared, placed)?;
+    match found {
+        Some((declared, placed)) => {
+            let (types, blocks) = declared;
+            let (instances, resources) = placed;
+            Ok(Some(Catalog {
+                types,
+                blocks,
+                instances,
+                resources,
+            }))
+        }
+        None => Ok(None),
+    }
+}

@@ -1,0 +1,155 @@
+//! Connections by numbers.
+
+ghost use Rattle.std.specs.Prelude.{◌≡◌, IfOk, option_and_then};
+ghost use Rattle.fb_check_names.specs.Numbers.{each_or_none, end_at, end_number};
+ghost use Rattle.fb_check_names.specs.Scopes.{IsScope, AreTyped, component_number, placed, wire_number};
+ghost use Rattle.fb_check_names.specs.Sorts.{names_of_sort};
+ghost use Rattle.fb_check_names.specs.Types.{AreTypes};
+
+use crate::numbers::{TypeNumber, Wire, WireEnd};
+use crate::placing::{Places, place_of};
+use crate::ports::{PortSort, place_in};
+use crate::types::Types;
+use fb_types::{CompositeType, Connection, Items, Name, Network, PortName};
+use std::alloc::{AllocError, Global};
+
+/// A network, and where the names in it are found.
+#[derive(Clone, Copy)]
+pub struct NetworkScope<'a, 'b> {
+    /// The composite type that the network is inside of, with the places of its names, or none for the application's.
+    pub composite: Option<(&'a CompositeType, &'a Places<'b>)>,
+    pub network: &'a Network,
+    /// The instances of the network.
+    pub instances: &'a Places<'b>,
+}
+
+/// The directions of a connection's ends: it goes from the one sort to the other at components, and the other way
+/// round at the boundary.
+#[derive(Clone, Copy)]
+pub struct WireSorts {
+    pub outputs: PortSort,
+    pub inputs: PortSort,
+}
+
+/// From an output event to an input event.
+pub const EVENTS: WireSorts = WireSorts {
+    outputs: PortSort::EventOutput,
+    inputs: PortSort::EventInput,
+};
+
+/// From an output variable to an input variable.
+pub const DATA: WireSorts = WireSorts {
+    outputs: PortSort::Output,
+    inputs: PortSort::Input,
+};
+
+/// An end at the boundary.
+fn boundary_end(scope: &NetworkScope, sort: PortSort, end: &PortName) -> Option<WireEnd>
+    requires { IsScope scope.now }
+    ensures { result ≡ option_and_then (λ t. end_at None (names_of_sort sort t.ports) end.now) (placed scope.now).0 }
+{
+    let (composite, places) = scope.composite?;
+    let port = place_in(&composite.ports, places, sort, &end.port)?;
+    Some(WireEnd {
+        component: None,
+        port,
+    })
+}
+
+/// An end at a component.
+fn component_end(
+    types: &Types,
+    scope: &NetworkScope,
+    kinds: &Items<TypeNumber>,
+    sort: PortSort,
+    component: &Name,
+    end: &PortName,
+) -> Option<WireEnd>
+    requires types { AreTypes types.now }
+    requires scope { IsScope scope.now }
+    requires typed { AreTyped types.now.library.now scope.now.network.now.instances kinds.now }
+    ensures { result ≡ component_number types.now.library.now (placed scope.now) (names_of_sort sort) component.now end.now }
+{
+    let instance = place_of(scope.instances, component.as_bytes())?;
+    let kind = kinds.get(instance)?;
+    let port = types.port_of(*kind, sort, &end.port)?;
+    Some(WireEnd {
+        component: Some(instance),
+        port,
+    })
+}
+
+/// An end, among the ports of the one sort at a component, or of the other at the boundary.
+fn end_of(
+    types: &Types,
+    scope: &NetworkScope,
+    kinds: &Items<TypeNumber>,
+    component: PortSort,
+    boundary: PortSort,
+    end: &PortName,
+) -> Option<WireEnd>
+    requires types { AreTypes types.now }
+    requires scope { IsScope scope.now }
+    requires typed { AreTyped types.now.library.now scope.now.network.now.instances kinds.now }
+    ensures { result ≡ end_number types.now.library.now (placed scope.now) (names_of_sort component) (names_of_sort boundary) end.now }
+{
+    match &end.component {
+        None => boundary_end(scope, boundary, end),
+        Some(name) => component_end(types, scope, kinds, component, name, end),
+    }
+}
+
+fn wire_of(
+    types: &Types,
+    scope: &NetworkScope,
+    kinds: &Items<TypeNumber>,
+    flow: WireSorts,
+    connection: &Connection,
+) -> Option<Wire>
+    requires types { AreTypes types.now }
+    requires scope { IsScope scope.now }
+    requires typed { AreTyped types.now.library.now scope.now.network.now.instances kinds.now }
+    ensures { result ≡ wire_number types.now.library.now (placed scope.now) flow connection.now }
+{
+    let from = end_of(
+        types,
+        scope,
+        kinds,
+        flow.outputs,
+        flow.inputs,
+        &connection.from,
+    )?;
+    let to = end_of(
+        types,
+        scope,
+        kinds,
+        flow.inputs,
+        flow.outputs,
+        &connection.to,
+    )?;
+    Some(Wire { from, to })
+}
+
+/// The connections by numbers, or `None` where an end is no port of the right sort.
+pub fn wires_of(
+    alloc: Global,
+    types: &Types,
+    scope: &NetworkScope,
+    kinds: &Items<TypeNumber>,
+    flow: WireSorts,
+    connections: &[Connection],
+) -> Result<Option<Items<Wire>>, AllocError>
+    requires types { AreTypes types.now }
+    requires scope { IsScope scope.now }
+    requires typed { AreTyped types.now.library.now scope.now.network.now.instances kinds.now }
+    ensures { IfOk result (λ o. o ≡ each_or_none (wire_number types.now.library.now (placed scope.now) flow) connections.now) }
+{
+    let mut wires = Items::new(alloc);
+    for connection in connections {
+        match wire_of(types, scope, kinds, flow, connection) {
+            Some(wire) => wires.push(wire)?,
+            None => return Ok(None),
+        }
+    }
+    Ok(Some(wires))
+}

@@ -1,0 +1,71 @@
+//! Types of instances and their ports, by names.
+
+ghost use Rattle.std.specs.Prelude.{◌≡◌, IfOk};
+ghost use Rattle.fb_check_names.specs.Numbers as spec;
+ghost use Rattle.fb_check_names.specs.Sorts.{names_of_sort};
+ghost use Rattle.fb_check_names.specs.Types.{AreTypes, HasTypes, port_number};
+
+use crate::catalog::Catalog;
+use crate::numbers::TypeNumber;
+use crate::placing::place_of;
+use crate::ports::{PortSort, place_among, place_in};
+use fb_types::{Items, Library, Name, Ports, all_ports, kind_named};
+use std::alloc::{AllocError, Global};
+
+/// The block types of a declaration, with the places of their names, and the ports of the event blocks.
+#[derive(Drop)]
+pub struct Types<'a, 'b> {
+    pub library: &'a Library,
+    pub catalog: &'a Catalog<'b>,
+    /// In the order of the event blocks' kinds.
+    event_ports: Items<Ports>,
+}
+
+impl<'a, 'b> Types<'a, 'b> {
+    pub fn new(
+        alloc: Global,
+        library: &'a Library,
+        catalog: &'a Catalog<'b>,
+    ) -> Result<Types<'a, 'b>, AllocError>
+        requires { HasTypes library.now catalog.now }
+        ensures { IfOk result (λ t. AreTypes t × (t.library.now ≡ library.now) × (t.catalog.now ≡ catalog.now)) }
+    {
+        Ok(Types {
+            library,
+            catalog,
+            event_ports: all_ports(alloc)?,
+        })
+    }
+
+    /// The type that a name stands for.
+    pub fn number_of(&self, name: &Name) -> Option<TypeNumber>
+        requires { AreTypes self.now }
+        ensures { result ≡ spec.type_number self.now.library.now name.now }
+    {
+        match kind_named(name.as_bytes()) {
+            Some(kind) => Some(TypeNumber::Event(kind)),
+            None => {
+                let place = place_of(&self.catalog.types, name.as_bytes())?;
+                Some(TypeNumber::Declared(place))
+            }
+        }
+    }
+
+    /// The place of a port of a type among those of its sort.
+    pub fn port_of(&self, number: TypeNumber, sort: PortSort, name: &Name) -> Option<usize>
+        requires { AreTypes self.now }
+        ensures { result ≡ port_number self.now.library.now number (names_of_sort sort) name.now }
+    {
+        match number {
+            TypeNumber::Event(kind) => {
+                let ports = self.event_ports.get(kind.place())?;
+                place_among(ports, sort, name)
+            }
+            TypeNumber::Declared(place) => {
+                let block = self.library.blocks.get(place)?;
+                let places = self.catalog.blocks.get(place)?;
+                place_in(block.ports(), &places.ports, sort, name)
+            }
+        }
+    }
+}

@@ -1,0 +1,151 @@
+-- What the numbers of types and the places of ports say of the names that they stand for.
+use Rattle.std.proofs.Common.{◌≡◌, ℕ, zero, suc, List, [], ◌∷◌, ◌++◌, map, Some, None, Contains, refl, sym, ◌∙◌, ap, subst, inl, inr}
+use Rattle.std.specs.Prelude.{slice_get, option_map, option_and_then, position, flat_map, codes}
+use Rattle.std.proofs.lemmas.Bool.{true≢false}
+use Rattle.std.proofs.lemmas.List.Elements.{Contains-append_left, Contains-append_right}
+use Rattle.fb_types.specs.Names.{Name, same_name}
+use Rattle.fb_types.specs.Blocks.{Kind, Event, named, event_blocks, event_names, variable_names, ports_of, ports_of_event_block}
+use Rattle.fb_types.specs.Flat.{kind_of, type_name, type_named, resource_names_of}
+use Rattle.fb_types.specs.Repeated.{Twice, Placed, NameTwice, networks, networks_in, port_names, internals_of, name_spaces, block_type_names, algorithm_names, state_names, basics, instance_names, with_lists, interfaces, parameter_lists}
+use Rattle.fb_types.specs.declared.library.Library.{Library}
+use Rattle.fb_types.specs.declared.library.BlockType.{BlockType}
+use Rattle.fb_types.specs.declared.library.BlockType.TheVariants as block
+use Rattle.fb_types.specs.declared.library.CompositeType.{CompositeType}
+use Rattle.fb_types.specs.declared.library.Ports.{Ports}
+use Rattle.fb_types.specs.declared.event_kind.EventKind.{EventKind}
+use Rattle.fb_types.specs.declared.event_kind.EventKind.TheVariants.{Restart, Split, Merge, Rendezvous, Permit, Select, Switch, Delay, Cycle, SetReset, DataLatch, RisingEdge, FallingEdge, CountUp}
+use Rattle.fb_types.specs.declared.deploy.Plan.{Plan}
+use Rattle.fb_types.proofs.Positions.{named-position}
+use Rattle.fb_types.proofs.TwiceLaws.{Twice-append_left, Twice-both}
+use Rattle.fb_types.proofs.Elements.{Contains-nil, Contains-cons_cases, Contains-here, Contains-there, Contains-map}
+use Rattle.fb_types.proofs.ByPlace.{element_of_place}
+use Rattle.fb_check_names.specs.declared.numbers.TypeNumber.{TypeNumber}
+use Rattle.fb_check_names.specs.declared.numbers.TypeNumber.TheVariants as number
+use Rattle.fb_check_names.specs.Numbers.{place_of, type_number, kind_of_number}
+
+-- ---- Types
+
+-- a name and its number stand for one type
+pub type_numbered : (lib : Library) (n : Name) → type_named lib n ≡ option_and_then (kind_of_number lib) (type_number lib n)
+type_numbered lib n =
+    elim (named (λ e. e.0) n event_blocks) as
+    (λ o. elim o [ Some e ↦ Some (Event e.1) | None ↦ option_map kind_of (named type_name n lib.blocks) ]
+    ≡ option_and_then (kind_of_number lib) (elim (option_map (λ e. e.1) o) [ Some k ↦ Some (number.Event k) | None ↦ option_map (λ t. number.Declared t) (place_of (map type_name lib.blocks) n) ])) [
+      | Some e ↦ refl
+      | None ↦
+          ap (option_map kind_of) (named-position type_name n lib.blocks)
+          ∙ (elim (position (same_name n) (map type_name lib.blocks)) as
+          (λ o. option_map kind_of (option_and_then (slice_get lib.blocks) o) ≡ option_and_then (kind_of_number lib) (option_map (λ t. number.Declared t) o))
+          [ None ↦ refl | Some t ↦ refl ])
+    ]
+
+pub type_by_number :
+    (lib : Library) (n : Name) (t : TypeNumber) → type_number lib n ≡ Some t → type_named lib n ≡ kind_of_number lib t
+type_by_number lib n t h = type_numbered lib n ∙ ap (option_and_then (kind_of_number lib)) h
+
+-- ---- Networks
+
+-- the composite type that a network other than the application's is inside of
+pub composite_at :
+    (bs : List BlockType) (n : Placed) → Contains (flat_map networks_in bs) n
+    → (k : ℕ) × (t : CompositeType) × (slice_get bs k ≡ Some (block.Composite t)) × ((Some t, t.network) ≡ n)
+composite_at [] n h = absurd (Contains-nil n h)
+composite_at (block.Basic b ∷ bs) n h = let r = composite_at bs n h in (suc r.0, r.1, r.2, r.3)
+composite_at (block.Composite t ∷ bs) n h =
+    elim (Contains-cons_cases (Some t, t.network) (flat_map networks_in bs) n h) [
+      | inl e ↦ (0, t, refl, e)
+      | inr rest ↦ let r = composite_at bs n rest in (suc r.0, r.1, r.2, r.3)
+    ]
+
+pub composite_in :
+    (bs : List BlockType) (k : ℕ) (t : CompositeType) → slice_get bs k ≡ Some (block.Composite t)
+    → Contains (flat_map networks_in bs) (Some t, t.network)
+composite_in [] k t h = absurd (cc)
+composite_in (block.Basic b ∷ bs) zero t h = absurd (cc)
+composite_in (block.Basic b ∷ bs) (suc k) t h = composite_in bs k t h
+composite_in (block.Composite u ∷ bs) zero t h =
+    let e : u ≡ t = cc in
+    subst (λ (v : CompositeType). Contains (flat_map networks_in (block.Composite u ∷ bs)) (Some v, v.network)) e
+    (Contains-here (Some u, u.network) (flat_map networks_in bs))
+composite_in (block.Composite u ∷ bs) (suc k) t h =
+    Contains-there (Some u, u.network) (flat_map networks_in bs) (Some t, t.network) (composite_in bs k t h)
+
+-- ---- Names of variables that differ
+
+-- No data input of an interface has the name of a data output.
+abbrev pub IsApart : Ports → Type 0
+IsApart p = (n : Name) → Contains (variable_names p.inputs) n → Contains (variable_names p.outputs) n → ⊥
+
+one_of : (a n : Name) → Contains (a ∷ []) n → a ≡ n
+one_of a n h = elim (Contains-cons_cases a [] n h) [ inl e ↦ e | inr none ↦ absurd (Contains-nil n none) ]
+
+event_block_apart : (k : EventKind) → IsApart (ports_of_event_block k)
+event_block_apart Restart n h g = Contains-nil n h
+event_block_apart Split n h g = Contains-nil n h
+event_block_apart Merge n h g = Contains-nil n h
+event_block_apart Rendezvous n h g = Contains-nil n h
+event_block_apart Permit n h g = Contains-nil n g
+event_block_apart Select n h g = Contains-nil n g
+event_block_apart Switch n h g = Contains-nil n g
+event_block_apart Delay n h g = Contains-nil n g
+event_block_apart Cycle n h g = Contains-nil n g
+event_block_apart SetReset n h g = Contains-nil n h
+event_block_apart DataLatch n h g =
+    let same : codes "D" ≡ codes "Q" = one_of (codes "D") n h ∙ sym (one_of (codes "Q") n g) in
+    true≢false (ap (same_name (codes "D")) same)
+event_block_apart RisingEdge n h g = Contains-nil n g
+event_block_apart FallingEdge n h g = Contains-nil n g
+event_block_apart CountUp n h g =
+    elim (Contains-cons_cases (codes "Q") (codes "CV" ∷ []) n g) [
+      | inl e ↦ let same : codes "PV" ≡ codes "Q" = one_of (codes "PV") n h ∙ sym e in true≢false (ap (same_name (codes "PV")) same)
+      | inr rest ↦
+          let same : codes "PV" ≡ codes "CV" = one_of (codes "PV") n h ∙ sym (one_of (codes "CV") n rest) in
+          true≢false (ap (same_name (codes "PV")) same)
+    ]
+
+-- the variables of a type of the declaration
+declared_apart : (lib : Library) (plan : Plan) (b : BlockType) → ¬ (NameTwice lib plan) → Contains lib.blocks b → IsApart (ports_of (kind_of b))
+declared_apart lib plan b once h n i o =
+    let p : Ports = ports_of (kind_of b) in
+    let events = event_names p.event_inputs ++ event_names p.event_outputs in
+    let inputs = variable_names p.inputs in
+    let outputs = variable_names p.outputs in
+    let internals = variable_names (internals_of (kind_of b)) in
+    let types = block_type_names lib ∷ map port_names lib.blocks in
+    let algorithms = map algorithm_names (basics lib) in
+    let states = map state_names (basics lib) in
+    let instances = map (λ (n : Placed). instance_names n.1) (networks lib) in
+    let withs = flat_map with_lists (interfaces lib) in
+    let parameters = flat_map (λ (n : Placed). parameter_lists n.1) (networks lib) in
+    let among_types : Contains types (port_names b) =
+    Contains-there (block_type_names lib) (map port_names lib.blocks) (port_names b) (Contains-map port_names lib.blocks b h) in
+    let among_all : Contains (name_spaces lib plan) (port_names b) =
+    Contains-append_left (types ++ algorithms ++ states ++ instances ++ withs ++ parameters) (resource_names_of plan ∷ []) (port_names b)
+    (Contains-append_left (types ++ algorithms ++ states ++ instances ++ withs) parameters (port_names b)
+    (Contains-append_left (types ++ algorithms ++ states ++ instances) withs (port_names b)
+    (Contains-append_left (types ++ algorithms ++ states) instances (port_names b)
+    (Contains-append_left (types ++ algorithms) states (port_names b)
+    (Contains-append_left types algorithms (port_names b) among_types))))) in
+    let twice : Twice (port_names b) =
+    Twice-append_left (events ++ inputs ++ outputs) internals
+    (Twice-both (events ++ inputs) outputs n (Contains-append_right events inputs n i) o) in
+    once (inl (port_names b, among_all, twice))
+
+pub kind_apart :
+    (lib : Library) (plan : Plan) (t : TypeNumber) (k : Kind) → ¬ (NameTwice lib plan) → kind_of_number lib t ≡ Some k → IsApart (ports_of k)
+kind_apart lib plan (number.Event e) k once h =
+    let same : Event e ≡ k = cc in
+    let P : Kind → Type 0 = λ k. IsApart (ports_of k) in
+    subst P same (event_block_apart e)
+kind_apart lib plan (number.Declared t) k once h =
+    elim (slice_get lib.blocks t) as (λ o. slice_get lib.blocks t ≡ o → option_map kind_of o ≡ Some k → IsApart (ports_of k)) [
+      | None ↦ λ e g. absurd (cc)
+      | Some b ↦ λ e g.
+          let same : kind_of b ≡ k = cc in
+          let P : Kind → Type 0 = λ k. IsApart (ports_of k) in
+          subst P same (declared_apart lib plan b once (element_of_place lib.blocks t b e))
+    ] refl h
+
+pub composite_apart :
+    (lib : Library) (plan : Plan) (k : ℕ) (t : CompositeType) → ¬ (NameTwice lib plan) → slice_get lib.blocks k ≡ Some (block.Composite t) → IsApart t.ports
+composite_apart lib plan k t once h = declared_apart lib plan (block.Composite t) once (element_of_place lib.blocks k (block.Composite t) h)

@@ -1,0 +1,11 @@
+use Rattle.std.proofs.Common.{◌∙◌, ap}
+use Rattle.std.specs.Prelude.{is_some}
+use Rattle.fb_check_types.specs.Roles.{variables_of, type_named}
+use Rattle.fb_check_types.proofs.Roles.{is_some-type_named}
+use Rattle.fb_check_types.proofs.scope.Scope.is_variable.Goals as goal
+
+pub returns : goal.returns
+returns c =
+    c.is_some.ensures
+    ∙ ap is_some (c.type_of.ensures ∙ ap (λ d. type_named (variables_of d) c.args.name.now) c.interface.ensures)
+    ∙ is_some-type_named (variables_of (record { ports = c.args.self.now.ports; internals = c.args.self.now.internals })) c.args.name.now

@@ -1,0 +1,143 @@
+//! What the names of a block type's interface stand for, by their places.
+
+ghost use Rattle.std.specs.Prelude.{◌≡◌, List, option_map, slice_get};
+ghost use Rattle.fb_types.specs.Blocks.{among, named};
+ghost use Rattle.fb_types.specs.Repeated.{Twice};
+ghost use Rattle.fb_check_names.specs.Places.{IsIndex};
+ghost use Rattle.fb_check_names.specs.Sorts.{names_of_sort};
+ghost use Rattle.fb_check_types.specs.Roles.{is_port, names_of, role_of, type_in, type_named, variables_of, with_roles};
+
+use fb_check_names::{Places, PortSort, place_of};
+use fb_types::{Name, Ports, Ty, Variable};
+use std::marker::Model;
+
+/// What a name stands for. A variable has its type.
+#[derive(Clone, Copy)]
+pub enum Role {
+    EventInput,
+    EventOutput,
+    Input(Ty),
+    Output(Ty),
+    Internal(Ty),
+}
+
+impl Role {
+    /// Whether it is a port of the sort.
+    fn is_port(self, sort: PortSort) -> bool
+        ensures { result ≡ is_port sort self }
+    {
+        match (self, sort) {
+            (Role::EventInput, PortSort::EventInput)
+            | (Role::EventOutput, PortSort::EventOutput)
+            | (Role::Input(_), PortSort::Input)
+            | (Role::Output(_), PortSort::Output) => true,
+            _ => false,
+        }
+    }
+
+    /// The type of a variable.
+    fn ty(self) -> Option<Ty>
+        ensures { result ≡ type_in self }
+    {
+        match self {
+            Role::EventInput | Role::EventOutput => None,
+            Role::Input(ty) | Role::Output(ty) | Role::Internal(ty) => Some(ty),
+        }
+    }
+}
+
+/// The ports and the internal variables of a block type, whose names have places. Contracts see the ports
+/// and the variables.
+#[derive(Drop)]
+pub struct Interface<'a, 'n> {
+    ports: &'a Ports,
+    internals: &'a [Variable],
+    places: &'a Places<'n>,
+}
+
+impl<'a, 'n> Model for Interface<'a, 'n> {
+    ghost use Rattle.fb_check_names.specs.Places.{IsIndex};
+    ghost use Rattle.fb_check_types.specs.Roles.{Declared, names_of};
+
+    ghost Value = { Declared };
+
+    ghost view = { λ i. record { ports = i.ports.now; internals = i.internals.now } };
+
+    ghost invariant = { λ i. IsIndex (names_of (record { ports = i.ports.now; internals = i.internals.now })) i.places.now };
+}
+
+impl<'a, 'n> Interface<'a, 'n> {
+    pub fn new(
+        ports: &'a Ports,
+        internals: &'a [Variable],
+        places: &'a Places<'n>,
+    ) -> Interface<'a, 'n>
+        requires { IsIndex (names_of (record { ports = ports.now; internals = internals.now })) places.now }
+        ensures { result ≡ record { ports = ports.now; internals = internals.now } }
+    {
+        Interface {
+            ports,
+            internals,
+            places,
+        }
+    }
+
+    pub fn ports(&self) -> &'a Ports
+        ensures { result.now ≡ self.now.ports }
+    {
+        self.ports
+    }
+
+    /// What stands at a place of all names.
+    fn role_at(&self, place: usize) -> Option<Role>
+        ensures { result ≡ option_map (λ d. d.1) (slice_get (with_roles self.now) place) }
+    {
+        let ports = self.ports;
+        let Some(place) = place.checked_sub(ports.event_inputs.len()) else {
+            return Some(Role::EventInput);
+        };
+        let Some(place) = place.checked_sub(ports.event_outputs.len()) else {
+            return Some(Role::EventOutput);
+        };
+        if let Some(variable) = ports.inputs.get(place) {
+            return Some(Role::Input(variable.ty));
+        }
+        let place = place - ports.inputs.len();
+        if let Some(variable) = ports.outputs.get(place) {
+            return Some(Role::Output(variable.ty));
+        }
+        match self.internals.get(place - ports.outputs.len()) {
+            Some(variable) => Some(Role::Internal(variable.ty)),
+            None => None,
+        }
+    }
+
+    /// What a name stands for, if it is one of the interface's.
+    fn role_of(&self, name: &Name) -> Option<Role>
+        ensures role { result ≡ role_of self.now name.now }
+        ensures once { ¬ (Twice (names_of self.now)) }
+    {
+        let place = place_of(self.places, name.as_bytes())?;
+        self.role_at(place)
+    }
+
+    /// Whether a name is that of a port of the sort.
+    pub fn has_port(&self, sort: PortSort, name: &Name) -> bool
+        ensures { result ≡ among (names_of_sort sort self.now.ports) name.now }
+    {
+        match self.role_of(name) {
+            Some(role) => role.is_port(sort),
+            None => false,
+        }
+    }
+
+    /// The type of the variable of a name.
+    pub fn type_of(&self, name: &Name) -> Option<Ty>
+        ensures { result ≡ type_named (variables_of self.now) name.now }
+    {
+        match self.role_of(name) {
+            Some(role) => role.ty(),
+            None => None,
+        }
+    }
+}

@@ -1,0 +1,95 @@
+//! What the names in the chart and the bodies of a basic type stand for.
+
+ghost use Rattle.std.specs.Prelude.{◌≡◌, is_some};
+ghost use Rattle.fb_types.specs.Blocks.{among, is_input, variable_names, variables_of};
+ghost use Rattle.fb_types.specs.Repeated.{algorithm_names, state_names};
+ghost use Rattle.fb_types.specs.declared.library.BlockType.TheVariants.{Basic};
+ghost use Rattle.fb_check_names.specs.Catalog.{IsBlock};
+
+use crate::interface::Interface;
+use crate::sorts::Typing;
+use fb_check_names::{BlockPlaces, PortSort, place_of};
+use fb_types::{BasicType, Name, Ty};
+use std::marker::Model;
+
+/// A basic type, whose names have places. Contracts see the type.
+#[derive(Drop)]
+pub struct Scope<'a, 'n> {
+    block: &'a BasicType,
+    places: &'a BlockPlaces<'n>,
+}
+
+impl<'a, 'n> Model for Scope<'a, 'n> {
+    ghost use Rattle.std.specs.Coded.{codes};
+    ghost use Rattle.fb_types.specs.declared.library.BasicType.{BasicType};
+    ghost use Rattle.fb_types.specs.contracts.text.Expr as expr;
+    ghost use Rattle.fb_types.specs.contracts.text.Stmt as stmt;
+    ghost use Rattle.fb_types.specs.declared.library.BlockType.TheVariants.{Basic};
+    ghost use Rattle.fb_check_names.specs.Catalog.{IsBlock};
+
+    ghost Value = { BasicType };
+
+    ghost coded = { Prim.hlevel (codes, expr.the_row.coded, stmt.the_row.coded) };
+
+    ghost view = { λ s. s.block.now };
+
+    ghost invariant = { λ s. IsBlock (Basic s.block.now) s.places.now };
+}
+
+impl<'a, 'n> Scope<'a, 'n> {
+    pub fn new(block: &'a BasicType, places: &'a BlockPlaces<'n>) -> Scope<'a, 'n>
+        requires { IsBlock (Basic block.now) places.now }
+        ensures { result ≡ block.now }
+    {
+        Scope { block, places }
+    }
+
+    /// The type.
+    pub fn block(&self) -> &'a BasicType
+        ensures { result.now ≡ self.now }
+    {
+        self.block
+    }
+
+    /// The ports and the variables of the type.
+    pub fn interface(&self) -> Interface<'a, 'n>
+        ensures { result ≡ record { ports = self.now.ports; internals = self.now.internals } }
+    {
+        let block = self.block;
+        Interface::new(&block.ports, block.internals.as_slice(), &self.places.ports)
+    }
+
+    pub fn is_state(&self, name: &Name) -> bool
+        ensures { result ≡ among (state_names self.now) name.now }
+    {
+        place_of(&self.places.states, name.as_bytes()).is_some()
+    }
+
+    pub fn is_algorithm(&self, name: &Name) -> bool
+        ensures { result ≡ among (algorithm_names self.now) name.now }
+    {
+        place_of(&self.places.algorithms, name.as_bytes()).is_some()
+    }
+
+    pub fn is_input(&self, name: &Name) -> bool
+        ensures { result ≡ is_input self.now.ports name.now }
+    {
+        self.interface().has_port(PortSort::Input, name)
+    }
+
+    pub fn is_variable(&self, name: &Name) -> bool
+        ensures { result ≡ among (variable_names (variables_of self.now)) name.now }
+    {
+        self.interface().type_of(name).is_some()
+    }
+}
+
+impl<'a, 'n> Typing for Scope<'a, 'n> {
+    ghost use Rattle.fb_types.specs.Blocks.{types_of};
+
+    ghost types = { types_of };
+
+    fn type_of(&self, name: &Name) -> Ty {
+        self.interface().type_of(name).unwrap_or(Ty::Bool)
+    }
+}

@@ -1,6 +1,0 @@
-use Rattle.std.proofs.Common.{◌∙◌}
-use Rattle.fb_fabric.proofs.Views.{count_of}
-use Rattle.fb_fabric.proofs.fabric.Fabric.count.Goals as goal
-
-pub returns : goal.returns
-returns c = c.len.ensures ∙ count_of _ _ c.self.invariant c.self.view_is

@@ -1,6 +1,0 @@
-use Rattle.std.proofs.Common.{take}
-use Rattle.fb_fabric.specs.Networks.{AreNarrow}
-use Rattle.fb_fabric.proofs.making.are_narrow.Given as goal
-
-abbrev pub invariant-loop-block : goal.invariant-loop-block
-invariant-loop-block l = AreNarrow (take l.block-index l.blocks)

@@ -1,5 +1,0 @@
-use Rattle.fb_fabric.proofs.Wired.{row_read}
-use Rattle.fb_fabric.proofs.tables.row_at.Goals as goal
-
-pub returns : goal.returns
-returns c = row_read _ _ _ _ _ _ _ c.requires.fabric c.requires.within c.as_slice.ensures c.index-as_slice-instance.is

@@ -1,5 +1,0 @@
-use Rattle.fb_fabric.proofs.Reading.{table_more}
-use Rattle.fb_fabric.proofs.wiring.targets_of.Goals as goal
-
-pub loop-wire-preserved : goal.loop-wire-preserved
-loop-wire-preserved c = table_more (λ w. w.from) (λ w. w.to) c.args.wires.now c.loop-wire.wire-index _ c.loop-wire.table c.push.new.self c.loop-wire-test.true c.loop-wire.invariant c.in_ok-push.ensures

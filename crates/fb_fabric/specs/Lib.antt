@@ -1,6 +1,0 @@
-pub mod Fabrics
-pub mod Networks
-pub mod Layouts
-pub mod Layers
-pub mod Tables
-pub mod Wirings

@@ -1,6 +1,0 @@
-use Rattle.std.proofs.Common.{take}
-use Rattle.fb_joins.proofs.Carried.{AreCarried}
-use Rattle.fb_joins.proofs.serving.serve_all.Given as goal
-
-abbrev pub invariant-loop-place : goal.invariant-loop-place
-invariant-loop-place l = AreCarried l.library l.mapping (take l.place l.connections) l.events l.served

@@ -1,4 +1,0 @@
-use Rattle.fb_names.proofs.named.BlockTypeNamed.name.Goals as goal
-
-pub returns : goal.returns
-returns c = c.type_name.ensures

@@ -1,8 +1,0 @@
-use Rattle.std.proofs.Common.{sym}
-use Rattle.fb_names.proofs.Lookups.{block_places}
-use Rattle.fb_names.proofs.types.Types.port_of.Goals as goal
-
-pub place_in-requires : goal.place_in-requires
-place_in-requires c =
-    block_places _ _ _ _ _ _ _ c.requires.has (sym c.in_ok-block-in-Declared.ensures.value) c.deref.ensures.value
-    c.in_ok-places-in-Declared.ensures.lookup.3.0 c.in_ok-places-in-Declared.ensures.lookup.1 c.ports.ensures

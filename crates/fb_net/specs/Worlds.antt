@@ -1,0 +1,173 @@
+-- What the blocks of one resource stand for in the model (IEC 61499-1, 5.2 and 5.3; that a resource has blocks of its own instances, and held copies, is this project's profile).
+use Rattle.std.specs.Prelude.{◌≡◌, ◌<◌, ◌≢◌, ℕ, Bool, false, List, length, Option, Some, unwrap_or, slice_get, slice_set}
+use Rattle.std.specs.BTreeMap.{get}
+use Rattle.std.specs.Ordering.{nat_cmp, bool_cmp, ordering_then}
+use Rattle.std.specs.declared.cmp.Ordering.{Ordering}
+use Rattle.fb_types.specs.Names.{Name, Path}
+use Rattle.fb_types.specs.Values.{Values}
+use Rattle.fb_types.specs.Blocks.{Kind, Basic, Event, Composite, among, variable_names}
+use Rattle.fb_types.specs.Flat.{zero_value}
+use Rattle.fb_types.specs.Headline.{Inputs, system_of}
+use Rattle.fb_types.specs.Numbers.{path_at, ports_at}
+use Rattle.fb_types.specs.Reactions.{World, sampled_from, seen, shown}
+use Rattle.fb_types.specs.States as model
+use Rattle.fb_types.specs.Systems.{System}
+use Rattle.fb_types.specs.declared.event_kind.EventKind.{EventKind}
+use Rattle.fb_types.specs.declared.library.BasicType.{BasicType}
+use Rattle.fb_types.specs.declared.value.Value.{Value}
+use Rattle.fb_st.specs.Frames.{values_of}
+use Rattle.fb_ecc.specs.Places.{IsBlockOf, state_at}
+use Rattle.fb_ecc.specs.Sound.{IsSound}
+use Rattle.fb_ecc.specs.declared.state.BasicState.{BasicState}
+use Rattle.fb_types.specs.declared.run.Place.{Place}
+use Rattle.fb_system.specs.Ports.{IsCompositeAt, IsSource, IsVariable, variable_of}
+use Rattle.fb_net.specs.declared.block.Block.{Block}
+use Rattle.fb_net.specs.declared.block.Block.TheVariants as node
+use Rattle.fb_net.specs.declared.block.EventBlock.{EventBlock}
+use Rattle.fb_net.specs.declared.resource.Forest.{Forest}
+use Rattle.fb_net.specs.declared.shell.Shell.{Shell}
+
+-- ---- Values by place
+
+-- the value at a place, or 0 behind the end
+abbrev pub value_in : List Value → ℕ → Value
+value_in values place = unwrap_or (slice_get values place) zero_value
+
+-- what the variables of an instance begin with
+abbrev pub begins : System → Path → Values
+begins sys p n = sys.initial (record { at = p; name = n })
+
+abbrev pub input_names : System → Path → List Name
+input_names sys p = variable_names (ports_at sys p).inputs
+
+abbrev pub output_names : System → Path → List Name
+output_names sys p = variable_names (ports_at sys p).outputs
+
+-- The values stand at the places of the names of some variables of an instance. Another name has what it begins with.
+pub record ValuesStand (sys : System) (p : Path) (names : List Name) (values : List Value) (all : Values) : Type 0 where
+  pub each : length values ≡ length names
+  pub at_place : (place : ℕ) (n : Name) (v : Value) → slice_get names place ≡ Some n → slice_get values place ≡ Some v → all n ≡ v
+  pub others : (n : Name) → among names n ≡ false → all n ≡ begins sys p n
+
+-- ---- One block
+
+pub record ShellStands (sys : System) (p : Path) (s : Shell) (b : model.Block) : Type 0 where
+  pub slots : ValuesStand sys p (input_names sys p) s.slots b.slots
+  pub published : ValuesStand sys p (output_names sys p) s.published b.published
+
+pub record BasicStands (t : BasicType) (s : BasicState) (b : model.Block) : Type 0 where
+  pub sound : IsSound t
+  pub block : IsBlockOf t s
+  pub memory : b.memory ≡ model.InState (state_at t s.state)
+  pub variables : (n : Name) → b.variables n ≡ values_of s.frame n
+
+-- The variables of an event block are its data inputs: the outputs that it shows follow from what it remembers.
+pub record EventStands (sys : System) (p : Path) (kind : EventKind) (e : EventBlock) (b : model.Block) : Type 0 where
+  pub is_kind : e.state.kind ≡ kind
+  pub memory : b.memory ≡ model.Remembers e.state.memory
+  pub variables : ValuesStand sys p (input_names sys p) e.inputs b.variables
+
+-- The variables of a composite block are the copies of its data inputs.
+pub record CompositeStands (sys : System) (p : Path) (copies : List Value) (b : model.Block) : Type 0 where
+  pub memory : b.memory ≡ model.Nothing
+  pub variables : ValuesStand sys p (input_names sys p) copies b.variables
+
+-- what a block of that kind is, with its shell
+abbrev pub NodeStands : System → Path → Option Kind → Block → model.Block → Type 0
+NodeStands sys p (Some (Basic t)) (node.Basic x) b = BasicStands t x.state b × ShellStands sys p x.shell b
+NodeStands sys p (Some (Event k)) (node.Event x) b = EventStands sys p k x b × ShellStands sys p x.shell b
+NodeStands sys p (Some (Composite t)) (node.Composite x) b = CompositeStands sys p x.inputs b × ShellStands sys p x.shell b
+NodeStands sys p k x b = ⊥
+
+-- The block stands for that one at a path.
+abbrev pub StandsFor : System → Path → Block → model.Block → Type 0
+StandsFor sys p x b = NodeStands sys p (sys.kind p) x b
+
+-- ---- The seats of one resource
+
+-- the place of an instance's block among those of its resource
+abbrev pub seat_in : List ℕ → (instance : ℕ) → ℕ
+seat_in seats k = unwrap_or (slice_get seats k) 0
+
+-- the blocks with another one at the seat of an instance
+abbrev pub with_seated : Forest → (instance : ℕ) → Block → Forest
+with_seated t k b = record t { blocks = slice_set t.blocks (seat_in t.seats k) b }
+
+-- The block at the seat of an instance stands for it.
+pub record StandsAt (i : Inputs) (seats : List ℕ) (blocks : List Block) (k : ℕ) (b : model.Block) : Type 0 where
+  pub block : Block
+  pub stood : slice_get blocks (seat_in seats k) ≡ Some block
+  pub stands : StandsFor (system_of i) (path_at (system_of i) k) block b
+
+-- A block was found that stands for an instance.
+pub record Found (i : Inputs) (k : ℕ) (b : model.Block) (found : Option Block) : Type 0 where
+  pub block : Block
+  pub is : found ≡ Some block
+  pub stands : StandsFor (system_of i) (path_at (system_of i) k) block b
+
+-- No two of the first instances of a resource, of which there are so many, have one seat.
+unfoldable pub AreApart : Inputs → (resource count : ℕ) → List ℕ → Type 0
+AreApart i r n seats =
+    (j k : ℕ) → j < n → k < n → (system_of i).resource (path_at (system_of i) j) ≡ r → (system_of i).resource (path_at (system_of i) k) ≡ r →
+    seat_in seats j ≡ seat_in seats k → j ≡ k
+
+-- ---- Held copies
+
+abbrev pub key_of : Place → ℕ × ℕ × Bool
+key_of x = (x.instance, x.variable, x.is_output)
+
+abbrev pub key_cmp : ℕ × ℕ × Bool → ℕ × ℕ × Bool → Ordering
+key_cmp a b = ordering_then (nat_cmp a.0 b.0) (ordering_then (nat_cmp a.1 b.1) (bool_cmp a.2 b.2))
+
+-- A variable in the resource is connected to this one.
+pub record IsRead (sys : System) (resource : ℕ) (x : Place) : Type 0 where
+  pub to : Place
+  pub variable : IsVariable sys to
+  pub within : sys.resource (path_at sys to.instance) ≡ resource
+  pub source : sys.source (variable_of sys to) ≡ Some (variable_of sys x)
+
+-- ---- The world of one resource
+
+-- Each instance of the resource has its block at a seat of its own, and each variable of another resource that one is connected to has its held copy.
+pub record IsForest (i : Inputs) (t : Forest) (w : World) : Type 0 where
+  pub blocks : (k : ℕ) → k < length (system_of i).paths → (system_of i).resource (path_at (system_of i) k) ≡ t.resource →
+      StandsAt i t.seats t.blocks k (w.blocks (path_at (system_of i) k))
+  pub apart : AreApart i t.resource (length (system_of i).paths) t.seats
+  pub held : (x : Place) → IsVariable (system_of i) x → IsRead (system_of i) t.resource x → (system_of i).resource (path_at (system_of i) x.instance) ≢ t.resource →
+      get key_cmp t.held (key_of x) ≡ Some (w.held (variable_of (system_of i) x))
+
+-- ---- What is read of the blocks
+
+abbrev pub InForest : Inputs → Forest → (instance : ℕ) → Type 0
+InForest i t k = (system_of i).resource (path_at (system_of i) k) ≡ t.resource
+
+abbrev pub IsComposite : System → Place → Type 0
+IsComposite sys x = IsCompositeAt sys x.instance
+
+-- The value is what a part of the instance's block holds for a variable, in each world that the blocks stand for.
+abbrev pub Reads : Inputs → Forest → Place → (model.Block → Values) → Value → Type 0
+Reads i t x part v =
+    let sys = system_of i in
+    (w : World) → IsForest i t w → InForest i t x.instance → v ≡ part (w.blocks (variable_of sys x).at) (variable_of sys x).name
+
+-- The value is what a source in the resource shows, in each world that the blocks stand for.
+abbrev pub Sees : Inputs → Forest → Place → Value → Type 0
+Sees i t x v = (w : World) → IsForest i t w → InForest i t x.instance → IsSource (system_of i) x → v ≡ seen (system_of i) w (variable_of (system_of i) x)
+
+-- .. what a source shows in the resource, wherever it lies
+abbrev pub Shows : Inputs → Forest → Place → Value → Type 0
+Shows i t x v =
+    (w : World) → IsForest i t w → IsRead (system_of i) t.resource x → IsSource (system_of i) x →
+    v ≡ shown (system_of i) t.resource w (variable_of (system_of i) x)
+
+-- .. what a data input samples
+abbrev pub Samples : Inputs → Forest → Place → Value → Type 0
+Samples i t x v =
+    (w : World) → IsForest i t w → InForest i t x.instance →
+    v ≡ sampled_from (system_of i) t.resource w (variable_of (system_of i) x)
+
+-- ---- Kinds
+
+-- The block of the variable's instance keeps what it samples itself: it is an event block or a composite.
+pub record TakesSamples (sys : System) (x : Place) : Type 0 where
+  pub no_basic : (t : BasicType) → sys.kind (path_at sys x.instance) ≢ Some (Basic t)

@@ -1,0 +1,39 @@
+//! The blocks of a resource before the first event.
+
+ghost use Rattle.std.specs.Prelude.{◌≡◌, ◌<◌, length, IfOk};
+ghost use Rattle.fb_types.specs.Headline.{system_of};
+ghost use Rattle.fb_types.specs.Simulation.{opening_state};
+ghost use Rattle.fb_types.specs.Takes.{world_of};
+ghost use Rattle.fb_net.specs.Worlds.{IsForest};
+
+use crate::opening_copies::held_of;
+use crate::opening_seats::seat_all;
+use crate::resource::Forest;
+use fb_system::System;
+use fb_types::Items;
+use std::alloc::{AllocError, Global};
+use std::collections::BTreeMap;
+
+/// The blocks of a resource, each with what it begins with, and the held copies of the variables of other resources
+/// to which they are connected.
+///
+/// # Errors
+/// When memory runs out.
+pub fn build(alloc: Global, system: &System, resource: u32) -> Result<Forest, AllocError>
+    requires { resource < length (system_of system.now).resource_names }
+    ensures opened { IfOk result (λ f. IsForest system.now f (world_of (opening_state (system_of system.now)) resource)) }
+    ensures resource { IfOk result (λ f. f.resource ≡ resource) }
+{
+    system.facts();
+    let resource = resource as usize;
+    let held = held_of(alloc, system, resource)?;
+    let mut forest = Forest {
+        resource,
+        seats: Items::new(alloc),
+        blocks: Items::new(alloc),
+        held,
+    };
+    let mut charts = BTreeMap::new(alloc);
+    seat_all(alloc, system, &mut charts, &mut forest)?;
+    Ok(forest)
+}

@@ -1,0 +1,258 @@
+//! The blocks and the held copies of one resource.
+
+ghost use Rattle.std.specs.Prelude.{◌≡◌, ◌<◌, length, option_map, slice_get, true, false, unwrap_or};
+ghost use Rattle.std.specs.BTreeMap.{get};
+ghost use Rattle.std.specs.Option.{option_copied};
+ghost use Rattle.fb_types.specs.Flat.{zero_value};
+ghost use Rattle.fb_types.specs.Headline.{system_of};
+ghost use Rattle.fb_types.specs.Numbers.{path_at};
+ghost use Rattle.fb_types.specs.Reactions.{World};
+ghost use Rattle.fb_system.specs.Ports.{IsVariable, variable_of};
+ghost use Rattle.fb_net.specs.Changes.{Changes, Holds, ShowsInside, input_sampled, output_shown, slot_set};
+ghost use Rattle.fb_net.specs.Worlds.{TakesSamples, Found, InForest, IsComposite, IsForest, Reads, Samples, Sees, Shows, key_cmp, key_of, seat_in, value_in, with_seated};
+
+use crate::block::Block;
+use fb_system::System;
+use fb_types::{Items, Place, Value};
+use std::alloc::Global;
+use std::collections::BTreeMap;
+
+/// Values of variables of other resources, by instance, place, and whether it is an output.
+pub type HeldCopies = BTreeMap<(u32, u32, bool), Value, Global>;
+
+/// The instances of one resource, and the held copies of the variables of other resources to which they are
+/// connected.
+pub struct Forest {
+    /// The number of the resource.
+    pub resource: usize,
+    /// For each instance of the system, the place of its block among those of the resource. That of an instance of
+    /// another resource means nothing.
+    pub seats: Items<u32>,
+    /// The blocks of the instances that lie in the resource, in the order of their numbers. Those inside a composite
+    /// stand beside it, so that each is found at once however deep it is.
+    pub blocks: Items<Block>,
+    pub held: HeldCopies,
+}
+
+// Drop is written by hand, so that callers need not prove it again (docs/DECISIONS.md, "Drop").
+impl Drop for Forest {
+    fn drop(self) {
+        let Forest {
+            resource: _,
+            seats: _,
+            blocks: _,
+            held: _,
+        } = self;
+    }
+}
+
+/// What stands for a value that is not there.
+const NOTHING: Value = Value::Whole(0);
+
+impl Forest {
+    ghost use Rattle.std.specs.Borrow.{LendsIf, sem};
+    ghost use Rattle.fb_net.specs.contracts.block.Block.{the_row as block_row};
+    ghost use Rattle.fb_net.specs.contracts.resource.Forest.{the_row};
+
+    /// The place of an instance's block among those of the resource, in which the instance lies.
+    #[inline(always)]
+    pub fn seat(&self, instance: u32) -> usize
+        ensures { result ≡ seat_in self.now.seats instance }
+    {
+        match self.seats.get(instance as usize) {
+            Some(seat) => *seat as usize,
+            None => 0,
+        }
+    }
+
+    /// The block of an instance that lies in the resource.
+    #[inline(always)]
+    pub fn block(&self, system: &System, instance: u32) -> Option<&Block>
+        requires { instance < length (system_of system.now).paths }
+        ensures { (w : World) → IsForest system.now self.now w → InForest system.now self.now instance →
+            Found system.now instance (w.blocks (path_at (system_of system.now) instance)) (option_copied result) }
+    {
+        system.facts();
+        self.blocks.get(self.seat(instance))
+    }
+
+    /// The block of an instance that lies in the resource, to be changed.
+    #[inline(always)]
+    pub fn block_mut(&mut self, instance: u32) -> Option<&mut Block>
+        ensures* writes_back { sem 𝓛 (LendsIf the_row block_row self.entry result (with_seated self.old instance) self.old) }
+        ensures value { option_map (λ b. b.now) result ≡ slice_get self.old.blocks (seat_in self.old.seats instance) }
+    {
+        let seat = self.seat(instance);
+        self.blocks.get_mut(seat)
+    }
+
+    /// What a connection or a stimulus has set at a data input of an instance that lies in the resource.
+    #[inline(always)]
+    pub fn slot(&self, system: &System, input: Place) -> Value
+        requires variable { IsVariable (system_of system.now) input }
+        requires input { input.is_output ≡ false }
+        ensures { Reads system.now self.now input (λ b. b.slots) result }
+    {
+        match self.block(system, input.instance) {
+            Some(block) => value_of(block.shell().slots.as_slice(), input.variable),
+            None => NOTHING,
+        }
+    }
+
+    /// What connections see at a data output of an instance that lies in the resource.
+    #[inline(always)]
+    pub fn published(&self, system: &System, output: Place) -> Value
+        requires variable { IsVariable (system_of system.now) output }
+        requires output { output.is_output ≡ true }
+        ensures { Reads system.now self.now output (λ b. b.published) result }
+    {
+        match self.block(system, output.instance) {
+            Some(block) => value_of(block.shell().published.as_slice(), output.variable),
+            None => NOTHING,
+        }
+    }
+
+    /// The copy of a data input that a composite block in the resource shows to its components.
+    #[inline(always)]
+    pub fn copied(&self, system: &System, input: Place) -> Value
+        requires variable { IsVariable (system_of system.now) input }
+        requires input { input.is_output ≡ false }
+        ensures { IsComposite (system_of system.now) input → Reads system.now self.now input (λ b. b.variables) result }
+    {
+        match self.block(system, input.instance) {
+            Some(block) => value_of(block.inputs(), input.variable),
+            None => NOTHING,
+        }
+    }
+
+    /// What connections see at a source that lies in the resource.
+    #[inline(always)]
+    fn seen(&self, system: &System, source: Place) -> Value
+        requires { IsVariable (system_of system.now) source }
+        ensures { Sees system.now self.now source result }
+    {
+        system.facts();
+        if source.is_output {
+            self.published(system, source)
+        } else {
+            self.copied(system, source)
+        }
+    }
+
+    /// The held copy of a variable of another resource, or 0 where there is none.
+    #[inline(never)]
+    fn held(&self, source: Place) -> Value
+        ensures { result ≡ unwrap_or (get key_cmp self.now.held (key_of source)) zero_value }
+    {
+        let key = (source.instance, source.variable, source.is_output);
+        self.held.get(&key).copied().unwrap_or(NOTHING)
+    }
+
+    /// What a source shows in the resource: what connections see at it, or the held copy where it lies in another
+    /// resource.
+    #[inline(always)]
+    pub fn shown(&self, system: &System, source: Place) -> Value
+        requires { IsVariable (system_of system.now) source }
+        ensures { Shows system.now self.now source result }
+    {
+        if system.resource(source.instance) == self.resource {
+            self.seen(system, source)
+        } else {
+            self.held(source)
+        }
+    }
+
+    /// What a data input of an instance that lies in the resource samples: what its source shows, or else what a
+    /// stimulus has set.
+    #[inline(always)]
+    pub fn sampled(&self, system: &System, input: Place) -> Value
+        requires variable { IsVariable (system_of system.now) input }
+        requires input { input.is_output ≡ false }
+        ensures { Samples system.now self.now input result }
+    {
+        match system.source(input) {
+            Some(source) => self.shown(system, source),
+            None => self.slot(system, input),
+        }
+    }
+
+    /// What a data output of a composite that lies in the resource shows from inside: what its inner source shows, or
+    /// else what it showed before.
+    #[inline(always)]
+    pub fn shown_inside(&self, system: &System, output: Place) -> Value
+        requires variable { IsVariable (system_of system.now) output }
+        requires output { output.is_output ≡ true }
+        requires composite { IsComposite (system_of system.now) output }
+        ensures { ShowsInside system.now self.now output result }
+    {
+        match system.source(output) {
+            Some(source) => self.shown(system, source),
+            None => self.published(system, output),
+        }
+    }
+
+    /// A stimulus brings a value to a data input of an instance that lies in the resource.
+    pub fn set_slot(&mut self, system: &System, input: Place, value: Value)
+        requires variable { IsVariable (system_of system.now) input }
+        requires input { input.is_output ≡ false }
+        ensures { Changes system.now self.old input.instance (slot_set (variable_of (system_of system.now) input).name value) self.new }
+    {
+        system.facts();
+        if let Some(block) = self.block_mut(input.instance) {
+            block.shell_mut().slots.set(input.variable as usize, value);
+        }
+    }
+
+    /// A data output of an instance that lies in the resource shows another value to connections.
+    #[inline(always)]
+    pub fn publish(&mut self, system: &System, output: Place, value: Value)
+        requires variable { IsVariable (system_of system.now) output }
+        requires output { output.is_output ≡ true }
+        ensures { Changes system.now self.old output.instance (output_shown (variable_of (system_of system.now) output).name value) self.new }
+    {
+        system.facts();
+        if let Some(block) = self.block_mut(output.instance) {
+            block
+                .shell_mut()
+                .published
+                .set(output.variable as usize, value);
+        }
+    }
+
+    /// An event block or a composite that lies in the resource samples a data input.
+    #[inline(always)]
+    pub fn set_input(&mut self, system: &System, input: Place, value: Value)
+        requires variable { IsVariable (system_of system.now) input }
+        requires input { input.is_output ≡ false }
+        requires takes { TakesSamples (system_of system.now) input }
+        ensures { Changes system.now self.old input.instance (input_sampled (variable_of (system_of system.now) input).name value) self.new }
+    {
+        system.facts();
+        if let Some(block) = self.block_mut(input.instance) {
+            if let Some(inputs) = block.inputs_mut() {
+                inputs.set(input.variable as usize, value);
+            }
+        }
+    }
+
+    /// A message brings a value of a variable of another resource. Where nothing in this resource is connected to the
+    /// variable, nothing is kept.
+    pub fn hold(&mut self, system: &System, output: Place, value: Value)
+        requires { IsVariable (system_of system.now) output }
+        ensures { Holds system.now self.old output value self.new }
+    {
+        system.facts();
+        let key = (output.instance, output.variable, output.is_output);
+        if let Some(held) = self.held.get_mut(&key) {
+            *held = value;
+        }
+    }
+}
+
+/// The value at a place.
+#[inline(always)]
+fn value_of(values: &[Value], place: u32) -> Value
+    ensures { result ≡ value_in values.now place }
+{
+    values.get(place as usize).copied().unwrap_or(NOTHING)
+}

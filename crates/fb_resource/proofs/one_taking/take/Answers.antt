@@ -1,0 +1,93 @@
+use Rattle.std.proofs.Common.{Some, All, refl, sym, ap, subst, ◌∙◌, arith}
+use Rattle.fb_types.specs.Headline.{system_of}
+use Rattle.fb_system.specs.Lines.{BelongsTo}
+use Rattle.fb_types.specs.Takes.{begun, world_of}
+use Rattle.fb_net.specs.Outs.{IsOut}
+use Rattle.fb_net.specs.Events.{IsEventIn, event_of}
+use Rattle.fb_laws.proofs.Accepted.{accepted_typed}
+use Rattle.fb_types.specs.declared.value.Reason.TheVariants.{Steps}
+use Rattle.fb_resource.specs.Counts.{IsMetered, before_step, meter_of}
+use Rattle.fb_resource.specs.Takings.{IsTakenHere}
+use Rattle.fb_resource.specs.declared.tick_counts.TickCounts.{TickCounts}
+use Rattle.fb_resource.proofs.ReadyIs.{came_good, metered_after}
+use Rattle.fb_resource.proofs.TakenIs.{taken_none, taken_one}
+use Rattle.fb_resource.proofs.one_taking.take.Goals as goal
+
+pub returns-then-not-step-clause-taken : goal.returns-then-not-step-clause-taken
+returns-then-not-step-clause-taken c s here counts =
+    let i = c.args.system.now in
+    let k = c.args.key.now in
+    let e = event_of i c.args.event.now in
+    let none = taken_none i c.args.limit s k e (begun c.args.limit k.tick (meter_of c.args.meter.now)) c.args.tree.now c.args.meter.now c.args.queues.now
+    (ap (begun c.args.limit k.tick) here.meter) c.if-not-step.ensures.none here counts in
+    subst (λ (m : TickCounts). IsTakenHere i c.args.limit s k e (Some Steps) c.args.tree.now m c.args.queues.now c.args.queues.now) (sym c.if-not-step.ensures.kept) none
+
+pub returns-then-not-step-clause-queues : goal.returns-then-not-step-clause-queues
+returns-then-not-step-clause-queues c = c.requires.queues
+
+pub returns-then-not-step-clause-meter : goal.returns-then-not-step-clause-meter
+returns-then-not-step-clause-meter c = subst (IsMetered c.args.limit) (sym c.if-not-step.ensures.kept) c.requires.meter
+
+pub take_in-requires-clause-event : goal.take_in-requires-clause-event
+take_in-requires-clause-event c = subst (λ n. IsEventIn c.args.system.now n c.args.event.now) (sym c.requires.tree) c.requires.event
+
+pub take_in-requires-clause-belongs : goal.take_in-requires-clause-belongs
+take_in-requires-clause-belongs c =
+    let stands = c.requires.stands in
+    (world_of stands.0 c.args.key.now.resource, stands.1.blocks, stands.1.typed c.args.key.now.resource)
+
+pub settle-requires-clause-later : goal.settle-requires-clause-later
+settle-requires-clause-later c =
+    let i = c.args.system.now in
+    let k = c.args.key.now in
+    let here = c.in_ok-stop.ensures.resource ∙ c.requires.tree in
+    let stands = c.requires.stands in
+    let w = world_of stands.0 k.resource in
+    (came_good i k c.args.event.now _ _ _ c.take_in.new.tree c.take_in.new.outbox _ w c.facts.ensures.accepted c.facts.ensures.limits c.requires.event.here (stands.1.typed k.resource) c.requires.typed
+    (c.in_ok-stop.ensures.came w stands.1.blocks) (subst (λ n. All (IsOut (system_of i) n) c.take_in.new.outbox.outs.items) here c.in_ok-stop.ensures.outs.outs)).1
+
+pub settle-requires-clause-outs : goal.settle-requires-clause-outs
+settle-requires-clause-outs c =
+    let i = c.args.system.now in
+    let k = c.args.key.now in
+    let here = c.in_ok-stop.ensures.resource ∙ c.requires.tree in
+    let stands = c.requires.stands in
+    let w = world_of stands.0 k.resource in
+    (came_good i k c.args.event.now _ _ _ c.take_in.new.tree c.take_in.new.outbox _ w c.facts.ensures.accepted c.facts.ensures.limits c.requires.event.here (stands.1.typed k.resource) c.requires.typed
+    (c.in_ok-stop.ensures.came w stands.1.blocks) (subst (λ n. All (IsOut (system_of i) n) c.take_in.new.outbox.outs.items) here c.in_ok-stop.ensures.outs.outs)).0
+
+pub returns-clause-taken : goal.returns-clause-taken
+returns-clause-taken c s here counts =
+    let i = c.args.system.now in
+    let k = c.args.key.now in
+    taken_one i c.args.limit s k c.args.event.now (before_step c.step.new.self) _ _ _ c.args.queues.now _ _ c.args.tree.now c.args.meter.now c.take_in.new.tree c.take_in.new.outbox
+    (accepted_typed i c.facts.ensures.accepted).system c.requires.typed
+    here counts (ap (begun c.args.limit k.tick) here.meter ∙ sym c.if-not-step.ensures.used) refl
+    (c.in_ok-stop.ensures.came (world_of s k.resource) here.blocks) refl c.in_ok-settle.ensures.settled c.if-not-step.ensures.tick c.in_ok-settle.ensures.lines
+
+pub returns-clause-queues : goal.returns-clause-queues
+returns-clause-queues c =
+    let ok = c.in_ok-settle.ensures in
+    let had = c.requires.queues in
+    record {
+      order = ok.order;
+      due = ok.due ∙ had.due;
+      counted = ok.counted ∙ had.counted;
+      mail = ok.mail;
+      lines = subst (All (BelongsTo (system_of c.args.system.now))) (sym ok.lines) c.in_ok-stop.ensures.outs.lines;
+      none = ok.none;
+      keeps = ok.keeps;
+    }
+
+pub returns-clause-later : goal.returns-clause-later
+returns-clause-later c = c.in_ok-settle.ensures.later
+
+pub returns-clause-meter : goal.returns-clause-meter
+returns-clause-meter c =
+    metered_after c.args.limit (before_step c.step.new.self) _ _ c.if-not-step.ensures.metered refl c.in_ok-stop.ensures.fewer c.in_ok-settle.ensures.few
+
+pub returns-clause-spent : goal.returns-clause-spent
+returns-clause-spent c going =
+    let left = ap (λ m. m.left) c.if-not-step.ensures.used in
+    let fewer = c.in_ok-stop.ensures.fewer in
+    (c.if-not-step.ensures.tick, omega (arith, left, fewer))

@@ -1,0 +1,66 @@
+-- The taking of one event in its resource (this project's profile).
+use Rattle.std.specs.Prelude.{◌≡◌, ◌≤◌, ◌++◌, ℕ, [], All, length, map, Option}
+use Rattle.fb_types.specs.Headline.{Inputs, system_of}
+use Rattle.fb_types.specs.Keys.{changed_to}
+use Rattle.fb_types.specs.Names.{Path}
+use Rattle.fb_types.specs.Numbers.{line_of}
+use Rattle.fb_types.specs.States.{State}
+use Rattle.fb_types.specs.States as model
+use Rattle.fb_types.specs.Takes.{Effect, Posts, Takes, timer_change, world_of}
+use Rattle.fb_types.specs.declared.key.Key.{Key}
+use Rattle.fb_types.specs.declared.run.TimerAsk.{TimerAsk}
+use Rattle.fb_types.specs.declared.run.TimerAsk.TheVariants.{Keep, Clear, At}
+use Rattle.fb_types.specs.declared.value.Reason.{Reason}
+use Rattle.fb_agenda.specs.Agendas.{Contents}
+use Rattle.fb_system.specs.Lines.{BelongsTo}
+use Rattle.fb_net.specs.Worlds.{IsForest}
+use Rattle.fb_net.specs.declared.resource.Forest.{Forest}
+use Rattle.fb_laws.specs.Typed.{AreTyped}
+use Rattle.fb_resource.specs.Counts.{meter_of}
+use Rattle.fb_resource.specs.Posts.{ArePosted, CountsAre, IsMessage, arriving}
+use Rattle.fb_resource.specs.Waiting.{IsInOrder, meaning}
+use Rattle.fb_resource.specs.declared.tick_counts.TickCounts.{TickCounts}
+use Rattle.fb_resource.specs.declared.queues.Queues.{Queues}
+
+-- ---- Before and after
+
+-- The blocks and the counts of a resource are those of a state, all of whose values are of their types.
+pub record IsHere (i : Inputs) (s : State) (r : ℕ) (t : Forest) (x : TickCounts) : Type 0 where
+  pub blocks : IsForest i t (world_of s r)
+  pub meter : s.meters r ≡ meter_of x
+  pub typed : (q : ℕ) → AreTyped (system_of i) (world_of s q)
+
+-- From a tick on events may be taken.
+pub record AreReady (i : Inputs) (tick : ℕ) (q : Queues) : Type 0 where
+  pub order : IsInOrder i tick q.agenda
+  pub due : length q.agenda.due ≡ length (system_of i).paths
+  pub counted : length q.sent.items ≡ (system_of i).links
+  pub mail : All (IsMessage i) q.mail.items
+  pub lines : All (BelongsTo (system_of i)) q.outbox.lines.items
+  pub none : q.outbox.outs.items ≡ []
+  pub keeps : q.outbox.timer ≡ Keep
+
+-- The event of a key, which had left the agenda, was taken as the model takes it, whether or not its resource stops.
+pub record IsTakenHere (i : Inputs) (limit : ℕ) (s : State) (k : Key) (e : model.Event) (stop : Option Reason) (t : Forest) (x : TickCounts) (old new : Queues) : Type 0 where
+  pub effect : Effect
+  pub takes : Takes (system_of i) limit s k e effect
+  pub stops : effect.stop ≡ stop
+  pub here : IsHere i effect.state k.resource t x
+  pub counts : CountsAre new.sent.items effect.state.sent
+  pub agenda : (j : Key) → meaning i new.agenda j ≡ changed_to (effect.changes j) (meaning i old.agenda j)
+  pub mail : map (arriving i) new.mail.items ≡ map (arriving i) old.mail.items ++ effect.sent
+  pub lines : map (line_of (system_of i)) new.outbox.lines.items ≡ map (line_of (system_of i)) old.outbox.lines.items ++ effect.lines
+
+-- ---- On the way
+
+-- A timer that is set goes off at a tick or later.
+abbrev pub IsLater : (tick : ℕ) → TimerAsk → Type 0
+IsLater tick Keep = Unit {0}
+IsLater tick Clear = Unit {0}
+IsLater tick (At t) = tick ≤ t
+
+-- The timer of the instance at a path was set as it asked, and then the posts were put where they go.
+pub record IsSettled (i : Inputs) (k : Key) (at : Path) (ask : TimerAsk) (x : Posts) (old new : Queues) (locals : ℕ) : Type 0 where
+  pub mid : Contents
+  pub set : (j : Key) → meaning i mid j ≡ changed_to (timer_change (system_of i) k.resource at ask j) (meaning i old.agenda j)
+  pub posted : ArePosted i x mid new.agenda old.mail.items new.mail.items locals new.sent.items

@@ -1,0 +1,223 @@
+//! The taking of one event in its resource.
+
+ghost use Rattle.std.specs.Prelude.{◌≡◌, ◌+◌, ◌^◌, ◌≤◌, ◌<◌, ℕ, [], map, suc, max, length, unwrap_or, All, IfOk, OnOk, Some, None};
+ghost use Rattle.fb_types.specs.Headline.{system_of};
+ghost use Rattle.fb_types.specs.Keys.{changed_to};
+ghost use Rattle.fb_types.specs.Numbers.{path_at};
+ghost use Rattle.fb_types.specs.Reactions.{World};
+ghost use Rattle.fb_types.specs.States.{State, path_of};
+ghost use Rattle.fb_types.specs.Takes.{begun};
+ghost use Rattle.fb_types.specs.Takes as takes;
+ghost use Rattle.fb_types.specs.declared.key.Key as keys;
+ghost use Rattle.fb_types.specs.declared.run.TimerAsk.TheVariants.{Keep};
+ghost use Rattle.fb_net.specs.Outs.{AreOuts, out_of};
+ghost use Rattle.fb_net.specs.Events.{CameAlone, IsEventIn, IsKeyOf, IsNumbered, event_in, event_of, key_at};
+ghost use Rattle.fb_net.specs.Worlds.{IsForest};
+ghost use Rattle.fb_laws.specs.Typed.{AreTyped, IsTypedEvent};
+ghost use Rattle.fb_resource.specs.Counts.{IsMetered, meter_of};
+ghost use Rattle.fb_resource.specs.Posts.{CountsAre, IsMessage, IsPostable};
+ghost use Rattle.fb_resource.specs.Takings.{AreReady, IsHere, IsLater, IsSettled, IsTakenHere};
+ghost use Rattle.fb_resource.specs.Waiting.{IsInOrder, meaning};
+
+use crate::post::post_all;
+use crate::queues::Queues;
+use crate::tick_counts::TickCounts;
+use fb_agenda::Agenda;
+use fb_net::{Arrival, Outbox, Tree};
+use fb_st::Meter;
+use fb_system::System;
+use fb_types::{Event, Halt, Key, Reason, TimerAsk};
+use std::alloc::AllocError;
+
+/// The instance at which an event comes.
+fn instance_of(system: &System, event: &Event) -> u32
+    requires { IsNumbered system.now event.now }
+    ensures instance { result < length (system_of system.now).paths }
+    ensures path { path_at (system_of system.now) result ≡ path_of (event_of system.now event.now) }
+{
+    match event {
+        Event::Stimulus(row) => system.stimulus(*row).target.instance,
+        Event::Timer(instance) => *instance,
+        Event::Arrival(message) => message.target.instance,
+        Event::Local(target) => target.instance,
+    }
+}
+
+/// The arrival of an event that waited under this key.
+#[inline(always)]
+fn arrival_of<'a>(key: &Key, event: &'a Event) -> Arrival<'a>
+    requires { IsKeyOf key.now event.now }
+    ensures event { event_in result ≡ event.now }
+    ensures key { key_at key.now.tick key.now.resource result ≡ key.now }
+{
+    match event {
+        Event::Stimulus(row) => Arrival::Stimulus(*row),
+        Event::Timer(instance) => Arrival::Timer(*instance),
+        Event::Arrival(message) => Arrival::Message(message),
+        Event::Local(target) => Arrival::Local {
+            target: *target,
+            number: key.a,
+        },
+    }
+}
+
+/// Takes an event in the tree of its resource, which has so many steps left behind that of the event. `Some` is
+/// the reason for which the resource stops.
+#[inline(always)]
+fn take_in(
+    tree: &mut Tree,
+    left: &mut u64,
+    outbox: &mut Outbox,
+    system: &System,
+    key: &Key,
+    event: &Event,
+) -> Result<Option<Reason>, AllocError>
+    requires event { IsEventIn system.now tree.old.resource event.now }
+    requires own { IsKeyOf key.now event.now }
+    requires key { key.now.resource ≡ tree.old.resource }
+    requires named { key.now.resource < length (system_of system.now).resource_names }
+    requires early { key.now.tick ≤ 10 ^ 12 }
+    requires belongs { (w : World) × IsForest system.now tree.old w × AreTyped (system_of system.now) w }
+    requires typed { IsTypedEvent (system_of system.now) (event_of system.now event.now) }
+    requires outs { AreOuts (system_of system.now) tree.old.resource outbox.old }
+    requires none { outbox.old.outs.items ≡ [] }
+    requires keeps { outbox.old.timer ≡ Keep }
+    ensures came { IfOk result (λ stop. CameAlone system.now key.now event.now tree.old outbox.old left.old stop tree.new left.new outbox.new) }
+    ensures outs { OnOk result (AreOuts (system_of system.now) tree.new.resource outbox.new) }
+    ensures fewer { left.new ≤ left.old }
+    ensures resource { tree.new.resource ≡ tree.old.resource }
+{
+    let mut steps = Meter { left: *left };
+    let arrival = arrival_of(key, event);
+    let taken = tree.take(system, arrival, key.tick, &mut steps, outbox);
+    *left = steps.left;
+    match taken {
+        Ok(()) => Ok(None),
+        Err(Halt::Stop(reason)) => Ok(Some(reason)),
+        Err(Halt::Memory) => Err(AllocError),
+    }
+}
+
+/// Sets the timer of the instance at which an event came, as its reaction asks.
+fn set_timer(
+    agenda: &mut Agenda,
+    ask: TimerAsk,
+    system: &System,
+    key: &Key,
+    event: &Event,
+) -> Result<(), AllocError>
+    requires event { IsEventIn system.now key.now.resource event.now }
+    requires due { length agenda.old.due ≡ length (system_of system.now).paths }
+    requires later { IsLater key.now.tick ask }
+    requires named { key.now.resource < length (system_of system.now).resource_names }
+    requires order { IsInOrder system.now key.now.tick agenda.old }
+    ensures set { OnOk result ((j : keys.Key) → meaning system.now agenda.new j ≡ changed_to (takes.timer_change (system_of system.now) key.now.resource (path_of (event_of system.now event.now)) ask j) (meaning system.now agenda.old j)) }
+    ensures order { OnOk result (IsInOrder system.now key.now.tick agenda.new) }
+    ensures due { length agenda.new.due ≡ length agenda.old.due }
+{
+    // Most reactions ask nothing, and then the instance is not looked up.
+    if let TimerAsk::Keep = ask {
+        return Ok(());
+    }
+    system.facts();
+    let instance = instance_of(system, event);
+    agenda.set_timer(key.resource, instance, ask)
+}
+
+/// Sets the timer of the instance at which an event came and posts what was put out, as its reaction asks. Of the outbox
+/// the lines stay, and the room for what is put out.
+fn settle(
+    queues: &mut Queues,
+    locals: &mut u128,
+    system: &System,
+    key: &Key,
+    event: &Event,
+) -> Result<(), AllocError>
+    requires event { IsEventIn system.now key.now.resource event.now }
+    requires due { length queues.old.agenda.due ≡ length (system_of system.now).paths }
+    requires later { IsLater key.now.tick queues.old.outbox.timer }
+    requires outs { All (IsPostable (system_of system.now) key.now.resource) queues.old.outbox.outs.items }
+    requires room { locals.old < 2 ^ 100 }
+    requires counted { length queues.old.sent.items ≡ (system_of system.now).links }
+    requires early { key.now.tick ≤ 10 ^ 12 }
+    requires named { key.now.resource < length (system_of system.now).resource_names }
+    requires order { IsInOrder system.now key.now.tick queues.old.agenda }
+    requires mail { All (IsMessage system.now) queues.old.mail.items }
+    ensures settled { OnOk result ((counts : ℕ → ℕ) → CountsAre queues.old.sent.items counts →
+        IsSettled system.now key.now (path_of (event_of system.now event.now)) queues.old.outbox.timer
+        (takes.post_all (system_of system.now) key.now (map (out_of (system_of system.now)) queues.old.outbox.outs.items) (record { locals = locals.old; sent = counts; raised = []; messages = [] }))
+        queues.old queues.new locals.new) }
+    ensures few { OnOk result (locals.new ≤ locals.old + 2 ^ 64) }
+    ensures order { OnOk result (IsInOrder system.now key.now.tick queues.new.agenda) }
+    ensures mail { OnOk result (All (IsMessage system.now) queues.new.mail.items) }
+    ensures later { OnOk result (All (λ m. key.now.tick < m.arrives) queues.old.mail.items → All (λ m. key.now.tick < m.arrives) queues.new.mail.items) }
+    ensures due { OnOk result (length queues.new.agenda.due ≡ length queues.old.agenda.due) }
+    ensures counted { OnOk result (length queues.new.sent.items ≡ length queues.old.sent.items) }
+    ensures lines { OnOk result (queues.new.outbox.lines.items ≡ queues.old.outbox.lines.items) }
+    ensures none { OnOk result (queues.new.outbox.outs.items ≡ []) }
+    ensures keeps { OnOk result (queues.new.outbox.timer ≡ Keep) }
+{
+    set_timer(&mut queues.agenda, queues.outbox.timer, system, key, event)?;
+    queues.outbox.timer = TimerAsk::Keep;
+    let _count = queues.outbox.outs.len();
+    post_all(
+        &mut queues.agenda,
+        &mut queues.mail,
+        &mut queues.sent,
+        &mut queues.outbox.outs,
+        locals,
+        system,
+        key,
+    )
+}
+
+/// Takes an event that has left the agenda, at most `limit` steps in each tick of its resource. `Some` is the reason
+/// for which the resource stops; what was put out before the stop is posted and stands. Messages are put behind the
+/// mail, and lines behind those in the outbox.
+///
+/// # Errors
+/// When memory runs out, or a link has carried 2^128 messages. Nothing is said of the resource then.
+pub fn take(
+    tree: &mut Tree,
+    meter: &mut TickCounts,
+    queues: &mut Queues,
+    system: &System,
+    limit: u64,
+    key: &Key,
+    event: &Event,
+) -> Result<Option<Reason>, AllocError>
+    requires tree { tree.old.resource ≡ key.now.resource }
+    requires meter { IsMetered limit meter.old }
+    requires queues { AreReady system.now key.now.tick queues.old }
+    requires stands { (s : State) × IsHere system.now s key.now.resource tree.old meter.old }
+    requires event { IsEventIn system.now key.now.resource event.now }
+    requires own { IsKeyOf key.now event.now }
+    requires typed { IsTypedEvent (system_of system.now) (event_of system.now event.now) }
+    requires named { key.now.resource < length (system_of system.now).resource_names }
+    requires early { key.now.tick ≤ 10 ^ 12 }
+    requires few { limit ≤ 10 ^ 7 }
+    ensures taken { IfOk result (λ stop. (s : State) → IsHere system.now s key.now.resource tree.old meter.old → CountsAre queues.old.sent.items s.sent
+        → IsTakenHere system.now limit s key.now (event_of system.now event.now) stop tree.new meter.new queues.old queues.new) }
+    ensures queues { OnOk result (AreReady system.now key.now.tick queues.new) }
+    ensures later { OnOk result (All (λ m. key.now.tick < m.arrives) queues.old.mail.items → All (λ m. key.now.tick < m.arrives) queues.new.mail.items) }
+    ensures meter { OnOk result (IsMetered limit meter.new) }
+    ensures tick { OnOk result (unwrap_or meter.new.tick 0 ≤ max (unwrap_or meter.old.tick 0) key.now.tick) }
+    ensures spent { IfOk result (λ stop. stop ≡ None → (meter.new.tick ≡ Some key.now.tick) × (suc meter.new.left ≤ (begun limit key.now.tick (meter_of meter.old)).left)) }
+    ensures tree { tree.new.resource ≡ tree.old.resource }
+{
+    if !meter.step(limit, key.tick) {
+        return Ok(Some(Reason::Steps));
+    }
+    let stop = take_in(
+        tree,
+        &mut meter.left,
+        &mut queues.outbox,
+        system,
+        key,
+        event,
+    )?;
+    system.facts();
+    // A reaction that stops posts what it had put out before.
+    settle(queues, &mut meter.locals, system, key, event)?;
+    Ok(stop)
+}

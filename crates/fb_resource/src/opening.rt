@@ -1,0 +1,175 @@
+//! The events that wait at the beginning: the stimuli, and the timers that start by themselves.
+
+ghost use Rattle.std.specs.Prelude.{◌≡◌, ◌+◌, ◌<◌, ℕ, length, IfOk, OnOk, Some};
+ghost use Rattle.fb_types.specs.Headline.{system_of};
+ghost use Rattle.fb_types.specs.Keys.{found, or_else};
+ghost use Rattle.fb_types.specs.Numbers.{path_at};
+ghost use Rattle.fb_types.specs.Simulation.{restart_of};
+ghost use Rattle.fb_types.specs.declared.key.Key as keys;
+ghost use Rattle.fb_types.specs.declared.run.Event.TheVariants.{Stimulus};
+ghost use Rattle.fb_resource.specs.Openings.{AreOpenedApart, HasRestarts, HasStimuli, HasTimersBelow, IsOpened, IsStimulusKey, OneEach, is_of};
+ghost use Rattle.fb_resource.specs.Waiting.{IsInOrder, MayWait, meaning};
+
+use fb_agenda::Agenda;
+use fb_check_names::TypeNumber;
+use fb_system::System;
+use fb_types::{Event, EventKind, Key, TimerAsk};
+use std::alloc::{AllocError, Global};
+
+/// Whether a resource is the one that is asked for, or all are.
+fn is_asked(of: Option<u32>, resource: u32) -> bool
+    ensures { result ≡ is_of of resource }
+{
+    match of {
+        None => true,
+        Some(one) => resource == one,
+    }
+}
+
+/// The resource of an instance.
+fn resource_of(system: &System, instance: u32) -> u32
+    requires { instance < length (system_of system.now).paths }
+    ensures resource { result ≡ (system_of system.now).resource (path_at (system_of system.now) instance) }
+    ensures named { result < length (system_of system.now).resource_names }
+{
+    system.facts();
+    system.resource(instance) as u32
+}
+
+/// How many stimuli there are, at most 100,000.
+fn row_count(system: &System) -> u32
+    ensures { result ≡ length system.now.stimuli }
+{
+    system.facts();
+    system.stimuli().len() as u32
+}
+
+/// The key of the stimulus at a row.
+fn key_of_stimulus(system: &System, row: u32) -> Key
+    requires { row < length system.now.stimuli }
+    ensures key { IsStimulusKey system.now row result }
+    ensures waits { MayWait system.now 0 result (Stimulus row) }
+{
+    system.facts();
+    let stimulus = system.stimulus(row);
+    let resource = resource_of(system, stimulus.target.instance);
+    Key::stimulus(stimulus.tick, resource, row)
+}
+
+/// Puts the stimuli that are asked for on an empty agenda, each at its tick and under its row.
+fn put_stimuli(agenda: &mut Agenda, system: &System, of: Option<u32>) -> Result<(), AllocError>
+    requires { HasStimuli system.now of 0 agenda.old }
+    ensures { OnOk result (HasStimuli system.now of (length system.now.stimuli) agenda.new) }
+{
+    for row in 0..row_count(system) {
+        let key = key_of_stimulus(system, row);
+        if is_asked(of, key.resource) {
+            agenda.put(key, Event::Stimulus(row))?;
+        }
+    }
+    Ok(())
+}
+
+/// Starts the timer of an instance at tick 0, where it is an E_RESTART.
+fn start_restart(agenda: &mut Agenda, system: &System, instance: u32) -> Result<(), AllocError>
+    requires instance { instance < length (system_of system.now).paths }
+    requires due { length agenda.old.due ≡ length (system_of system.now).paths }
+    requires order { IsInOrder system.now 0 agenda.old }
+    requires timers { HasTimersBelow instance agenda.old }
+    ensures put { OnOk result ((j : keys.Key) → meaning system.now agenda.new j ≡ or_else (found j (restart_of (system_of system.now) (path_at (system_of system.now) instance))) (meaning system.now agenda.old j)) }
+    ensures order { OnOk result (IsInOrder system.now 0 agenda.new) }
+    ensures timers { OnOk result (HasTimersBelow (instance + 1) agenda.new) }
+    ensures due { length agenda.new.due ≡ length agenda.old.due }
+{
+    system.facts();
+    match system.kind(instance) {
+        TypeNumber::Event(kind) => {
+            if let EventKind::Restart = kind {
+                let resource = resource_of(system, instance);
+                agenda.set_timer(resource, instance, TimerAsk::At(0))?;
+            }
+            Ok(())
+        }
+        TypeNumber::Declared(_) => Ok(()),
+    }
+}
+
+/// Starts the timers of all E_RESTART that are asked for.
+fn start_restarts(agenda: &mut Agenda, system: &System, of: Option<u32>) -> Result<(), AllocError>
+    requires { HasRestarts system.now of 0 agenda.old }
+    ensures { OnOk result (HasRestarts system.now of (length (system_of system.now).paths) agenda.new) }
+{
+    system.facts();
+    for instance in 0..system.count() {
+        let number = instance as u32;
+        if is_asked(of, resource_of(system, number)) {
+            start_restart(agenda, system, number)?;
+        }
+    }
+    Ok(())
+}
+
+/// An agenda with the events of the opening: of one resource, or of all where none is named. It looks at each stimulus
+/// and each instance.
+///
+/// # Errors
+/// When memory runs out.
+pub fn open_agenda(alloc: Global, system: &System, of: Option<u32>) -> Result<Agenda, AllocError>
+    ensures { IfOk result (IsOpened system.now of) }
+{
+    let mut agenda = Agenda::new(alloc, system.count())?;
+    put_stimuli(&mut agenda, system, of)?;
+    start_restarts(&mut agenda, system, of)?;
+    Ok(agenda)
+}
+
+/// Agendas on which nothing waits, one for each resource.
+fn empty_agendas(alloc: Global, system: &System) -> Result<Vec<Agenda>, AllocError>
+    ensures { IfOk result (λ v. OneEach system.now (λ r. HasStimuli system.now (Some r) 0) v.items) }
+{
+    let mut agendas = Vec::new(alloc);
+    for _ in 0..system.resources() {
+        agendas.push(Agenda::new(alloc, system.count())?)?;
+    }
+    Ok(agendas)
+}
+
+/// Puts each stimulus on the agenda of its resource, at its tick and under its row.
+fn put_apart(agendas: &mut Vec<Agenda>, system: &System) -> Result<(), AllocError>
+    requires { OneEach system.now (λ r. HasStimuli system.now (Some r) 0) agendas.old.items }
+    ensures { OnOk result (OneEach system.now (λ r. HasStimuli system.now (Some r) (length system.now.stimuli)) agendas.new.items) }
+{
+    for row in 0..row_count(system) {
+        let key = key_of_stimulus(system, row);
+        agendas[key.resource as usize].put(key, Event::Stimulus(row))?;
+    }
+    Ok(())
+}
+
+/// Starts the timer of each E_RESTART on the agenda of its resource.
+fn start_apart(agendas: &mut Vec<Agenda>, system: &System) -> Result<(), AllocError>
+    requires { OneEach system.now (λ r. HasRestarts system.now (Some r) 0) agendas.old.items }
+    ensures { OnOk result (OneEach system.now (λ r. HasRestarts system.now (Some r) (length (system_of system.now).paths)) agendas.new.items) }
+{
+    system.facts();
+    for instance in 0..system.count() {
+        let number = instance as u32;
+        let resource = resource_of(system, number);
+        start_restart(&mut agendas[resource as usize], system, number)?;
+    }
+    Ok(())
+}
+
+/// The agendas of all resources, each with its own events of the opening. It looks at each stimulus and each instance
+/// once.
+///
+/// # Errors
+/// When memory runs out.
+pub fn open_agendas(alloc: Global, system: &System) -> Result<Vec<Agenda>, AllocError>
+    ensures { IfOk result (λ v. AreOpenedApart system.now v.items) }
+{
+    let mut agendas = empty_agendas(alloc, system)?;
+    put_apart(&mut agendas, system)?;
+    start_apart(&mut agendas, system)?;
+    Ok(agendas)
+}

@@ -1,0 +1,52 @@
+use Rattle.std.proofs.Common.{◌≡◌, ◌*◌, ◌+◌, max, map, drop, length, List, ◌++◌, Ok}
+use denote.Param.Weighed.{most}
+use Rattle.fb_types.proofs.text.Expr.TheLaws as expr
+use Rattle.fb_types.specs.Syntax.{expr_of, exprs}
+use Rattle.fb_types.specs.Values.{values_of as values_of_all, and_then}
+use Rattle.fb_types.specs.declared.value.Value.{Value}
+use Rattle.fb_st.specs.Frames.{values_of}
+use Rattle.fb_st.proofs.evaluation.+eval.Given as goal
+
+-- the arguments before this one have values, and what the others come to all come to
+abbrev pub invariant-call-loop-argument : goal.invariant-call-loop-argument
+invariant-call-loop-argument l =
+    (done : List Value) × (length done ≡ l.argument-index)
+    × (values_of_all (exprs (map expr_of l.arguments)) (values_of l.frame) ≡ and_then (values_of_all (exprs (map expr_of (drop l.argument-index l.arguments))) (values_of l.frame)) (λ vs. Ok (done ++ vs)))
+
+-- ---- How deep the trees are
+
+abbrev pub decreases-counted : goal.decreases-counted
+decreases-counted l = 16 * expr.the_size l.expr.now
+
+abbrev pub decreases-operand : goal.decreases-operand
+decreases-operand l = 16 * expr.the_size l.expr.now + 1
+
+abbrev pub decreases-number : goal.decreases-number
+decreases-number l = 16 * expr.the_size l.expr.now + 1
+
+abbrev pub decreases-untrue : goal.decreases-untrue
+decreases-untrue l = 16 * expr.the_size l.expr.now + 2
+
+abbrev pub decreases-truth : goal.decreases-truth
+decreases-truth l = 16 * expr.the_size l.expr.now + 3
+
+abbrev pub decreases-told : goal.decreases-told
+decreases-told l = 16 * expr.the_size l.expr.now + 4
+
+abbrev pub decreases-value : goal.decreases-value
+decreases-value l = 16 * expr.the_size l.expr.now + 5
+
+abbrev pub decreases-eval : goal.decreases-eval
+decreases-eval l = 16 * expr.the_size l.expr.now + 6
+
+abbrev pub decreases-joined_truths : goal.decreases-joined_truths
+decreases-joined_truths l = 16 * max (expr.the_size l.left.now) (expr.the_size l.right.now) + 4
+
+abbrev pub decreases-both_values : goal.decreases-both_values
+decreases-both_values l = 16 * max (expr.the_size l.left.now) (expr.the_size l.right.now) + 7
+
+abbrev pub decreases-are_equal : goal.decreases-are_equal
+decreases-are_equal l = 16 * max (expr.the_size l.left.now) (expr.the_size l.right.now) + 8
+
+abbrev pub decreases-call : goal.decreases-call
+decreases-call l = 16 * most expr.the_size l.arguments.now + 8

@@ -1,0 +1,35 @@
+-- Tables of the ends of wires, one wire at a time.
+use Rattle.std.proofs.Common.{◌≡◌, ℕ, ◌<◌, ◌+◌, Bool, true, false, cond, List, [], ◌∷◌, ◌++◌, length, map, take, get_or, refl, sym, ◌∙◌, ap}
+use Rattle.std.specs.List.{filter}
+use Rattle.std.proofs.lemmas.List.{map-append, append-nil}
+use Rattle.std.proofs.lemmas.List.Elements.{filter_more}
+use Rattle.fb_check_names.specs.declared.numbers.WireEnd.{WireEnd}
+use Rattle.fb_check_names.specs.declared.numbers.Wire.{Wire}
+use Rattle.fb_system.specs.NetworkTables.{ends_at}
+use Rattle.fb_system.specs.Wirings.{same_end}
+use Rattle.fb_system.specs.declared.wiring_table.WiringTable.{WiringTable}
+
+-- what a function makes of the elements that pass a test, with one element more
+picked_more :
+    {A B : Type 0} (f : A → B) (p : A → Bool) (xs : List A) (i : ℕ) (d : A) → i < length xs
+    → map f (filter p (take (i + 1) xs)) ≡ cond (p (get_or xs i d)) (map f (filter p (take i xs)) ++ f (get_or xs i d) ∷ []) (map f (filter p (take i xs)))
+picked_more {A} {B} f p xs i d h =
+    let before : List B = map f (filter p (take i xs)) in
+    let x : A = get_or xs i d in
+    ap (map f) (filter_more p xs i d h)
+    ∙ map-append f (filter p (take i xs)) (cond (p x) (x ∷ []) [])
+    ∙ (elim (p x) as (λ b. before ++ map f (cond b (x ∷ []) []) ≡ cond b (before ++ f x ∷ []) before) [
+      | true ↦ refl
+      | false ↦ append-nil before
+    ])
+
+-- the table after one wire more, found by one end of the wires and listing the other
+pub table_more :
+    (key other : Wire → WireEnd) (ws : List Wire) (i : ℕ) (d : Wire) (old new : WiringTable) → i < length ws
+    → ((e : WireEnd) → ends_at old e ≡ map other (filter (λ w. same_end (key w) e) (take i ws)))
+    → ((e : WireEnd) → ends_at new e ≡ cond (same_end (key (get_or ws i d)) e) (ends_at old e ++ other (get_or ws i d) ∷ []) (ends_at old e))
+    → (e : WireEnd) → ends_at new e ≡ map other (filter (λ w. same_end (key w) e) (take (i + 1) ws))
+table_more key other ws i d old new h before pushed e =
+    pushed e
+    ∙ ap (λ ends. cond (same_end (key (get_or ws i d)) e) (ends ++ other (get_or ws i d) ∷ []) ends) (before e)
+    ∙ sym (picked_more other (λ w. same_end (key w) e) ws i d h)

@@ -1,0 +1,13 @@
+use Rattle.std.proofs.Common.{◌+◌, ◌-◌, length}
+use Rattle.fb_system.specs.Layers.{around, layer}
+use Rattle.fb_system.proofs.Steps.{AreLaid, left}
+use Rattle.fb_system.proofs.layout.+lay_out.Given as goal
+
+abbrev pub decreases-lay_out : goal.decreases-lay_out
+decreases-lay_out l = l.depth
+
+abbrev pub invariant-loop-place : goal.invariant-loop-place
+invariant-loop-place l =
+    AreLaid (layer l.depth l.library l.numbers (around l.site.outside) l.first l.site.network.now l.site.types.now)
+    (left (l.depth - 1) l.library l.numbers (around l.site.outside) (l.first + length l.layer.rows.items) l.place l.instances l.site.types.now)
+    l.place l.layer.rows.items l.layer.numbers

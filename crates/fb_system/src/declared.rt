@@ -1,0 +1,76 @@
+//! Instances as they are declared, and their parameters by number.
+
+ghost use Rattle.std.specs.Prelude.{◌≡◌, ◌<◌, Some, length, option_and_then};
+ghost use Rattle.std.specs.Option.{option_copied};
+ghost use Rattle.fb_types.specs.Flat.{instance_at, network_at, network_of, paths_of};
+ghost use Rattle.fb_types.specs.declared.library.Instance.{Instance as Declared};
+ghost use Rattle.fb_check_names.specs.Numbers.{kind_of_number, parameter_numbers};
+ghost use Rattle.fb_system.specs.Layouts.{path_of};
+ghost use Rattle.fb_system.specs.Networks.{IsAround, IsNetlist, path_around};
+
+use crate::tables::{Tables, last_place, row_at, wiring_in};
+use fb_check_names::TypeNumber;
+use fb_types::{BlockType, Instance, Library, Network};
+
+/// The network inside the instances of a type, if it has one.
+fn network_of_type(library: &Library, kind: TypeNumber) -> Option<&Network>
+    ensures { option_copied result ≡ option_and_then network_of (kind_of_number library.now kind) }
+{
+    match kind {
+        TypeNumber::Event(_) => None,
+        TypeNumber::Declared(place) => match library.blocks.get(place)? {
+            BlockType::Basic(_) => None,
+            BlockType::Composite(composite) => Some(&composite.network),
+        },
+    }
+}
+
+/// The network of the application, or the one inside an instance, if its type has one.
+fn network_in(tables: &Tables, around: Option<u32>) -> Option<&Network>
+    requires netlist { IsNetlist tables.now }
+    requires within { IsAround tables.now.library around }
+    ensures { option_copied result ≡ network_at tables.now.library (path_around tables.now.library around) }
+{
+    match around {
+        None => Some(&tables.library.application.network),
+        Some(instance) => network_of_type(&tables.library, row_at(tables, instance).kind),
+    }
+}
+
+/// An instance as it is declared.
+pub(crate) fn declared_at(tables: &Tables, instance: u32) -> &Instance
+    requires netlist { IsNetlist tables.now }
+    requires within { instance < length (paths_of tables.now.library) }
+    ensures { instance_at tables.now.library (path_of tables.now.library instance) ≡ Some result.now }
+{
+    let row = row_at(tables, instance);
+    let Some(network) = network_in(tables, row.parent) else {
+        unreachable!()
+    };
+    let Some(place) = last_place(row.route.as_slice()) else {
+        unreachable!()
+    };
+    let Some(declared) = network.instances.get(place) else {
+        unreachable!()
+    };
+    declared
+}
+
+/// The places of the data inputs that the parameters of an instance set.
+pub(crate) fn parameters_at(tables: &Tables, instance: u32) -> &[usize]
+    requires netlist { IsNetlist tables.now }
+    requires within { instance < length (paths_of tables.now.library) }
+    ensures { (i : Declared) → instance_at tables.now.library (path_of tables.now.library instance) ≡ Some i → parameter_numbers tables.now.library i ≡ Some result.now }
+{
+    let row = row_at(tables, instance);
+    let Some(wiring) = wiring_in(tables, row.parent) else {
+        unreachable!()
+    };
+    let Some(place) = last_place(row.route.as_slice()) else {
+        unreachable!()
+    };
+    let Some(places) = wiring.numbers().parameters.get(place) else {
+        unreachable!()
+    };
+    places.as_slice()
+}

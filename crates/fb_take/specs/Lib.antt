@@ -1,5 +1,0 @@
-pub mod Counts
-pub mod Openings
-pub mod Posts
-pub mod Takings
-pub mod Waiting

@@ -1,4 +1,0 @@
-pub mod Blocks
-pub mod Changes
-pub mod Worlds
-pub mod Opening
