@@ -2,7 +2,6 @@
 use Rattle.std.proofs.Common.{◌≡◌, ℕ, List, ◌++◌, Option, Ok, subst}
 use Rattle.fb_types.specs.Headline.{Inputs}
 use Rattle.fb_types.specs.States.{Line}
-use Rattle.fb_laws.specs.Finality.{core_of}
 use Rattle.fb_window.specs.declared.cores.Core.{Core}
 use Rattle.fb_sim.specs.Rounds.{HasCome, Rounds}
 use Rattle.fb_sim.specs.declared.options.Options.{Options}
@@ -13,8 +12,8 @@ pub goes_on :
     (i : Inputs) (o : Options) (core next : Core) (round : Round) (old new : Option (List ℕ))
     → (ls : List Line) × HasCome i o.steps o.horizon core ls
     → round ≡ Going next
-    → ((ls : List Line) (come : HasCome i o.steps o.horizon core ls) → Rounds i o (core_of i o.steps come.steps) ls old new (Ok round))
+    → ((ls : List Line) (come : HasCome i o.steps o.horizon core ls) → Rounds i o come.steps ls old new (Ok round))
     → (ls : List Line) × HasCome i o.steps o.horizon next ls
 goes_on i o core next round old new come is goes =
-    let after = subst (λ (r : Round). Rounds i o (core_of i o.steps come.1.steps) come.0 old new (Ok r)) is (goes come.0 come.1) in
-    (come.0 ++ after.0, after.1.0)
+    let after = subst (λ (r : Round). Rounds i o come.1.steps come.0 old new (Ok r)) is (goes come.0 come.1) in
+    (come.0 ++ after.0, after.1.after.0)

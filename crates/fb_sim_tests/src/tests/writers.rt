@@ -3,8 +3,7 @@
 use super::texts::{ARRIVAL, BETWEEN, CYCLE, Case, RING, TWICE};
 use super::{inputs_of, to};
 use fb_phase::OpenGate;
-use fb_sim::run::run;
-use fb_sim::{Outcome, RunError, run_serial};
+use fb_sim::{Outcome, RunError, run, run_serial};
 use std::alloc::Global;
 use std::io;
 use std::io::Write;
