@@ -18,11 +18,8 @@ use fb_check_names::{Catalog, Resolved, catalog_of, resolve};
 use fb_check_networks::has_too_many_instances;
 use fb_check_types::are_parts_known;
 use fb_system::StimulusRow;
-use fb_types::Items;
+use fb_types::{Items, MOST_STIMULI};
 use std::alloc::Global;
-
-/// The most stimuli that may be handed in.
-const MOST_STIMULI: usize = 100_000;
 
 /// E20: the places of all names, where none is given twice.
 fn catalog<'a>(alloc: Global, case: &Case<'a>) -> Result<Catalog<'a>, CheckError>

@@ -8,18 +8,9 @@ ghost use Rattle.fb_inputs.specs.Deployments as spec;
 use crate::document::{PlanDraft, draft_of};
 use crate::error::InputError;
 use crate::table::{all_are_short, all_have_latencies, all_rise, links_of};
-use fb_types::{Deploy, Plan};
+use fb_types::{Deploy, MOST_BYTES, MOST_LINKS, MOST_RESOURCES, Plan};
 use std::alloc::Global;
 use toml::Table;
-
-/// The greatest length of the bytes. A byte order mark counts.
-pub const MOST_BYTES: usize = 1_048_576;
-
-/// The greatest number of resources.
-pub const MOST_RESOURCES: usize = 256;
-
-/// The greatest number of links.
-pub const MOST_LINKS: usize = 1_024;
 
 /// The deployment, where its numbers are within their limits.
 #[tactic(auto, unfolding(crate::specs::Deployments::judged))]

@@ -18,8 +18,8 @@ pub mod stimuli;
 pub mod table;
 pub mod text;
 
-pub use deployment::{MOST_LINKS, MOST_RESOURCES, read_deploy};
+pub use deployment::read_deploy;
 pub use error::InputError;
-pub use stimuli::{MOST_ROWS, columns, is_heading, read_stimuli, records_of, rows_of, stimulus_of};
-pub use table::{MOST_ENTRIES, is_after, is_latency};
+pub use stimuli::{columns, is_heading, read_stimuli, records_of, rows_of, stimulus_of};
+pub use table::{is_after, is_latency};
 pub use text::{name, parted};

@@ -13,17 +13,8 @@ use crate::error::InputError;
 use crate::number::natural;
 use crate::row::{Draft, draft_of, settings};
 use csv::{ByteRecord, ByteRecordsIntoIter, Error, ErrorKind, ReaderBuilder};
-use fb_types::{Items, Stimulus};
+use fb_types::{Items, LATEST_TICK, MOST_STIMULI, MOST_STIMULI_BYTES, Stimulus};
 use std::alloc::Global;
-
-/// The greatest length of the bytes. A byte order mark counts.
-pub const MOST_BYTES: usize = 16_777_216;
-
-/// The greatest number of stimuli.
-pub const MOST_ROWS: usize = 100_000;
-
-/// The greatest tick of a stimulus.
-const MOST_TICK: u128 = 1_000_000_000_000;
 
 /// The tick, the event and the values of a record, if it has three fields.
 #[tactic(auto, using(crate::proofs::Fields::three_fields), unfolding(crate::specs::Stimuli::three))]
@@ -71,7 +62,7 @@ pub fn stimulus_of(
     let Some(draft) = draft_of(alloc, event, values)? else {
         return Err(InputError::Row);
     };
-    let Some(tick) = natural(tick, MOST_TICK) else {
+    let Some(tick) = natural(tick, LATEST_TICK as u128) else {
         return Err(InputError::Number);
     };
     let Draft {
@@ -82,7 +73,7 @@ pub fn stimulus_of(
     let Some((ends, settings)) = beside((instance, event), settings(alloc, words))? else {
         return Err(InputError::Number);
     };
-    if tick > MOST_TICK || before >= MOST_ROWS {
+    if tick > LATEST_TICK as u128 || before >= MOST_STIMULI {
         return Err(InputError::Limit);
     }
     let (instance, event) = ends;
@@ -222,7 +213,7 @@ fn add_all(
 pub fn read_stimuli(alloc: Global, bytes: &[u8]) -> Result<Vec<Stimulus>, InputError>
     ensures { Answers (λ v. v.items) (spec.stimuli_of bytes.now) result }
 {
-    if bytes.len() > MOST_BYTES {
+    if bytes.len() > MOST_STIMULI_BYTES {
         return Err(InputError::Limit);
     }
     let opened = rows_of(alloc, bytes)?;

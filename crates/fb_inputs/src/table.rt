@@ -4,23 +4,14 @@ ghost use Rattle.std.specs.Prelude.{◌≡◌, map, true, IfOk};
 ghost use Rattle.fb_inputs.specs.Deployments as spec;
 
 use crate::document::{LatencyDraft, LinkDraft};
-use fb_types::{Entry, Items, Latency, Link};
+use fb_types::{Entry, Items, LATEST_TICK, Latency, Link, MOST_ENTRIES, MOST_LATENCY};
 use std::alloc::{AllocError, Global};
-
-/// The greatest latency.
-const MOST_TICKS: i64 = 1_000_000;
-
-/// The greatest tick from which on a latency holds.
-const MOST_START: i64 = 1_000_000_000_000;
-
-/// The greatest number of entries of a table.
-pub const MOST_ENTRIES: usize = 64;
 
 /// Whether a latency is within 1 to 1,000,000 ticks.
 pub fn is_latency(ticks: i64) -> bool
     ensures { result ≡ spec.is_latency ticks }
 {
-    1 <= ticks && ticks <= MOST_TICKS
+    1 <= ticks && ticks <= MOST_LATENCY as i64
 }
 
 fn has_latencies(table: &[LatencyDraft]) -> bool
@@ -38,7 +29,7 @@ fn has_latencies(table: &[LatencyDraft]) -> bool
 pub fn is_after(last: u64, start: i64) -> bool
     ensures { result ≡ spec.is_after last start }
 {
-    0 <= start && last < start.unsigned_abs() && start <= MOST_START
+    0 <= start && last < start.unsigned_abs() && start <= LATEST_TICK as i64
 }
 
 /// Whether the ticks rise, each from the one before it.

@@ -1,6 +1,5 @@
 -- How the reaction of a basic block stands among the blocks of its resource.
 use Rattle.std.proofs.Common.{◌≡◌, ℕ, ◌<◌, List, [], length, Option, Some, None, Result, Ok, Err, refl, sym, ap, subst, ◌∙◌}
-use Rattle.std.specs.Prelude.{slice_get, slice_set}
 use Rattle.std.proofs.Math.Path.{fun_ext}
 use Rattle.fb_types.specs.Names.{Path}
 use Rattle.fb_types.specs.Values.{Values}
@@ -19,19 +18,22 @@ use Rattle.fb_types.specs.declared.run.Target.{Target}
 use Rattle.fb_types.specs.declared.value.Reason.{Reason}
 use Rattle.fb_types.specs.declared.value.Value.{Value}
 use Rattle.fb_st.specs.Frames.{values_of}
-use Rattle.fb_ecc.specs.Places.{Ended, IsBlockOf, place, sampled}
+use Rattle.fb_ecc.specs.Places.{Ended, place, sampled}
 use Rattle.fb_ecc.specs.Sound.{IsSound}
 use Rattle.fb_ecc.specs.declared.state.BasicState.{BasicState}
+use Rattle.fb_net.specs.Blocks.{components_of, own_of}
 use Rattle.fb_net.specs.Changes.{block_in, with_instance}
-use Rattle.fb_net.specs.Worlds.{BasicStands, InForest, IsForest, NodeStands, ShellStands, StandsFor, seat_in, with_seated}
-use Rattle.fb_net.specs.declared.block.BasicBlock.{BasicBlock}
+use Rattle.fb_net.specs.Trees.{Changed, block_at, put_at}
+use Rattle.fb_net.specs.Worlds.{BasicStands, InForest, IsForest, ShellStands, StandsFor, way_in}
 use Rattle.fb_net.specs.declared.block.Block.{Block}
 use Rattle.fb_net.specs.declared.block.Block.TheVariants as block
 use Rattle.fb_net.specs.declared.resource.Forest.{Forest}
-use Rattle.fb_net.proofs.Shown.{found_at}
-use Rattle.fb_net.proofs.Writing.{AreNumbered, seated_forest}
-use Rattle.fb_net.specs.Leaves.{Changed, ChartCame, ChartEnded, EachWorld, IsOne, chart_start, charted_block}
-use Rattle.fb_net.proofs.Leaves.{basic_is}
+use Rattle.fb_net.specs.declared.shell.Shell.{Shell}
+use Rattle.fb_net.proofs.Components.{leaf_basic}
+use Rattle.fb_net.proofs.Descents.{StoodAt, stood_at}
+use Rattle.fb_net.proofs.Writing.{AreNumbered, put_forest}
+use Rattle.fb_net.specs.Leaves.{ChartCame, ChartEnded, EachWorld, HasCharted, IsOne, IsReadyAt, chart_start, charted_block}
+use Rattle.fb_net.proofs.Leaves.{basic_is, stands_basic}
 
 -- where the program's chart begins
 abbrev begun : BasicType → BasicState → (event : ℕ) → List Value → (left : ℕ) → List run.Emission → Place
@@ -46,7 +48,7 @@ abbrev reacting : BasicType → (event : ℕ) → Moving
 reacting t e = ChartReacts t (event_at t.ports.event_inputs e)
 
 -- the program's chart begins where the model's does
-start_is : (t : BasicType) (s : BasicState) (b : model.Block) (e : ℕ) (values : List Value) (left : ℕ) → BasicStands t s b
+start_is : (t : BasicType) (s : BasicState) (b : model.Block) (e : ℕ) (values : List Value) (left : ℕ) → BasicStands t s b.memory b.variables
     → begun t s e values left [] ≡ chart_start t b e values left
 start_is t s b e values left h =
     let vars : values_of s.frame ≡ b.variables = sym (fun_ext h.variables) in
@@ -54,91 +56,95 @@ start_is t s b e values left h =
     ap (λ (vs : Values). record (after_it t s left []) { vars = with_values (pair_up (inputs_with t.ports (event_at t.ports.event_inputs e)) values) vs }) vars
     ∙ ap (λ n. record (chart_start t b e values left) { state = n }) state
 
--- where an instance is to be basic, a basic block stands
-as_basic : (sys : System) (p : Path) (t : BasicType) (d : Block) (b : model.Block) → NodeStands sys p (Some (Basic t)) d b → (y : BasicBlock) × (d ≡ block.Basic y)
-as_basic sys p t (block.Basic y) b stands = (y, refl)
-as_basic sys p t (block.Event y) b stands = absurd stands
-as_basic sys p t (block.Composite y) b stands = absurd stands
+-- the shell of a basic block has no part in its reaction
+shell_kept : (sys : System) (p : Path) (t : BasicType) (b : model.Block) (c : Place) (s : Shell) → sys.kind p ≡ Some (Basic t) → ShellStands sys p s b → ShellStands sys p s (charted_block c b)
+shell_kept sys p t b c s kind stands = record { slots = stands.slots; published = stands.published; inputs = λ no_basic. absurd (no_basic t kind) }
 
-pub basic_there : (i : Inputs) (old : Forest) (k : ℕ) (t : BasicType) → (system_of i).kind (path_at (system_of i) k) ≡ Some (Basic t) → k < length (system_of i).paths → IsOne i old k
-    → (y : BasicBlock) × (slice_get old.blocks (seat_in old.seats k) ≡ Some (block.Basic y))
-basic_there i old k t kind number (w, forest, lies) =
-    let here = forest.blocks k number lies in
-    let y = as_basic (system_of i) (path_at (system_of i) k) t here.block (block_in i w k)
-    (subst (λ (o : Option Kind). NodeStands (system_of i) (path_at (system_of i) k) o here.block (block_in i w k)) kind here.stands) in
-    (y.0, here.stood ∙ ap Some y.1)
+-- The instance is one of a basic type t.
+module _ (i : Inputs) (old : Forest) (k : ℕ) (t : BasicType) (kind : (system_of i).kind (path_at (system_of i) k) ≡ Some (Basic t)) (number : k < length (system_of i).paths) where
+  there : (w : World) → IsForest i old w → InForest i old k
+      → (s : BasicState) × (block_at old.blocks (way_in i old.roots k) ≡ Some (block.Basic s)) × BasicStands t s (block_in i w k).memory (block_in i w k).variables
+  there w forest lies =
+      let sys = system_of i in
+      let p = path_at sys k in
+      let b = block_in i w k in
+      let here = forest.blocks k number lies in
+      let found = stood_at old.blocks (way_in i old.roots k) here.own here.stood in
+      let stands : StandsFor sys p (own_of found.block) b = subst (λ (y : Block). StandsFor sys p y b) (sym found.own_is) here.stands in
+      let s = stands_basic sys p found.block b stands t kind in
+      (s.0, found.is ∙ ap Some s.1, subst (λ T. T) (basic_is sys p t s.0 b kind) (subst (λ (y : Block). StandsFor sys p (own_of y) b) s.1 stands))
 
--- the block at a seat has become another one
-pub changed_here : {R : Type 0} (Ends : Block → R → Block → Type 0) (blocks : List Block) (seat : ℕ) (b : Block) → slice_get blocks seat ≡ Some b
-    → (w : Block) (r : R) → Ends b r w → Changed Ends blocks seat r (slice_set blocks seat w)
-changed_here Ends blocks seat b stood w r ends = record { before = b; after = w; stood = stood; ends = ends; stands = refl }
+  pub is_sound : IsOne i old k → IsSound t
+  is_sound (w, forest, lies) = (there w forest lies).2.sound
 
--- The instance is one of a basic type t, and at its seat a basic block was found.
-module _ (i : Inputs) (old : Forest) (k : ℕ) (t : BasicType) (kind : (system_of i).kind (path_at (system_of i) k) ≡ Some (Basic t)) (number : k < length (system_of i).paths)
-    (d : Block) (x : BasicBlock) (found : slice_get old.blocks (seat_in old.seats k) ≡ Some d) (basic : d ≡ block.Basic x) where
-  stood : (w : World) → IsForest i old w → InForest i old k
-      → BasicStands t x.state (block_in i w k) × ShellStands (system_of i) (path_at (system_of i) k) x.shell (block_in i w k)
+  pub is_ready : IsOne i old k → IsReadyAt t old.blocks (way_in i old.roots k)
+  is_ready (w, forest, lies) = (let s = there w forest lies in record { basic = s.0; stood = s.1; ready = s.2.block })
+
+-- It has reacted where it stands.
+module _ (i : Inputs) (numbered : AreNumbered i) (old : Forest) (at : Target) (t : BasicType) (values : List Value) (before after : ℕ) (emitted emits : List run.Emission) (r : Result (Unit {0}) Halt)
+    (kind : (system_of i).kind (path_at (system_of i) at.instance) ≡ Some (Basic t)) (number : at.instance < length (system_of i).paths)
+    (bs : List Block) (changed : Changed (HasCharted t at.event values before emitted after emits) old.blocks (way_in i old.roots at.instance) r bs) where
+  abbrev pub new : Forest
+  new = record old { blocks = bs }
+
+  abbrev came_to : BasicState
+  came_to = changed.ends.state
+
+  stood : (w : World) → IsForest i old w → InForest i old at.instance → BasicStands t changed.ends.basic (block_in i w at.instance).memory (block_in i w at.instance).variables
   stood w forest lies =
-      let here = found_at i old k number (slice_get old.blocks (seat_in old.seats k)) refl w forest lies in
-      let same : here.block ≡ block.Basic x = same_block here.block (block.Basic x) (sym here.is ∙ found ∙ ap Some basic) in
-      let stands = subst (λ (y : Block). StandsFor (system_of i) (path_at (system_of i) k) y (block_in i w k)) same here.stands in
-      subst (λ T. T) (basic_is (system_of i) (path_at (system_of i) k) t x (block_in i w k) kind) stands
+      let s = there i old at.instance t kind number w forest lies in
+      let b = block_in i w at.instance in
+      let both : own_of (block.Basic s.0) ≡ own_of (block.Basic changed.ends.basic) =
+      ap own_of (same_block (block.Basic s.0) changed.before (sym s.1 ∙ changed.stood) ∙ changed.ends.was_basic) in
+      subst (λ T. T) (sym (basic_is (system_of i) (path_at (system_of i) at.instance) t s.0 b kind)
+      ∙ ap (λ (y : Block). StandsFor (system_of i) (path_at (system_of i) at.instance) y b) both
+      ∙ basic_is (system_of i) (path_at (system_of i) at.instance) t changed.ends.basic b kind) s.2
     where
       same_block : (a b : Block) → Some a ≡ Some b → a ≡ b
       same_block a b e = cc
 
-  pub is_sound : IsOne i old k → IsSound t
-  is_sound (w, forest, lies) = (stood w forest lies).0.sound
-
-  pub is_block : IsOne i old k → IsBlockOf t x.state
-  is_block (w, forest, lies) = (stood w forest lies).0.block
-
--- It has reacted where it stands.
-module _ (i : Inputs) (numbered : AreNumbered i) (old : Forest) (at : Target) (t : BasicType) (values : List Value) (before after : ℕ) (emits : List run.Emission) (r : Result (Unit {0}) Halt)
-    (kind : (system_of i).kind (path_at (system_of i) at.instance) ≡ Some (Basic t)) (number : at.instance < length (system_of i).paths)
-    (d : Block) (x : BasicBlock) (found : slice_get old.blocks (seat_in old.seats at.instance) ≡ Some d) (basic : d ≡ block.Basic x)
-    (s : BasicState) (ready : IsBlockOf t s) where
-  abbrev pub new : Forest
-  new = with_seated old at.instance (block.Basic (record x { state = s }))
-
   -- the blocks stand for the world with the block as it is now
   stands_after : (w : World) → IsForest i old w → InForest i old at.instance
-      → IsForest i new (with_instance i at.instance (charted_block (after_it t s after emits) (block_in i w at.instance)) w)
+      → IsForest i new (with_instance i at.instance (charted_block (after_it t came_to after emits) (block_in i w at.instance)) w)
   stands_after w forest lies =
       let sys = system_of i in
       let p : Path = path_at sys at.instance in
-      let y : BasicBlock = record x { state = s } in
-      let was = stood i old at.instance t kind number d x found basic w forest lies in
-      let b : model.Block = charted_block (after_it t s after emits) (block_in i w at.instance) in
-      let stands : BasicStands t s b × ShellStands sys p x.shell b =
-      (record { sound = was.0.sound; block = ready; memory = refl; variables = λ n. refl }, record { slots = was.1.slots; published = was.1.published }) in
-      seated_forest i numbered old w forest at.instance number lies (block.Basic y) b (subst (λ T. T) (sym (basic_is sys p t y b kind)) stands)
+      let way = way_in i old.roots at.instance in
+      let c : Place = after_it t came_to after emits in
+      let b : model.Block = charted_block c (block_in i w at.instance) in
+      let stands : BasicStands t came_to b.memory b.variables =
+      record { sound = (stood w forest lies).sound; block = changed.ends.ready; memory = refl; variables = λ n. refl } in
+      subst (λ (cs : List Block). IsForest i (record old { blocks = cs }) (with_instance i at.instance b w))
+      (sym (changed.stands ∙ ap (put_at old.blocks way) changed.ends.is_basic))
+      (put_forest i numbered old w forest at.instance number lies b changed.before (block.Basic came_to) changed.stood
+      (leaf_basic came_to ∙ sym (ap components_of changed.ends.was_basic ∙ leaf_basic changed.ends.basic))
+      (subst (λ T. T) (sym (basic_is sys p t came_to b kind)) stands)
+      (λ s shell. shell_kept sys p t (block_in i w at.instance) c s kind shell))
 
   -- however the reaction has ended, each instance has its block
   pub whole_from : IsOne i old at.instance → (w : World) × IsForest i new w
   whole_from (w, forest, lies) =
-      (with_instance i at.instance (charted_block (after_it t s after emits) (block_in i w at.instance)) w, stands_after w forest lies)
+      (with_instance i at.instance (charted_block (after_it t came_to after emits) (block_in i w at.instance)) w, stands_after w forest lies)
 
-  came : (stop : Option Reason) → reacting t at.event (begun t x.state at.event values before []) stop (after_it t s after emits)
+  came : (stop : Option Reason) → reacting t at.event (begun t changed.ends.basic at.event values before []) stop (after_it t came_to after emits)
       → EachWorld i old at (ChartCame i old at t values before stop new after emits)
   came stop moves w forest lies =
-      let c : Place = after_it t s after emits in
+      let c : Place = after_it t came_to after emits in
       record {
         place = c;
-        reacts = subst (λ (q : Place). reacting t at.event q stop c) (start_is t x.state (block_in i w at.instance) at.event values before (stood i old at.instance t kind number d x found basic w forest lies).0) moves;
+        reacts = subst (λ (q : Place). reacting t at.event q stop c) (start_is t changed.ends.basic (block_in i w at.instance) at.event values before (stood w forest lies)) moves;
         stands = stands_after w forest lies;
         left = refl;
         emitted = refl;
       }
 
-  ended : (e : Result (Unit {0}) Halt) → Ended e (reacting t at.event) (begun t x.state at.event values before []) (after_it t s after emits)
+  ended : (e : Result (Unit {0}) Halt) → Ended e (reacting t at.event) (begun t changed.ends.basic at.event values before []) (after_it t came_to after emits)
       → ChartEnded i old at t values before e new after emits
   ended (Ok u) moves = came None moves
   ended (Err (halt.Stop e)) moves = came (Some e) moves
   ended (Err halt.Memory) moves = tt
 
   -- the reaction has ended, where nothing was emitted before
-  pub ended_from : (emitted : List run.Emission) → emitted ≡ [] → Ended r (reacting t at.event) (begun t x.state at.event values before emitted) (after_it t s after emits)
-      → ChartEnded i old at t values before r new after emits
-  ended_from emitted fresh moves =
-      ended r (subst (λ (es : List run.Emission). Ended r (reacting t at.event) (begun t x.state at.event values before es) (after_it t s after emits)) fresh moves)
+  pub ended_from : emitted ≡ [] → ChartEnded i old at t values before r new after emits
+  ended_from fresh =
+      ended r (subst (λ (es : List run.Emission). Ended r (reacting t at.event) (begun t changed.ends.basic at.event values before es) (after_it t came_to after emits)) fresh changed.ends.reacted)

@@ -1,16 +1,17 @@
 -- One block before the first event.
-use Rattle.std.proofs.Common.{◌≡◌, ℕ, ◌<◌, suc, List, [], ◌∷◌, ◌++◌, map, length, Contains, true, false, Option, Some, None, refl, sym, ◌∙◌, ap, subst}
+use Rattle.std.proofs.Common.{◌≡◌, ◌≢◌, ℕ, ◌<◌, suc, List, [], ◌∷◌, ◌++◌, map, length, Contains, true, false, Option, Some, None, refl, sym, ◌∙◌, ap, subst}
 use Rattle.std.specs.Prelude.{if◌then◌else◌, option_map, slice_get, unwrap_or}
 use Rattle.std.proofs.lemmas.Option.{slice_get-map, same_Some}
 use Rattle.fb_types.specs.Names.{Name, Path}
 use Rattle.fb_types.specs.Values.{Values}
-use Rattle.fb_types.specs.Blocks.{Kind, Basic, Composite, among, ports, ports_of, variable_names, variables_of}
+use Rattle.fb_types.specs.Blocks.{Kind, Basic, Event, Composite, among, ports, ports_of, variable_names, variables_of}
 use Rattle.fb_types.specs.Flat.{kind_of}
 use Rattle.fb_types.specs.Headline.{AreAccepted, Inputs, system_of}
 use Rattle.fb_types.specs.Numbers.{path_at, ports_at}
 use Rattle.fb_types.specs.Simulation.{first_state, opening_block, opening_memory}
 use Rattle.fb_types.specs.States as model
 use Rattle.fb_types.specs.Systems.{System}
+use Rattle.fb_types.specs.declared.event_kind.EventKind.{EventKind}
 use Rattle.fb_types.specs.declared.library.BasicType.{BasicType}
 use Rattle.fb_types.specs.declared.library.BlockType.{BlockType}
 use Rattle.fb_types.specs.declared.library.CompositeType.{CompositeType}
@@ -25,11 +26,14 @@ use Rattle.fb_ecc.specs.Places.{state_at}
 use Rattle.fb_ecc.specs.declared.state.BasicState.{BasicState}
 use Rattle.fb_system.specs.Stimuli.{initial_inputs, initial_outputs}
 use Rattle.fb_net.specs.Worlds.{BasicStands, NodeStands, ShellStands, StandsFor, ValuesStand, begins}
-use Rattle.fb_net.specs.declared.block.Block.TheVariants as block
-use Rattle.fb_net.specs.declared.block.BasicBlock.{BasicBlock}
-use Rattle.fb_net.specs.declared.block.CompositeBlock.{CompositeBlock}
+use Rattle.fb_net.specs.Blocks.{composite_with, own_of}
+use Rattle.fb_net.specs.declared.block.Block.{Block}
+use Rattle.fb_net.specs.declared.block.Block.TheOpen.{Block-F}
+use Rattle.fb_net.specs.declared.block.Block.TheViews.{out-Block, roll-Block}
 use Rattle.fb_net.specs.declared.shell.Shell.{Shell}
+use Rattle.fb_event.specs.State as memories
 use Rattle.fb_net.specs.Opening.{AreDeclared, begun_all}
+use Rattle.fb_net.proofs.Components.{out_roll}
 use Rattle.fb_types.proofs.ByPlace.{slice_get-append_left}
 use Rattle.fb_types.proofs.Options.{map_parts}
 use Rattle.fb_types.proofs.Positions.{slice_get-Contains}
@@ -52,34 +56,45 @@ values_begin sys p names values is = record {
   others = λ n h. refl;
 }
 
-shell_begins :
-    (sys : System) (p : Path) (s : Shell) → s.slots ≡ initial_inputs sys p → s.published ≡ initial_outputs sys p → ShellStands sys p s (opening_block sys p)
-shell_begins sys p s slots published = record {
+pub shell_begins :
+    (sys : System) (p : Path) (s : Shell) → s.slots ≡ initial_inputs sys p → s.published ≡ initial_outputs sys p
+    → (((t : BasicType) → sys.kind p ≢ Some (Basic t)) → s.inputs ≡ initial_inputs sys p) → ShellStands sys p s (opening_block sys p)
+shell_begins sys p s slots published inputs = record {
   slots = values_begin sys p (variable_names (ports_at sys p).inputs) s.slots slots;
   published = values_begin sys p (variable_names (ports_at sys p).outputs) s.published published;
+  inputs = λ no_basic. values_begin sys p (variable_names (ports_at sys p).inputs) s.inputs (inputs no_basic);
 }
 
--- ---- Basic blocks and composites
+-- ---- Blocks by kind
 
-pub composite_begins :
-    (sys : System) (p : Path) (t : CompositeType) (c : CompositeBlock) → sys.kind p ≡ Some (Composite t)
-    → c.inputs ≡ initial_inputs sys p → c.shell.slots ≡ initial_inputs sys p → c.shell.published ≡ initial_outputs sys p
-    → StandsFor sys p (block.Composite c) (opening_block sys p)
-composite_begins sys p t c is inputs slots published =
-    subst (λ (k : Option Kind). NodeStands sys p k (block.Composite c) (opening_block sys p)) (sym is) (
-      record {
-        memory = ap opening_memory is;
-        variables = values_begin sys p (variable_names (ports_at sys p).inputs) c.inputs inputs;
-      },
-      shell_begins sys p c.shell slots published,
-    )
+stands_rolled : (sys : System) (p : Path) (x : Block-F Block) (m : model.Block) → NodeStands (sys.kind p) x m.memory m.variables → StandsFor sys p (roll-Block x) m
+stands_rolled sys p x m stands = subst (λ (y : Block-F Block). NodeStands (sys.kind p) y m.memory m.variables) (sym (out_roll x)) stands
+
+-- what a block without its components is
+own_stands : (sys : System) (p : Path) (b : Block) (x : Block-F Block) (m : model.Block) → out-Block b ≡ x → NodeStands (sys.kind p) (composite_with [] x) m.memory m.variables → StandsFor sys p (own_of b) m
+own_stands sys p b x m is stands =
+    stands_rolled sys p (composite_with [] (out-Block b)) m (subst (λ (y : Block-F Block). NodeStands (sys.kind p) (composite_with [] y) m.memory m.variables) (sym is) stands)
 
 pub basic_begins :
-    (sys : System) (p : Path) (t : BasicType) (b : BasicBlock) → sys.kind p ≡ Some (Basic t) → BasicStands t b.state (opening_block sys p)
-    → b.shell.slots ≡ initial_inputs sys p → b.shell.published ≡ initial_outputs sys p
-    → StandsFor sys p (block.Basic b) (opening_block sys p)
-basic_begins sys p t b is stands slots published =
-    subst (λ (k : Option Kind). NodeStands sys p k (block.Basic b) (opening_block sys p)) (sym is) (stands, shell_begins sys p b.shell slots published)
+    (sys : System) (p : Path) (t : BasicType) (b : Block) (s : BasicState) → sys.kind p ≡ Some (Basic t) → out-Block b ≡ Block-F.Basic s
+    → BasicStands t s (opening_block sys p).memory (opening_block sys p).variables → StandsFor sys p (own_of b) (opening_block sys p)
+basic_begins sys p t b s kind is stands =
+    let m = opening_block sys p in
+    own_stands sys p b (Block-F.Basic s) m is (subst (λ (k : Option Kind). NodeStands k (Block-F.Basic s) m.memory m.variables) (sym kind) stands)
+
+pub event_begins :
+    (sys : System) (p : Path) (k : EventKind) (b : Block) (s : memories.State) → sys.kind p ≡ Some (Event k) → out-Block b ≡ Block-F.Event s
+    → s.kind ≡ k → model.Remembers s.memory ≡ opening_memory (Some (Event k)) → StandsFor sys p (own_of b) (opening_block sys p)
+event_begins sys p k b s kind is of_kind memory =
+    let m = opening_block sys p in
+    own_stands sys p b (Block-F.Event s) m is (subst (λ (k : Option Kind). NodeStands k (Block-F.Event s) m.memory m.variables) (sym kind)
+    (record { is_kind = of_kind; memory = ap opening_memory kind ∙ sym memory }))
+
+pub composite_begins :
+    (sys : System) (p : Path) (t : CompositeType) (b : Block) (bs : List Block) → sys.kind p ≡ Some (Composite t) → out-Block b ≡ Block-F.Composite bs → StandsFor sys p (own_of b) (opening_block sys p)
+composite_begins sys p t b bs kind is =
+    let m = opening_block sys p in
+    own_stands sys p b (Block-F.Composite bs) m is (subst (λ (k : Option Kind). NodeStands k (Block-F.Composite []) m.memory m.variables) (sym kind) (ap opening_memory kind))
 
 -- ---- Basic blocks
 
@@ -129,7 +144,7 @@ pub opens :
     → (system_of i).kind (path_at (system_of i) k) ≡ Some (Basic t) → IsOpened t old
     → values ≡ initial_inputs (system_of i) (path_at (system_of i) k)
     → values_of frame ≡ begun_all (variable_names t.ports.inputs) values (values_of old.frame) → declared_in frame ≡ declared_in old.frame
-    → BasicStands t (record old { frame = frame }) (opening_block (system_of i) (path_at (system_of i) k))
+    → BasicStands t (record old { frame = frame }) (opening_block (system_of i) (path_at (system_of i) k)).memory (opening_block (system_of i) (path_at (system_of i) k)).variables
 opens i k t old frame values accepted within is opened given put declared =
     let sys = system_of i in
     let p = path_at sys k in

@@ -135,6 +135,8 @@ module _ (i : Inputs) (accepted : AreAccepted i) (numbered : (k : ℕ) → k < l
         stands = λ w forest.
             record {
               blocks = forest.blocks;
+              ways = forest.ways;
+              shells = forest.shells;
               apart = forest.apart;
               held = λ y is_y read other.
                   by_port w y is_y (w.held (variable_of (system_of i) y)) (forest.held y is_y read other) (same_port (variable_of (system_of i) y) (variable_of (system_of i) x)) refl;

@@ -1,5 +1,9 @@
 pub mod Apart
 pub mod Charts
+pub mod Components
+pub mod Descents
+pub mod Others
+pub mod Ways
 pub mod Holding
 pub mod Shown
 pub mod Sampled
@@ -7,7 +11,10 @@ pub mod Writing
 pub mod Known
 pub mod Frames
 pub mod Begun
+pub mod Growing
+pub mod Roots
 pub mod Seating
+pub mod Standing
 pub mod Copies
 pub mod Arriving
 pub mod Asked

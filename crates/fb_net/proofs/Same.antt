@@ -1,5 +1,5 @@
 -- A taking goes on after a step of it, of the same system and under the same key.
-use Rattle.std.proofs.Common.{◌<◌, ◌++◌, ◌∷◌, [], ℕ, List, length, sym, ap, subst, ◌∙◌}
+use Rattle.std.proofs.Common.{◌≡◌, ◌<◌, ◌++◌, ◌∷◌, [], ℕ, List, length, sym, ap, subst, ◌∙◌}
 use Rattle.fb_types.specs.Headline.{Inputs, system_of}
 use Rattle.fb_types.specs.declared.key.Key.{Key}
 use Rattle.fb_types.specs.declared.run.Emission.{Emission}
@@ -41,3 +41,11 @@ may-emit-again a b n es same may emitted = record {
   where
     outs-again : (a b : Taking) (n : ℕ) (es : List Emission) → IsSame a b → EmitsWell a n es b → AreOuts (system_in b) b.forest.now.resource b.outbox.now
     outs-again a b n es same emitted = still (λ (i : Inputs) (k : Key). AreOuts (system_of i) b.forest.now.resource b.outbox.now) a b same emitted.outs
+
+-- Of some emissions those before the rest were made.
+pub record EmittedSoFar (a b : Taking) (n : ℕ) (all rest : List Emission) : Type 0 where
+  pub done : List Emission
+  pub parts : all ≡ done ++ rest
+  pub emitted : EmitsWell a n done b
+  pub kept : IsKept a b
+  pub same : IsSame a b

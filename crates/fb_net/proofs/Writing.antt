@@ -19,18 +19,22 @@ use Rattle.fb_types.specs.declared.value.Value.{Value}
 use Rattle.fb_types.specs.declared.run.Place.{Place}
 use Rattle.fb_system.specs.Ports.{IsVariable, variable_of}
 use Rattle.fb_types.proofs.NameLaws.{any_from_contains, same_name-itself, same_name-apart}
-use Rattle.fb_net.specs.Blocks.{inputs_of, shell_of, with_input, with_inputs, with_published, with_shell, with_slot}
+use Rattle.fb_net.specs.Blocks.{components_of, own_of, with_input, with_published, with_slot}
 use Rattle.fb_net.specs.Changes.{Changes}
 use Rattle.fb_net.specs.Changes as specs
-use Rattle.fb_net.specs.Worlds.{InForest, IsForest, NodeStands, ShellStands, StandsAt, StandsFor, TakesSamples, ValuesStand, input_names, output_names, seat_in, with_seated}
+use Rattle.fb_net.specs.Trees.{PutAlone, block_at, put_at}
+use Rattle.fb_net.specs.Worlds.{InForest, IsForest, NodeStands, SeatedAt, ShellStands, StandsAt, StandsFor, TakesSamples, ValuesStand, input_names, output_names, seat_in, way_in, with_seated}
 use Rattle.fb_net.specs.declared.block.Block.{Block}
-use Rattle.fb_net.specs.declared.block.Block.TheVariants as node
+use Rattle.fb_net.specs.declared.block.Block.TheOpen.{Block-F}
+use Rattle.fb_net.specs.declared.block.Block.TheViews.{out-Block}
 use Rattle.fb_net.specs.declared.resource.Forest.{Forest}
 use Rattle.fb_net.specs.declared.shell.Shell.{Shell}
 use Rattle.fb_net.proofs.Apart.{kind_apart}
 use Rattle.fb_types.proofs.ByPlace.{element_of_place}
+use Rattle.fb_net.proofs.Others.{get_set_other, get_set_same, others_stay}
 use Rattle.fb_net.proofs.Seating.{seats_differ}
-use Rattle.fb_net.proofs.Shown.{among_inputs, among_outputs, name_there, shell_stands}
+use Rattle.fb_net.proofs.Ways.{ways_differ}
+use Rattle.fb_net.proofs.Shown.{among_inputs, among_outputs, name_there}
 
 length_set : (vs : List Value) (k : ℕ) (v : Value) → length (slice_set vs k v) ≡ length vs
 length_set [] k v = refl
@@ -41,13 +45,6 @@ get_set_here : (vs : List Value) (k : ℕ) (v u : Value) → slice_get (slice_se
 get_set_here [] k v u e = cc
 get_set_here (x ∷ vs) zero v u e = cc
 get_set_here (x ∷ vs) (suc k) v u e = get_set_here vs k v u e
-
-get_set_there : {A : Type 0} (vs : List A) (k j : ℕ) (v : A) → j ≢ k → slice_get (slice_set vs k v) j ≡ slice_get vs j
-get_set_there [] k j v ne = refl
-get_set_there (x ∷ vs) zero zero v ne = absurd (ne refl)
-get_set_there (x ∷ vs) zero (suc j) v ne = refl
-get_set_there (x ∷ vs) (suc k) zero v ne = refl
-get_set_there (x ∷ vs) (suc k) (suc j) v ne = get_set_there vs k j v (λ e. ne (ap suc e))
 
 -- a name that stands once stands at one place
 pub one_place : (names : List Name) → ¬ (Twice names) → (j k : ℕ) (n : Name) → slice_get names j ≡ Some n → slice_get names k ≡ Some n → j ≡ k
@@ -75,7 +72,7 @@ module _ (sys : System) (p : Path) (names : List Name) (values : List Value) (al
   there : (j : ℕ) → j ≢ k → (n : Name) (u : Value) → slice_get names j ≡ Some n → slice_get (slice_set values k v) j ≡ Some u → with_value name v all n ≡ u
   there j ne n u e f =
       ap (λ b. if b then v else all n) (same_name-apart n name (λ s. ne (one_place names once j k name (e ∙ ap Some s) named)))
-      ∙ stand.at_place j n u e (sym (get_set_there values k j v ne) ∙ f)
+      ∙ stand.at_place j n u e (sym (get_set_other values k j v ne) ∙ f)
 
   -- the values stand for what they did, but for the name of the place
   pub values_set : ValuesStand sys p names (slice_set values k v) (with_value name v all)
@@ -88,130 +85,128 @@ module _ (sys : System) (p : Path) (names : List Name) (values : List Value) (al
             ∙ stand.others n e;
       }
 
--- ---- One block
+-- ---- One shell
 
--- a block with another shell stands for the model's block with what that shell holds
-node_shell :
-    (sys : System) (p : Path) (k : Option Kind) (x : Block) (m : model.Block) (s : Shell) (slots published : Values) →
-    NodeStands sys p k x m → ShellStands sys p s (record m { slots = slots; published = published }) →
-    NodeStands sys p k (with_shell x s) (record m { slots = slots; published = published })
-node_shell sys p None (node.Basic x) m s f g stands shell = absurd stands
-node_shell sys p None (node.Event x) m s f g stands shell = absurd stands
-node_shell sys p None (node.Composite x) m s f g stands shell = absurd stands
-node_shell sys p (Some (Basic t)) (node.Basic x) m s f g stands shell =
-    (record { sound = stands.0.sound; block = stands.0.block; memory = stands.0.memory; variables = stands.0.variables }, shell)
-node_shell sys p (Some (Basic t)) (node.Event x) m s f g stands shell = absurd stands
-node_shell sys p (Some (Basic t)) (node.Composite x) m s f g stands shell = absurd stands
-node_shell sys p (Some (Event k)) (node.Basic x) m s f g stands shell = absurd stands
-node_shell sys p (Some (Event k)) (node.Event x) m s f g stands shell =
-    (record { is_kind = stands.0.is_kind; memory = stands.0.memory; variables = stands.0.variables }, shell)
-node_shell sys p (Some (Event k)) (node.Composite x) m s f g stands shell = absurd stands
-node_shell sys p (Some (Composite t)) (node.Basic x) m s f g stands shell = absurd stands
-node_shell sys p (Some (Composite t)) (node.Event x) m s f g stands shell = absurd stands
-node_shell sys p (Some (Composite t)) (node.Composite x) m s f g stands shell =
-    (record { memory = stands.0.memory; variables = stands.0.variables }, shell)
-
-module _ (sys : System) (p : Path) (own : Block) (m : model.Block) (stands : StandsFor sys p own m) where
-  shell : ShellStands sys p (shell_of own) m
-  shell = shell_stands sys p (sys.kind p) own m stands
-
-  with_shell_stands : (s : Shell) (f g : Values) → ShellStands sys p s (record m { slots = f; published = g }) →
-      StandsFor sys p (with_shell own s) (record m { slots = f; published = g })
-  with_shell_stands s f g stand =
-      node_shell sys p (sys.kind p) own m s f g stands stand
-
+module _ (sys : System) (p : Path) (s : Shell) (m : model.Block) (stands : ShellStands sys p s m) where
   -- a slot is set
   pub slot_set : ¬ (Twice (input_names sys p)) → (k : ℕ) (n : Name) → slice_get (input_names sys p) k ≡ Some n → (v : Value) →
-      StandsFor sys p (with_slot k v own) (record m { slots = with_value n v m.slots })
+      ShellStands sys p (with_slot k v s) (record m { slots = with_value n v m.slots })
   slot_set once k n named v =
-      with_shell_stands (record (shell_of own) { slots = slice_set (shell_of own).slots k v }) (with_value n v m.slots) m.published
-      (record { slots = values_set sys p (input_names sys p) (shell_of own).slots m.slots shell.slots once k n named v; published = shell.published })
+      record { slots = values_set sys p (input_names sys p) s.slots m.slots stands.slots once k n named v; published = stands.published; inputs = stands.inputs }
 
   -- an output is published
   pub output_set : ¬ (Twice (output_names sys p)) → (k : ℕ) (n : Name) → slice_get (output_names sys p) k ≡ Some n → (v : Value) →
-      StandsFor sys p (with_published k v own) (record m { published = with_value n v m.published })
+      ShellStands sys p (with_published k v s) (record m { published = with_value n v m.published })
   output_set once k n named v =
-      with_shell_stands (record (shell_of own) { published = slice_set (shell_of own).published k v }) m.slots (with_value n v m.published)
-      (record { slots = shell.slots; published = values_set sys p (output_names sys p) (shell_of own).published m.published shell.published once k n named v })
+      record { slots = stands.slots; published = values_set sys p (output_names sys p) s.published m.published stands.published once k n named v; inputs = stands.inputs }
 
--- a block that keeps what it samples, with other samples
-node_inputs :
-    (sys : System) (p : Path) (k : Option Kind) (x : Block) (m : model.Block) (values : List Value) (all : Values) → ((t : BasicType) → k ≢ Some (Basic t)) →
-    NodeStands sys p k x m → (ValuesStand sys p (input_names sys p) (inputs_of x) m.variables → ValuesStand sys p (input_names sys p) values all) →
-    NodeStands sys p k (with_inputs x values) (record m { variables = all })
-node_inputs sys p None (node.Basic x) m vs f never stands values = absurd stands
-node_inputs sys p None (node.Event x) m vs f never stands values = absurd stands
-node_inputs sys p None (node.Composite x) m vs f never stands values = absurd stands
-node_inputs sys p (Some (Basic t)) x m vs f never stands values = absurd (never t refl)
-node_inputs sys p (Some (Event k)) (node.Basic x) m vs f never stands values = absurd stands
-node_inputs sys p (Some (Event k)) (node.Event x) m vs f never stands values =
-    (record { is_kind = stands.0.is_kind; memory = stands.0.memory; variables = values stands.0.variables }, record { slots = stands.1.slots; published = stands.1.published })
-node_inputs sys p (Some (Event k)) (node.Composite x) m vs f never stands values = absurd stands
-node_inputs sys p (Some (Composite t)) (node.Basic x) m vs f never stands values = absurd stands
-node_inputs sys p (Some (Composite t)) (node.Event x) m vs f never stands values = absurd stands
-node_inputs sys p (Some (Composite t)) (node.Composite x) m vs f never stands values =
-    (record { memory = stands.0.memory; variables = values stands.0.variables }, record { slots = stands.1.slots; published = stands.1.published })
+  -- a data input is sampled
+  pub input_set : ¬ (Twice (input_names sys p)) → (k : ℕ) (n : Name) → slice_get (input_names sys p) k ≡ Some n → (v : Value) →
+      ShellStands sys p (with_input k v s) (record m { variables = with_value n v m.variables })
+  input_set once k n named v =
+      record {
+        slots = stands.slots;
+        published = stands.published;
+        inputs = λ no_basic. values_set sys p (input_names sys p) s.inputs m.variables (stands.inputs no_basic) once k n named v;
+      }
 
--- a data input is sampled
-pub input_set :
-    (sys : System) (p : Path) (own : Block) (m : model.Block) → ((t : BasicType) → sys.kind p ≢ Some (Basic t)) → StandsFor sys p own m → ¬ (Twice (input_names sys p)) →
-    (k : ℕ) (n : Name) → slice_get (input_names sys p) k ≡ Some n → (v : Value) → StandsFor sys p (with_input k v own) (record m { variables = with_value n v m.variables })
-input_set sys p own m no_basic stands once k n named v =
-    node_inputs sys p (sys.kind p) own m (slice_set (inputs_of own) k v) (with_value n v m.variables) no_basic stands
-    (λ stand. values_set sys p (input_names sys p) (inputs_of own) m.variables stand once k n named v)
+-- what a block that is no basic one remembers is not its data inputs
+pub node_kept :
+    (k : Option Kind) (x : Block-F Block) (m : model.Memory) (old new : Values) → ((t : BasicType) → k ≢ Some (Basic t)) → NodeStands k x m old → NodeStands k x m new
+node_kept None (Block-F.Basic s) m old new never stands = absurd stands
+node_kept None (Block-F.Event s) m old new never stands = absurd stands
+node_kept None (Block-F.Composite bs) m old new never stands = absurd stands
+node_kept (Some (Basic t)) x m old new never stands = absurd (never t refl)
+node_kept (Some (Event k)) (Block-F.Basic s) m old new never stands = absurd stands
+node_kept (Some (Event k)) (Block-F.Event s) m old new never stands = stands
+node_kept (Some (Event k)) (Block-F.Composite bs) m old new never stands = absurd stands
+node_kept (Some (Composite t)) (Block-F.Basic s) m old new never stands = absurd stands
+node_kept (Some (Composite t)) (Block-F.Event s) m old new never stands = absurd stands
+node_kept (Some (Composite t)) (Block-F.Composite bs) m old new never stands = stands
 
--- ---- The seats
-
-get_set_same : (bs : List Block) (p : ℕ) (b w : Block) → slice_get bs p ≡ Some b → slice_get (slice_set bs p w) p ≡ Some w
-get_set_same [] p b w e = cc
-get_set_same (x ∷ bs) zero b w e = refl
-get_set_same (x ∷ bs) (suc p) b w e = get_set_same bs p b w e
+-- ---- One instance among all
 
 -- what each system keeps of its numbers
 abbrev pub AreNumbered : Inputs → Type 0
 AreNumbered i = (k : ℕ) → k < length (system_of i).paths → (system_of i).number (path_at (system_of i) k) ≡ k
 
-module _ (i : Inputs) (numbered : AreNumbered i) (t : Forest) (w : World) (forest : IsForest i t w) (k : ℕ) (number : k < length (system_of i).paths) (lies : InForest i t k)
-    (b : Block) (after : model.Block) (stands : StandsFor (system_of i) (path_at (system_of i) k) b after) where
-  abbrev blocks : List Block
-  blocks = slice_set t.blocks (seat_in t.seats k) b
+-- What holds of one instance in its new state and of all others in their old one holds of all in the world in which that one alone has changed.
+pub each_instance :
+    (i : Inputs) → AreNumbered i → (w : World) (k : ℕ) → k < length (system_of i).paths → (after : model.Block) (At : ℕ → model.Block → Type 0) → At k after →
+    (j : ℕ) → j < length (system_of i).paths → (j ≢ k → At j (w.blocks (path_at (system_of i) j))) → At j ((with_block (path_at (system_of i) k) after w).blocks (path_at (system_of i) j))
+each_instance i numbered w k number after At here j h there = by_path (same_path (path_at (system_of i) j) (path_at (system_of i) k)) refl
+  where
+    by_path : (same : Bool) → same_path (path_at (system_of i) j) (path_at (system_of i) k) ≡ same → At j (if same then after else w.blocks (path_at (system_of i) j))
+    by_path true e =
+        let paths : path_at (system_of i) j ≡ path_at (system_of i) k = same_path_is (path_at (system_of i) j) (path_at (system_of i) k) e in
+        subst (λ (m : ℕ). At m after) (sym (numbered k number) ∙ ap (system_of i).number (sym paths) ∙ numbered j h) here
+    by_path false e =
+        there (λ is. true≢false (sym (ap (λ (m : ℕ). same_path (path_at (system_of i) m) (path_at (system_of i) k)) is ∙ same_path_itself (path_at (system_of i) k)) ∙ e))
 
-  at_each :
-      (j : ℕ) → j < length (system_of i).paths → InForest i t j → (same : Bool) → same_path (path_at (system_of i) j) (path_at (system_of i) k) ≡ same →
-      StandsAt i t.seats blocks j (if same then after else w.blocks (path_at (system_of i) j))
-  at_each j h lies_j true e =
-      let paths : path_at (system_of i) j ≡ path_at (system_of i) k = same_path_is (path_at (system_of i) j) (path_at (system_of i) k) e in
-      let here = forest.blocks k number lies in
-      subst (λ (m : ℕ). StandsAt i t.seats blocks m after) (sym (numbered k number) ∙ ap (system_of i).number (sym paths) ∙ numbered j h)
-      (record { block = b; stood = get_set_same t.blocks (seat_in t.seats k) here.block b here.stood; stands = stands })
-  at_each j h lies_j false e =
-      let there = forest.blocks j h lies_j in
+module _ (i : Inputs) (numbered : AreNumbered i) (t : Forest) (w : World) (forest : IsForest i t w) (k : ℕ) (number : k < length (system_of i).paths) (lies : InForest i t k) (after : model.Block) where
+  -- another shell at the seat of the instance
+  pub seated_forest :
+      (s : Shell) → ShellStands (system_of i) (path_at (system_of i) k) s after →
+      ((own : Block) → StandsFor (system_of i) (path_at (system_of i) k) own (w.blocks (path_at (system_of i) k)) → StandsFor (system_of i) (path_at (system_of i) k) own after) →
+      IsForest i (with_seated t k s) (with_block (path_at (system_of i) k) after w)
+  seated_forest s stands kept =
+      let seat = seat_in t.seats k in
+      let here = forest.shells k number lies in
+      let block = forest.blocks k number lies in
       record {
-        block = there.block;
-        stood =
-            get_set_there t.blocks (seat_in t.seats k) (seat_in t.seats j) b
-            (λ seats. true≢false (sym (ap (λ (m : ℕ). same_path (path_at (system_of i) m) (path_at (system_of i) k)) (seats_differ i t.resource (length (system_of i).paths) t.seats forest.apart j k h number lies_j lies seats) ∙ same_path_itself (path_at (system_of i) k)) ∙ e))
-            ∙ there.stood;
-        stands = there.stands;
-      }
-
-  -- the blocks stand for the world in which that instance alone has changed
-  pub seated_forest : IsForest i (with_seated t k b) (with_block (path_at (system_of i) k) after w)
-  seated_forest =
-      record {
-        blocks = λ j h lies_j. at_each j h lies_j (same_path (path_at (system_of i) j) (path_at (system_of i) k)) refl;
+        blocks = λ j h lies_j. each_instance i numbered w k number after (λ n b. StandsAt i t.roots t.blocks n b)
+            (record { own = block.own; stood = block.stood; stands = kept block.own block.stands }) j h (λ other. forest.blocks j h lies_j);
+        ways = forest.ways;
+        shells = λ j h lies_j. each_instance i numbered w k number after (λ n b. SeatedAt i t.seats (slice_set t.shells seat s) n b)
+            (record { shell = s; stood = get_set_same t.shells seat here.shell s here.stood; stands = stands }) j h
+            (λ other.
+            (let there = forest.shells j h lies_j in
+            record {
+              shell = there.shell;
+              stood =
+                  get_set_other t.shells seat (seat_in t.seats j) s
+                  (λ seats. other (seats_differ i t.resource (length (system_of i).paths) t.seats forest.apart j k h number lies_j lies seats))
+                  ∙ there.stood;
+              stands = there.stands;
+            }));
         apart = forest.apart;
         held = forest.held;
       }
 
--- no instance of the resource is without a block
-pub never_none : (i : Inputs) (old new : Forest) (k : ℕ) (change : model.Block → model.Block) → k < length (system_of i).paths → slice_get old.blocks (seat_in old.seats k) ≡ None
+  -- another block on the way to the instance, with the same components
+  pub put_forest :
+      (b x : Block) → block_at t.blocks (way_in i t.roots k) ≡ Some b → components_of x ≡ components_of b → StandsFor (system_of i) (path_at (system_of i) k) (own_of x) after →
+      ((s : Shell) → ShellStands (system_of i) (path_at (system_of i) k) s (w.blocks (path_at (system_of i) k)) → ShellStands (system_of i) (path_at (system_of i) k) s after) →
+      IsForest i (record t { blocks = put_at t.blocks (way_in i t.roots k) x }) (with_block (path_at (system_of i) k) after w)
+  put_forest b x stood same stands kept =
+      let way = way_in i t.roots k in
+      let put : PutAlone t.blocks way (own_of x) (put_at t.blocks way x) = others_stay t.blocks way b x stood same in
+      let shell = forest.shells k number lies in
+      record {
+        blocks = λ j h lies_j. each_instance i numbered w k number after (λ n y. StandsAt i t.roots (put_at t.blocks way x) n y)
+            (record { own = own_of x; stood = put.here; stands = stands }) j h
+            (λ other.
+            (let there = forest.blocks j h lies_j in
+            record {
+              own = there.own;
+              stood = put.elsewhere (way_in i t.roots j) (λ ways. other (ways_differ i t.resource t.roots forest.ways j k h number lies_j lies ways)) ∙ there.stood;
+              stands = there.stands;
+            }));
+        ways = forest.ways;
+        shells = λ j h lies_j. each_instance i numbered w k number after (λ n y. SeatedAt i t.seats t.shells n y)
+            (record { shell = shell.shell; stood = shell.stood; stands = kept shell.shell shell.stands }) j h (λ other. forest.shells j h lies_j);
+        apart = forest.apart;
+        held = forest.held;
+      }
+
+-- no instance of the resource is without a shell
+pub never_none : (i : Inputs) (old new : Forest) (k : ℕ) (change : model.Block → model.Block) → k < length (system_of i).paths → slice_get old.shells (seat_in old.seats k) ≡ None
     → new.resource ≡ old.resource → Changes i old k change new
 never_none i old new k change number none same =
-    record { resource = same; stands = λ w forest lies. (let here = forest.blocks k number lies in absurd (none-some here.block (sym none ∙ here.stood))) }
+    record { resource = same; stands = λ w forest lies. (let here = forest.shells k number lies in absurd (none-some here.shell (sym none ∙ here.stood))) }
 
-same_block : (a b : Block) → Some a ≡ Some b → a ≡ b
-same_block a b e = cc
+same_shell : (a b : Shell) → Some a ≡ Some b → a ≡ b
+same_shell a b e = cc
 
 -- ---- What is changed of an instance
 
@@ -236,7 +231,7 @@ outputs_once i accepted p =
     ] refl
 
 module _ (i : Inputs) (accepted : AreAccepted i) (numbered : AreNumbered i) (old : Forest) (x : Place) (variable : IsVariable (system_of i) x) (v : Value)
-    (b : Block) (found : slice_get old.blocks (seat_in old.seats x.instance) ≡ Some b) where
+    (s : Shell) (found : slice_get old.shells (seat_in old.seats x.instance) ≡ Some s) where
   abbrev pub path : Path
   path = path_at (system_of i) x.instance
 
@@ -244,28 +239,31 @@ module _ (i : Inputs) (accepted : AreAccepted i) (numbered : AreNumbered i) (old
   name = (variable_of (system_of i) x).name
 
   changes :
-      (f : Block → Block) (change : model.Block → model.Block) → ((m : model.Block) → StandsFor (system_of i) path b m → StandsFor (system_of i) path (f b) (change m)) →
-      Changes i old x.instance change (with_seated old x.instance (f b))
-  changes f change keeps =
+      (f : Shell → Shell) (change : model.Block → model.Block) → ((m : model.Block) → ShellStands (system_of i) path s m → ShellStands (system_of i) path (f s) (change m)) →
+      ((m : model.Block) (own : Block) → StandsFor (system_of i) path own m → StandsFor (system_of i) path own (change m)) →
+      Changes i old x.instance change (with_seated old x.instance (f s))
+  changes f change keeps kept =
       record {
         resource = refl;
         stands = λ w forest lies.
-            (let here = forest.blocks x.instance variable.instance lies in
-            seated_forest i numbered old w forest x.instance variable.instance lies (f b) (change (w.blocks path))
-            (keeps (w.blocks path) (subst (λ (y : Block). StandsFor (system_of i) path y (w.blocks path)) (same_block here.block b (sym here.stood ∙ found)) here.stands)));
+            (let here = forest.shells x.instance variable.instance lies in
+            seated_forest i numbered old w forest x.instance variable.instance lies (change (w.blocks path)) (f s)
+            (keeps (w.blocks path) (subst (λ (y : Shell). ShellStands (system_of i) path y (w.blocks path)) (same_shell here.shell s (sym here.stood ∙ found)) here.stands))
+            (kept (w.blocks path)));
       }
 
-  pub slot_changes : x.is_output ≡ false → Changes i old x.instance (specs.slot_set name v) (with_seated old x.instance (with_slot x.variable v b))
+  pub slot_changes : x.is_output ≡ false → Changes i old x.instance (specs.slot_set name v) (with_seated old x.instance (with_slot x.variable v s))
   slot_changes into =
       changes (with_slot x.variable v) (specs.slot_set name v)
-      (λ m s. slot_set (system_of i) path b m s (inputs_once i accepted path) x.variable name (input_there (system_of i) x variable into) v)
+      (λ m stands. slot_set (system_of i) path s m stands (inputs_once i accepted path) x.variable name (input_there (system_of i) x variable into) v) (λ m own stands. stands)
 
-  pub output_changes : x.is_output ≡ true → Changes i old x.instance (specs.output_shown name v) (with_seated old x.instance (with_published x.variable v b))
+  pub output_changes : x.is_output ≡ true → Changes i old x.instance (specs.output_shown name v) (with_seated old x.instance (with_published x.variable v s))
   output_changes out =
       changes (with_published x.variable v) (specs.output_shown name v)
-      (λ m s. output_set (system_of i) path b m s (outputs_once i accepted path) x.variable name (output_there (system_of i) x variable out) v)
+      (λ m stands. output_set (system_of i) path s m stands (outputs_once i accepted path) x.variable name (output_there (system_of i) x variable out) v) (λ m own stands. stands)
 
-  pub input_changes : x.is_output ≡ false → TakesSamples (system_of i) x → Changes i old x.instance (specs.input_sampled name v) (with_seated old x.instance (with_input x.variable v b))
+  pub input_changes : x.is_output ≡ false → TakesSamples (system_of i) x → Changes i old x.instance (specs.input_sampled name v) (with_seated old x.instance (with_input x.variable v s))
   input_changes into takes =
       changes (with_input x.variable v) (specs.input_sampled name v)
-      (λ m s. input_set (system_of i) path b m takes.no_basic s (inputs_once i accepted path) x.variable name (input_there (system_of i) x variable into) v)
+      (λ m stands. input_set (system_of i) path s m stands (inputs_once i accepted path) x.variable name (input_there (system_of i) x variable into) v)
+      (λ m own stands. node_kept ((system_of i).kind path) (out-Block own) m.memory m.variables (with_value name v m.variables) takes.no_basic stands)

@@ -1,40 +1,43 @@
--- A function block with its variables (IEC 61499-1, 5.1 to 5.3).
+-- A function block with what stands inside it (IEC 61499-1, 5.1 to 5.3).
 use Rattle.std.specs.Prelude.{ℕ, List, [], slice_set}
 use Rattle.fb_types.specs.declared.value.Value.{Value}
 use Rattle.fb_net.specs.declared.block.Block.{Block}
-use Rattle.fb_net.specs.declared.block.Block.TheVariants as block
+use Rattle.fb_net.specs.declared.block.Block.TheOpen.{Block-F}
+use Rattle.fb_net.specs.declared.block.Block.TheViews.{out-Block, roll-Block}
 use Rattle.fb_net.specs.declared.shell.Shell.{Shell}
 
--- the slots and the published outputs of a block
-abbrev pub shell_of : Block → Shell
-shell_of (block.Basic b) = b.shell
-shell_of (block.Event e) = e.shell
-shell_of (block.Composite c) = c.shell
+abbrev pub components_in : Block-F Block → List Block
+components_in (Block-F.Basic s) = []
+components_in (Block-F.Event s) = []
+components_in (Block-F.Composite bs) = bs
 
-abbrev pub with_shell : Block → Shell → Block
-with_shell (block.Basic b) s = block.Basic (record b { shell = s })
-with_shell (block.Event e) s = block.Event (record e { shell = s })
-with_shell (block.Composite c) s = block.Composite (record c { shell = s })
+-- the blocks inside a block
+abbrev pub components_of : Block → List Block
+components_of b = components_in (out-Block b)
+
+abbrev pub composite_with : List Block → Block-F Block → Block-F Block
+composite_with bs (Block-F.Basic s) = Block-F.Basic s
+composite_with bs (Block-F.Event s) = Block-F.Event s
+composite_with bs (Block-F.Composite cs) = Block-F.Composite bs
+
+-- a composite with other blocks inside it; no other block has any
+abbrev pub with_components : Block → List Block → Block
+with_components b bs = roll-Block (composite_with bs (out-Block b))
+
+-- a block without its components
+abbrev pub own_of : Block → Block
+own_of b = with_components b []
+
+-- ---- Shells
 
 -- a connection or a stimulus has brought a value to a data input
-abbrev pub with_slot : (place : ℕ) → Value → Block → Block
-with_slot place v b = with_shell b (record (shell_of b) { slots = slice_set (shell_of b).slots place v })
+abbrev pub with_slot : (place : ℕ) → Value → Shell → Shell
+with_slot place v s = record s { slots = slice_set s.slots place v }
 
 -- a data output shows another value
-abbrev pub with_published : (place : ℕ) → Value → Block → Block
-with_published place v b = with_shell b (record (shell_of b) { published = slice_set (shell_of b).published place v })
+abbrev pub with_published : (place : ℕ) → Value → Shell → Shell
+with_published place v s = record s { published = slice_set s.published place v }
 
--- the data inputs as an event block or a composite block has sampled them; a basic block has them among its variables
-abbrev pub inputs_of : Block → List Value
-inputs_of (block.Basic b) = []
-inputs_of (block.Event e) = e.inputs
-inputs_of (block.Composite c) = c.inputs
-
-abbrev pub with_inputs : Block → List Value → Block
-with_inputs (block.Basic b) vs = block.Basic b
-with_inputs (block.Event e) vs = block.Event (record e { inputs = vs })
-with_inputs (block.Composite c) vs = block.Composite (record c { inputs = vs })
-
--- an event block or a composite block has sampled a data input
-abbrev pub with_input : (place : ℕ) → Value → Block → Block
-with_input place v b = with_inputs b (slice_set (inputs_of b) place v)
+-- an event block or a composite has sampled a data input
+abbrev pub with_input : (place : ℕ) → Value → Shell → Shell
+with_input place v s = record s { inputs = slice_set s.inputs place v }

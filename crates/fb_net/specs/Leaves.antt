@@ -1,5 +1,5 @@
 -- How a leaf reacts among the blocks of its resource (IEC 61499-1, 5.2.2; event blocks are this project's profile).
-use Rattle.std.specs.Prelude.{◌≡◌, ℕ, List, [], map, Option, Some, None, Result, Ok, Err, OnOk, All, slice_get, slice_set}
+use Rattle.std.specs.Prelude.{◌≡◌, ℕ, List, [], map, Option, Some, None, Result, Ok, Err, OnOk, All}
 use Rattle.fb_types.specs.Blocks.{inputs_with, ports_of_event_block}
 use Rattle.fb_types.specs.Charts.{Place, ChartReacts}
 use Rattle.fb_types.specs.EventBlocks.{Reaction, reaction, expiry, output_of}
@@ -20,27 +20,18 @@ use Rattle.fb_types.specs.declared.value.Value.{Value}
 use Rattle.fb_st.specs.Frames.{values_of}
 use Rattle.fb_ecc.specs.Places.{Ended, IsBlockOf, sampled, place as chart_at}
 use Rattle.fb_ecc.specs.declared.state.BasicState.{BasicState}
-use Rattle.fb_event.specs.Reactions.{FitTheirTypes, IsWellFormed, emissions_of, expiry_of, meanings}
+use Rattle.fb_event.specs.Reactions.{FitTheirTypes, IsWellFormed, emissions_of, meanings}
 use Rattle.fb_event.specs.State.{State}
 use Rattle.fb_net.specs.Changes.{block_in, with_instance}
+use Rattle.fb_net.specs.Trees.{block_at}
 use Rattle.fb_net.specs.Worlds.{InForest, IsForest, input_names}
-use Rattle.fb_net.specs.declared.block.BasicBlock.{BasicBlock}
 use Rattle.fb_net.specs.declared.block.Block.{Block}
 use Rattle.fb_net.specs.declared.block.Block.TheVariants as block
-use Rattle.fb_net.specs.declared.block.EventBlock.{EventBlock}
 use Rattle.fb_net.specs.declared.resource.Forest.{Forest}
 
 -- The blocks stand for a world, in which the instance lies in the resource.
 abbrev pub IsOne : Inputs → Forest → (instance : ℕ) → Type 0
 IsOne i f k = (w : World) × IsForest i f w × InForest i f k
-
--- The block at a seat has become another one. Ends says what a block, a result and what the block has become have in common.
-pub record Changed {R : Type 0} (Ends : Block → R → Block → Type 0) (old : List Block) (seat : ℕ) (r : R) (new : List Block) : Type 0 where
-  pub before : Block
-  pub after : Block
-  pub stood : slice_get old seat ≡ Some before
-  pub ends : Ends before r after
-  pub stands : new ≡ slice_set old seat after
 
 -- ---- Basic blocks
 
@@ -75,27 +66,33 @@ ChartEnded i old at t values before (Ok _) new after emits = EachWorld i old at 
 ChartEnded i old at t values before (Err (halt.Stop r)) new after emits = EachWorld i old at (ChartCame i old at t values before (Some r) new after emits)
 ChartEnded i old at t values before (Err halt.Memory) new after emits = Unit {0}
 
--- A basic block of a type has its seat there, in a state from which its chart can go on.
-pub record IsReadyAt (t : BasicType) (blocks : List Block) (seat : ℕ) : Type 0 where
-  pub basic : BasicBlock
-  pub stood : slice_get blocks seat ≡ Some (block.Basic basic)
-  pub ready : IsBlockOf t basic.state
+-- A basic block of a type stands on a way, in a state from which its chart can go on.
+pub record IsReadyAt (t : BasicType) (blocks : List Block) (way : List ℕ) : Type 0 where
+  pub basic : BasicState
+  pub stood : block_at blocks way ≡ Some (block.Basic basic)
+  pub ready : IsBlockOf t basic
 
--- A block has reacted by the chart of its type, and is otherwise what it was.
+-- A block has reacted by the chart of its type.
 pub record HasCharted (t : BasicType) (event : ℕ) (values : List Value) (before : ℕ) (emitted : List run.Emission) (after : ℕ) (emits : List run.Emission) (was : Block) (r : Result (Unit {0}) Halt) (is : Block) : Type 0 where
-  pub basic : BasicBlock
+  pub basic : BasicState
   pub state : BasicState
   pub was_basic : was ≡ block.Basic basic
-  pub is_basic : is ≡ block.Basic (record basic { state = state })
-  pub reacted : Ended r (ChartReacts t (event_at t.ports.event_inputs event)) (record (chart_at t basic.state.state basic.state.frame before emitted) { vars = sampled t event values (values_of basic.state.frame) })
+  pub is_basic : is ≡ block.Basic state
+  pub reacted : Ended r (ChartReacts t (event_at t.ports.event_inputs event)) (record (chart_at t basic.state basic.frame before emitted) { vars = sampled t event values (values_of basic.frame) })
       (chart_at t state.state state.frame after emits)
   pub ready : IsBlockOf t state
 
 -- ---- Event blocks
 
--- An event block has its seat there.
-abbrev pub IsEventAt : List Block → (seat : ℕ) → Type 0
-IsEventAt blocks seat = (x : EventBlock) × (slice_get blocks seat ≡ Some (block.Event x))
+-- An event block stands on a way.
+abbrev pub IsEventAt : List Block → (way : List ℕ) → Type 0
+IsEventAt blocks way = (s : State) × (block_at blocks way ≡ Some (block.Event s))
+
+-- .. and the samples of its data inputs are of their types
+pub record IsTypedAt (inputs : List Value) (blocks : List Block) (way : List ℕ) : Type 0 where
+  pub state : State
+  pub stood : block_at blocks way ≡ Some (block.Event state)
+  pub typed : FitTheirTypes (ports_of_event_block state.kind).inputs inputs
 
 -- An event block remembers, asks and emits what a reaction says.
 pub record HasAnswered (kind : EventKind) (x : Reaction) (s : State) (ask : TimerAsk) (emits : List run.Emission) : Type 0 where
@@ -103,15 +100,15 @@ pub record HasAnswered (kind : EventKind) (x : Reaction) (s : State) (ask : Time
   pub timer : ask ≡ x.timer
   pub sent : meanings kind emits ≡ emissions_of kind x
 
--- An event block has reacted to its timer, and is otherwise what it was.
-pub record HasExpired (tick : ℕ) (ask : TimerAsk) (emits : List run.Emission) (was : Block) (r : Result (Unit {0}) Halt) (is : Block) : Type 0 where
-  pub event : EventBlock
+-- An event block has reacted. How it turns says what the reaction is, by what it remembered.
+pub record HasTurned (turn : State → Reaction) (ask : TimerAsk) (emits : List run.Emission) (was : Block) (r : Result (Unit {0}) Halt) (is : Block) : Type 0 where
+  pub event : State
   pub state : State
   pub was_event : was ≡ block.Event event
-  pub is_event : is ≡ block.Event (record event { state = state })
-  pub answered : OnOk r (HasAnswered event.state.kind (expiry_of event.state tick) state ask emits)
-  pub kind : state.kind ≡ event.state.kind
-  pub well_formed : All (IsWellFormed event.state.kind) emits
+  pub is_event : is ≡ block.Event state
+  pub answered : OnOk r (HasAnswered event.kind (turn event) state ask emits)
+  pub kind : state.kind ≡ event.kind
+  pub well_formed : All (IsWellFormed event.kind) emits
 
 abbrev pub remembering_block : Reaction → model.Block → model.Block
 remembering_block x b = record b { memory = Remembers x.memory }

@@ -1,7 +1,9 @@
 pub mod Blocks
+pub mod Trees
 pub mod Changes
 pub mod Worlds
 pub mod Opening
+pub mod Whole
 pub mod Arrivals
 pub mod Events
 pub mod Samples

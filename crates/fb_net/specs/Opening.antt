@@ -1,21 +1,27 @@
--- The blocks of a resource before the first event (IEC 61499-1, 5.2 and 5.3; that they stand side by side, with held copies, is this project's profile).
-use Rattle.std.specs.Prelude.{◌≡◌, ◌≢◌, ◌<◌, ◌≤◌, ◌⊎◌, ℕ, Bool, true, List, [], ◌∷◌, length, Some, slice_get}
+-- The blocks of a resource before the first event (IEC 61499-1, 5.2 and 5.3; that they stand as trees, with held copies, is this project's profile).
+use Rattle.std.specs.Prelude.{◌≡◌, ◌≢◌, ◌<◌, ◌≤◌, ◌+◌, ◌⊎◌, ℕ, zero, suc, Bool, true, List, [], ◌∷◌, length, Some, slice_get}
 use Rattle.std.specs.BTreeMap.{BTreeMap, get}
 use Rattle.std.specs.Ordering.{nat_cmp}
-use Rattle.fb_types.specs.Names.{Name, with_value}
+use Rattle.fb_types.specs.Names.{Name, Path, with_value}
 use Rattle.fb_types.specs.Values.{Values}
+use Rattle.fb_types.specs.Flat.{network_at}
 use Rattle.fb_types.specs.Headline.{Inputs, system_of}
 use Rattle.fb_types.specs.Numbers.{path_at}
 use Rattle.fb_types.specs.Simulation.{opening_block}
 use Rattle.fb_types.specs.declared.library.BasicType.{BasicType}
 use Rattle.fb_types.specs.declared.library.BlockType.TheVariants as block
+use Rattle.fb_types.specs.declared.library.Instance.{Instance}
+use Rattle.fb_types.specs.declared.library.Network.{Network}
 use Rattle.fb_types.specs.declared.value.Value.{Value}
 use Rattle.fb_st.specs.Frames.{Declared, is_declared}
 use Rattle.fb_ecc.specs.Numbered.{chart_of}
 use Rattle.fb_ecc.specs.declared.chart.Chart.{Chart}
 use Rattle.fb_types.specs.declared.run.Place.{Place}
+use Rattle.fb_system.specs.Layouts.{AreNumbers}
 use Rattle.fb_system.specs.Ports.{IsVariable, variable_of}
-use Rattle.fb_net.specs.Worlds.{AreApart, StandsAt, key_cmp, key_of}
+use Rattle.fb_net.specs.Blocks.{components_of, own_of}
+use Rattle.fb_net.specs.Worlds.{AreApart, SeatedAt, StandsFor, key_cmp, key_of, seat_in}
+use Rattle.fb_net.specs.declared.block.Block.{Block}
 use Rattle.fb_net.specs.declared.resource.Forest.{Forest}
 
 -- ---- Values
@@ -43,14 +49,58 @@ AreCharts i charts = (place : ℕ) (t : BasicType) (c : Chart) → slice_get i.l
 abbrev pub ChartsGrow : Charts → (place : ℕ) → BasicType → Charts → Type 0
 ChartsGrow old place t new = (q : ℕ) (c : Chart) → get nat_cmp new q ≡ Some c → (get nat_cmp old q ≡ Some c) ⊎ ((place ≡ q) × (c ≡ chart_of t))
 
+-- ---- Trees
+
+-- What is known of an instance whose block is made: how deep it stands, and how many names deeper one may go, make 18.
+pub record IsDeep (i : Inputs) (depth : ℕ) (k : ℕ) : Type 0 where
+  pub number : k < length (system_of i).paths
+  pub deep : length (path_at (system_of i) k) + depth ≡ 18
+
+abbrev pub AreDeep : Inputs → (depth : ℕ) → List ℕ → Type 0
+AreDeep i depth numbers = (place k : ℕ) → slice_get numbers place ≡ Some k → IsDeep i depth k
+
+-- The block stands for an instance before the first event, and its components do so, at most so many names deep.
+abbrev pub Grown : Inputs → (depth : ℕ) → Path → Block → Type 0
+Grown i zero p b = ⊥
+Grown i (suc d) p b =
+    StandsFor (system_of i) p (own_of b) (opening_block (system_of i) p)
+    × ((net : Network) → network_at i.library p ≡ Some net → (place : ℕ) (x : Instance) → slice_get net.instances place ≡ Some x →
+    (c : Block) × (slice_get (components_of b) place ≡ Some c) × Grown i d (x.name ∷ p) c)
+
+-- A block for each instance, at its place.
+pub record AreGrown (i : Inputs) (depth : ℕ) (numbers : List ℕ) (blocks : List Block) : Type 0 where
+  pub each : length blocks ≡ length numbers
+  pub grown : (place k : ℕ) → slice_get numbers place ≡ Some k → (b : Block) × (slice_get blocks place ≡ Some b) × Grown i depth (path_at (system_of i) k) b
+
+-- ---- Roots
+
+-- Those of some instances of the application that lie in a resource, in their order, and for each the place that it has among them.
+pub record AreRoots (i : Inputs) (r : ℕ) (top roots numbers : List ℕ) : Type 0 where
+  pub each : length roots ≡ length top
+  pub there : (place k : ℕ) → slice_get top place ≡ Some k → (system_of i).resource (path_at (system_of i) k) ≡ r → slice_get numbers (seat_in roots place) ≡ Some k
+  pub among : (place k : ℕ) → slice_get numbers place ≡ Some k → (m : ℕ) × (slice_get top m ≡ Some k)
+
+-- .. of all instances of the application
+pub record AreRooted (i : Inputs) (r : ℕ) (roots numbers : List ℕ) : Type 0 where
+  pub top : List ℕ
+  pub are : AreNumbers i.library [] i.library.application.network.instances top
+  pub roots_are : AreRoots i r top roots numbers
+
 -- ---- Seats
 
--- The blocks of the instances of a resource below a number have their seats, and stand for what they are before the first event.
+-- The shells of the instances of a resource below a number have their seats, and stand for what they are before the first event.
 pub record AreSeated (i : Inputs) (n : ℕ) (t : Forest) : Type 0 where
   pub each : length t.seats ≡ n
-  pub few : length t.blocks ≤ n
-  pub stand : (k : ℕ) → k < n → (system_of i).resource (path_at (system_of i) k) ≡ t.resource → StandsAt i t.seats t.blocks k (opening_block (system_of i) (path_at (system_of i) k))
+  pub few : length t.shells ≤ n
+  pub stand : (k : ℕ) → k < n → (system_of i).resource (path_at (system_of i) k) ≡ t.resource → SeatedAt i t.seats t.shells k (opening_block (system_of i) (path_at (system_of i) k))
   pub apart : AreApart i t.resource n t.seats
+
+-- Nothing but seats and shells has changed.
+pub record IsSeatedAlone (old new : Forest) : Type 0 where
+  pub resource : new.resource ≡ old.resource
+  pub roots : new.roots ≡ old.roots
+  pub blocks : new.blocks ≡ old.blocks
+  pub held : new.held ≡ old.held
 
 -- ---- Held copies
 

@@ -1,5 +1,5 @@
--- What the blocks of one resource stand for in the model (IEC 61499-1, 5.2 and 5.3; that a resource has blocks of its own instances, and held copies, is this project's profile).
-use Rattle.std.specs.Prelude.{◌≡◌, ◌<◌, ◌≢◌, ℕ, Bool, false, List, length, Option, Some, unwrap_or, slice_get, slice_set}
+-- What the blocks of one resource stand for in the model (IEC 61499-1, 5.2 and 5.3; that a resource has trees of its own instances, and held copies, is this project's profile).
+use Rattle.std.specs.Prelude.{◌≡◌, ◌<◌, ◌≢◌, ℕ, Bool, false, List, [], ◌∷◌, length, Option, Some, unwrap_or, slice_get, slice_set}
 use Rattle.std.specs.BTreeMap.{get}
 use Rattle.std.specs.Ordering.{nat_cmp, bool_cmp, ordering_then}
 use Rattle.std.specs.declared.cmp.Ordering.{Ordering}
@@ -19,11 +19,14 @@ use Rattle.fb_st.specs.Frames.{values_of}
 use Rattle.fb_ecc.specs.Places.{IsBlockOf, state_at}
 use Rattle.fb_ecc.specs.Sound.{IsSound}
 use Rattle.fb_ecc.specs.declared.state.BasicState.{BasicState}
+use Rattle.fb_event.specs.State.{State}
+use Rattle.fb_system.specs.Layouts.{route_to}
 use Rattle.fb_types.specs.declared.run.Place.{Place}
 use Rattle.fb_system.specs.Ports.{IsCompositeAt, IsSource, IsVariable, variable_of}
+use Rattle.fb_net.specs.Trees.{own_at}
 use Rattle.fb_net.specs.declared.block.Block.{Block}
-use Rattle.fb_net.specs.declared.block.Block.TheVariants as node
-use Rattle.fb_net.specs.declared.block.EventBlock.{EventBlock}
+use Rattle.fb_net.specs.declared.block.Block.TheOpen.{Block-F}
+use Rattle.fb_net.specs.declared.block.Block.TheViews.{out-Block}
 use Rattle.fb_net.specs.declared.resource.Forest.{Forest}
 use Rattle.fb_net.specs.declared.shell.Shell.{Shell}
 
@@ -49,67 +52,86 @@ pub record ValuesStand (sys : System) (p : Path) (names : List Name) (values : L
   pub at_place : (place : ℕ) (n : Name) (v : Value) → slice_get names place ≡ Some n → slice_get values place ≡ Some v → all n ≡ v
   pub others : (n : Name) → among names n ≡ false → all n ≡ begins sys p n
 
--- ---- One block
+-- ---- One instance
 
+-- What connections and stimuli have set of an instance. A basic block has its data inputs among its variables.
 pub record ShellStands (sys : System) (p : Path) (s : Shell) (b : model.Block) : Type 0 where
   pub slots : ValuesStand sys p (input_names sys p) s.slots b.slots
   pub published : ValuesStand sys p (output_names sys p) s.published b.published
+  pub inputs : ((t : BasicType) → sys.kind p ≢ Some (Basic t)) → ValuesStand sys p (input_names sys p) s.inputs b.variables
 
-pub record BasicStands (t : BasicType) (s : BasicState) (b : model.Block) : Type 0 where
+pub record BasicStands (t : BasicType) (s : BasicState) (m : model.Memory) (all : Values) : Type 0 where
   pub sound : IsSound t
   pub block : IsBlockOf t s
-  pub memory : b.memory ≡ model.InState (state_at t s.state)
-  pub variables : (n : Name) → b.variables n ≡ values_of s.frame n
+  pub memory : m ≡ model.InState (state_at t s.state)
+  pub variables : (n : Name) → all n ≡ values_of s.frame n
 
 -- The variables of an event block are its data inputs: the outputs that it shows follow from what it remembers.
-pub record EventStands (sys : System) (p : Path) (kind : EventKind) (e : EventBlock) (b : model.Block) : Type 0 where
-  pub is_kind : e.state.kind ≡ kind
-  pub memory : b.memory ≡ model.Remembers e.state.memory
-  pub variables : ValuesStand sys p (input_names sys p) e.inputs b.variables
+pub record EventStands (kind : EventKind) (s : State) (m : model.Memory) : Type 0 where
+  pub is_kind : s.kind ≡ kind
+  pub memory : m ≡ model.Remembers s.memory
 
--- The variables of a composite block are the copies of its data inputs.
-pub record CompositeStands (sys : System) (p : Path) (copies : List Value) (b : model.Block) : Type 0 where
-  pub memory : b.memory ≡ model.Nothing
-  pub variables : ValuesStand sys p (input_names sys p) copies b.variables
+-- What a block of that kind remembers, and the variables of a basic block. A composite remembers nothing.
+abbrev pub NodeStands : Option Kind → Block-F Block → model.Memory → Values → Type 0
+NodeStands (Some (Basic t)) (Block-F.Basic s) m all = BasicStands t s m all
+NodeStands (Some (Event k)) (Block-F.Event s) m all = EventStands k s m
+NodeStands (Some (Composite t)) (Block-F.Composite bs) m all = m ≡ model.Nothing
+NodeStands k x m all = ⊥
 
--- what a block of that kind is, with its shell
-abbrev pub NodeStands : System → Path → Option Kind → Block → model.Block → Type 0
-NodeStands sys p (Some (Basic t)) (node.Basic x) b = BasicStands t x.state b × ShellStands sys p x.shell b
-NodeStands sys p (Some (Event k)) (node.Event x) b = EventStands sys p k x b × ShellStands sys p x.shell b
-NodeStands sys p (Some (Composite t)) (node.Composite x) b = CompositeStands sys p x.inputs b × ShellStands sys p x.shell b
-NodeStands sys p k x b = ⊥
-
--- The block stands for that one at a path.
+-- The block stands for that one at a path. Its components stand for others.
 abbrev pub StandsFor : System → Path → Block → model.Block → Type 0
-StandsFor sys p x b = NodeStands sys p (sys.kind p) x b
+StandsFor sys p x b = NodeStands (sys.kind p) (out-Block x) b.memory b.variables
 
--- ---- The seats of one resource
+-- ---- The shells of one resource
 
--- the place of an instance's block among those of its resource
+-- the place of an instance's shell among those of its resource
 abbrev pub seat_in : List ℕ → (instance : ℕ) → ℕ
 seat_in seats k = unwrap_or (slice_get seats k) 0
 
--- the blocks with another one at the seat of an instance
-abbrev pub with_seated : Forest → (instance : ℕ) → Block → Forest
-with_seated t k b = record t { blocks = slice_set t.blocks (seat_in t.seats k) b }
+-- the shells with another one at the seat of an instance
+abbrev pub with_seated : Forest → (instance : ℕ) → Shell → Forest
+with_seated t k s = record t { shells = slice_set t.shells (seat_in t.seats k) s }
 
--- The block at the seat of an instance stands for it.
-pub record StandsAt (i : Inputs) (seats : List ℕ) (blocks : List Block) (k : ℕ) (b : model.Block) : Type 0 where
-  pub block : Block
-  pub stood : slice_get blocks (seat_in seats k) ≡ Some block
-  pub stands : StandsFor (system_of i) (path_at (system_of i) k) block b
+-- The shell at the seat of an instance stands for it.
+pub record SeatedAt (i : Inputs) (seats : List ℕ) (shells : List Shell) (k : ℕ) (b : model.Block) : Type 0 where
+  pub shell : Shell
+  pub stood : slice_get shells (seat_in seats k) ≡ Some shell
+  pub stands : ShellStands (system_of i) (path_at (system_of i) k) shell b
 
--- A block was found that stands for an instance.
-pub record Found (i : Inputs) (k : ℕ) (b : model.Block) (found : Option Block) : Type 0 where
-  pub block : Block
-  pub is : found ≡ Some block
-  pub stands : StandsFor (system_of i) (path_at (system_of i) k) block b
+-- A shell was found that stands for an instance.
+pub record Found (i : Inputs) (k : ℕ) (b : model.Block) (found : Option Shell) : Type 0 where
+  pub shell : Shell
+  pub is : found ≡ Some shell
+  pub stands : ShellStands (system_of i) (path_at (system_of i) k) shell b
 
 -- No two of the first instances of a resource, of which there are so many, have one seat.
 unfoldable pub AreApart : Inputs → (resource count : ℕ) → List ℕ → Type 0
 AreApart i r n seats =
     (j k : ℕ) → j < n → k < n → (system_of i).resource (path_at (system_of i) j) ≡ r → (system_of i).resource (path_at (system_of i) k) ≡ r →
     seat_in seats j ≡ seat_in seats k → j ≡ k
+
+-- ---- The trees of one resource
+
+-- a way that begins with another place
+abbrev pub rooted : List ℕ → List ℕ → List ℕ
+rooted roots [] = []
+rooted roots (place ∷ rest) = seat_in roots place ∷ rest
+
+-- The way to the block of an instance: the root at the place of its outermost name, and the places below.
+abbrev pub way_in : Inputs → (roots : List ℕ) → (instance : ℕ) → List ℕ
+way_in i roots k = rooted roots (route_to i.library (path_at (system_of i) k))
+
+-- The own part of the block on its way stands for an instance.
+pub record StandsAt (i : Inputs) (roots : List ℕ) (blocks : List Block) (k : ℕ) (b : model.Block) : Type 0 where
+  pub own : Block
+  pub stood : own_at blocks (way_in i roots k) ≡ Some own
+  pub stands : StandsFor (system_of i) (path_at (system_of i) k) own b
+
+-- No two instances of a resource have one way.
+unfoldable pub WaysDiffer : Inputs → (resource : ℕ) → List ℕ → Type 0
+WaysDiffer i r roots =
+    (j k : ℕ) → j < length (system_of i).paths → k < length (system_of i).paths → (system_of i).resource (path_at (system_of i) j) ≡ r →
+    (system_of i).resource (path_at (system_of i) k) ≡ r → way_in i roots j ≡ way_in i roots k → j ≡ k
 
 -- ---- Held copies
 
@@ -128,10 +150,13 @@ pub record IsRead (sys : System) (resource : ℕ) (x : Place) : Type 0 where
 
 -- ---- The world of one resource
 
--- Each instance of the resource has its block at a seat of its own, and each variable of another resource that one is connected to has its held copy.
+-- Each instance of the resource has its block on a way of its own and its shell at a seat of its own, and each variable of another resource that one is connected to has its held copy.
 pub record IsForest (i : Inputs) (t : Forest) (w : World) : Type 0 where
   pub blocks : (k : ℕ) → k < length (system_of i).paths → (system_of i).resource (path_at (system_of i) k) ≡ t.resource →
-      StandsAt i t.seats t.blocks k (w.blocks (path_at (system_of i) k))
+      StandsAt i t.roots t.blocks k (w.blocks (path_at (system_of i) k))
+  pub ways : WaysDiffer i t.resource t.roots
+  pub shells : (k : ℕ) → k < length (system_of i).paths → (system_of i).resource (path_at (system_of i) k) ≡ t.resource →
+      SeatedAt i t.seats t.shells k (w.blocks (path_at (system_of i) k))
   pub apart : AreApart i t.resource (length (system_of i).paths) t.seats
   pub held : (x : Place) → IsVariable (system_of i) x → IsRead (system_of i) t.resource x → (system_of i).resource (path_at (system_of i) x.instance) ≢ t.resource →
       get key_cmp t.held (key_of x) ≡ Some (w.held (variable_of (system_of i) x))

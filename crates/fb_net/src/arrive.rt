@@ -120,7 +120,7 @@ impl Taking<'_> {
         ensures only_memory { IfErr result (λ halt. halt ≡ Halt.Memory) }
     {
         self.take_samples(at)?;
-        *emits = Emits::new(emits.allocator());
+        emits.clear();
         let mut ask = TimerAsk::Keep;
         let tick = self.key.tick;
         react_event(self.forest, self.system, kind, at, tick, emits, &mut ask)?;
@@ -216,7 +216,7 @@ impl Taking<'_> {
         let alloc = *self.outbox.lines.allocator();
         let places = self.system.inputs_with(at.instance, at.event);
         let values = sampled_values(alloc, self.forest, self.system, at, places)?;
-        *emits = Emits::new(emits.allocator());
+        emits.clear();
         let end = react_basic(
             self.forest,
             self.system,

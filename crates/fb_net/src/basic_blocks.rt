@@ -1,6 +1,6 @@
 //! The reaction of a basic block among the blocks of its resource.
 
-ghost use Rattle.std.specs.Prelude.{◌≡◌, ◌<◌, ◌≤◌, [], length, All, Some, false};
+ghost use Rattle.std.specs.Prelude.{◌≡◌, ◌<◌, ◌≤◌, ◌∷◌, [], length, All, Some, false};
 ghost use Rattle.fb_types.specs.Blocks.{Basic, inputs_with};
 ghost use Rattle.fb_types.specs.Headline.{system_of};
 ghost use Rattle.fb_types.specs.Numbers.{event_at, path_at};
@@ -9,8 +9,9 @@ ghost use Rattle.fb_ecc.specs.Places.{IsWellFormed};
 ghost use Rattle.fb_ecc.specs.Sound.{IsSound};
 ghost use Rattle.fb_system.specs.Lines.{IsEmission};
 ghost use Rattle.fb_system.specs.Ports.{IsPort};
+ghost use Rattle.fb_net.specs.Trees.{Changed};
 ghost use Rattle.fb_net.specs.Worlds.{IsForest};
-ghost use Rattle.fb_net.specs.Leaves.{ChartEnded, Changed, HasCharted, IsOne, IsReadyAt};
+ghost use Rattle.fb_net.specs.Leaves.{ChartEnded, HasCharted, IsOne, IsReadyAt};
 
 use crate::block::Block;
 use crate::resource::Forest;
@@ -49,18 +50,19 @@ pub fn react_basic(
     ensures whole { (w : World) × IsForest system.now forest.new w }
 {
     system.facts();
-    let seat = forest.seat(at.instance);
+    let (first, below) = forest.way(system, at.instance);
     let blocks = &mut forest.blocks;
-    react_at(blocks, seat, block, at.event, values, meter, emits)
+    react_at(blocks, first, below, block, at.event, values, meter, emits)
 }
 
-/// The reaction of the basic block at a seat, where it stands.
+/// The reaction of the basic block on a way, where it stands: goes down by the first place, and on by those below.
 ///
 /// # Errors
 /// As of `react_basic`.
 fn react_at(
     blocks: &mut Items<Block>,
-    seat: usize,
+    first: usize,
+    below: &[u32],
     block: &BasicType,
     event: u32,
     values: &[Value],
@@ -69,16 +71,25 @@ fn react_at(
 ) -> Result<(), Halt>
     requires sound { IsSound block.now }
     requires event { event < length block.now.ports.event_inputs }
-    requires ready { IsReadyAt block.now blocks.old seat }
-    ensures reacted { Changed (HasCharted block.now event values.now meter.old.left emits.old meter.new.left emits.new) blocks.old seat result blocks.new }
+    requires ready { IsReadyAt block.now blocks.old (first ∷ below.now) }
+    ensures reacted { Changed (HasCharted block.now event values.now meter.old.left emits.old meter.new.left emits.new) blocks.old (first ∷ below.now) result blocks.new }
     ensures fewer { meter.new.left ≤ meter.old.left }
     ensures well_formed { let IsFit = IsWellFormed block.now in All IsFit emits.old → All IsFit emits.new }
 {
-    let Some(place) = blocks.get_mut(seat) else {
+    let Some(place) = blocks.get_mut(first) else {
         unreachable!()
     };
-    match place {
-        Block::Basic(basic) => react(&mut basic.state, block, event, values, meter, emits),
-        Block::Event(_) | Block::Composite(_) => unreachable!(),
+    match below {
+        [] => match place {
+            Block::Basic(state) => react(state, block, event, values, meter, emits),
+            Block::Event(_) | Block::Composite(_) => unreachable!(),
+        },
+        [next, rest @ ..] => match place.components_mut() {
+            Some(components) => {
+                let next = *next as usize;
+                react_at(components, next, rest, block, event, values, meter, emits)
+            }
+            None => unreachable!(),
+        },
     }
 }

@@ -7,12 +7,17 @@ ghost use Rattle.fb_types.specs.Takes.{world_of};
 ghost use Rattle.fb_net.specs.Worlds.{IsForest};
 
 use crate::opening_copies::held_of;
+use crate::opening_roots::roots_of;
 use crate::opening_seats::seat_all;
+use crate::opening_trees::blocks_of;
 use crate::resource::Forest;
 use fb_system::System;
 use fb_types::Items;
 use std::alloc::{AllocError, Global};
 use std::collections::BTreeMap;
+
+/// How many names deep an instance stands at most: the components of the highest composite's lowest one.
+const DEPTH: usize = 17;
 
 /// The blocks of a resource, each with what it begins with, and the held copies of the variables of other resources
 /// to which they are connected.
@@ -26,14 +31,24 @@ pub fn build(alloc: Global, system: &System, resource: u32) -> Result<Forest, Al
 {
     system.facts();
     let resource = resource as usize;
+    let roots = roots_of(alloc, system, resource)?;
+    let mut charts = BTreeMap::new(alloc);
+    let blocks = blocks_of(
+        alloc,
+        system,
+        roots.instances.as_slice(),
+        DEPTH,
+        &mut charts,
+    )?;
     let held = held_of(alloc, system, resource)?;
     let mut forest = Forest {
         resource,
+        roots: roots.places,
+        blocks,
         seats: Items::new(alloc),
-        blocks: Items::new(alloc),
+        shells: Items::new(alloc),
         held,
     };
-    let mut charts = BTreeMap::new(alloc);
-    seat_all(alloc, system, &mut charts, &mut forest)?;
+    seat_all(alloc, system, &mut forest)?;
     Ok(forest)
 }

@@ -17,9 +17,8 @@ use crate::outbox::{Out, Outbox, Sending};
 use crate::resource::Forest;
 use crate::taking::Taking;
 use fb_system::System;
-use fb_types::{Carried, Emission, Emits, Held, Items, Key, Line, Place, Target, Value, Values};
+use fb_types::{Carried, Emission, Emits, Items, Key, Line, Place, Target, Value, Values};
 use std::alloc::{AllocError, Global};
-use std::mem::replace;
 
 /// Puts out an event that goes to a target: a local event where the target lies in the same resource, as most do, else a
 /// message.
@@ -337,25 +336,9 @@ impl Taking<'_> {
         Ok(())
     }
 
-    /// Emits several output events of an instance in their order.
-    fn emit_several(&mut self, instance: u32, emissions: Vec<Emission>) -> Result<(), AllocError>
-        requires place { MayEmit self.old instance }
-        requires emissions { All (IsEmission (ports_in self.old instance)) emissions.items }
-        ensures emitted { OnOk result (EmitsWell self.old instance emissions.items self.new) }
-
-        // Also where memory runs out.
-        ensures kept { IsKept self.old self.new }
-        ensures same { IsSame self.old self.new }
-    {
-        for emission in emissions {
-            self.emit_one(instance, emission)?;
-        }
-        Ok(())
-    }
-
     /// Emits output events of an instance in their order: their variables are published, each has a line, and each goes
-    /// where its connections lead. They leave their list. The error is that memory runs out; each instance has its block
-    /// then too.
+    /// where its connections lead. They leave their list, which keeps its memory. The error is that memory runs out; each
+    /// instance has its block then too.
     #[inline(always)]
     pub fn emit_all(&mut self, instance: u32, emits: &mut Emits) -> Result<(), AllocError>
         requires place { MayEmit self.old instance }
@@ -367,11 +350,9 @@ impl Taking<'_> {
         ensures kept { IsKept self.old self.new }
         ensures same { IsSame self.old self.new }
     {
-        let room = Emits::new(emits.allocator());
-        match replace(emits, room).into_held() {
-            Held::Nothing => Ok(()),
-            Held::One(emission) => self.emit_one(instance, emission),
-            Held::Several(emissions) => self.emit_several(instance, emissions),
+        while let Some(emission) = emits.pop_first() {
+            self.emit_one(instance, emission)?;
         }
+        Ok(())
     }
 }

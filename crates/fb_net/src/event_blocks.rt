@@ -1,20 +1,22 @@
 //! The reactions of an event block among the blocks of its resource, to an event and to its timer.
 
-ghost use Rattle.std.specs.Prelude.{◌≡◌, ◌≤◌, ◌<◌, ◌^◌, [], length, All, IfErr, OnOk, Some, false};
+ghost use Rattle.std.specs.Prelude.{◌≡◌, ◌∷◌, ◌≤◌, ◌<◌, ◌^◌, [], length, All, IfErr, OnOk, Some, false};
 ghost use Rattle.fb_types.specs.Blocks.{Event, ports_of_event_block};
 ghost use Rattle.fb_types.specs.Headline.{system_of};
 ghost use Rattle.fb_types.specs.Numbers.{path_at};
 ghost use Rattle.fb_types.specs.Reactions.{World};
 ghost use Rattle.fb_system.specs.Lines.{IsEmission};
 ghost use Rattle.fb_system.specs.Ports.{IsPort};
+ghost use Rattle.fb_event.specs.Reactions.{expiry_of, reaction_to};
+ghost use Rattle.fb_net.specs.Trees.{Changed};
 ghost use Rattle.fb_net.specs.Worlds.{InForest, IsForest};
-ghost use Rattle.fb_net.specs.Leaves.{Changed, EventCame, HasExpired, HasTypedInputs, IsEventAt, IsOne, taken_reaction, expiry_reaction};
+ghost use Rattle.fb_net.specs.Leaves.{EventCame, HasTurned, HasTypedInputs, IsEventAt, IsOne, IsTypedAt, taken_reaction, expiry_reaction};
 
 use crate::block::Block;
 use crate::resource::Forest;
 use fb_event::{expire, react};
 use fb_system::System;
-use fb_types::{Emits, EventKind, Halt, Items, Target, TimerAsk};
+use fb_types::{Emits, EventKind, Halt, Items, Target, TimerAsk, Value};
 
 /// The reaction of an event block, which lies in the resource and has sampled its inputs, to one of its event inputs,
 /// in a tick that is at most 10^12. What it emits is put into `emits`, which is empty before.
@@ -47,14 +49,53 @@ pub fn react_event(
     ensures only_memory { IfErr result (λ halt. halt ≡ Halt.Memory) }
 {
     system.facts();
-    let Some(place) = forest.block_mut(at.instance) else {
+    let (first, below) = forest.way(system, at.instance);
+    let seat = forest.seat(at.instance);
+    let Some(shell) = forest.shells.get(seat) else {
         unreachable!()
     };
-    let Block::Event(event) = place else {
+    let inputs = shell.inputs.as_slice();
+    let blocks = &mut forest.blocks;
+    react_at(blocks, first, below, at.event, tick, inputs, emits, ask)
+}
+
+/// The reaction of the event block on a way to an event, where it stands: goes down by the first place, and on by those
+/// below.
+///
+/// # Errors
+/// As of `react_event`.
+fn react_at(
+    blocks: &mut Items<Block>,
+    first: usize,
+    below: &[u32],
+    event: u32,
+    tick: u64,
+    inputs: &[Value],
+    emits: &mut Emits,
+    ask: &mut TimerAsk,
+) -> Result<(), Halt>
+    requires early { tick ≤ 10 ^ 12 }
+    requires event { IsTypedAt inputs.now blocks.old (first ∷ below.now) }
+    requires fresh { emits.old ≡ [] }
+    ensures reacted { Changed (HasTurned (λ s. reaction_to s event tick inputs.now) ask.new emits.new) blocks.old (first ∷ below.now) result blocks.new }
+    ensures only_memory { IfErr result (λ halt. halt ≡ Halt.Memory) }
+{
+    let Some(place) = blocks.get_mut(first) else {
         unreachable!()
     };
-    let inputs = event.inputs.as_slice();
-    react(&mut event.state, at.event, tick, inputs, emits, ask)
+    match below {
+        [] => match place {
+            Block::Event(state) => react(state, event, tick, inputs, emits, ask),
+            Block::Basic(_) | Block::Composite(_) => unreachable!(),
+        },
+        [next, rest @ ..] => match place.components_mut() {
+            Some(components) => {
+                let next = *next as usize;
+                react_at(components, next, rest, event, tick, inputs, emits, ask)
+            }
+            None => unreachable!(),
+        },
+    }
 }
 
 /// The reaction of an event block, which lies in the resource, to its timer, in a tick that is at most 10^12. What it
@@ -86,33 +127,44 @@ pub fn expire_event(
     ensures only_memory { IfErr result (λ halt. halt ≡ Halt.Memory) }
 {
     system.facts();
-    let seat = forest.seat(instance);
+    let (first, below) = forest.way(system, instance);
     let blocks = &mut forest.blocks;
-    expire_at(blocks, seat, tick, emits, ask)
+    expire_at(blocks, first, below, tick, emits, ask)
 }
 
-/// The reaction of the event block at a seat to its timer, where it stands.
+/// The reaction of the event block on a way to its timer, where it stands: goes down by the first place, and on by those
+/// below.
 ///
 /// # Errors
 /// As of `react_event`.
 fn expire_at(
     blocks: &mut Items<Block>,
-    seat: usize,
+    first: usize,
+    below: &[u32],
     tick: u64,
     emits: &mut Emits,
     ask: &mut TimerAsk,
 ) -> Result<(), Halt>
     requires early { tick ≤ 10 ^ 12 }
-    requires event { IsEventAt blocks.old seat }
+    requires event { IsEventAt blocks.old (first ∷ below.now) }
     requires fresh { emits.old ≡ [] }
-    ensures reacted { Changed (HasExpired tick ask.new emits.new) blocks.old seat result blocks.new }
+    ensures reacted { Changed (HasTurned (λ s. expiry_of s tick) ask.new emits.new) blocks.old (first ∷ below.now) result blocks.new }
     ensures only_memory { IfErr result (λ halt. halt ≡ Halt.Memory) }
 {
-    let Some(place) = blocks.get_mut(seat) else {
+    let Some(place) = blocks.get_mut(first) else {
         unreachable!()
     };
-    match place {
-        Block::Event(event) => expire(&mut event.state, tick, emits, ask),
-        Block::Basic(_) | Block::Composite(_) => unreachable!(),
+    match below {
+        [] => match place {
+            Block::Event(state) => expire(state, tick, emits, ask),
+            Block::Basic(_) | Block::Composite(_) => unreachable!(),
+        },
+        [next, rest @ ..] => match place.components_mut() {
+            Some(components) => {
+                let next = *next as usize;
+                expire_at(components, next, rest, tick, emits, ask)
+            }
+            None => unreachable!(),
+        },
     }
 }

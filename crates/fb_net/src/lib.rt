@@ -4,9 +4,10 @@
 //! After `Tree::take`, blocks, held copies, lines, what goes out, timer, steps and the reason to stop are those of the
 //! definitions, at a leaf or at a composite, also where the resource stops (`HasTaken`).
 //!
-//! Read in this order: `block` and `shell`, what a block holds; `resource`, the seats of the blocks, what is asked and changed;
-//! `building`, how they are made before the first event, with `opening_charts`, `opening_blocks`, `opening_seats` and
-//! `opening_copies`. Then the taking: `arrival` and `tree`; `taking`, what its steps share; `take`, by what the event is;
+//! Read in this order: `block`, the recursive type, and `shell`, what connections and stimuli set of an instance; `resource`, the
+//! ways to the blocks and the seats of the shells, what is asked and changed; `laws`, what the change of one block leaves as it
+//! was; `building`, how they are made before the first event, with `opening_charts`, `opening_blocks`, `opening_trees`,
+//! `opening_roots`, `opening_shells`, `opening_seats` and `opening_copies`. Then the taking: `arrival` and `tree`; `taking`, what its steps share; `take`, by what the event is;
 //! `arrive`, by what it comes to; `samples`, what an event samples and what composites show from inside; `bring`, slots and
 //! held copies that are set; `event_blocks` and `basic_blocks`, the reactions of leaves; `outbox` and `emit`, emissions with
 //! their lines, local events and messages. What goes out has no keys.
@@ -20,10 +21,14 @@ mod bring;
 pub mod building;
 mod emit;
 mod event_blocks;
+pub mod laws;
 mod opening_blocks;
 mod opening_charts;
 mod opening_copies;
+mod opening_roots;
 mod opening_seats;
+mod opening_shells;
+mod opening_trees;
 pub mod outbox;
 pub mod resource;
 mod samples;
@@ -33,7 +38,7 @@ mod taking;
 pub mod tree;
 
 pub use arrival::Arrival;
-pub use block::{BasicBlock, Block, CompositeBlock, EventBlock};
+pub use block::Block;
 pub use building::build;
 pub use outbox::{Out, Outbox, Sending};
 pub use resource::{Forest, HeldCopies};

@@ -1,6 +1,6 @@
-//! The blocks and the held copies of one resource.
+//! The blocks, the shells and the held copies of one resource.
 
-ghost use Rattle.std.specs.Prelude.{◌≡◌, ◌<◌, length, option_map, slice_get, true, false, unwrap_or};
+ghost use Rattle.std.specs.Prelude.{◌≡◌, ◌<◌, ◌∷◌, length, option_map, slice_get, true, false, unwrap_or};
 ghost use Rattle.std.specs.BTreeMap.{get};
 ghost use Rattle.std.specs.Option.{option_copied};
 ghost use Rattle.fb_types.specs.Flat.{zero_value};
@@ -9,9 +9,10 @@ ghost use Rattle.fb_types.specs.Numbers.{path_at};
 ghost use Rattle.fb_types.specs.Reactions.{World};
 ghost use Rattle.fb_system.specs.Ports.{IsVariable, variable_of};
 ghost use Rattle.fb_net.specs.Changes.{Changes, Holds, ShowsInside, input_sampled, output_shown, slot_set};
-ghost use Rattle.fb_net.specs.Worlds.{TakesSamples, Found, InForest, IsComposite, IsForest, Reads, Samples, Sees, Shows, key_cmp, key_of, seat_in, value_in, with_seated};
+ghost use Rattle.fb_net.specs.Worlds.{TakesSamples, Found, InForest, IsComposite, IsForest, Reads, Samples, Sees, Shows, key_cmp, key_of, seat_in, value_in, way_in, with_seated};
 
 use crate::block::Block;
+use crate::shell::Shell;
 use fb_system::System;
 use fb_types::{Items, Place, Value};
 use std::alloc::Global;
@@ -25,12 +26,18 @@ pub type HeldCopies = BTreeMap<(u32, u32, bool), Value, Global>;
 pub struct Forest {
     /// The number of the resource.
     pub resource: usize,
-    /// For each instance of the system, the place of its block among those of the resource. That of an instance of
-    /// another resource means nothing.
-    pub seats: Items<u32>,
-    /// The blocks of the instances that lie in the resource, in the order of their numbers. Those inside a composite
-    /// stand beside it, so that each is found at once however deep it is.
+    /// For each instance of the application, in the order of the text, the place of its block among `blocks`. That of an
+    /// instance of another resource means nothing.
+    pub roots: Items<usize>,
+    /// The blocks of the instances of the application that lie in the resource, in the order of the text. All others stand
+    /// inside these.
     pub blocks: Items<Block>,
+    /// For each instance of the system, the place of its shell among `shells`. That of an instance of another resource
+    /// means nothing.
+    pub seats: Items<u32>,
+    /// The shells of the instances that lie in the resource, in the order of their numbers. They stand side by side, and
+    /// so each is found at once, however deep its block is.
+    pub shells: Items<Shell>,
     pub held: HeldCopies,
 }
 
@@ -39,8 +46,10 @@ impl Drop for Forest {
     fn drop(self) {
         let Forest {
             resource: _,
-            seats: _,
+            roots: _,
             blocks: _,
+            seats: _,
+            shells: _,
             held: _,
         } = self;
     }
@@ -51,10 +60,35 @@ const NOTHING: Value = Value::Whole(0);
 
 impl Forest {
     ghost use Rattle.std.specs.Borrow.{LendsIf, sem};
-    ghost use Rattle.fb_net.specs.contracts.block.Block.{the_row as block_row};
+    ghost use Rattle.fb_net.specs.contracts.shell.Shell.{the_row as shell_row};
     ghost use Rattle.fb_net.specs.contracts.resource.Forest.{the_row};
 
-    /// The place of an instance's block among those of the resource, in which the instance lies.
+    /// The place of an application's instance among the blocks of the resource, in which the instance lies.
+    #[inline(always)]
+    fn root(&self, place: u32) -> usize
+        ensures { result ≡ seat_in self.now.roots place }
+    {
+        match self.roots.get(place as usize) {
+            Some(root) => *root,
+            None => 0,
+        }
+    }
+
+    /// The way to the block of an instance that lies in the resource: a place among `blocks`, and the places below, each
+    /// among the components of the block before.
+    #[inline(always)]
+    pub fn way<'a>(&self, system: &'a System, instance: u32) -> (usize, &'a [u32])
+        requires { instance < length (system_of system.now).paths }
+        ensures { result.0 ∷ result.1.now ≡ way_in system.now self.now.roots instance }
+    {
+        system.facts();
+        match system.route(instance) {
+            [] => unreachable!(),
+            [place, below @ ..] => (self.root(*place), below),
+        }
+    }
+
+    /// The place of an instance's shell among those of the resource, in which the instance lies.
     #[inline(always)]
     pub fn seat(&self, instance: u32) -> usize
         ensures { result ≡ seat_in self.now.seats instance }
@@ -65,25 +99,25 @@ impl Forest {
         }
     }
 
-    /// The block of an instance that lies in the resource.
+    /// The shell of an instance that lies in the resource.
     #[inline(always)]
-    pub fn block(&self, system: &System, instance: u32) -> Option<&Block>
+    pub fn shell(&self, system: &System, instance: u32) -> Option<&Shell>
         requires { instance < length (system_of system.now).paths }
         ensures { (w : World) → IsForest system.now self.now w → InForest system.now self.now instance →
             Found system.now instance (w.blocks (path_at (system_of system.now) instance)) (option_copied result) }
     {
         system.facts();
-        self.blocks.get(self.seat(instance))
+        self.shells.get(self.seat(instance))
     }
 
-    /// The block of an instance that lies in the resource, to be changed.
+    /// The shell of an instance that lies in the resource, to be changed.
     #[inline(always)]
-    pub fn block_mut(&mut self, instance: u32) -> Option<&mut Block>
-        ensures* writes_back { sem 𝓛 (LendsIf the_row block_row self.entry result (with_seated self.old instance) self.old) }
-        ensures value { option_map (λ b. b.now) result ≡ slice_get self.old.blocks (seat_in self.old.seats instance) }
+    fn shell_mut(&mut self, instance: u32) -> Option<&mut Shell>
+        ensures* writes_back { sem 𝓛 (LendsIf the_row shell_row self.entry result (with_seated self.old instance) self.old) }
+        ensures value { option_map (λ s. s.now) result ≡ slice_get self.old.shells (seat_in self.old.seats instance) }
     {
         let seat = self.seat(instance);
-        self.blocks.get_mut(seat)
+        self.shells.get_mut(seat)
     }
 
     /// What a connection or a stimulus has set at a data input of an instance that lies in the resource.
@@ -93,8 +127,8 @@ impl Forest {
         requires input { input.is_output ≡ false }
         ensures { Reads system.now self.now input (λ b. b.slots) result }
     {
-        match self.block(system, input.instance) {
-            Some(block) => value_of(block.shell().slots.as_slice(), input.variable),
+        match self.shell(system, input.instance) {
+            Some(shell) => value_of(shell.slots.as_slice(), input.variable),
             None => NOTHING,
         }
     }
@@ -106,8 +140,8 @@ impl Forest {
         requires output { output.is_output ≡ true }
         ensures { Reads system.now self.now output (λ b. b.published) result }
     {
-        match self.block(system, output.instance) {
-            Some(block) => value_of(block.shell().published.as_slice(), output.variable),
+        match self.shell(system, output.instance) {
+            Some(shell) => value_of(shell.published.as_slice(), output.variable),
             None => NOTHING,
         }
     }
@@ -119,8 +153,8 @@ impl Forest {
         requires input { input.is_output ≡ false }
         ensures { IsComposite (system_of system.now) input → Reads system.now self.now input (λ b. b.variables) result }
     {
-        match self.block(system, input.instance) {
-            Some(block) => value_of(block.inputs(), input.variable),
+        match self.shell(system, input.instance) {
+            Some(shell) => value_of(shell.inputs.as_slice(), input.variable),
             None => NOTHING,
         }
     }
@@ -198,8 +232,8 @@ impl Forest {
         ensures { Changes system.now self.old input.instance (slot_set (variable_of (system_of system.now) input).name value) self.new }
     {
         system.facts();
-        if let Some(block) = self.block_mut(input.instance) {
-            block.shell_mut().slots.set(input.variable as usize, value);
+        if let Some(shell) = self.shell_mut(input.instance) {
+            shell.slots.set(input.variable as usize, value);
         }
     }
 
@@ -211,11 +245,8 @@ impl Forest {
         ensures { Changes system.now self.old output.instance (output_shown (variable_of (system_of system.now) output).name value) self.new }
     {
         system.facts();
-        if let Some(block) = self.block_mut(output.instance) {
-            block
-                .shell_mut()
-                .published
-                .set(output.variable as usize, value);
+        if let Some(shell) = self.shell_mut(output.instance) {
+            shell.published.set(output.variable as usize, value);
         }
     }
 
@@ -228,10 +259,8 @@ impl Forest {
         ensures { Changes system.now self.old input.instance (input_sampled (variable_of (system_of system.now) input).name value) self.new }
     {
         system.facts();
-        if let Some(block) = self.block_mut(input.instance) {
-            if let Some(inputs) = block.inputs_mut() {
-                inputs.set(input.variable as usize, value);
-            }
+        if let Some(shell) = self.shell_mut(input.instance) {
+            shell.inputs.set(input.variable as usize, value);
         }
     }
 

@@ -69,7 +69,7 @@ impl Taking<'_> {
         ensures same { IsSame self.old self.new }
         ensures only_memory { IfErr result (λ halt. halt ≡ Halt.Memory) }
     {
-        *emits = Emits::new(emits.allocator());
+        emits.clear();
         let mut ask = TimerAsk::Keep;
         let tick = self.key.tick;
         expire_event(

@@ -46,6 +46,10 @@ impl Model for Tree {
     ghost coded = { the_row.coded };
 
     ghost view = { λ t. t.forest };
+
+    ghost use Rattle.fb_net.specs.Whole.{IsTree};
+
+    ghost invariant = { λ t. ∥ IsTree t.forest ∥₁ };
 }
 
 impl Tree {
@@ -58,6 +62,7 @@ impl Tree {
         ensures opened { IfOk result (λ t. IsForest system.now t (world_of (opening_state (system_of system.now)) resource)) }
         ensures resource { IfOk result (λ t. t.resource ≡ resource) }
     {
+        system.facts();
         let forest = crate::building::build(alloc, system, resource)?;
         let emits = Emits::new(alloc);
         Ok(Tree { forest, emits })

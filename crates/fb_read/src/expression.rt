@@ -9,11 +9,8 @@ use crate::cursor::Cursor;
 use crate::fault::ParseFault;
 use crate::rule::{Rule, beside, ended};
 use crate::token::Mark;
-use fb_types::{BinaryOperator, Boxed, Expr, Items, Name, Reference, UnaryOperator};
+use fb_types::{BinaryOperator, Boxed, Expr, Items, MOST_NESTING, Name, Reference, UnaryOperator};
 use std::alloc::{AllocError, Global};
-
-/// How deep an expression may nest.
-const MOST_NESTING: u32 = 64;
 
 /// The level of the operators that bind loosest.
 const LOOSEST: u8 = 7;

@@ -14,11 +14,8 @@ use crate::front::LexFault;
 use crate::rule::Rule;
 use crate::token::Placed;
 use crate::tokens::lex;
-use fb_types::Library;
+use fb_types::{Library, MOST_BYTES};
 use std::alloc::Global;
-
-/// The greatest length of a text, in bytes. A byte order mark counts.
-const MOST_BYTES: usize = 1_048_576;
 
 /// The line of a place, counted from 1 by line feeds.
 fn line_of(text: &[u8], place: usize) -> u32

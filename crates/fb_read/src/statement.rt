@@ -9,10 +9,7 @@ use crate::cursor::Cursor;
 use crate::fault::ParseFault;
 use crate::rule::{Rule, added, behind, beside, ended, finished, optional, pair, separated};
 use crate::token::Mark;
-use fb_types::{Body, Branch, Choice, Expr, Items, Label, Name, Reference, Stmt};
-
-/// How deep a statement may nest.
-const MOST_NESTING: u32 = 64;
+use fb_types::{Body, Branch, Choice, Expr, Items, Label, MOST_NESTING, Name, Reference, Stmt};
 
 /// A bound of a label.
 #[tactic(auto, unfolding(crate::specs::Statements::bound))]

@@ -27,9 +27,9 @@ use Rattle.fb_system.proofs.kept.Kept.TheSendSync as kept
 use Rattle.fb_system.proofs.links.Links.TheSendSync as links
 use Rattle.fb_system.proofs.interfaces.Interfaces.TheSendSync as interfaces
 use Rattle.fb_system.proofs.rows.StimulusRow.TheSendSync as row
-use Rattle.fb_net.proofs.block.BasicBlock.TheSendSync as basic
-use Rattle.fb_net.proofs.block.CompositeBlock.TheSendSync as composite
-use Rattle.fb_net.proofs.block.EventBlock.TheSendSync as event
+use Rattle.fb_ecc.proofs.state.BasicState.TheSendSync as basic
+use Rattle.fb_event.proofs.state.EventState.TheSendSync as event
+use Rattle.fb_net.proofs.shell.Shell.TheSendSync as shell
 use Rattle.fb_resource.proofs.tick_counts.TickCounts.TheSendSync as meter
 use Rattle.fb_resource.proofs.queues.Queues.TheSendSync as queues
 use Rattle.fb_types.specs.contracts.text.Expr as Expr
@@ -51,6 +51,7 @@ use Rattle.fb_net.specs.contracts.resource.Forest as Forest
 use Rattle.fb_net.specs.contracts.tree.Tree as Tree
 use Rattle.fb_types.proofs.text.Expr.TheLaws.TheKnot as expr
 use Rattle.fb_types.proofs.text.Stmt.TheLaws.TheKnot as stmt
+use Rattle.fb_net.proofs.block.Block.TheLaws.TheKnot as block
 use Rattle.fb_resource.specs.contracts.resource.Inner as Inner
 use Rattle.fb_resource.specs.contracts.resource.Resource as Resource
 use Rattle.fb_resource.specs.contracts.resource.WindowDone as WindowDone
@@ -136,10 +137,10 @@ system_send =
     (recorded_send (I.the_field).row _ _ (I.the_type).to_one (struct_send (shape I.the_type) (Arc-send Whole.the_row whole whole_seen, tt)))
 
 pub block_send : IsSend (Block.the_field).row
-block_send = search (sendable, crosses, basic.the_field_send, event.the_field_send, composite.the_field_send) depth 40
+block_send = search (sendable, crosses, block.crosses, basic.the_field_send, event.the_send, items.the_send) depth 40
 
 pub forest_send : IsSend (Forest.the_field).row
-forest_send = search (sendable, crosses, maps.crosses, block_send, items.the_send, value.the_field_send) depth 40
+forest_send = search (sendable, crosses, maps.crosses, block_send, shell.the_field_send, items.the_send, value.the_field_send) depth 40
 
 pub tree_send : IsSend Tree.the_row
 tree_send = search (sendable, crosses, forest_send) depth 40

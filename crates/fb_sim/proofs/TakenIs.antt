@@ -15,7 +15,7 @@ use Rattle.fb_types.specs.declared.value.Reason.{Reason}
 use Rattle.fb_types.proofs.PathLaws.{same_path_is}
 use Rattle.fb_laws.proofs.Stays.{reacts_stays}
 use Rattle.fb_system.specs.Ports.{variable_of}
-use Rattle.fb_net.specs.Worlds.{IsForest, StandsAt}
+use Rattle.fb_net.specs.Worlds.{IsForest, SeatedAt, StandsAt}
 use Rattle.fb_net.specs.declared.resource.Forest.{Forest}
 use Rattle.fb_resource.specs.Posts.{arriving}
 use Rattle.fb_resource.specs.Takings.{IsHere, IsTakenHere}
@@ -33,7 +33,9 @@ other_world : (i : Inputs) (k : Key) (e : AnEvent) (w v : World) (t : Forest) �
     → t.resource ≢ k.resource → (system_of i).resource (path_of e) ≡ k.resource
     → ((p : Path) → same_path p (path_of e) ≡ false → v.blocks p ≡ w.blocks p) → v.held ≡ w.held → IsForest i t v
 other_world i k e w v t forest other home blocks held = record {
-  blocks = λ n within here. subst (λ b. StandsAt i t.seats t.blocks n b) (sym (blocks (path_at (system_of i) n) (away n here))) (forest.blocks n within here);
+  blocks = λ n within here. subst (λ b. StandsAt i t.roots t.blocks n b) (sym (blocks (path_at (system_of i) n) (away n here))) (forest.blocks n within here);
+  ways = forest.ways;
+  shells = λ n within here. subst (λ b. SeatedAt i t.seats t.shells n b) (sym (blocks (path_at (system_of i) n) (away n here))) (forest.shells n within here);
   apart = forest.apart;
   held = λ x variable read apart. forest.held x variable read apart ∙ ap (λ h. Some (h (variable_of (system_of i) x))) (sym held);
 }

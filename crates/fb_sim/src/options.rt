@@ -3,7 +3,7 @@
 ghost use Rattle.std.specs.Prelude.{◌↔◌, IsTrue};
 ghost use Rattle.fb_sim.specs.Serial.{AreWithin};
 
-use fb_types::Form;
+use fb_types::{Form, LATEST_TICK, MOST_STEPS, MOST_WORKERS};
 use std::marker::Model;
 
 /// What is read. Contracts see the bytes.
@@ -44,8 +44,8 @@ impl Options {
     pub(crate) fn are_within(&self) -> bool
         ensures { IsTrue result ↔ AreWithin self.now }
     {
-        (1..=1_000_000_000_000).contains(&self.horizon)
-            && (1..=10_000_000).contains(&self.steps)
-            && (1..=64).contains(&self.workers)
+        (1..=LATEST_TICK).contains(&self.horizon)
+            && (1..=MOST_STEPS).contains(&self.steps)
+            && (1..=MOST_WORKERS).contains(&self.workers)
     }
 }

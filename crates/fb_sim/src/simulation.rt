@@ -14,16 +14,13 @@ use crate::state::{SessionState, Stage};
 use fb_phase::Gate;
 use fb_system::System;
 use fb_trace::RunEnd;
-use fb_types::Form;
+use fb_types::{Form, LATEST_TICK};
 use fb_window::Core;
 use std::alloc::Global;
 use std::io::Write;
 use std::marker::Model;
 use std::sync::Wait;
 use std::thread::Threads;
-
-/// The greatest tick to advance to.
-const MOST_TICKS: u64 = 1_000_000_000_000;
 
 /// A run by workers that is advanced to one tick after another. Contracts see its inputs and options, the greatest
 /// tick that it was advanced to, and whether it has stopped or failed.
@@ -103,7 +100,7 @@ impl Simulation {
     ) -> Result<Outcome, RunError>
         ensures { Advances self.old self.new to (W.contents out.old) (W.contents out.new) result }
     {
-        if to > MOST_TICKS {
+        if to > LATEST_TICK {
             return Err(RunError::BadOption);
         }
         match self.state.stage() {

@@ -7,6 +7,7 @@ pub mod Spelt
 pub mod Syntax
 pub mod Values
 pub mod Held
+pub mod Emitted
 pub mod Bodies
 pub mod Blocks
 pub mod Charts

@@ -64,14 +64,6 @@ impl<T> Few<T> {
         self.alloc
     }
 
-    /// The elements, and where they stand.
-    pub fn into_held(self) -> Held<T>
-        ensures { all_held result ≡ self }
-    {
-        let Few { held, alloc: _ } = self;
-        held
-    }
-
     /// Whether there is no element.
     pub fn is_empty(&self) -> bool
         ensures { IsTrue result ↔ (self.now ≡ []) }

@@ -5,12 +5,13 @@
 //! most, and the worked examples have the traces that were worked out by hand.
 //!
 //! Read in this order: `library`, `text`, `value`, `sort`, `function` and `name`, what is read; `deploy` and
-//! `latency`; `event_kind` and `event_ports`, the event blocks; `key` and `run`, what a simulation gives; `items`, `few`,
-//! `short`, `boxed` and `reference`; `laws`. The definitions stand in `specs/`.
+//! `latency`; `event_kind` and `event_ports`, the event blocks; `limits`; `key`, `run` and `emits`, what a simulation gives; `items`,
+//! `few`, `short`, `boxed` and `reference`; `laws`. The definitions stand in `specs/`.
 #![tactic(auto)]
 
 pub mod boxed;
 pub mod deploy;
+mod emits;
 pub mod event_kind;
 pub mod event_ports;
 pub mod few;
@@ -20,6 +21,7 @@ pub mod key;
 pub mod latency;
 pub mod laws;
 pub mod library;
+pub mod limits;
 pub mod name;
 pub mod reference;
 pub mod run;
@@ -41,6 +43,10 @@ pub use library::{
     Action, Algorithm, Application, BasicType, BlockType, CompositeType, Condition, Connection,
     EventPort, Instance, Library, Network, Parameter, PortName, Ports, State, Transition, Variable,
     block_named, has_variable, instance_named,
+};
+pub use limits::{
+    LATEST_TICK, MOST_BYTES, MOST_ENTRIES, MOST_LATENCY, MOST_LINKS, MOST_NESTING, MOST_RESOURCES,
+    MOST_STEPS, MOST_STIMULI, MOST_STIMULI_BYTES, MOST_WORKERS,
 };
 pub use name::Name;
 pub use reference::Reference;

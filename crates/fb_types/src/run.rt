@@ -117,8 +117,7 @@ pub struct Emission {
     pub values: Values,
 }
 
-/// The emissions of a reaction, in order.
-pub type Emits = Few<Emission>;
+pub use crate::emits::Emits;
 
 /// What a reaction asks of the timer of its event block.
 #[derive(Clone, Copy, PartialEq, Eq)]

@@ -6,11 +6,8 @@ ghost use Rattle.fb_why.specs.Stimuli.{IsOver};
 
 use crate::place::Limit;
 use crate::verdict::{has_number, least_fault};
-use fb_types::{Library, Plan, Stimulus};
+use fb_types::{Library, MOST_STIMULI, Plan, Stimulus};
 use std::alloc::{AllocError, Global};
-
-/// The most stimuli that there may be.
-const MOST_STIMULI: usize = 100_000;
 
 /// A limit that the inputs pass, or `None` where that is not what they are refused for.
 pub fn limit_place(

@@ -12,10 +12,8 @@ ghost use Rattle.fb_why_bytes.specs.TextVerdicts.{IsNoLibrary};
 use crate::text_place::TextPlace;
 use crate::text_verdict::{TextVerdict, verdict_on};
 use fb_read::ReadError;
+use fb_types::MOST_BYTES;
 use std::alloc::{AllocError, Global};
-
-/// The greatest length of a text, in bytes.
-pub const MOST_BYTES: usize = 1_048_576;
 
 /// Whether this byte may stand outside of comments.
 fn is_plain(b: u8) -> bool

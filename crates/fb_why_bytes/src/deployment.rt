@@ -8,8 +8,8 @@ ghost use Rattle.fb_why_bytes.specs.Tables.{IsDocumentFault, IsFaultAt, IsShaped
 use crate::numbers::numbers_place;
 use crate::place::DeployPlace;
 use crate::table::shape_fault;
-use fb_inputs::deployment::MOST_BYTES;
 use std::alloc::{AllocError, Global};
+use fb_types::MOST_BYTES;
 use toml::Table;
 
 /// What is wrong with a document, if something is.

@@ -3,11 +3,12 @@
 ghost use Rattle.std.specs.Prelude.{IfOk, IfSome};
 ghost use Rattle.fb_why_bytes.specs.Faults.{TellsFault};
 
-use crate::applies::{MOST_BYTES, applies};
+use crate::applies::applies;
 use crate::scan::{Stretch, stretches};
 use crate::text_place::{TextPlace, line_feeds, place_at};
 use crate::text_verdict::{TextVerdict, verdict_on};
 use fb_read::ReadError;
+use fb_types::MOST_BYTES;
 use std::alloc::{AllocError, Global};
 
 /// Whether a text is refused for its syntax before its end. Behind one more line feed a fault at the end has a line of its

@@ -9,8 +9,9 @@ ghost use Rattle.fb_why_bytes.specs.Numbers as spec;
 
 use crate::place::{DeployKey, DeployPlace};
 use crate::table::value_at;
-use fb_inputs::{MOST_ENTRIES, MOST_LINKS, MOST_RESOURCES, is_after, is_latency};
+use fb_inputs::{is_after, is_latency};
 use std::alloc::{AllocError, Global};
+use fb_types::{MOST_ENTRIES, MOST_LINKS, MOST_RESOURCES};
 use toml::{Table, Value};
 
 /// From this tick on, so many ticks.

@@ -10,7 +10,7 @@ ghost use Rattle.fb_why_bytes.specs.RowVerdicts.{IsFine, IsRefusedFor, IsShapeFa
 use crate::place::RowFault;
 use crate::row_verdict::{RowVerdict, has_numbers, has_shape, is_taken, judge_row};
 use crate::words::words_of;
-use fb_inputs::MOST_ROWS;
+use fb_types::MOST_STIMULI;
 use std::alloc::{AllocError, Global};
 
 /// A tick and an event with which nothing is wrong.
@@ -96,7 +96,7 @@ fn number_fault(alloc: Global, tick: &[u8], values: &[u8]) -> Result<Option<RowF
 fn crowded(before: usize) -> Option<RowFault>
     ensures { MatchOption result (before < most_rows) (λ f. (f ≡ RowFault.Crowded) × (most_rows ≤ before)) }
 {
-    if before >= MOST_ROWS {
+    if before >= MOST_STIMULI {
         Some(RowFault::Crowded)
     } else {
         None

@@ -10,8 +10,8 @@ ghost use Rattle.fb_why_bytes.specs.RowVerdicts.{IsFine, IsJudged, IsRefusedFor}
 use crate::place::{RowFault, StimuliPlace};
 use crate::row::row_fault;
 use csv::{ByteRecord, ByteRecordsIntoIter, Error};
-use fb_inputs::stimuli::MOST_BYTES;
 use fb_inputs::{InputError, columns, rows_of};
+use fb_types::MOST_STIMULI_BYTES;
 use std::alloc::{AllocError, Global};
 
 /// What is wrong with a record behind the heading, before which so many others come.
@@ -65,7 +65,7 @@ fn row_place(
 pub fn stimuli_place(alloc: Global, bytes: &[u8]) -> Result<Option<StimuliPlace>, AllocError>
     ensures { IfOk result (λ o. MatchOption o (AreTaken bytes.now) (IsRefusedAt bytes.now)) }
 {
-    if bytes.len() > MOST_BYTES {
+    if bytes.len() > MOST_STIMULI_BYTES {
         return Ok(Some(StimuliPlace::Bytes));
     }
     let opened = match rows_of(alloc, bytes) {

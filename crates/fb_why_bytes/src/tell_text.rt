@@ -1,10 +1,10 @@
 //! The text that tells a place.
 
-use crate::applies::MOST_BYTES;
 use crate::expected::expected;
 use crate::text::{Text, front};
 use crate::text_place::TextPlace;
 use fb_read::ReadError;
+use fb_types::MOST_BYTES;
 use std::alloc::{AllocError, Global};
 
 /// How much of a token is told, in bytes.

@@ -13,9 +13,10 @@ ghost use Rattle.fb_window.specs.Jobs.{AreOf, MayLeave};
 ghost use Rattle.fb_window.specs.Reaching.{OfEachCore};
 ghost use Rattle.fb_window.specs.Settling.{AreLegal};
 
-use crate::cores::{Bounds, Core, MAX_RESOURCES};
+use crate::cores::{Bounds, Core};
 use crate::links::SystemLinks;
 use fb_link::earliest;
+use fb_types::MOST_RESOURCES;
 use fb_resource::Resource;
 
 impl Core {
@@ -89,13 +90,13 @@ fn arrivals(
     resources: &[Resource],
     least: u64,
     top: u64,
-) -> [u64; MAX_RESOURCES]
+) -> [u64; MOST_RESOURCES]
     requires counted { length resources.now ≡ count_of (system_of system.now) }
     requires early { top ≤ 10 ^ 12 }
     ensures long { length result ≡ 256 }
     ensures cut { (r : ℕ) → r < 256 → IsCut (LinkAllows (λ (x : Inner). x.clock) (λ (x : Inner). x.stopped) (system_of system.now) resources.now least r) top (system_of system.now).links (slice_index result r) }
 {
-    let mut all = [top; MAX_RESOURCES];
+    let mut all = [top; MOST_RESOURCES];
     for link in system.rows() {
         let floor = floor(&resources[link.from], least);
         // A link on which nothing is sent before the top lowers no bound.

@@ -3,12 +3,9 @@
 use crate::job::Job;
 use crate::links::SystemLinks;
 use fb_resource::Resource;
-use fb_types::{Line, StopMark};
+use fb_types::{Line, MOST_RESOURCES, StopMark};
 use std::alloc::AllocError;
 use std::snapshot::Snapshot;
-
-/// How many bounds there are room for: as many resources as a deployment may have.
-pub const MAX_RESOURCES: usize = 256;
 
 /// All resources of a system at home, with no message on its way.
 #[derive(Drop)]
@@ -30,7 +27,7 @@ pub struct Bounds {
     /// The tick past which no bound lies.
     pub horizon: u64,
     /// The bounds.
-    pub all: [u64; MAX_RESOURCES],
+    pub all: [u64; MOST_RESOURCES],
 }
 
 /// What stays behind while resources are away.

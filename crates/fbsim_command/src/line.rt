@@ -16,7 +16,7 @@ ghost use Rattle.clap.specs.declared.builder.command.Command.TheViews.{out-Comma
 use clap::builder::ValueParser;
 use clap::error::ErrorKind;
 use clap::{Arg, ArgAction, ArgMatches, Command, Error};
-use fb_types::Form;
+use fb_types::{Form, LATEST_TICK, MOST_STEPS, MOST_WORKERS};
 use std::alloc::{AllocError, Global};
 
 /// One call of the program: its subcommand with the file names, numbers and flags.
@@ -279,11 +279,11 @@ fn run_numbers<'a>(alloc: Global) -> Result<Command<'a>, AllocError>
     ensures globals { IfOk result (λ c. (fields_of c).has_globals ≡ false) }
 {
     let command = files(alloc, "run", RUN_ABOUT, RUN_EXAMPLE);
-    let horizon = limited(alloc, "horizon", up_to(1_000_000_000_000), HORIZON_HELP).required(true);
+    let horizon = limited(alloc, "horizon", up_to(LATEST_TICK), HORIZON_HELP).required(true);
     let command = with_arg(command, horizon);
-    let steps = limited(alloc, "steps", up_to(10_000_000), STEPS_HELP).default_value("10000");
+    let steps = limited(alloc, "steps", up_to(MOST_STEPS), STEPS_HELP).default_value("10000");
     let command = with_arg(command, steps);
-    let workers = limited(alloc, "workers", up_to(64), WORKERS_HELP).default_value("1");
+    let workers = limited(alloc, "workers", up_to(MOST_WORKERS), WORKERS_HELP).default_value("1");
     with_arg(command, workers)
 }
 

@@ -1,90 +1,55 @@
-//! The blocks of a resource, each at the seat of its instance.
+//! The blocks of a resource as trees, and its shells, each at the seat of its instance.
 
 use fb_event::EventState;
-use fb_net::{Block, CompositeBlock, EventBlock, Forest, Shell};
-use fb_types::{EventKind, Items, Value};
+use fb_net::{Block, Forest};
+use fb_types::{EventKind, Items};
 use std::alloc::Global;
 use std::collections::BTreeMap;
 use std::mem::forget;
 use std::process::Abort;
 
-const NO: Value = Value::Bool(false);
-
-const SEVEN: Value = Value::Whole(7);
-
-fn shell(rt: &impl Abort, alloc: Global) -> Shell {
-    Shell {
-        slots: Items::from_vec(Vec::from_slice(alloc, &[NO]).expect(rt, "memory")),
-        published: Items::from_vec(Vec::from_slice(alloc, &[NO, NO]).expect(rt, "memory")),
-    }
+fn leaf() -> Block {
+    Block::Event(EventState::new(EventKind::Split))
 }
 
-fn leaf(rt: &impl Abort, alloc: Global) -> Block {
-    Block::Event(EventBlock {
-        state: EventState::new(EventKind::Split),
-        inputs: Items::from_vec(Vec::from_slice(alloc, &[NO]).expect(rt, "memory")),
-        shell: shell(rt, alloc),
-    })
-}
-
+/// A composite with two leaves.
 fn composite(rt: &impl Abort, alloc: Global) -> Block {
-    Block::Composite(CompositeBlock {
-        inputs: Items::from_vec(Vec::from_slice(alloc, &[NO]).expect(rt, "memory")),
-        shell: shell(rt, alloc),
-    })
+    let mut inside = Vec::new(alloc);
+    inside.push(leaf()).expect(rt, "memory");
+    inside.push(leaf()).expect(rt, "memory");
+    Block::Composite(Items::from_vec(inside))
 }
 
-/// A resource of three of five instances: a composite, 1, its component, 2, and another leaf, 4.
-fn resource(rt: &impl Abort, alloc: Global) -> Forest {
-    let mut blocks = Vec::new(alloc);
-    blocks.push(composite(rt, alloc)).expect(rt, "memory");
-    blocks.push(leaf(rt, alloc)).expect(rt, "memory");
-    blocks.push(leaf(rt, alloc)).expect(rt, "memory");
-    Forest {
+/// How many blocks stand inside a block, if any may.
+fn count(block: &mut Block) -> Option<usize> {
+    match block.components_mut() {
+        Some(components) => Some(components.len()),
+        None => None,
+    }
+}
+
+#[test]
+fn only_a_composite_has_components(rt: HostRuntime) {
+    let mut outer = composite(&rt, rt.alloc());
+    assert!(rt; count(&mut outer) == Some(2));
+    let mut single = leaf();
+    assert!(rt; count(&mut single).is_none());
+    forget(outer);
+    forget(single);
+}
+
+#[test]
+fn an_instance_without_a_seat_has_the_first(rt: HostRuntime) {
+    let alloc = rt.alloc();
+    let forest = Forest {
         resource: 0,
-        seats: Items::from_vec(Vec::from_slice(alloc, &[0, 0, 1, 2, 2]).expect(rt, "memory")),
-        blocks: Items::from_vec(blocks),
+        roots: Items::new(alloc),
+        blocks: Items::new(alloc),
+        seats: Items::from_vec(Vec::from_slice(alloc, &[0, 0, 1, 2, 2]).expect(&rt, "memory")),
+        shells: Items::new(alloc),
         held: BTreeMap::new(alloc),
-    }
-}
-
-/// Gives the data input of an event block a value.
-fn sample(forest: &mut Forest, instance: u32, value: Value) {
-    if let Some(Block::Event(event)) = forest.block_mut(instance) {
-        event.inputs.set(0, value);
-    }
-}
-
-/// The data input of the block at a seat.
-fn input_at(forest: &Forest, seat: usize) -> Option<Value> {
-    forest.blocks.get(seat)?.inputs().first().copied()
-}
-
-#[test]
-fn a_component_changes_alone(rt: HostRuntime) {
-    let mut forest = resource(&rt, rt.alloc());
-    sample(&mut forest, 2, SEVEN);
-    assert!(rt; input_at(&forest, 0) == Some(NO));
-    assert!(rt; input_at(&forest, 1) == Some(SEVEN));
-    assert!(rt; input_at(&forest, 2) == Some(NO));
-    forget(forest);
-}
-
-#[test]
-fn a_composite_is_no_event_block(rt: HostRuntime) {
-    let mut forest = resource(&rt, rt.alloc());
-    sample(&mut forest, 1, SEVEN);
-    for seat in 0..3 {
-        assert!(rt; input_at(&forest, seat) == Some(NO));
-    }
-    forget(forest);
-}
-
-#[test]
-fn no_block_is_found_at_a_seat_behind_the_last(rt: HostRuntime) {
-    let mut forest = resource(&rt, rt.alloc());
-    forest.seats.set(4, 3);
-    assert!(rt; forest.block_mut(4).is_none());
-    assert!(rt; forest.block_mut(2).is_some());
+    };
+    assert!(rt; forest.seat(2) == 1 && forest.seat(4) == 2);
+    assert!(rt; forest.seat(5) == 0);
     forget(forest);
 }

@@ -5,7 +5,7 @@ ghost use Rattle.fb_types.specs.Blocks.{ports_of_event_block};
 ghost use Rattle.fb_event.specs.Reactions.{FitTheirTypes};
 
 use fb_event::{EventState, expire, react};
-use fb_types::{Emission, Emits, EventKind, Held, TimerAsk, Value, Values};
+use fb_types::{Emission, Emits, EventKind, TimerAsk, Value, Values};
 use std::alloc::Global;
 use std::mem::forget;
 use std::process::Abort;
@@ -74,12 +74,15 @@ fn the_longest_cycle_fits(rt: HostRuntime) {
     let expired = expire(&mut state, LATEST, &mut emits, &mut ask);
     assert!(rt; expired.is_ok());
     assert!(rt; ask == LAST);
-    let Held::Several(emitted) = emits.into_held() else {
+    let Some(first) = emits.pop_first() else {
         panic!(rt; "two emissions");
     };
-    match emitted.as_slice() {
-        [before, new] => assert!(rt; before.event == 77 && new.event == 0 && new.values.is_empty()),
-        _ => panic!(rt; "two emissions"),
-    }
-    forget(emitted);
+    assert!(rt; first.event == 77 && first.values.is_empty());
+    forget(first);
+    let Some(new) = emits.pop_first() else {
+        panic!(rt; "two emissions");
+    };
+    assert!(rt; new.event == 0 && new.values.is_empty());
+    forget(new);
+    assert!(rt; emits.is_empty());
 }

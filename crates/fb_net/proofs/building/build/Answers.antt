@@ -1,14 +1,24 @@
-use Rattle.std.proofs.Common.{sym, subst}
-use Rattle.fb_net.specs.Opening.{CoversAll}
+use Rattle.std.proofs.Common.{◌≡◌, ℕ, List, sym, subst}
+use Rattle.fb_net.specs.declared.block.Block.{Block}
+use Rattle.fb_net.specs.Opening.{AreGrown, AreRooted, CoversAll}
 use Rattle.fb_net.proofs.Charts.{no_charts}
-use Rattle.fb_net.proofs.Seating.{forest_is}
+use Rattle.fb_net.proofs.Standing.{forest_is, top_deep}
 use Rattle.fb_net.proofs.building.build.Goals as goal
 
-pub seat_all-requires-clause-charts : goal.seat_all-requires-clause-charts
-seat_all-requires-clause-charts c = no_charts c.args.system.now c.new-charts.result c.new-charts.ensures.empty
+pub blocks_of-requires-clause-charts : goal.blocks_of-requires-clause-charts
+blocks_of-requires-clause-charts c = no_charts c.args.system.now c.new-charts.result c.new-charts.ensures.empty
+
+pub blocks_of-requires-clause-deep : goal.blocks_of-requires-clause-deep
+blocks_of-requires-clause-deep c = rw c.as_slice.ensures (top_deep c.args.system.now c.args.resource _ _ c.in_ok-roots.ensures)
 
 pub returns-clause-opened : goal.returns-clause-opened
 returns-clause-opened c =
-    let new = c.in_ok-seat_all.ensures in
-    forest_is c.args.system.now c.seat_all.new.forest c.args.resource new.resource new.seated
-    (subst (λ h. CoversAll c.args.system.now c.args.resource h) (sym new.held) c.in_ok-held.ensures)
+    let i = c.args.system.now in
+    let alone = c.in_ok-seat_all.ensures.alone in
+    let grown : AreGrown i 17 c.in_ok-roots.roots.instances c.in_ok-blocks.blocks =
+    subst (λ (ks : List ℕ). AreGrown i 17 ks c.in_ok-blocks.blocks) c.as_slice.ensures c.in_ok-blocks.ensures.grown in
+    forest_is i c.seat_all.new.forest c.args.resource c.in_ok-roots.roots.instances c.facts.ensures.accepted c.facts.ensures.numbered alone.resource
+    (subst (λ (ps : List ℕ). AreRooted i c.args.resource ps c.in_ok-roots.roots.instances) (sym alone.roots) c.in_ok-roots.ensures)
+    (subst (λ (bs : List Block). AreGrown i 17 c.in_ok-roots.roots.instances bs) (sym alone.blocks) grown)
+    c.in_ok-seat_all.ensures.seated
+    (subst (λ h. CoversAll i c.args.resource h) (sym alone.held) c.in_ok-held.ensures)

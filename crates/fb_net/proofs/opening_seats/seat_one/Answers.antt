@@ -10,5 +10,5 @@ returns-then-resource-forest-clause-seated c =
 pub returns-clause-seated : goal.returns-clause-seated
 returns-clause-seated c =
     on_ok_weaker c.push-2.result
-    (λ put. seated_more c.args.system.now c.args.instance c.args.forest.now _ _ c.in_ok-block.block _ c.requires.seated c.len-seat.ensures c.in_ok-push.ensures.ok put c.in_ok-block.ensures.stands)
+    (λ put. seated_more c.args.system.now c.args.instance c.args.forest.now _ _ c.in_ok-shell.shell _ c.requires.seated c.len-seat.ensures c.in_ok-push.ensures.ok put c.in_ok-shell.ensures)
     c.push-2.ensures.ok

@@ -6,8 +6,8 @@ use Rattle.fb_why_bytes.proofs.RowReadings.{first_stands}
 use Rattle.fb_why_bytes.proofs.RowFaults.{too_long}
 use Rattle.fb_why_bytes.proofs.stimuli.stimuli_place.Goals as goal
 
-pub returns-then-bytes-gt-MOST_BYTES : goal.returns-then-bytes-gt-MOST_BYTES
-returns-then-bytes-gt-MOST_BYTES c = let long : most_bytes < length c.args.bytes.now = omega arith in (too_long c.args.bytes.now long, long)
+pub returns-then-bytes-gt-MOST_STIMULI_BYTES : goal.returns-then-bytes-gt-MOST_STIMULI_BYTES
+returns-then-bytes-gt-MOST_STIMULI_BYTES c = let long : most_bytes < length c.args.bytes.now = omega arith in (too_long c.args.bytes.now long, long)
 
 pub returns-in-Err-Row : goal.returns-in-Err-Row
 returns-in-Err-Row c =

@@ -4,8 +4,8 @@ use Rattle.fb_net.proofs.resource.Forest.set_slot.Goals as goal
 
 pub returns-in-Some : goal.returns-in-Some
 returns-in-Some c =
-    rw (c.set.ensures, c.shell_mut.ensures.value)
-    (slot_changes c.args.system.now c.facts.ensures.accepted c.facts.ensures.numbered c.args.self.now c.args.input c.requires.variable c.args.value c.in-Some.block.now (sym c.in-Some.ensures.value) c.requires.input)
+    rw c.set.ensures
+    (slot_changes c.args.system.now c.facts.ensures.accepted c.facts.ensures.numbered c.args.self.now c.args.input c.requires.variable c.args.value c.in-Some.shell.now (sym c.in-Some.ensures.value) c.requires.input)
 
 pub returns-in_default : goal.returns-in_default
 returns-in_default c =

@@ -1,6 +1,8 @@
-use Rattle.std.proofs.Common.{List, subst}
+use Rattle.std.proofs.Common.{List, ◌∙◌, subst, sym}
 use Rattle.fb_types.specs.declared.value.Value.{Value}
+use Rattle.fb_types.specs.Headline.{system_of}
 use Rattle.fb_net.specs.Leaves.{ChartEnded}
+use Rattle.fb_net.specs.Outs.{AreOuts}
 use Rattle.fb_net.proofs.Charting.{chart-reacts}
 use Rattle.fb_net.proofs.Wholes.{kept-same, kept-then, kept-world}
 use Rattle.fb_net.proofs.taking.Taking.arrive_basic.Goals as goal
@@ -34,3 +36,16 @@ tell-requires-clause-counted c = c.in_ok-values.ensures.counted
 
 pub returns-clause-fewer : goal.returns-clause-fewer
 returns-clause-fewer c = c.react_basic-end.ensures.fewer
+
+pub tell-requires-clause-place : goal.tell-requires-clause-place
+tell-requires-clause-place c =
+    let place = c.requires.place in
+    let same = c.react_basic-end.ensures.resource in
+    record {
+      port = place.port;
+      here = place.here ∙ sym same;
+      ready = record {
+        resource = place.ready.resource ∙ sym same;
+        outs = subst (λ r. AreOuts (system_of c.args.self.now.system.now) r c.args.self.now.outbox.now) (sym same) place.ready.outs;
+      };
+    }

@@ -1,0 +1,9 @@
+//! Laws of the definitions that contracts cite.
+
+ghost use Rattle.fb_net.specs.Trees.{OthersStay};
+
+/// A block that becomes one with the same components changes alone: what belongs to any other block of the trees,
+/// above it, below it or beside it, stays as it was.
+pub fn others_stay()
+    ensures { OthersStay }
+{}

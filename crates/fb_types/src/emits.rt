@@ -1,0 +1,113 @@
+//! The emissions of a reaction.
+
+ghost use Rattle.std.specs.Prelude.{◌≡◌, ◌↔◌, [], ◌∷◌, ◌++◌, IsTrue, MatchOption, OnErr, OnOk};
+
+use crate::run::Emission;
+use std::alloc::{AllocError, Global};
+use std::collections::VecDeque;
+use std::marker::Model;
+
+/// The emissions of a reaction, in order. Contracts see them as a list.
+///
+/// The first one is in place, so that a reaction that emits one event takes no memory. The memory of the others is kept
+/// when they leave: one list serves reaction after reaction.
+pub struct Emits {
+    first: Option<Emission>,
+    /// Those behind the first. Without a first there is none.
+    others: VecDeque<Emission>,
+}
+
+// Drop is written by hand, so that the crates that own such a list do not prove it again.
+impl Drop for Emits {
+    fn drop(self) {
+        let Emits {
+            first: _,
+            others: _,
+        } = self;
+    }
+}
+
+impl Model for Emits {
+    ghost use Rattle.std.specs.Prelude.{List};
+    ghost use Rattle.fb_types.specs.Emitted.{AreBehind, in_order};
+    ghost use Rattle.fb_types.specs.declared.run.Emission.{Emission};
+
+    ghost Value = { List Emission };
+
+    ghost view = { λ e. in_order e.first e.others.items };
+
+    ghost invariant = { λ e. AreBehind e.first e.others.items };
+}
+
+impl Emits {
+    /// The empty list, which takes no memory.
+    pub fn new(alloc: Global) -> Emits
+        ensures { result ≡ [] }
+    {
+        Emits {
+            first: None,
+            others: VecDeque::new(alloc),
+        }
+    }
+
+    /// The allocator of the list.
+    pub fn allocator(&self) -> Global {
+        *self.others.allocator()
+    }
+
+    /// Whether there is no emission.
+    #[inline(always)]
+    pub fn is_empty(&self) -> bool
+        ensures { IsTrue result ↔ (self.now ≡ []) }
+    {
+        self.first.is_none()
+    }
+
+    /// Adds an emission at the end.
+    ///
+    /// # Errors
+    /// When memory runs out, which happens at the second emission and later ones alone.
+    #[inline(always)]
+    pub fn push(&mut self, emission: Emission) -> Result<(), AllocError>
+        ensures ok { OnOk result (self.new ≡ self.old ++ emission ∷ []) }
+        ensures err { OnErr result (self.new ≡ self.old) }
+    {
+        if self.first.is_none() {
+            self.first = Some(emission);
+            return Ok(());
+        }
+        self.others.push_back(emission)?;
+        Ok(())
+    }
+
+    /// Takes out the first emission.
+    #[inline(always)]
+    pub fn pop_first(&mut self) -> Option<Emission>
+        ensures { MatchOption result (self.old ≡ []) (λ emission. self.old ≡ emission ∷ self.new) }
+    {
+        let first = self.first.take()?;
+        if !self.others.is_empty() {
+            self.first = self.others.pop_front();
+        }
+        Some(first)
+    }
+
+    /// Drops all emissions and keeps their memory.
+    #[inline(always)]
+    pub fn clear(&mut self)
+        ensures { self.new ≡ [] }
+    {
+        // Mostly they have all been taken out.
+        if self.first.is_some() {
+            self.drop_all();
+        }
+    }
+
+    #[inline(never)]
+    fn drop_all(&mut self)
+        ensures { self.new ≡ [] }
+    {
+        self.first = None;
+        self.others.clear();
+    }
+}
