@@ -41,3 +41,5 @@ pub mod CutLaws
 pub mod PauseLaws
 pub mod DurationLaws
 pub mod FaultLaws
+pub mod ShapeLaws
+pub mod SignLaws

@@ -33,3 +33,4 @@ pub mod Whole
 pub mod Longest
 pub mod Pauses
 pub mod TimeParts
+pub mod Shapes

@@ -2,6 +2,7 @@
 
 ghost use Rattle.fb_read.specs.Longest.{TakesLongest, CutsExactly, FaultsExactly};
 ghost use Rattle.fb_read.specs.Pauses.{SkipsExactly};
+ghost use Rattle.fb_read.specs.Shapes.{NumbersExactly, SignsExactly};
 ghost use Rattle.fb_read.specs.TimeParts.{DurationsExactly};
 ghost use Rattle.fb_read.specs.Whole.{DeclaresOne};
 ghost use Rattle.fb_read.specs.ReadsExactly.{ReadsExpressions, ReadsBodies};
@@ -24,6 +25,16 @@ pub fn faults_exactly()
 /// Blanks and comments are skipped between tokens, all of them and nothing else.
 pub fn skips_exactly()
     ensures { SkipsExactly }
+{}
+
+/// The digits of a number are groups of digits of its base, with single underscores between them.
+pub fn numbers_exactly()
+    ensures { NumbersExactly }
+{}
+
+/// The sign at the front of a text is the longest of the list of signs that the text begins with.
+pub fn signs_exactly()
+    ensures { SignsExactly }
 {}
 
 /// A duration is one or more parts with units that fall, and has the sum of their ticks.

@@ -1,0 +1,5 @@
+use Rattle.fb_read.proofs.ShapeLaws.{numbers-exactly}
+use Rattle.fb_read.proofs.laws.numbers_exactly.Goals as goal
+
+pub returns : goal.returns
+returns c = numbers-exactly
