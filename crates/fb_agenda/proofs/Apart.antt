@@ -63,7 +63,7 @@ module _ (c : Contents) (marked : Bool) (apart : AreApart c marked) (k : Key) (w
         go true same = ap (λ o. or_else o w) (subst (λ (z : Key). lookup (same_key z) c.running ≡ None) (same_key_is k j same) none)
         go false same = refl
 
-    -- Where an event is put there, its key is not in the queue, and a local event is marked.
+    -- If an event is put there, its key is not in the queue, and a local event is marked.
     pub later_apart : (now_marked : Bool) → (w ≡ None) ⊎ (lookup (same_key k) c.running ≡ None) → (now_marked ≡ false → (marked ≡ false) × ((w ≡ None) ⊎ (k.class ≢ 3)))
         → AreApart (record { running = c.running; later = new; due = due }) now_marked
     later_apart now_marked gone unmarked = record { queue = apart.queue; apart = λ j there. go j there (same_key k j) refl gone; marked = λ e j local. mark j local (same_key k j) refl (unmarked e).0 (unmarked e).1 }
@@ -103,7 +103,7 @@ pub first_some : {X : Type 0} (o p : Option X) → IsSome o → IsSome (or_else 
 first_some {X} None p there = absurd (not_none {X = X} None there refl)
 first_some (Some x) p there = refl
 
--- where the queue is empty
+-- if the queue is empty
 pub least_of_later : (c : Contents) (o : Option Key) → c.running ≡ [] → IfSome o (IsFirst c.later) → IfSome o (IsLeast c)
 least_of_later c None none first = tt
 least_of_later c (Some k) none first = record {
@@ -111,7 +111,7 @@ least_of_later c (Some k) none first = record {
   none_before = λ j before. or_else_nones (lookup (same_key j) c.running) (lookup (same_key j) c.later) (ap (λ es. lookup (same_key j) es) none) (first.none_before j before);
 }
 
--- where the first of the others comes before the first in the queue
+-- if the first of the others comes before the first in the queue
 pub least_is_later : (c : Contents) (k l : Key) → IsFirst c.running l → IsFirst c.later k → Precedes k l → IsLeast c k
 least_is_later c k l local later less = record {
   waits = either_some (lookup (same_key k) c.running) (lookup (same_key k) c.later) later.there;
@@ -119,7 +119,7 @@ least_is_later c k l local later less = record {
       or_else_nones (lookup (same_key j) c.running) (lookup (same_key j) c.later) (local.none_before j (key_cmp_total.trans j k l before less)) (later.none_before j before);
 }
 
--- where no other event comes before the first in the queue
+-- if no other event comes before the first in the queue
 pub least_is_running : (c : Contents) (k : Key) → IsFirst c.running k → ((j : Key) → Precedes j k → lookup (same_key j) c.later ≡ None) → IsLeast c k
 least_is_running c k local none = record {
   waits = first_some (lookup (same_key k) c.running) (lookup (same_key k) c.later) local.there;
@@ -158,12 +158,12 @@ next_least c k least = record {
   none_below = λ j there. not_below j.tick k.tick (λ less. not_none (waiting c j) there (least.none_before j (earlier_precedes j k less)));
 }
 
--- where the queue is empty
+-- if the queue is empty
 pub next_of_later : (c : Contents) (o : Option ℕ) → c.running ≡ [] → IfSome o (IsFirstTick c.later) → IfSome o (IsNext c)
 next_of_later c None none first = tt
 next_of_later c (Some t) none first = subst (IsNext c) first.1 (next_least c first.0 (least_of_later c (Some first.0) none first.2))
 
--- where both wait
+-- if both have events
 pub next_of_both : (c : Contents) (t u : ℕ) → IsFirstTick c.running t → IsFirstTick c.later u → IsNext c (min t u)
 next_of_both c t u local later = go (is_lt (key_cmp later.0 local.0)) refl
   where
@@ -187,7 +187,7 @@ next_of_both c t u local later = go (is_lt (key_cmp later.0 local.0)) refl
 
 -- ---- Taking the first
 
--- Where these come first and begin at a tick, nothing waits below it.
+-- If these come first and begin at a tick, nothing waits below it.
 pub none_below : (these those : List (Key × Event)) → Leads these those → (t : ℕ) → BeginsAt t these → (j : Key) → j.tick < t
     → (lookup (same_key j) these ≡ None) × (lookup (same_key j) those ≡ None)
 none_below [] those leads t begins j below = (refl, ap (λ es. lookup (same_key j) es) (leads.none refl))
@@ -320,13 +320,13 @@ module _ (c : Contents) (marked : Bool) (apart : AreApart c marked) where
   popped_apart new None sets kept = subst (λ l. AreApart (record { running = c.running; later = l; due = c.due }) marked) (sym kept) apart
   popped_apart new (Some f) sets kept = later_apart c marked apart f.0 None new sets c.due marked (inl refl) (λ e. (e, inl refl))
 
--- where none is taken, nothing changes
+-- if none is taken, nothing changes
 pub none_kept : (c mid : Contents) → mid ≡ c → (new : List (Key × Event)) (o : Option (Key × Event)) → IfNone o (new ≡ mid.later)
     → IfNone o ((record { running = mid.running; later = new; due = mid.due }) ≡ c)
 none_kept c mid same new None kept = ap (λ l. record { running = mid.running; later = l; due = mid.due }) kept ∙ same
 none_kept c mid same new (Some f) kept = tt
 
--- ---- A truth value with what it says of a place
+-- ---- A truth value with what it says of a slot
 
 pub when_taken : (P : Key × Event → Type 0) (b : Bool) (l : Least) → IfSome (taken b l) P → OnTrue b (P (l.key, l.event))
 when_taken P true l p = p
@@ -338,7 +338,7 @@ when_not_taken P false l p = p
 
 -- ---- Putting
 
--- what is noted for the timers says nothing of where events are
+-- the ticks of the timers say nothing of where events are
 other_due : (c : Contents) (marked : Bool) (due : List ℕ) → AreApart c marked → AreApart (record { running = c.running; later = c.later; due = due }) marked
 other_due c marked due apart = record { queue = apart.queue; apart = apart.apart; marked = apart.marked }
 
@@ -365,7 +365,7 @@ pub on_err_any : {A E P : Type 0} (r : Result A E) → P → OnErr r P
 on_err_any (Ok x) p = tt
 on_err_any (Err x) p = p
 
--- a key of the queue gets an event that is no local one, so it goes to the others
+-- a key of the queue gets an event that is not local, so it goes to the others
 module _ (c : Contents) (marked : Bool) (apart : AreApart c marked) (k : Key) (e : Event) (running new : List (Key × Event)) (gone : Sets k None c.running running) (sets : Sets k (Some e) c.later new) (due : List ℕ) where
   pub moved_waits : (j : Key) → waiting (record { running = running; later = new; due = due }) j ≡ cond (same_key k j) (Some e) (waiting c j)
   moved_waits j =

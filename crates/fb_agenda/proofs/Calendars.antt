@@ -1,4 +1,4 @@
--- The events of a calendar: a row of few, and a tree of many.
+-- The events of a calendar: a row of few, and a map of many.
 use Rattle.std.proofs.Common.{◌≡◌, ℕ, zero, suc, ◌<◌, ◌≤◌, Bool, true, false, cond, List, [], ◌∷◌, ◌++◌, length, get_or, set, refl, sym, ap, subst, ◌∙◌, Option, Some, None, Result, Ok, Err, Bor, arith, append-nil}
 use Rattle.std.specs.Prelude.{IsSome, IfSome, IfNone, OnOk, OnErr, is_some, option_to_list}
 use Rattle.std.specs.Bool.{OnFalse, OnTrue}
@@ -60,18 +60,18 @@ leads_not_less xs ys k l first other not_less = record {
   none = λ empty. absurd (not_none (lookup (same_key l) ys) other.there (ap (λ es. lookup (same_key l) es) empty));
 }
 
--- where nothing is there, nothing comes before the others
+-- if nothing is there, nothing comes before the others
 pub leads_none : (xs ys : List (Key × Event)) → ys ≡ [] → Leads xs ys
 leads_none xs ys empty = record { none_before = λ i is j before. ap (λ es. lookup (same_key j) es) empty; none = λ none. empty }
 
--- where nothing is there at the tick of the first or below, nothing comes before it
+-- if nothing is there at the tick of the first or below, nothing comes before it
 pub leads_past : (xs ys : List (Key × Event)) (k : Key) → IsFirst xs k → ((j : Key) → j.tick ≤ k.tick → lookup (same_key j) ys ≡ None) → Leads xs ys
 leads_past xs ys k first past = record {
   none_before = λ i is j before. past j (precedes_tick j k (subst (λ (z : Key). Precedes j z) (first_one xs i k is first) before));
   none = λ empty. absurd (not_none (lookup (same_key k) xs) first.there (ap (λ es. lookup (same_key k) es) empty));
 }
 
--- a truth value that is one of the two answers
+-- a truth value that is one of the two results
 pub when_true : {P : Type 0} (b : Bool) → (b ≡ true → P) → OnTrue b P
 when_true true f = f refl
 when_true false f = tt
@@ -109,7 +109,7 @@ module _ (few many : List (Key × Event)) where
   many_first leads None first = tt
   many_first leads (Some k) first = many_is_first leads k.now first
 
-  -- where the tree is empty
+  -- if the map is empty
   pub tick_of_few : many ≡ [] → (o : Option ℕ) → IfSome o (IsFirstTick few) → IfSome o (IsFirstTick (few ++ many))
   tick_of_few empty None first = tt
   tick_of_few empty (Some t) first = subst (λ es. IsFirstTick es t) (sym (ap (λ es. few ++ es) empty ∙ append-nil few)) first
@@ -167,7 +167,7 @@ module _ (few many : List (Key × Event)) where
               absurd (not_none (lookup (same_key j) few) there here)
           go j there false same = sets j ∙ ap (λ b. cond b w (lookup (same_key j) many)) same ∙ split.apart j there
 
-    -- ---- The first of the few leaves
+    -- ---- The first of the few is removed
 
     module _ (leads : Leads few many) (rest : List (Key × Event)) where
       front : (f : Key × Event) → few ≡ f ∷ rest → IsFirst few f.0
@@ -200,7 +200,7 @@ module _ (few many : List (Key × Event)) where
       front_value (Some f) items =
           ap (λ es. lookup (same_key f.0) (es ++ many)) items ∙ ap (λ b. cond b (Some f.1) (lookup (same_key f.0) (rest ++ many))) (same_key_itself f.0)
 
-    -- ---- The first of the many leaves
+    -- ---- The first of the many is removed
 
     module _ (leads : Leads many few) where
       popped_first : (p : Key × Event) → lookup (same_key p.0) many ≡ Some p.1 → ((q : Key) → IsSome (lookup (same_key q) many) → is_gt (key_cmp p.0 q) ≡ false) → IsFirst many p.0
@@ -225,7 +225,7 @@ module _ (few many : List (Key × Event)) where
       popped_left None value updates = tt
       popped_left (Some p) value updates = many_sets p.0 None new (sets p updates) (few_none p.0 (ap is_some value))
 
-    -- ---- An event is put into the row, where the tree has none
+    -- ---- An event is put into the row, and the map has none
 
     module _ {A E : Type 0} (k : Key) (e : Event) (r : Result A E) (new : List (Key × Event)) (alone : lookup (same_key k) many ≡ None) where
       pub put_split : OnOk r (new ≡ insert_entry key_cmp few k e) → OnErr r (new ≡ few) → AreSplit new many
@@ -265,11 +265,11 @@ place_here {X} (e ∷ es) k (suc i) within there = go (same_key k e.0) (place_he
     go true rest = refl
     go false rest = rest
 
--- the key of a place is in the row, and so not in the tree
+-- the key at an index is in the row, and so not in the map
 pub alone : (few many : List (Key × Event)) → AreSplit few many → (k : Key) (i : ℕ) → IsPlaceOf few k i → lookup (same_key k) many ≡ None
 alone few many split k i place = split.apart k (place_here few k i place.within place.there)
 
--- an event is written over another
+-- an event replaces another
 pub over_is : (es : List (Key × Event)) (k : Key) (v : Event) (i : ℕ) → AreRising es → IsPlaceOf es k i → set es i (k, v) ≡ insert_entry key_cmp es k v
 over_is es k v i rising place = put_over k v es i rising place.within (λ d. subst (λ (z : Key). key_cmp z k ≡ Equal) (sym (place.there d)) (equal_itself k))
   where
@@ -281,7 +281,7 @@ over_is es k v i rising place = put_over k v es i rising place.within (λ d. sub
         go Equal h = refl
         go Greater h = absurd cc
 
--- an event is taken out
+-- an event is removed
 pub removed_sets : (es : List (Key × Event)) (k : Key) (i : ℕ) → AreRising es → i < length es → ((d : Key × Event) → (get_or es i d).0 ≡ k) → Sets k None es (remove es i)
 unfolding IsStrictlySortedBy
 removed_sets [] k i rising within there j = absurd (omega arith)
@@ -325,7 +325,7 @@ pub absent_past : (k : Key) (es : List (Key × Event)) → AllBefore k es → lo
 absent_past k [] h = refl
 absent_past k (e ∷ es) h = ap (λ o. cond (is_eq o) (Some e.1) (lookup (same_key k) es)) (follows e.0 k h.0) ∙ absent_past k es h.1
 
--- the key lies between those before its place and those after it
+-- the key is between those before its index and those after it
 pub absent_between : {X : Type 0} (k : Key) (es : List (Key × X)) (i : ℕ) → ((j : ℕ) (d : Key × X) → j < i → key_cmp (get_or es j d).0 k ≡ Less)
     → ((j : ℕ) (d : Key × X) → i ≤ j → j < length es → key_cmp (get_or es j d).0 k ≡ Greater) → lookup (same_key k) es ≡ None
 absent_between k [] i below above = refl
@@ -342,7 +342,7 @@ unfolding IsStrictlySortedBy
 absent_before k [] d rising some before = absurd (omega arith)
 absent_before k (e ∷ es) d rising some before = absent k (e ∷ es) (before, all_later k e.0 es before rising.0)
 
--- what a search answers
+-- what a search returns
 pub place_found : (es : List (Key × Event)) (k : Key) (r : Result ℕ ℕ) (n : ℕ) → n ≡ length es → IsSearchInRange r n → IsBinarySearchResult (λ e. key_cmp e.0 k) es r
     → IfSome (result_ok r) (IsPlaceOf es k)
 place_found es k (Ok i) n count within found = record { within = subst (λ m. i < m) count within; there = λ d. same_key_is (get_or es i d).0 k (ap is_eq (found d)) }
@@ -408,7 +408,7 @@ quiet_first t es first j below = first.2.none_before j (earlier_precedes j first
 pub quiet_none : (t : ℕ) (es : List (Key × Event)) → es ≡ [] → IsQuiet t es
 quiet_none t es empty j below = ap (λ l. lookup (same_key j) l) empty
 
--- ---- Where a new key lies
+-- ---- Where a new key belongs
 
 least_index : (o : Ordering) → ordering_index o ≤ ordering_index Less → o ≡ Less
 least_index Less h = refl

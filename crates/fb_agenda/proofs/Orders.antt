@@ -20,7 +20,7 @@ follows j k before = key_cmp_total.antisymm k j ∙ ap ordering_reverse before
 pub precedes : (j k : Key) → key_cmp j k ≡ Greater → Precedes k j
 precedes j k after = key_cmp_total.antisymm k j ∙ ap ordering_reverse after
 
--- what `<` answers
+-- what `<` returns
 pub less_is : (j k : Key)
     → is_some_and is_lt
     (partial_ordering_then (Some (nat_cmp j.tick k.tick))

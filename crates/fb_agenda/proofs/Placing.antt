@@ -55,7 +55,7 @@ module _ (es : List (Key × Event)) (k : Key) (v : Event) where
         go true same = subst (λ o. IsSome o) (sym (this_key j same)) some
         go false other = subst (λ o. IsSome o) (sym (other_key j other)) (has j (more_some j there other))
 
-  -- what a part of these has not, is kept where the part is
+  -- what a part of these does not have is kept, since the part keeps it
   pub keeps_part : (old new : List (Key × Event)) → KeepsOthers es old new → KeepsOthers (es ++ (k, v) ∷ []) old new
   keeps_part old new kept j none = kept j (more_none j none).0
 
@@ -64,12 +64,12 @@ pub found_there : {X : Type 0} (k : Key) (v : X) (es fs : List (Key × X)) → I
 found_there k v [] fs = either_some (found k fs) (cond (same_key k k) (Some v) None) (ap (λ b. is_some (cond b (Some v) None)) (same_key_itself k))
 found_there k v (e ∷ es) fs = first_some (found k (es ++ (k, v) ∷ fs)) (cond (same_key e.0 k) (Some e.1) None) (found_there k v es fs)
 
--- where a key is there, putting an event under it succeeds
+-- if a key is there, putting an event under it succeeds
 pub surely : {A E P : Type 0} (r : Result A E) (o : Option Event) → IsSome o → OnErr r (o ≡ None) → OnOk r P → P
 surely (Ok x) o there none p = p
 surely (Err x) o there none p = absurd (not_none o there none)
 
--- one message more has come to its place
+-- one more message is under its key
 pub filled_more : (es : List (Key × Event)) (k : Key) (v : Event) (old mid new : List (Key × Event))
     → ((j : Key) → lookup (same_key j) mid ≡ or_else (found j es) (lookup (same_key j) old)) → Sets k (Some v) mid new
     → (j : Key) → lookup (same_key j) new ≡ or_else (found j (es ++ (k, v) ∷ [])) (lookup (same_key j) old)
@@ -91,7 +91,7 @@ module _ (r : ℕ) where
       ∙ map-append (arrival_at r) (take n ms) (get_or ms n m ∷ [])
       ∙ ap (λ x. arrivals_at r (take n ms) ++ arrival_at r x ∷ []) (sym is)
 
-  -- what the first messages leave as it was, all of them leave
+  -- what the first messages leave unchanged, all of them leave unchanged
   pub keeps_all : (ms : List Message) (n : ℕ) (old new : List (Key × Event)) → KeepsOthers (arrivals_at r (take n ms)) old new → KeepsOthers (arrivals_at r ms) old new
   keeps_all ms n old new kept j none = kept j (or_else_parts _ (found j (arrivals_at r (take n ms))) (sym (parts j) ∙ none)).1
     where
@@ -127,7 +127,7 @@ module _ (r : ℕ) where
   arrival_class [] j there = absurd (not_none {X = Event} None there refl)
   arrival_class (m ∷ ms) j there = found_one (λ k. k.class ≡ 2) m ms refl (arrival_class ms) j there
 
-  -- where the keys of the messages are new, nothing is there under them
+  -- if the keys of the messages are new, nothing is under them
   pub new_none : (ms : List Message) (c : Contents) → AreNew r ms c → (j : Key) → IsSome (found j (arrivals_at r ms)) → waiting c j ≡ None
   unfolding Found
   new_none [] c new j there = absurd (not_none {X = Event} None there refl)

@@ -1,4 +1,4 @@
--- The queue of the running tick, as the local events of which it has the targets.
+-- The queue of the running tick, as local events with the targets that it has.
 use Rattle.std.proofs.Common.{◌≡◌, ℕ, zero, suc, ◌<◌, ◌≤◌, Bool, true, false, cond, List, [], ◌∷◌, ◌++◌, length, get_or, set, refl, sym, ap, subst, ◌∙◌, Option, Some, None, Result, Ok, Err, arith}
 use Rattle.std.specs.Prelude.{IsSome, IfSome, IfNone, OnSome, option_map}
 use Rattle.std.specs.BTreeMap.{insert_entry}
@@ -51,7 +51,7 @@ none_same j ts (Some i) none = tt
 no_target : Key × Target
 no_target = (local_key 0 0 0, record { instance = 0; event = 0; is_output = false })
 
--- the key at a place
+-- the key at an index
 key_at : (ts : List (Key × Target)) (i : ℕ) (k : Key) → i < length ts → ((d : Key × Target) → (get_or ts i d).0 ≡ k) → IsPlaceOf (local_events ts) k i
 key_at ts i k within there = record {
   within = let same = length-map ts event_at in omega (arith, same, within);
@@ -61,7 +61,7 @@ key_at ts i k within there = record {
 pub place_within : (ts : List (Key × Target)) (k : Key) (i : ℕ) → IsPlaceOf (local_events ts) k i → i < length ts
 place_within ts k i place = let same = length-map ts event_at in let within = place.within in omega (arith, same, within)
 
--- what a search answers
+-- what a search returns
 pub found_target : (ts : List (Key × Target)) (k : Key) (r : Result ℕ ℕ) (n : ℕ) → n ≡ length ts → IsSearchInRange r n → IsBinarySearchResult (λ t. key_cmp t.0 k) ts r
     → IfSome (result_ok r) (IsPlaceOf (local_events ts) k)
 found_target ts k (Ok i) n count within found = key_at ts i k (subst (λ m. i < m) count within) (λ d. same_key_is (get_or ts i d).0 k (ap is_eq (found d)))
@@ -124,7 +124,7 @@ module _ (ts new : List (Key × Target)) (k : Key) (t : Target) (queue : IsQueue
   pub pushed_queue : IsQueue (local_events new)
   pushed_queue = queue_more (local_events ts) (local_events new) k queue (put_rises (local_events ts) (local_events new) k (Local t) queue.rising put_is) (Local t) local may.tick pushed_sets
 
--- an event is written over
+-- an event replaces another
 set_same : (ts : List (Key × Target)) (i : ℕ) (t : Key × Target) → local_events (set ts i t) ≡ set (local_events ts) i (event_at t)
 set_same [] i t = refl
 set_same (x ∷ ts) zero t = refl
@@ -145,7 +145,7 @@ module _ (ts : List (Key × Target)) (k : Key) (i : ℕ) (t : Target) (queue : I
       queue_more (local_events ts) (local_events (set ts i (k, t))) k queue (put_rises (local_events ts) (local_events (set ts i (k, t))) k (Local t) queue.rising over_same) (Local t)
       (queue_class (local_events ts) queue k here) (λ j there. queue.tick j k there here) set_sets
 
--- an event is taken out
+-- an event is removed
 remove_same : (ts : List (Key × Target)) (i : ℕ) → local_events (remove ts i) ≡ remove (local_events ts) i
 remove_same [] zero = refl
 remove_same [] (suc i) = refl
@@ -162,7 +162,7 @@ module _ (ts new : List (Key × Target)) (k : Key) (i : ℕ) (queue : IsQueue (l
   pub gone_queue : IsQueue (local_events new)
   gone_queue = queue_less (local_events ts) (local_events new) k queue (subst (λ es. AreRising es) (sym gone_is) (removed_rises (local_events ts) i queue.rising)) gone_sets
 
--- what holds of an answer that is there
+-- what holds of a result that is there
 pub where_some : {A P : Type 0} (o : Option A) → IsSome o → OnSome o P → P
 where_some {A} None there p = absurd (not_none {X = A} None there refl)
 where_some (Some a) there p = p

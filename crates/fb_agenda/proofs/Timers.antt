@@ -27,7 +27,7 @@ pub timer_class : (r i : ℕ) (j : Key) → is_timer_of r i j ≡ true → j.cla
 timer_class r i j h =
     eqb-true j.class 1 (second_so (eqb j.resource r) (eqb j.class 1) (first_so (eqb j.resource r && eqb j.class 1) (eqb j.a i) h))
 
--- where each timer that waits is the one that is noted, to take that one out is to take them all out
+-- if each timer that waits has its tick in `due`, removing that one removes them all
 pub cleared : (c : Contents) (r i due : ℕ) → due ≡ slice_index c.due i → IsTimed c → (j : Key)
     → cond (same_key (timer_key due r i) j) None (waiting c j) ≡ cond (is_timer_of r i j) None (waiting c j)
 cleared c r i due noted timed j = go (is_timer_of r i j) refl (same_key (timer_key due r i) j) refl (waiting c j) refl
@@ -45,7 +45,7 @@ cleared c r i due noted timed j = go (is_timer_of r i j) refl (same_key (timer_k
         absurd cc
     go false is false same o e = refl
 
--- a timer that is taken out is not on the agenda, and no other comes
+-- a timer that is removed is not on the agenda, and no other comes
 pub timed_without : (old new : Contents) (r i : ℕ) → IsTimed old
     → ((j : Key) → waiting new j ≡ cond (is_timer_of r i j) None (waiting old j)) → new.due ≡ old.due → IsTimed new
 timed_without old new r i timed left same j s n e found is = go (is_timer_of r i j) refl
@@ -94,7 +94,7 @@ timed_after old mid new r i tick timed home within left put noted j s n e found 
             not_both : is_timer_of r i j ≡ true → is_timer_of r i j ≡ false → ⊥
             not_both x y = absurd cc
 
--- what an ask at a tick changes
+-- what a request at a tick changes
 pub changed_is : (s t : Bool) (x : Event) (o : Option Event) → cond s (Some x) (cond t None o) ≡ changed_to (cond s (Some (Some x)) (cond t (Some None) None)) o
 changed_is true true x o = refl
 changed_is true false x o = refl
@@ -105,7 +105,7 @@ pub on_ok_both : {A E : Type 0} {P Q R : Type 0} (r : Result A E) → (P → Q �
 on_ok_both (Ok a) f h k = f h k
 on_ok_both (Err e) f h k = tt
 
--- what lies in a resource still does after an ask, where an instance has one home
+-- a timer that is in a resource is still there after a request, if an instance has one resource
 pub lies_after : (old new : Contents) (r i : ℕ) (ask : TimerAsk) (s n : ℕ) → LiesIn s n old → (i ≡ n → r ≡ s)
     → ((j : Key) → waiting new j ≡ changed_to (timer_set r i ask j) (waiting old j)) → LiesIn s n new
 lies_after old new r i Keep s n lies home changed j q e found is = lies j q e (sym (changed j) ∙ found) is
@@ -133,7 +133,7 @@ lies_after old new r i (At t) s n lies home changed j q e found is = go (same_ke
         absurd cc
     go false same false mine = lies j q e (sym (changed_at false false same mine) ∙ found) is
 
--- ---- What sets no timer keeps each in its place
+-- ---- What sets no timer keeps each under its key
 
 -- each timer that waits has waited before
 abbrev pub NoneNew : (old new : Contents) → Type 0

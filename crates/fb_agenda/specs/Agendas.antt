@@ -12,7 +12,7 @@ use Rattle.fb_types.specs.declared.run.TimerAsk.TheVariants.{Keep, Clear, At}
 use Rattle.fb_types.specs.declared.run.Event.{Event}
 use Rattle.fb_types.specs.declared.run.Event.TheVariants.{Local, Timer}
 
--- The local events in the queue of the running tick, all other events, and for each instance the tick that is noted for its timer.
+-- The local events in the queue of the running tick, all other events, and for each instance the tick of its timer.
 pub record Contents : Type 0 where
   pub running : List (Key × Event)
   pub later : List (Key × Event)
@@ -43,7 +43,7 @@ pub record MayFollow (es : List (Key × Event)) (k : Key) : Type 0 where
   pub before : AllByRecursion (λ j. Precedes j k) (keys_of es)
   pub tick : (j : Key) → IsSome (lookup (same_key j) es) → j.tick ≡ k.tick
 
--- No key of the queue is among the others, and where none of these is marked as a local event, none is one.
+-- No key of the queue is among the others. If these are not marked as containing a local event, they contain none.
 pub record AreApart (c : Contents) (has_local : Bool) : Type 0 where
   pub queue : IsQueue c.running
   pub apart : (j : Key) → IsSome (lookup (same_key j) c.running) → lookup (same_key j) c.later ≡ None
@@ -70,7 +70,7 @@ pub record IsNext (c : Contents) (t : ℕ) : Type 0 where
 
 -- ---- Timers
 
--- A timer that waits is under the key of its instance at the tick that is noted for it.
+-- A timer that waits is under the key of its instance, at the instance's tick in `due`.
 abbrev pub IsTimed : Contents → Type 0
 IsTimed c =
     (j : Key) (r i : ℕ) (e : Event) → waiting c j ≡ Some e → is_timer_of r i j ≡ true
@@ -80,7 +80,7 @@ IsTimed c =
 abbrev pub LiesIn : (resource instance : ℕ) → Contents → Type 0
 LiesIn r i c = (j : Key) (s : ℕ) (e : Event) → waiting c j ≡ Some e → is_timer_of s i j ≡ true → s ≡ r
 
--- what an ask changes on the agenda
+-- what a request to a timer changes on the agenda
 abbrev pub timer_set : (resource instance : ℕ) → TimerAsk → Key → Option (Option Event)
 timer_set r i Keep j = None
 timer_set r i Clear j = if is_timer_of r i j then Some None else None

@@ -19,16 +19,16 @@ arrivals_at r ms = map (arrival_at r) ms
 abbrev pub AreNew : (receiver : ℕ) → List Message → Contents → Type 0
 AreNew r ms c = All (λ m. waiting c (arrival_at r m).0 ≡ None) ms
 
--- ---- Lists of events, beside the keys of others
+-- ---- Lists of events, and the keys of others
 
--- Under keys that these have not, there is what there was.
+-- Under keys that these do not have, nothing changes.
 abbrev pub KeepsOthers : (those old new : List (Key × Event)) → Type 0
 KeepsOthers es old new = (j : Key) → found j es ≡ None → lookup (same_key j) new ≡ lookup (same_key j) old
 
--- Under each key of these something stands.
+-- There is an event under each key of these.
 abbrev pub HasKeys : (those : List (Key × Event)) → List (Key × Event) → Type 0
 HasKeys es new = (j : Key) → IsSome (found j es) → IsSome (lookup (same_key j) new)
 
--- Under no key of these anything stands.
+-- There is no event under any key of these.
 abbrev pub LacksKeys : (those : List (Key × Event)) → List (Key × Event) → Type 0
 LacksKeys es new = (j : Key) → IsSome (found j es) → lookup (same_key j) new ≡ None

@@ -11,7 +11,7 @@ use Rattle.fb_types.specs.declared.run.Event.{Event}
 abbrev pub Sets : (k : Key) (w : Option Event) (old new : List (Key × Event)) → Type 0
 Sets k w old new = (j : Key) → lookup (same_key j) new ≡ (if same_key k j then w else lookup (same_key j) old)
 
--- The keys of the row rise, and no key of the row is in the tree.
+-- The keys of the row rise, and no key of the row is in the map.
 pub record AreSplit (few many : List (Key × Event)) : Type 0 where
   pub rising : AreRising few
   pub apart : (j : Key) → IsSome (lookup (same_key j) few) → lookup (same_key j) many ≡ None
@@ -21,12 +21,12 @@ pub record Leads (these those : List (Key × Event)) : Type 0 where
   pub none_before : (k : Key) → IsFirst these k → (j : Key) → Precedes j k → lookup (same_key j) those ≡ None
   pub none : these ≡ [] → those ≡ []
 
--- The key stands at this place.
+-- This is the index of the key.
 pub record IsPlaceOf (es : List (Key × Event)) (k : Key) (i : ℕ) : Type 0 where
   pub within : i < length es
   pub there : (d : Key × Event) → (slice_index_or es i d).0 ≡ k
 
--- The place is behind the keys before this one, and before those after it, and it is not among them.
+-- The index is after the keys before this one, and before those after it, and the key is not in the list.
 pub record IsBetween (es : List (Key × Event)) (k : Key) (i : ℕ) : Type 0 where
   pub within : i ≤ length es
   pub below : (j : ℕ) (d : Key × Event) → j < i → key_cmp (slice_index_or es j d).0 k ≡ Less
@@ -40,7 +40,7 @@ IsQuiet t es = (j : Key) → j.tick < t → lookup (same_key j) es ≡ None
 abbrev pub BeginsAt : ℕ → List (Key × Event) → Type 0
 BeginsAt t es = es ≢ [] → (k : Key) × (t ≤ k.tick) × IsFirst es k
 
--- The keys of the row rise, no key of the row is in the tree, and none is below this tick.
+-- The keys of the row rise, no key of the row is in the map, and none is below this tick.
 pub record AreKept (few many : List (Key × Event)) (tick : ℕ) : Type 0 where
   pub split : AreSplit few many
   pub quiet : IsQuiet tick (few ++ many)

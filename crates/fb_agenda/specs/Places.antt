@@ -4,7 +4,7 @@ use Rattle.fb_types.specs.declared.key.Key.{Key}
 use Rattle.fb_types.specs.declared.run.Event.{Event}
 use Rattle.fb_agenda.specs.declared.least.Least.{Least}
 
--- what was put into the place, if anything was
+-- what was moved into the slot, if anything was
 abbrev pub taken : Bool → Least → Option (Key × Event)
 taken true l = Some (l.key, l.event)
 taken false l = None

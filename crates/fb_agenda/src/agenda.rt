@@ -20,11 +20,12 @@ use std::alloc::{AllocError, Global};
 use std::collections::VecDeque;
 use std::marker::Model;
 
-/// The events that wait, one at most under each key, and when the timers of the instances go off.
+/// The events that wait, at most one under each key, and the ticks at which the timers of the instances go off.
 pub struct Agenda {
-    /// All events but those in `now`.
+    /// All events that are not in `now`.
     later: Later,
-    /// The queue of the running tick: local events under rising keys of one tick, none of which is in `later`.
+    /// The queue of the running tick: local events in rising order of their keys, all of one tick. `later` has none of
+    /// these keys.
     now: VecDeque<(Key, Target)>,
 }
 
@@ -47,7 +48,7 @@ impl Model for Agenda {
     ghost invariant = { λ a. AreApart (contents_of a) a.later.has_local };
 }
 
-/// Whether an event is in the queue, and none of the others comes before its first.
+/// Whether the queue has an event, and no event of `later` comes before its first.
 #[inline(always)]
 fn is_now_first(now: &VecDeque<(Key, Target)>, later: &mut Calendar) -> bool
     requires { AreRising (local_events now.now.items) }
@@ -58,14 +59,14 @@ fn is_now_first(now: &VecDeque<(Key, Target)>, later: &mut Calendar) -> bool
     let Some(first) = queue::first(now) else {
         return false;
     };
-    // Mostly no other event waits at the running tick.
+    // Usually no other event waits at the running tick.
     if later.is_past(first.tick) {
         return true;
     }
     is_now_less(now, later)
 }
 
-/// The same, by the first keys of both.
+/// The same as `is_now_first`, by comparing the first keys of both.
 #[inline(never)]
 fn is_now_less(now: &VecDeque<(Key, Target)>, later: &Calendar) -> bool
     requires { AreRising (local_events now.now.items) }
@@ -81,8 +82,8 @@ fn is_now_less(now: &VecDeque<(Key, Target)>, later: &Calendar) -> bool
     *first < *other
 }
 
-/// Takes out the first of these events, if its tick is below the horizon, and puts it into its place. Answers whether it was
-/// taken.
+/// Takes the first event of the calendar, if its tick is below the horizon, and moves it into the slot. Returns whether
+/// it did.
 #[inline(never)]
 fn pop_later(later: &mut Calendar, horizon: u64, place: &mut Least) -> bool
     ensures value { IfSome (taken result place.new) (λ r. lookup (same_key r.0) later.old ≡ Some r.1) }
@@ -96,7 +97,7 @@ fn pop_later(later: &mut Calendar, horizon: u64, place: &mut Least) -> bool
 }
 
 impl Agenda {
-    /// An agenda on which nothing waits, for so many instances.
+    /// An agenda without events, for this number of instances.
     ///
     /// # Errors
     ///
@@ -117,7 +118,7 @@ impl Agenda {
         })
     }
 
-    /// Puts an event under its key, in the place of one that waits there.
+    /// Puts an event under its key. It replaces an event that waits there.
     ///
     /// # Errors
     ///
@@ -135,8 +136,8 @@ impl Agenda {
         }
     }
 
-    /// Puts a local event under the key of its number, in the place of one that waits there. It is `put` for an event that
-    /// follows those of its tick and resource, in fewer steps.
+    /// Puts a local event under the key of its number. It replaces an event that waits there. This is `put` for an event
+    /// that follows those of its tick and resource, in fewer steps.
     ///
     /// # Errors
     ///
@@ -173,7 +174,8 @@ impl Agenda {
         !self.later.has_local && queue::follows(&self.now, key)
     }
 
-    /// Puts an event under the key of a local event, wherever it waits. What is not in the queue goes to the others.
+    /// Puts an event under the key of a local event, wherever such an event waits. If the key does not fit the queue, the
+    /// event goes to the others.
     ///
     /// # Errors
     ///
@@ -192,18 +194,18 @@ impl Agenda {
             self.now[index] = (key, target);
             return Ok(());
         }
-        // It is no local event, so it has no place in the queue.
+        // Only local events go to the queue.
         self.later.insert_local(key, event)?;
         self.now.remove(index);
         Ok(())
     }
 
-    /// Puts messages for a resource under their keys, or none of them.
+    /// Puts messages for a resource under their keys: all of them or none.
     ///
     /// # Errors
     ///
-    /// When memory runs out. The messages come back in their order, and where their keys were new the agenda is as
-    /// it was.
+    /// When memory runs out. The messages are then still in their list, in the same order. If their keys were new, the
+    /// agenda is as it was.
     pub fn receive(
         &mut self,
         receiver: u32,
@@ -222,8 +224,8 @@ impl Agenda {
         Ok(())
     }
 
-    /// Takes out the event under the least key, if its tick is below the horizon, and puts it into its place. Answers whether
-    /// it was taken.
+    /// Takes the event with the least key, if its tick is below the horizon (in milliseconds), and moves it into the
+    /// slot. Returns whether it did.
     #[inline(always)]
     pub fn take_least_into(&mut self, horizon: u64, place: &mut Least) -> bool
         ensures found { OnTrue result (waiting self.old place.new.key ≡ Some place.new.event) }
@@ -241,12 +243,12 @@ impl Agenda {
         }
     }
 
-    /// The tick of the next event, if one waits.
+    /// The tick of the next event in milliseconds, if any event waits.
     pub fn next(&self) -> Option<u64>
         ensures some { IfSome result (IsNext self.entry.now) }
         ensures none { IfNone result ((j : Key) → waiting self.entry.now j ≡ None) }
     {
-        // The least key has the lesser of the two ticks, so no keys are compared.
+        // The least key has the lesser of the two ticks, so this compares no keys.
         let Some(first) = queue::first(&self.now) else {
             return self.later.events.first_tick();
         };
@@ -256,11 +258,11 @@ impl Agenda {
         Some(first.tick.min(later))
     }
 
-    /// Does what a reaction asks of the timer of its instance, which lies in this resource.
+    /// Sets, clears or keeps the timer of an instance, as its reaction requests. The instance is in this resource.
     ///
     /// # Errors
     ///
-    /// When memory runs out. The timer may then be gone.
+    /// When memory runs out. The timer may then be cleared.
     pub fn set_timer(
         &mut self,
         resource: u32,

@@ -1,7 +1,7 @@
-//! Messages that are put among the events of an agenda.
+//! Puts messages among the events of an agenda.
 //!
-//! Only a key that is not there takes memory. So a place is held for each message first, and the messages are moved
-//! once that has succeeded: none leaves its list before.
+//! Only a new key takes memory. So an entry is reserved for each message first, and the messages move only after all
+//! reservations have succeeded. If memory runs out, no message has left its list.
 
 ghost use Rattle.std.specs.Prelude.{◌≡◌, if◌then◌else◌, IsSome, OnOk, Some};
 ghost use Rattle.std.specs.Map.{lookup};
@@ -21,11 +21,11 @@ fn key_of_arrival(receiver: u32, message: &Message) -> Key
     Key::arrival(message.arrives, receiver, message.link, message.number)
 }
 
-/// Puts some event under the key of each message.
+/// Puts a placeholder under the key of each message.
 ///
 /// # Errors
 ///
-/// When memory runs out. Then some of the keys may have got one.
+/// When memory runs out. Some of the keys may then have a placeholder.
 pub(crate) fn hold_places(
     events: &mut Calendar,
     receiver: u32,
@@ -40,7 +40,7 @@ pub(crate) fn hold_places(
     Ok(())
 }
 
-/// Takes out what stands under the keys of the messages.
+/// Removes the events under the keys of the messages.
 pub(crate) fn free_places(events: &mut Calendar, receiver: u32, messages: &[Message])
     ensures kept { KeepsOthers (arrivals_at receiver messages.now) events.old events.new }
     ensures freed { LacksKeys (arrivals_at receiver messages.now) events.new }
@@ -50,7 +50,7 @@ pub(crate) fn free_places(events: &mut Calendar, receiver: u32, messages: &[Mess
     }
 }
 
-/// Puts a message at its place, which was held for it.
+/// Puts a message under its key, which is reserved.
 fn fill_place(events: &mut Calendar, receiver: u32, message: Message)
     requires held { IsSome (lookup (same_key (arrival_at receiver message).0) events.old) }
     ensures filled { (j : keys.Key) → lookup (same_key j) events.new ≡ (if same_key (arrival_at receiver message).0 j then Some (Arrival message) else lookup (same_key j) events.old) }
@@ -59,7 +59,7 @@ fn fill_place(events: &mut Calendar, receiver: u32, message: Message)
     let _held = events.insert(key, Event::Arrival(message));
 }
 
-/// Puts the messages at their places, which were held for them.
+/// Puts the messages under their keys, which are reserved.
 pub(crate) fn fill_places(events: &mut Calendar, receiver: u32, messages: Vec<Message>)
     requires held { HasKeys (arrivals_at receiver messages.items) events.old }
     ensures filled { (j : keys.Key) → lookup (same_key j) events.new ≡ or_else (found j (arrivals_at receiver messages.items)) (lookup (same_key j) events.old) }

@@ -1,8 +1,8 @@
-//! The events that are not in the queue of the running tick, mostly stimuli, timers and messages.
+//! The events outside the queue of the running tick: stimuli, timers and messages.
 //!
-//! They come in any order of their keys, mostly in a rising one, and mostly there are few of them. In a `BTreeMap` an event
-//! is put and found in logarithmic time, at some hundreds of instructions. So a few are kept in a row in the order of their
-//! keys, and only what comes when the row is long goes into the map.
+//! Their keys come in any order, mostly rising, and there are usually few of them. A `BTreeMap` puts and finds an event
+//! in logarithmic time, at some hundreds of instructions. So a few events are kept in a sorted row, and only events that
+//! come while the row is full go to the map.
 
 ghost use Rattle.std.specs.Prelude.{◌≡◌, ◌<◌, ◌≤◌, List, [], IfSome, IfNone, IfOk, OnOk, OnErr, Some, None};
 ghost use Rattle.std.specs.Bool.{OnFalse, OnTrue};
@@ -18,15 +18,16 @@ use std::alloc::{AllocError, Global};
 use std::collections::{BTreeMap, VecDeque};
 use std::marker::Model;
 
-/// How many events a row holds before others go into a tree: to make room within it costs no more than a tree would.
+/// The number of events in the row before others go to the map. Up to here, an insertion in the row costs no more than
+/// one in the map.
 const FEW: usize = 256;
 
-/// Events under their keys, one at most under each. Contracts see them as a list.
+/// Events under their keys, at most one under each. Contracts see them as a list.
 #[derive(Drop)]
 pub(crate) struct Calendar {
-    /// The events that came when they were few, in the order of their keys.
+    /// Events in the order of their keys, up to `FEW` of them.
     few: VecDeque<(Key, Event)>,
-    /// The events that came when they were many.
+    /// The events that came while the row was full.
     many: BTreeMap<Key, Event>,
     /// No event waits below this tick.
     quiet: u64,
@@ -54,7 +55,7 @@ fn first_of(events: &BTreeMap<Key, Event>) -> Option<&Key>
     Some(key)
 }
 
-/// Whether no event of the map comes before all of the row.
+/// Whether no event of the map comes before all events of the row.
 fn is_few_first(few: &VecDeque<(Key, Event)>, many: &BTreeMap<Key, Event>) -> bool
     requires { AreRising few.now.items }
     ensures few { OnTrue result (Leads few.now.items many.now.entries) }
@@ -70,7 +71,7 @@ fn is_few_first(few: &VecDeque<(Key, Event)>, many: &BTreeMap<Key, Event>) -> bo
 }
 
 impl Calendar {
-    /// No events.
+    /// A calendar without events.
     pub(crate) fn new(alloc: Global) -> Calendar
         ensures { result ≡ [] }
     {
@@ -81,11 +82,11 @@ impl Calendar {
         }
     }
 
-    /// Puts an event under its key, in the place of one that waits there.
+    /// Puts an event under its key. It replaces an event that waits there.
     ///
     /// # Errors
     ///
-    /// When memory runs out. The events are then as they were, and the key is not among theirs.
+    /// When memory runs out. The events are then as they were, and the key is not among them.
     #[inline(always)]
     pub(crate) fn insert(&mut self, key: Key, event: Event) -> Result<(), AllocError>
         ensures put { OnOk result (Sets key (Some event) self.old self.new) }
@@ -104,7 +105,7 @@ impl Calendar {
         Ok(())
     }
 
-    /// Takes out the event under a key, if one waits there.
+    /// Removes the event under a key, if one waits there, and returns it.
     pub(crate) fn remove(&mut self, key: &Key) -> Option<Event>
         ensures { Sets key.now None self.old self.new }
     {
@@ -115,7 +116,7 @@ impl Calendar {
         Some(event)
     }
 
-    /// The event under the first key. It leaves.
+    /// Removes the event with the first key, and returns it.
     #[inline(never)]
     pub(crate) fn pop_first(&mut self) -> Option<(Key, Event)>
         ensures value { IfSome result (λ r. lookup (same_key r.0) self.old ≡ Some r.1) }
@@ -155,7 +156,7 @@ impl Calendar {
         Some(first.tick)
     }
 
-    /// Whether no event waits at this tick or below. The first is looked at only where it is not known.
+    /// Whether no event waits at this tick or below. This looks at the first key only if `quiet` is not enough.
     #[inline(always)]
     pub(crate) fn is_past(&mut self, tick: u64) -> bool
         ensures past { OnTrue result ((j : keys.Key) → j.tick ≤ tick → lookup (same_key j) self.old ≡ None) }
@@ -172,7 +173,7 @@ impl Calendar {
         tick < first
     }
 
-    /// The event under the first key, if its tick is below the horizon. It leaves.
+    /// Removes the event with the first key, if its tick is below the horizon, and returns it.
     #[inline(always)]
     pub(crate) fn pop_below(&mut self, horizon: u64) -> Option<(Key, Event)>
         ensures value { IfSome result (λ r. lookup (same_key r.0) self.old ≡ Some r.1) }
@@ -182,7 +183,7 @@ impl Calendar {
         ensures none { IfNone result (BeginsAt horizon self.old) }
         ensures kept { IfNone result (self.new ≡ self.old) }
     {
-        // Mostly all of them are in the row.
+        // Usually all of them are in the row.
         if self.many.is_empty() {
             return rising::pop_below(&mut self.few, horizon);
         }

@@ -1,4 +1,4 @@
-//! What waits besides the queue of the running tick, and what is noted of the timers.
+//! Events outside the queue of the running tick, and the ticks of timers.
 
 ghost use Rattle.std.specs.Prelude.{◌≡◌, true, Some, OnOk, OnErr};
 ghost use Rattle.fb_agenda.specs.Calendars.{Sets};
@@ -7,19 +7,20 @@ use crate::calendar::Calendar;
 use fb_types::{Event, Key};
 use std::alloc::AllocError;
 
-/// The events that wait besides the queue of the running tick.
+/// The events that wait outside the queue of the running tick.
 #[derive(Drop)]
 pub(crate) struct Later {
-    /// Stimuli, timers and messages, and the local events that did not follow those of the running tick.
+    /// Stimuli, timers and messages, and local events that did not follow those of the running tick.
     pub(crate) events: Calendar,
-    /// For each instance the tick in milliseconds at which its timer goes off, or went off last.
+    /// For each instance, the tick in milliseconds at which its timer goes off, or went off last.
     pub(crate) due: Vec<u64>,
-    /// Whether a local event may be among the events. In a run none ever is, so the queue need not look for its keys here.
+    /// Whether a local event may be among the events. In a run none ever is, so the queue does not search them for its
+    /// keys.
     pub(crate) has_local: bool,
 }
 
 impl Later {
-    /// Puts a local event under its key, in the place of one that waits there.
+    /// Puts a local event under its key. It replaces an event that waits there.
     ///
     /// # Errors
     ///

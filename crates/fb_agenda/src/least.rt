@@ -1,4 +1,4 @@
-//! The place of the event that is taken.
+//! The slot for the event that is taken.
 
 ghost use Rattle.std.specs.Prelude.{◌≡◌};
 ghost use Rattle.fb_agenda.specs.Places.{taken};
@@ -7,16 +7,18 @@ use fb_types::{Event, Key};
 
 /// An event that was taken from an agenda, with its key.
 ///
-/// An event is large, and moved whole from function to function. So a loop that takes one after another has one place for
-/// it, into which each is put.
+/// An event is large, and returning it would copy it from function to function. So a loop that takes events has one slot,
+/// and each event moves into it.
 #[derive(Drop)]
 pub struct Least {
+    /// The key under which the event waited.
     pub key: Key,
+    /// The event itself.
     pub event: Event,
 }
 
 impl Least {
-    /// A place into which nothing was put yet.
+    /// An empty slot.
     pub fn new() -> Least {
         Least {
             key: Key::stimulus(0, 0, 0),
@@ -24,7 +26,7 @@ impl Least {
         }
     }
 
-    /// Puts here what was found, and answers whether anything was.
+    /// Moves what was found into the slot, and returns whether anything was found.
     #[inline(always)]
     pub(crate) fn hold(&mut self, found: Option<(Key, Event)>) -> bool
         ensures { taken result self.new ≡ found }

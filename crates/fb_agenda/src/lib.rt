@@ -1,10 +1,10 @@
-//! The agenda of a run: the events that wait, of all classes and of any number of resources, under their keys.
+//! The agenda of a run: the events that wait, of all classes and for any number of resources, under their keys.
 //!
-//! What it guarantees to callers: the event under the least key is taken; an instance has one timer at most; messages are put
-//! there all, or, where memory runs out, none.
+//! Guarantees to callers: the event with the least key is taken; an instance has at most one timer; messages are added
+//! all or none, and none if memory runs out.
 //!
-//! Read in this order: `agenda`; `queue`, the local events of the running tick; `later` and `calendar`, all others; `rising`,
-//! rows of events under rising keys; `arrivals`, messages; `least`, where the event is put that is taken.
+//! Read in this order: `agenda`; `queue`, the local events of the running tick; `later` and `calendar`, all other events;
+//! `rising`, rows sorted by key; `arrivals`, messages; `least`, the slot for the event that is taken.
 #![tactic(auto)]
 
 pub mod agenda;

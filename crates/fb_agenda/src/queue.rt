@@ -1,7 +1,7 @@
 //! The queue of the running tick: local events in the order of their keys.
 //!
-//! The taking of an event raises local events of the same tick and resource, under numbers that follow those before. So one
-//! is appended, and the next one found, in constant time.
+//! An event raises local events of the same tick and resource, with numbers that follow the last one. So appending one,
+//! and finding the next one, takes constant time.
 
 ghost use Rattle.std.specs.Prelude.{◌≡◌, ◌<◌, ◌++◌, [], None, option_to_list, IfSome, IfNone};
 ghost use Rattle.std.specs.Bool.{OnFalse, OnTrue};
@@ -41,7 +41,7 @@ pub(crate) fn first(queue: &VecDeque<(Key, Target)>) -> Option<&Key>
     Some(key)
 }
 
-/// The index of a key, if it is there.
+/// The index of a key, if the queue has it.
 pub(crate) fn place_of(queue: &VecDeque<(Key, Target)>, key: &Key) -> Option<usize>
     requires { AreRising (local_events queue.now.items) }
     ensures there { IfSome result (IsPlaceOf (local_events queue.now.items) key.now) }
@@ -50,7 +50,7 @@ pub(crate) fn place_of(queue: &VecDeque<(Key, Target)>, key: &Key) -> Option<usi
     queue.binary_search_by_key(key, |(other, _)| *other).ok()
 }
 
-/// The target of a local event, and none of any other.
+/// The target of a local event, or `None` for any other event.
 pub(crate) fn target_of(event: &Event) -> Option<Target>
     ensures { IfSome result (λ t. event.now ≡ Local t) }
 {
@@ -60,7 +60,7 @@ pub(crate) fn target_of(event: &Event) -> Option<Target>
     }
 }
 
-/// Takes out the first event, if its tick is below the horizon, and puts it into its place. Answers whether it was taken.
+/// Takes the first event, if its tick is below the horizon, and moves it into the slot. Returns whether it did.
 #[inline(always)]
 pub(crate) fn pop_into(queue: &mut VecDeque<(Key, Target)>, horizon: u64, place: &mut Least) -> bool
     requires { AreRising (local_events queue.old.items) }

@@ -1,4 +1,4 @@
-//! Lists of events whose keys rise.
+//! Lists of events in rising order of their keys.
 
 ghost use Rattle.std.specs.Prelude.{◌≡◌, ◌<◌, ◌++◌, [], None, option_to_list, IfSome, IfNone, OnOk, OnErr, length};
 ghost use Rattle.std.specs.VecDeque.{deque_len, deque_capacity};
@@ -15,10 +15,10 @@ use std::alloc::AllocError;
 use std::cmp::Ordering;
 use std::collections::VecDeque;
 
-/// Of how many keys at the back the place of a new one is looked for, before it is searched for among all.
+/// The number of keys at the back among which the index of a new key is searched first, before a binary search.
 const NEAR: usize = 4;
 
-/// Puts an event at the place of its key. Near the back this takes constant time.
+/// Inserts an event at the index of its key. Near the back this takes constant time.
 #[inline(always)]
 pub(crate) fn insert(
     events: &mut VecDeque<(Key, Event)>,
@@ -39,7 +39,7 @@ pub(crate) fn insert(
     }
 }
 
-/// Makes room for one more, where there is none.
+/// Reserves room for one more event, if none is left.
 #[inline(always)]
 pub(crate) fn make_room<T>(row: &mut VecDeque<T>) -> Result<(), AllocError>
     ensures items { row.new.items ≡ row.old.items }
@@ -71,20 +71,20 @@ pub(crate) fn first_tick(events: &VecDeque<(Key, Event)>) -> Option<u64>
     Some(first.tick)
 }
 
-/// The place of a key, if it is there.
+/// The index of a key, if the list has it.
 pub(crate) fn place_of(events: &VecDeque<(Key, Event)>, key: &Key) -> Option<usize>
     requires { AreRising events.now.items }
     ensures there { IfSome result (IsPlaceOf events.now.items key.now) }
     ensures absent { IfNone result (lookup (same_key key.now) events.now.items ≡ None) }
 {
-    // A timer that has gone off is looked for before all others.
+    // A timer that has gone off is usually before all others.
     if is_before(events, key) {
         return None;
     }
     events.binary_search_by_key(key, |(other, _)| *other).ok()
 }
 
-/// Whether the key comes before all that are there.
+/// Whether the key comes before all keys of the list.
 fn is_before(events: &VecDeque<(Key, Event)>, key: &Key) -> bool
     requires { AreRising events.now.items }
     ensures { OnTrue result (lookup (same_key key.now) events.now.items ≡ None) }
@@ -95,7 +95,7 @@ fn is_before(events: &VecDeque<(Key, Event)>, key: &Key) -> bool
     }
 }
 
-/// Whether the key comes after all that are there.
+/// Whether the key comes after all keys of the list.
 fn is_past(events: &VecDeque<(Key, Event)>, key: &Key) -> bool
     requires { AreRising events.now.items }
     ensures { OnTrue result (AllByRecursion (λ j. Precedes j key.now) (keys_of events.now.items)) }
@@ -106,7 +106,7 @@ fn is_past(events: &VecDeque<(Key, Event)>, key: &Key) -> bool
     }
 }
 
-/// The place of a new key near the back, if it is there.
+/// The index of a new key near the back, if it belongs there.
 fn place_near(events: &VecDeque<(Key, Event)>, key: &Key) -> Option<usize>
     requires { AreRising events.now.items }
     ensures { IfSome result (IsBetween events.now.items key.now) }
@@ -126,7 +126,7 @@ fn place_near(events: &VecDeque<(Key, Event)>, key: &Key) -> Option<usize>
     None
 }
 
-/// Puts an event at the place of its key, which is searched for.
+/// Inserts an event at the index of its key, which it finds by binary search.
 #[inline(never)]
 fn insert_within(
     events: &mut VecDeque<(Key, Event)>,
@@ -154,7 +154,7 @@ fn insert_within(
     }
 }
 
-/// The first event, if its tick is below the horizon. It leaves.
+/// Removes the first event, if its tick is below the horizon, and returns it.
 #[inline(always)]
 pub(crate) fn pop_below(events: &mut VecDeque<(Key, Event)>, horizon: u64) -> Option<(Key, Event)>
     requires { AreRising events.old.items }

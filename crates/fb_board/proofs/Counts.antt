@@ -8,7 +8,7 @@ use native.Mathlib.Decide.{dec_le, ℕ_discrete}
 use lib.ListN.{get_elem?}
 
 module _ {A : Type 0} where
-  -- what is there lies within the list
+  -- what is there is within the list
   pub within : (l : List A) (i : ℕ) (a : A) → get_elem? l i ≡ some a → i < length l
   within [] i a e = absurd (some-ne-none a (sym e))
   within (x ∷ xs) zero a e = omega arith
@@ -19,12 +19,12 @@ module _ {A : Type 0} where
   get_or_at (x ∷ xs) zero a d e = some-injective x a e
   get_or_at (x ∷ xs) (suc i) a d e = get_or_at xs i a d e
 
-  -- one element changes the sum by as much as itself
+  -- one element changes the sum by its own amount
   pub sum_set : (f : A → ℕ) (l : List A) (i : ℕ) (v w : A) → get_elem? l i ≡ some v → sum_by f (set l i w) + f v ≡ sum_by f l + f w
   sum_set f l i v w e =
       let step = sum_by-set f l i w v (within l i v e) in let was : f (get_or l i v) ≡ f v = ap f (get_or_at l i v v e) in omega arith
 
-  -- nothing changes where f does not tell the old from the new
+  -- nothing changes if f does not distinguish the old from the new
   pub sum_keep : (f : A → ℕ) (l : List A) (i : ℕ) (v w : A) → get_elem? l i ≡ some v → f w ≡ f v → sum_by f (set l i w) ≡ sum_by f l
   sum_keep f l i v w e same = let h = sum_set f l i v w e in omega arith
 
@@ -52,13 +52,13 @@ module _ {A : Type 0} where
   sum_two f (x ∷ xs) (suc i) (suc j) v w ne a b =
       let both = sum_two f xs i j v w (λ e. ne (ap suc e)) a b in let all = sum_by-cons f x xs in omega arith
 
-  -- the sum is 0 where each element has 0
+  -- the sum is 0 if each element has 0
   pub sum_none : (f : A → ℕ) (l : List A) → ((i : ℕ) (v : A) → get_elem? l i ≡ some v → f v ≡ 0) → sum_by f l ≡ 0
   sum_none f [] each = refl
   sum_none f (x ∷ xs) each =
       let here = each zero x refl in let rest = sum_none f xs (λ i v e. each (suc i) v e) in let all = sum_by-cons f x xs in omega arith
 
-  -- one element has the sum where each other has 0
+  -- one element has the sum if each other has 0
   pub sum_sole : (f : A → ℕ) (l : List A) (i : ℕ) (v : A) → get_elem? l i ≡ some v → ((j : ℕ) (w : A) → j ≢ i → get_elem? l j ≡ some w → f w ≡ 0)
       → sum_by f l ≡ f v
   sum_sole f [] i v e others = absurd (some-ne-none v (sym e))
@@ -69,7 +69,7 @@ module _ {A : Type 0} where
       let here = others zero x (λ p. omega arith) refl in
       let rest = sum_sole f xs i v e (λ j w ne at. others (suc j) w (λ p. ne (omega arith)) at) in let all = sum_by-cons f x xs in omega arith
 
-  -- where the sum is 1, one element has it
+  -- if the sum is 1, one element has it
   pub find_one : (f : A → ℕ) (l : List A) → sum_by f l ≡ 1 → (i : ℕ) × (v : A) × (get_elem? l i ≡ some v) × (f v ≡ 1)
   find_one f [] e = absurd (omega arith)
   find_one f (x ∷ xs) e = let a = sum_by-cons f x xs in dite (ℕ_discrete (f x) 0)
@@ -100,14 +100,14 @@ module _ {A : Type 0} where
   is_there (x ∷ xs) zero h = (x, refl)
   is_there (x ∷ xs) (suc i) h = is_there xs i (omega arith)
 
-  -- what stands in a longer list stood there before, or is the new element
+  -- what is in a longer list was there before, or is the new element
   pub at_push : (l : List A) (a b : A) (j : ℕ) → get_elem? (l ++ a ∷ []) j ≡ some b → (get_elem? l j ≡ some b) ⊎ ((j ≡ length l) × (a ≡ b))
   at_push [] a b zero e = inr (refl, some-injective a b e)
   at_push [] a b (suc j) e = absurd (some-ne-none b (sym e))
   at_push (x ∷ xs) a b zero e = inl e
   at_push (x ∷ xs) a b (suc j) e = ⊎_elim inl (λ (t : (j ≡ length xs) × (a ≡ b)). inr (ap suc t.0, t.1)) (at_push xs a b j e)
 
--- 1 where k is below n, and else 0
+-- 1 if k is below n, and else 0
 abbrev pub below : ℕ → ℕ → ℕ
 below k n = if nat_lt k n then 1 else 0
 
@@ -123,11 +123,11 @@ below_some k n h = dite (dec_le n k) (λ le. let z = below_no k n le in absurd (
 pub below_one : (k n : ℕ) → below k n ≤ 1
 below_one k n = dite (dec_le n k) (λ le. let z = below_no k n le in omega arith) (λ no. let z = below_yes k n (lt_of_not-le no) in omega arith)
 
--- how often k stands in the list
+-- how often k is in the list
 abbrev pub times : ℕ → List ℕ → ℕ
 times k xs = count_by (λ x. x == k) xs
 
--- 1 where x is k, and else 0
+-- 1 if x is k, and else 0
 abbrev pub hit : ℕ → ℕ → ℕ
 hit k x = if x == k then 1 else 0
 
@@ -168,7 +168,7 @@ below_suc k n = dite (ℕ_discrete n k)
     (λ le. let a = below_no k n le in let b = below_no k (n + 1) (omega arith) in omega arith)
     (λ no. let a = below_yes k n (lt_of_not-le no) in let h : k < n = lt_of_not-le no in let b = below_yes k (n + 1) (omega arith) in omega arith))
 
--- what holds place by place of two lists of one length
+-- what holds index by index of two lists of one length
 pub zips : {A B : Type 0} (R : A → B → Type 0) (xs : List A) (ys : List B) → length ys ≡ length xs
     → ((k : ℕ) (x : A) (y : B) → slice_get xs k ≡ Some x → get_elem? ys k ≡ some y → R x y) → AllZip R xs ys
 zips R [] [] e each = tt

@@ -1,4 +1,4 @@
--- What the last state of a board tells: `words` are read after the table is closed, and `values` come out of its slots.
+-- What the last state of a board reveals: `words` are read after the table is closed, and `values` come out of its slots.
 use Rattle.std.proofs.Common.{◌≡◌, ◌≢◌, ℕ, ◌+◌, ◌<◌, List, length, get_or, slice_get, Some, Contains, sym, ap, ◌∙◌, subst}
 use mathlib.Core.Option.{some}
 use lib.ListN.{get_elem?}

@@ -59,7 +59,7 @@ module _ {J D : Type 0} {does : J → D → Type 0} {jobs : List J} (s : BoardSt
         let mine = sum_at (times_drawn k) s.views seat v at in let none_drew = drawn_beyond k beyond in
         times_none k v.drawn (omega arith)
 
-    -- where it drew k, it drew it once, and no other seat did
+    -- if it drew k, it drew it once, and no other seat did
     pub drawn_once : (k : ℕ) → Contains v.drawn k → times_drawn k v ≡ 1
     drawn_once k mine =
         let mine_some = times_contained k v.drawn mine in let mine_few = sum_at (times_drawn k) s.views seat v at in
@@ -74,7 +74,7 @@ module _ {J D : Type 0} {does : J → D → Type 0} {jobs : List J} (s : BoardSt
     one_seat k other w there mine theirs =
         dite (ℕ_discrete other seat) (λ e. sym e) (λ ne. absurd (alone k mine other w ne there theirs))
 
-    -- where it is dry, every number was drawn
+    -- if it is dry, every number was drawn
     pub all_drawn : IsTrue v.dry → (k : ℕ) → k < length jobs → (other : ℕ) × (w : View J) × Knows s other w × Contains w.drawn k
     all_drawn dry k room =
         let all_reached = rule.at_least seat v at dry in let found = find_one (times_drawn k) s.views (drawn_below k (omega arith)) in

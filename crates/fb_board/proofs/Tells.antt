@@ -1,4 +1,4 @@
--- Each step may be taken in every state that meets the rule, and what it tells its seat holds afterwards.
+-- Each step may be taken in every state that meets the rule, and what it reveals to its seat holds afterwards.
 use Rattle.std.proofs.Common.{◌≡◌, ℕ, ◌+◌, ◌%◌, ◌^◌, ◌<◌, ◌≤◌, Bool, false, List, [], ◌∷◌, length, set, slice_get, Some, None, sym, refl, ap, ◌∙◌, subst, arith, lt_of_not-le}
 use Rattle.std.proofs.lemmas.List.Elements.{Contains-push}
 use mathlib.Core.Logic.{dite}
@@ -34,7 +34,7 @@ module _ {J D : Type 0} (does : J → D → Type 0) (jobs : List J) where
     abbrev AfterDraw : View J → Act (SlotContent J D) → BoardState J D
     AfterDraw w act = stepped s 0 ((draw_count s + 1) % 2 ^ 64) seat me.1 w act
 
-    -- what the seat may do with the number that it finds, and what it is told
+    -- what the seat may do with the number that it finds, and what it learns
     abbrev Drawn : Type 0
     Drawn = (w : View J) × (act : Act (SlotContent J D)) × Valid s.homes me.1 act × MeetsRule does jobs (AfterDraw w act)
         × Draws does (step 0 0 0 0 none) me (draw_count s) (w, carried_after me.1 act)
@@ -132,7 +132,7 @@ module _ {J D : Type 0} (does : J → D → Type 0) (jobs : List J) where
         }),
       )
 
-  -- the step of putting back, where the seat's slot has the done value
+  -- the step of putting back, if the seat's slot has the done value
   puts_back : (slots seat : ℕ) (me : Me (SlotContent J D) (View J)) (k : ℕ) (done : D) → me.1 ≡ (k, Home done) ∷ [] → me.0.slip ≡ Some k
       → ((job : J) → slice_get jobs k ≡ Some job → does job done)
       → Allows (MeetsRule does jobs) slots seat me (k + 1) (λ _. 1) (λ _. PutsBack does (step 0 0 0 0 none) me 1)
@@ -162,7 +162,7 @@ module _ {J D : Type 0} {does : J → D → Type 0} {dry : Bool} (before written
   may_put_back jobs slots seat right = puts_back does jobs slots seat written k done has_done still_out right
 
   module _ (after : Me (SlotContent J D) (View J)) (step_taken : PutsBack does (step 0 0 0 0 none) written 1 after) where
-    -- and what it tells the seat
+    -- and what it reveals to the seat
     pub put_back_tells : PutsBackDone does before k done after
     put_back_tells = let told = step_taken k done still_out has_done in record {
       view = told.view ∙ ap (λ v. view_after_put_back v k) same_view;

@@ -50,19 +50,18 @@ pub record MeetsRule {J D : Type 0} (does : J → D → Type 0) (jobs : List J) 
   pub slots : length s.homes ≡ length jobs
   pub few_jobs : length jobs ≤ MAX_JOBS
   pub seats : AreSeats jobs s.views
-  -- 1. Word 0 is at most the number of jobs and of dry seats together.
-  -- Where a seat is dry, it is at least the number of jobs
+  -- 1. Word 0 is at most the number of jobs and of dry seats together. If a seat is dry, it is at least the number of
+  --   jobs
   pub at_most : draw_count s ≤ length jobs + sum_by dryness s.views
   pub at_least : (seat : ℕ) (v : View J) → Knows s seat v → IsTrue v.dry → length jobs ≤ draw_count s
-  -- 2. Each number below both the number of jobs and word 0 stands in one seat's list of drawn numbers, once.
-  -- No other number stands in any, so the lists together have as many numbers as were drawn
+  -- 2. Each number below both the number of jobs and word 0 is in one seat's list of drawn numbers, once. No other number
+  --   is in any, so the lists together have as many numbers as were drawn
   pub once : (k : ℕ) → sum_by (times_drawn k) s.views ≡ (if nat_lt k (drawn_count s jobs) then 1 else 0)
   pub together : sum_by (λ v. length v.drawn) s.views ≡ drawn_count s jobs
   -- 3. What a seat drew is its slip or among the numbers that it put back, and not both
   pub parted : (seat : ℕ) (v : View J) → Knows s seat v → (k : ℕ) → times_drawn k v ≡ times_back k v + times_out k v
-  -- 4. The flag of a number is 1 where some seat put it back, and else 0.
-  -- Where it is 1, the number's slot has a done value that does its job.
-  -- The slot of a number that nobody drew has its job
+  -- 4. The flag of a number is 1 if some seat put it back, and else 0. If it is 1, the number's slot has a done value
+  --   that does its job. The slot of a number that nobody drew has its job
   pub flags : (k : ℕ) → k < length jobs → flag s k ≡ sum_by (times_back k) s.views
   pub home : (k : ℕ) (job : J) → slice_get jobs k ≡ Some job → flag s k ≡ 1 → (done : D) × SlotHas s k (Home done) × does job done
   pub waiting : (k : ℕ) (job : J) → slice_get jobs k ≡ Some job → draw_count s ≤ k → SlotHas s k (Waiting job)

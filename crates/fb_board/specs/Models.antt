@@ -35,11 +35,11 @@ module _ {J : Type 0} where
   abbrev pub IsSeatOf : BoardModel J → SeatModel J → Type 0
   IsSeatOf board seat = (seat.board ≡ board.id) × (seat.knows.jobs ≡ board.jobs)
 
-  -- it is one of this board's, and holds no slip
+  -- it is one of this board's, and has no slip
   abbrev pub IsIdleSeatOf : BoardModel J → SeatModel J → Type 0
   IsIdleSeatOf board seat = (seat.board ≡ board.id) × (seat.knows.jobs ≡ board.jobs) × (seat.knows.slip ≡ None)
 
-  -- it is one of this board's, holds no slip, and is dry
+  -- it is one of this board's, has no slip, and is dry
   abbrev pub IsDrySeatOf : BoardModel J → SeatModel J → Type 0
   IsDrySeatOf board seat = (seat.board ≡ board.id) × (seat.knows.jobs ≡ board.jobs) × (seat.knows.slip ≡ None) × IsTrue seat.knows.dry
 

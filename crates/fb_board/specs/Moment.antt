@@ -1,9 +1,9 @@
--- What one step at a claim board tells the seat that took it.
--- This project's own profile: no clause of IEC 61499 speaks of a claim board.
+-- What one step at a claim board reveals to the seat that took it. This project's own profile: no clause of IEC 61499
+-- speaks of a claim board.
 --
--- A contract sees one seat, and not the whole board as it is at some time. So it speaks of moments: the states that
--- meet the board's rule and in which the seat has its view. What holds at each moment of a seat's view holds of the board
--- from the seat's last step until its next one, since the rule is kept all along and no other seat changes that view.
+-- A contract sees one seat, and not the whole board as it is at some time. So it speaks of moments: the states that meet
+-- the board's rule and in which the seat has its view. What holds at each moment of a seat's view holds of the board from
+-- the seat's last step until its next one, since the rule is kept all along and no other seat changes that view.
 use Rattle.std.specs.Prelude.{◌≡◌, ◌≢◌, ℕ, ◌<◌, ◌≤◌, Bool, List, [], ◌∷◌, length, slice_get, Option, Some, None, Contains, IsTrue}
 use Rattle.atomic_table.specs.Table.{Me, Step}
 use Rattle.fb_board.specs.declared.rule.SlotContent.{SlotContent}
@@ -66,7 +66,7 @@ module _ {J D : Type 0} (does : J → D → Type 0) where
     pub slots : after.1 ≡ before.1
     pub all : IsAllDrawn does before.0.jobs after.0
 
-  -- what a draw tells, by the number that it found in word 0
+  -- what a draw reveals, by the number that it found in word 0
   abbrev pub Draws : Step (SlotContent J D) → Me (SlotContent J D) (View J) → ℕ → Me (SlotContent J D) (View J) → Type 0
   Draws _ before found after =
       (found < length before.0.jobs → DrawsJob before found after) × (length before.0.jobs ≤ found → DrawsNone before after)
@@ -77,12 +77,12 @@ module _ {J D : Type 0} (does : J → D → Type 0) where
     pub slots : after.1 ≡ []
     pub home : IsHome does before.0.jobs after.0 k done
 
-  -- what putting back tells, by the done value that the seat wrote into its slot
+  -- what putting back reveals, by the done value that the seat wrote into its slot
   abbrev pub PutsBack : Step (SlotContent J D) → Me (SlotContent J D) (View J) → ℕ → Me (SlotContent J D) (View J) → Type 0
   PutsBack _ before _ after =
       (k : ℕ) (done : D) → before.0.slip ≡ Some k → before.1 ≡ (k, Home done) ∷ [] → PutsBackDone before k done after
 
--- What holds of a seat between its steps: its flag `dry` tells whether it is dry, and it has the slot of its slip
+-- What holds of a seat between its steps: its flag `dry` says whether it is dry, and it has the slot of its slip
 pub record IsSound {J D : Type 0} (does : J → D → Type 0) (dry : Bool) (me : Me (SlotContent J D) (View J)) : Type 0 where
   pub tells : dry ≡ me.0.dry
   pub slots : me.1 ≡ slots_with me.0.slip

@@ -68,7 +68,7 @@ found_declared lib d n i h at is =
 abbrev pub instance_name : Instance → Name
 instance_name i = i.name
 
--- the interface of an instance is that at the place of its name
+-- the interface of an instance is that at the index of its name
 pub ports_placed :
     (lib : Library) (n : Name) (i : ℕ) → position (same_name n) (map instance_name lib.application.network.instances) ≡ Some i → ports_at lib n ≡ ports_at_place lib i
 ports_placed lib n i at =

@@ -80,7 +80,7 @@ named-among {A} f n (y ∷ ys) x h =
 
 -- ---- Event inputs
 
--- the first with a name stands at its place
+-- the first with a name is at its index
 pub first_place :
     {A : Type 0} (name : A → Name) (xs : List A) (n : Name) → first_of {A = A} {X = ℕ} name (λ k x. k) xs n ≡ position (same_name n) (map name xs)
 first_place {A} name xs n =
@@ -171,12 +171,12 @@ the_ports (Some p) x found = (p, refl, found)
 inputs_of_ports : (o : Option Ports) (x : TypeInputs) (p : Ports) → IsFound o (Some x) → o ≡ Some p → IsInputs p x
 inputs_of_ports o x p found of = let P : Option Ports → Type 0 = λ o. IsFound o (Some x) in subst P of found
 
--- the place that a table has for a name
+-- the index that a table has for a name
 pub placed_at :
     (names : List Name) (m : BTreeMap (Bor Name) ℕ) (n b : Name) (o : Option ℕ) → IsIndex names m → b ≡ n → o ≡ place_in m b → position (same_name n) names ≡ o
 placed_at names m n b o index same is = sym (index.place n) ∙ ap (place_in m) (sym same) ∙ sym is
 
--- what was found for the instance at the place of its name
+-- what was found for the instance at the index of its name
 abbrev pub IsFoundAt : Library → Stimulus → (place : ℕ) → Option TypeInputs → Type 0
 IsFoundAt lib s k o = (position (same_name s.instance) (instance_names lib.application.network) ≡ Some k) × IsFound (ports_at_place lib k) o
 
@@ -271,7 +271,7 @@ bad_at lib plan ss i s once known h e not =
     let names : Known lib = record { plan = plan; once = once; known = known } in
     (s, subst (λ (t : Stimulus). Contains ss t) (sym e) (Contains-get_or ss i s h), λ good. not (take_from lib s names good))
 
--- none is bad where each can be taken
+-- none is bad if each can be taken
 pub none_bad : (lib : Library) (plan : Plan) (ss : List Stimulus) → ¬ (NameTwice lib plan) → ¬ (NameUnknown lib plan) → ¬ (HasRefused lib ss) → ¬ (BadStimulus lib ss)
 none_bad lib plan ss once known none bad =
     let names : Known lib = record { plan = plan; once = once; known = known } in none (bad.0, bad.1, λ take. bad.2 (good_from lib bad.0 names take))

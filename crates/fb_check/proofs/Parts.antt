@@ -1,4 +1,4 @@
--- Where not all parts of block types are known, some name is unknown.
+-- If not all parts of block types are known, some name is unknown.
 use Rattle.std.proofs.Common.{◌≡◌, Bool, true, false, ◌++◌, Contains, refl, sym, ◌∙◌, inl, inr, ⊎_elim}
 use Rattle.std.specs.Prelude.{flat_map}
 use Rattle.std.specs.List.{list_all}
@@ -20,7 +20,7 @@ is_there w = among w.1 w.0
 abbrev are_mentions_known : BasicType → Bool
 are_mentions_known t = list_all (is_known t) (mentioned t)
 
--- the wanted names of parts are among all
+-- the required names of parts are among all
 part_wanted : (lib : Library) (plan : Plan) (w : Wanted) → Contains (parts_wanted lib) w → Contains (wanted lib plan) w
 part_wanted lib plan w c =
     let types = flat_map (λ n. types_wanted lib n.1) (networks lib) in

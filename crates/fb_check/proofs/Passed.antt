@@ -1,4 +1,4 @@
--- What acceptance says of names and stimuli.
+-- What acceptance guarantees of names and stimuli.
 use Rattle.std.proofs.Common.{◌≡◌, List, refl, sym, subst, inl, inr}
 use Rattle.fb_types.specs.Headline.{AreAccepted, Inputs, inputs}
 use Rattle.fb_types.specs.Unknown.{NameUnknown}

@@ -1,4 +1,4 @@
--- Stimuli by number, one after the other.
+-- Stimuli by number, one after another.
 use Rattle.std.proofs.Common.{◌≡◌, ℕ, ◌<◌, ◌≤◌, ◌+◌, Bool, true, false, not, ◌&&◌, List, [], ◌∷◌, ◌++◌, length, get_or, Option, Some, None, refl, sym, ◌∙◌, ap, subst, length-append, arith}
 use Rattle.std.specs.Prelude.{if◌then◌else◌, is_some, option_and_then, option_map, position, slice_get, unwrap_or}
 use Rattle.std.specs.List.{list_all}
@@ -61,7 +61,7 @@ pub slots_some :
 slots_some d x s =
     is_some-each (slot_of d x s) s.settings ∙ all-is (λ v. is_some (slot_of d x s v)) (is_settable d x s) s.settings (slot_some d x s)
 
--- what the place of a variable sets is the variable
+-- what the index of a variable sets is the variable
 set_is : (p : Ports) (s : Setting) (k n : ℕ) → place_of (data_ins p) s.variable ≡ Some k → n ≡ k → IsSet p.inputs s (record { place = n; value = s.value })
 set_is p s k n h e =
     let at = position_is (λ (v : Variable). v.name) s.variable p.inputs k h in

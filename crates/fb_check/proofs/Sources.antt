@@ -1,4 +1,5 @@
--- A data input of an instance of the application is connected exactly where a data connection of the application leads to it.
+-- A data input of an instance of the application is connected exactly if a data connection of the application leads to
+-- it.
 use Rattle.std.proofs.Common.{◌≡◌, Bool, true, false, ◌&&◌, ◌||◌, cond, List, [], ◌∷◌, ◌++◌, map, Option, Some, None, Contains, refl, sym, ◌∙◌, ap, subst, inl, inr}
 use Rattle.std.specs.Prelude.{option_map, option_and_then, is_some, flat_map}
 use Rattle.std.specs.List.{list_any, list_all, filter}
@@ -57,7 +58,7 @@ ports_twice lib plan t c twice =
     inl (TwiceIn-left to_parameters (resource_names_of plan ∷ []) (TwiceIn-left to_with (of_parameters lib) (TwiceIn-left to_instances (of_with lib)
     (TwiceIn-left to_states (of_instances lib) (TwiceIn-left to_algorithms (of_states lib) (TwiceIn-left (of_ports lib) (of_algorithms lib) ports))))))
 
--- an input of a composite type is none of its outputs
+-- an input of a composite type is not one of its outputs
 input_not_output :
     (lib : Library) (plan : Plan) (t : CompositeType) (n : Name) → ¬ (NameTwice lib plan) → Contains lib.blocks (block.Composite t)
     → Contains (variable_names t.ports.inputs) n → ¬ (Contains (variable_names t.ports.outputs) n)
@@ -92,7 +93,7 @@ and-second false b h = absurd (true≢false (sym h))
 abbrev at_end : Option Name → Name → PortName
 at_end o m = record { component = o; port = m }
 
--- an end that is an output of the boundary, or an input of a component, is no input of the boundary
+-- an end that is an output of the boundary, or an input of a component, is not an input of the boundary
 end_apart :
     (lib : Library) (t : CompositeType) (o : Option Name) (m c n : Name) → ¬ (Contains (variable_names t.ports.outputs) n)
     → is_end lib (Some t, t.network) data_ins data_outs (at_end o m) ≡ true → same_port (port_in (c ∷ []) (at_end o m)) (port c n) ≡ false
@@ -202,7 +203,7 @@ or-false : (b : Bool) → (b || false) ≡ b
 or-false true = refl
 or-false false = refl
 
--- an input has a source exactly where a data connection of the application leads to it
+-- an input has a source exactly if a data connection of the application leads to it
 pub has_source :
     (lib : Library) (plan : Plan) (c n : Name) (k : Kind) → ¬ (NameTwice lib plan) → ¬ (NameUnknown lib plan) → kind_in lib c ≡ Some k
     → Contains (variable_names (ports_of k).inputs) n → is_some (source_of lib (port c n)) ≡ leads_to lib.application.network.data_connections c n

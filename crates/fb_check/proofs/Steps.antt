@@ -143,7 +143,7 @@ first_of-append {A} {X} name made xs y n =
 pub first_none : {A X : Type 0} (name : A → Name) (made : ℕ → A → X) (m : tree.BTreeMap (Bor Name) X) → m.entries ≡ [] → AreFirst name made [] m
 first_none name made m e = record { first = λ n. ap (lookup (λ (k : Bor Name). is_eq (slice_cmp nat_cmp n k.now))) e }
 
--- one more, where one with its name is there already
+-- one more, if one with its name is there already
 pub first_kept :
     {A X : Type 0} (name : A → Name) (made : ℕ → A → X) (xs : List A) (i : ℕ) (x : A) (m : tree.BTreeMap (Bor Name) X) (k : Name) → i < length xs → x ≡ get_or xs i x
     → k ≡ name x → is_some (read_in m k) ≡ true → AreFirst name made (take i xs) m → AreFirst name made (take (i + 1) xs) m
@@ -168,7 +168,7 @@ first_kept {A} {X} name made xs i x m k h at is there so_far =
           ∙ sym (first_of-append name made (take i xs) x n);
     }))
 
--- where it is new
+-- if it is new
 pub first_more :
     {A X : Type 0} (name : A → Name) (made : ℕ → A → X) (xs : List A) (i : ℕ) (x : A) (m m' : tree.BTreeMap (Bor Name) X) (k : Bor Name) (value : X)
     → i < length xs → x ≡ get_or xs i x → k.now ≡ name x → value ≡ made i x → is_some (read_in m k.now) ≡ false → AreFirst name made (take i xs) m
@@ -278,7 +278,7 @@ inputs_more f ts i a p xs ys x h at is so_far new grown =
     let P : List Ports → Type 0 = λ qs. AreInputs qs ys in
     more_of_part P f ts i a p h at is (subst R (sym grown) (record { each = inputs_push (map f (take i ts)) xs p x so_far.each new }))
 
--- the event blocks at the places of their interfaces
+-- the event blocks at the indices of their interfaces
 pub event_inputs :
     (ps : List Ports) (xs : List TypeInputs) → ArePortsOfKinds ps → AreInputs (map (λ p. p) ps) xs → (k : EventKind)
     → IsFound (Some (ports_of_event_block k)) (slice_get xs (kind_place k))

@@ -30,7 +30,7 @@ applies_cases :
 applies_cases n lib plan stimuli a f20 f21 f22 f23 f24 f25 f26 f27 f28 f29 f30 =
     elim a [ inl x ↦ f20 x.0 x.1 | inr a ↦ elim a [ inl x ↦ f21 x.0 x.1 | inr a ↦ elim a [ inl x ↦ f22 x.0 x.1 | inr a ↦ elim a [ inl x ↦ f23 x.0 x.1 | inr a ↦ elim a [ inl x ↦ f24 x.0 x.1 | inr a ↦ elim a [ inl x ↦ f25 x.0 x.1 | inr a ↦ elim a [ inl x ↦ f26 x.0 x.1 | inr a ↦ elim a [ inl x ↦ f27 x.0 x.1 | inr a ↦ elim a [ inl x ↦ f28 x.0 x.1 | inr a ↦ elim a [ inl x ↦ f29 x.0 x.1 | inr x ↦ f30 x.0 x.1 ] ] ] ] ] ] ] ] ] ]
 
--- two numbers that differ by a test are not one
+-- two numbers that a test distinguishes are not the same
 unlike : {P : Type 0} (m n : ℕ) → nat_eq m m ≡ true → nat_eq m n ≡ false → m ≡ n → P → ⊥
 unlike m n same other e _ = true≢false (sym same ∙ ap (nat_eq m) e ∙ other)
 

@@ -1,4 +1,5 @@
--- What stimuli may name, by names: event inputs, the variables WITH them, and data inputs (IEC 61499-1, 5.2.1 and 6.1; event blocks by their kinds are this project's profile).
+-- What stimuli may name, by name: event inputs, the variables WITH them, and data inputs (IEC 61499-1, 5.2.1 and 6.1;
+-- event blocks by their kinds are this project's profile).
 use Rattle.std.specs.Prelude.{◌≡◌, ℕ, List, [], ◌∷◌, map, Bool, true, false, not, ◌&&◌, ◌||◌, Option, Some, None, if◌then◌else◌, position, slice_get, option_map, option_and_then}
 use Rattle.std.specs.List.{list_any, list_all}
 use Rattle.std.specs.Ordering.{nat_cmp, ordering_then}
@@ -44,11 +45,11 @@ read_in m n = tree.get_by (λ k. slice_cmp nat_cmp n k.now) m
 abbrev pub input_in : tree.BTreeMap (Bor Name) Input → Name → Option Input
 input_in m n = read_in m n
 
--- what is made of the first element with a name, from its place
+-- the result for the first element with a name, from its index
 abbrev pub first_of : {A X : Type 0} → (A → Name) → (ℕ → A → X) → List A → Name → Option X
 first_of name made xs n = option_and_then (λ k. option_map (made k) (slice_get xs k)) (position (same_name n) (map name xs))
 
--- The map has that for each name.
+-- The map has this result for each name.
 pub record AreFirst {A X : Type 0} (name : A → Name) (made : ℕ → A → X) (xs : List A) (m : tree.BTreeMap (Bor Name) X) : Type 0 where
   pub first : (n : Name) → read_in m n ≡ first_of name made xs n
 
@@ -58,11 +59,11 @@ pub record AreFirst {A X : Type 0} (name : A → Name) (made : ℕ → A → X) 
 abbrev pub lists : List EventPort → Name → Name → Bool
 lists events e v = list_any (λ q. same_name q.name e && among q.with v) events
 
--- the places of the events
+-- the indices of the events
 abbrev pub AreEvents : List EventPort → tree.BTreeMap (Bor Name) ℕ → Type 0
 AreEvents events m = AreFirst (λ (e : EventPort). e.name) (λ k e. k) events m
 
--- beside what was there, the event with each of the variables
+-- in addition to what was there, the event with each of the variables
 pub record IsExtended (event : Name) (variables : List Name) (old new : set.BTreeSet Pair) : Type 0 where
   pub has : (n m : Name) → has_pair new n m ≡ (has_pair old n m || (same_name event n && among variables m))
 
@@ -73,7 +74,7 @@ pub record AreWiths (events : List EventPort) (s : set.BTreeSet Pair) : Type 0 w
 abbrev pub input_of : ℕ → Variable → Input
 input_of k v = record { place = k; ty = v.ty }
 
--- the places and the types of the variables
+-- the indices and the types of the variables
 abbrev pub AreVariables : List Variable → tree.BTreeMap (Bor Name) Input → Type 0
 AreVariables variables m = AreFirst (λ (v : Variable). v.name) input_of variables m
 
@@ -90,7 +91,7 @@ IsFound None (Some x) = ⊥
 IsFound (Some p) None = ⊥
 IsFound (Some p) (Some x) = IsInputs p x
 
--- those of each interface, at its place
+-- those of each interface, at its index
 pub record AreInputs (ps : List Ports) (xs : List TypeInputs) : Type 0 where
   pub each : (i : ℕ) → IsFound (slice_get ps i) (slice_get xs i)
 
@@ -104,7 +105,8 @@ leads_to cs c n = list_any (λ w. same_port (port_in [] w.to) (record { at = c �
 pub record AreTargets (cs : List Connection) (s : set.BTreeSet Pair) : Type 0 where
   pub has : (c n : Name) → has_pair s c n ≡ leads_to cs c n
 
--- the event blocks at the places of their interfaces, the block types of the declaration at theirs, and the targets of the application's data connections
+-- the event blocks at the indices of their interfaces, the block types of the declaration at theirs, and the targets of
+-- the application's data connections
 pub record IsDirectory (lib : Library) (d : Directory) : Type 0 where
   pub event_blocks : (k : EventKind) → IsFound (Some (ports_of_event_block k)) (slice_get d.event_blocks (kind_place k))
   pub declared : AreInputs (map (λ t. ports_of (kind_of t)) lib.blocks) d.declared
@@ -112,7 +114,7 @@ pub record IsDirectory (lib : Library) (d : Directory) : Type 0 where
 
 -- ---- Stimuli
 
--- the interface of the instance of the application at a place
+-- the interface of the instance of the application at an index
 abbrev pub ports_at_place : Library → ℕ → Option Ports
 ports_at_place lib k = option_map ports_of (option_and_then (kind_of_instance lib) (slice_get lib.application.network.instances k))
 
@@ -120,7 +122,7 @@ ports_at_place lib k = option_map ports_of (option_and_then (kind_of_instance li
 abbrev pub ports_at : Library → Name → Option Ports
 ports_at lib n = option_map ports_of (option_and_then (kind_of_instance lib) (instance_in lib.application.network n))
 
--- The variable goes WITH the event, no data connection of the application leads to it, and its type holds the value.
+-- The variable goes WITH the event, no data connection of the application leads to it, and its type contains the value.
 abbrev pub can_set : Library → Ports → Stimulus → Setting → Bool
 can_set lib p s v =
     lists p.event_inputs s.event v.variable && (not (leads_to lib.application.network.data_connections s.instance v.variable) && is_held p v)
@@ -133,23 +135,23 @@ pub record CanTake (lib : Library) (s : Stimulus) : Type 0 where
   pub once : ¬ (Twice (set_names s))
   pub each : list_all (can_set lib ports s) s.settings ≡ true
 
--- whether there is an input with the name, and its type holds the value
+-- whether there is an input with the name, and its type contains the value
 abbrev pub holds : TypeInputs → Name → Value → Bool
 holds x n v = elim (input_in x.variables n) [ None ↦ false | Some i ↦ fits i.ty v ]
 
--- the name is in the directory WITH the event and unconnected, and its type holds the value
+-- the name is in the directory WITH the event and unconnected, and its type contains the value
 abbrev pub is_settable : Directory → TypeInputs → Stimulus → Setting → Bool
 is_settable d x s v =
     has_pair x.withs s.event v.variable && (not (has_pair d.targets s.instance v.variable) && holds x v.variable v.value)
 
 -- ---- Stimuli by number
 
--- the slot of an input, where its type holds the value
+-- the slot of an input, if its type contains the value
 abbrev pub held_slot : Option Input → Value → Option SlotValue
 held_slot None v = None
 held_slot (Some i) v = if fits i.ty v then Some (record { place = i.place; value = v }) else None
 
--- the slot of a setting, where it is settable
+-- the slot of a setting, if it is settable
 abbrev pub slot_of : Directory → TypeInputs → Stimulus → Setting → Option SlotValue
 slot_of d x s v =
     if has_pair x.withs s.event v.variable && not (has_pair d.targets s.instance v.variable) then held_slot (input_in x.variables v.variable) v.value else None

@@ -1,4 +1,4 @@
--- How far inputs have been judged (this project's profile).
+-- How far the judgement of inputs is (this project's profile).
 use Rattle.std.specs.Prelude.{ℕ, ◌<◌, List}
 use Rattle.fb_types.specs.Accepted.{Applies, IsAccepted}
 use Rattle.fb_types.specs.declared.library.Library.{Library}

@@ -1,4 +1,4 @@
-//! The system that stands for what was read, where it is accepted.
+//! The system of inputs that are accepted.
 
 ghost use Rattle.std.specs.Prelude.{◌≡◌, IfOk, IfErr};
 ghost use Rattle.fb_types.specs.Headline.{AreAccepted, inputs};
@@ -12,7 +12,7 @@ use fb_system::{Given, System, interfaces_of};
 use fb_types::{Deploy, Library, Stimulus};
 use std::alloc::Global;
 
-/// Inputs by number, where they are accepted.
+/// Inputs by number, if they are accepted.
 fn elaborate(alloc: Global, case: &Case) -> Result<Given, CheckError>
     ensures accepted { IfOk result (λ _. AreAccepted (inputs_in case.now)) }
     ensures given { IfOk result (IsGiven (inputs_in case.now)) }
@@ -33,12 +33,12 @@ fn elaborate(alloc: Global, case: &Case) -> Result<Given, CheckError>
     })
 }
 
-/// The system that stands for a declaration, a deployment and stimuli.
+/// The system of a declaration, a deployment and stimuli.
 ///
 /// # Errors
 ///
-/// `Refused` with the least number that applies where the inputs are not accepted, and `Memory`. A type with 2^32
-/// ports or more counts as want of memory.
+/// `Refused` with the least number that applies if the inputs are not accepted, and `Memory`. A type with 2^32 ports or
+/// more counts as out of memory.
 pub fn accept(
     alloc: Global,
     library: Library,

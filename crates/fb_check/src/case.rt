@@ -1,4 +1,4 @@
-//! What is judged, and what is made of it on the way.
+//! The inputs of the check, and what the check makes of them on the way.
 
 use fb_check_names::{Catalog, Resolved};
 use fb_system::StimulusRow;
@@ -7,15 +7,18 @@ use fb_types::{Items, Library, Plan, Stimulus};
 /// A declaration, a deployment and stimuli, as they were read.
 #[derive(Clone, Copy)]
 pub struct Case<'a> {
+    /// The declaration.
     pub library: &'a Library,
+    /// The deployment.
     pub plan: &'a Plan,
+    /// The stimuli.
     pub stimuli: &'a [Stimulus],
 }
 
-/// What is made of inputs that are accepted.
+/// What the check makes of inputs that are accepted.
 #[derive(Drop)]
 pub struct Judged<'a> {
-    /// The places of all names.
+    /// The indices of all names.
     pub catalog: Catalog<'a>,
     /// What the names stand for, by numbers.
     pub numbers: Resolved,

@@ -1,4 +1,4 @@
-//! What stimuli may name, by names.
+//! What stimuli may name, looked up by name.
 
 ghost use Rattle.std.specs.Prelude.{◌≡◌, map, option_map, IfOk};
 ghost use Rattle.std.specs.Option.{option_copied};
@@ -17,7 +17,7 @@ use std::alloc::{AllocError, Global};
 /// application to which data connections lead.
 #[derive(Drop)]
 pub struct Directory<'a> {
-    /// For each event block, by the place of its interface.
+    /// For each event block, by the index of its interface.
     pub event_blocks: Items<TypeInputs<'a>>,
     /// For each block type of the declaration.
     pub declared: Items<TypeInputs<'a>>,
@@ -25,7 +25,7 @@ pub struct Directory<'a> {
     pub targets: Pairs<'a>,
 }
 
-/// The directory of a declaration. The interfaces are those of the event blocks.
+/// The directory of a declaration. `ports` has the interfaces of the event blocks.
 pub fn directory_of<'a>(
     alloc: Global,
     library: &'a Library,
@@ -42,7 +42,7 @@ pub fn directory_of<'a>(
     })
 }
 
-/// What stimuli may name of the type with a name, or `None` where there is no such type.
+/// What stimuli may name of the type with a name, or `None` if there is no such type.
 pub fn inputs_named<'d, 'a>(
     library: &Library,
     directory: &'d Directory<'a>,

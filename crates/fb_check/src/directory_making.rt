@@ -8,7 +8,7 @@ use fb_types::{BlockType, Connection, EventPort, Items, Name, Ports, Ty, Variabl
 use std::alloc::{AllocError, Global};
 use std::collections::{BTreeMap, BTreeSet};
 
-/// What has an interface.
+/// An item that has an interface.
 pub trait Interfaced {
     ghost use Rattle.fb_types.specs.declared.library.Ports.{Ports};
 
@@ -41,17 +41,19 @@ impl Interfaced for BlockType {
 /// Pairs of names.
 pub type Pairs<'a> = BTreeSet<(&'a [u8], &'a [u8]), Global>;
 
-/// A data input: its place among those of its type, and what values it holds.
+/// A data input: its index among those of its type, and the type of its values.
 #[derive(Clone, Copy)]
 pub struct Input {
+    /// The index among the data inputs of its type.
     pub place: u32,
+    /// The type of its values.
     pub ty: Ty,
 }
 
 /// What stimuli may name of a type.
 #[derive(Drop)]
 pub struct TypeInputs<'a> {
-    /// The places of the event inputs.
+    /// The indices of the event inputs.
     pub events: BTreeMap<&'a [u8], u32, Global>,
     /// The event inputs, each with a variable that goes WITH it.
     pub withs: Pairs<'a>,
@@ -59,7 +61,7 @@ pub struct TypeInputs<'a> {
     pub variables: BTreeMap<&'a [u8], Input, Global>,
 }
 
-/// The places of events. Of events with one name the first counts.
+/// The indices of events. If events have the same name, the first counts.
 fn events_of<'a>(
     alloc: Global,
     events: &'a [EventPort],
@@ -100,7 +102,7 @@ fn withs_of<'a>(alloc: Global, events: &'a [EventPort]) -> Result<Pairs<'a>, All
     Ok(withs)
 }
 
-/// The places and the types of variables. Of variables with one name the first counts.
+/// The indices and the types of variables. If variables have the same name, the first counts.
 fn variables_of<'a>(
     alloc: Global,
     variables: &'a [Variable],
@@ -129,7 +131,7 @@ fn inputs_of<'a>(alloc: Global, ports: &'a Ports) -> Result<TypeInputs<'a>, Allo
     })
 }
 
-/// What stimuli may name of each of some.
+/// What stimuli may name of each type.
 pub fn inputs_of_each<'a, T: Interfaced>(
     alloc: Global,
     all: &'a [T],

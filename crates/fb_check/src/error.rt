@@ -8,12 +8,12 @@ use crate::fault::Fault;
 use std::alloc::AllocError;
 use thiserror::Error;
 
-/// Why a declaration, a deployment and stimuli are not accepted, so that no system stands for them.
+/// Why a declaration, a deployment and stimuli are not accepted.
 #[derive(Clone, Copy, Debug, Error)]
 pub enum CheckError {
     #[error("out of memory")]
     Memory,
-    /// Of the faults that apply, this has the least number.
+    /// The fault with the least number, of those that apply.
     #[error("{0}")]
     Refused(Fault),
 }
@@ -27,7 +27,7 @@ impl From<AllocError> for CheckError {
 }
 
 impl CheckError {
-    /// The number of the refusal, from 20 to 30. Want of memory has none.
+    /// The number of the refusal, from 20 to 30. `Memory` has none.
     pub fn number(&self) -> Option<u8>
         ensures { result ≡ number_of self.now }
     {

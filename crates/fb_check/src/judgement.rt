@@ -21,7 +21,7 @@ use fb_system::StimulusRow;
 use fb_types::{Items, MOST_STIMULI};
 use std::alloc::Global;
 
-/// E20: the places of all names, where none is given twice.
+/// E20: the indices of all names, if none is given twice.
 fn catalog<'a>(alloc: Global, case: &Case<'a>) -> Result<Catalog<'a>, CheckError>
     ensures ok { IfOk result (IsCatalog case.now.library.now case.now.plan.now) }
     ensures refused { IfErr result (IsRightly (inputs_in case.now)) }
@@ -32,7 +32,7 @@ fn catalog<'a>(alloc: Global, case: &Case<'a>) -> Result<Catalog<'a>, CheckError
     }
 }
 
-/// E21: the numbers of all names, where each stands for something.
+/// E21: the numbers of all names, if each stands for something.
 fn numbers(alloc: Global, case: &Case, catalog: &Catalog) -> Result<Resolved, CheckError>
     requires { IsCatalog case.now.library.now case.now.plan.now catalog.now }
     ensures ok { IfOk result (IsResolved case.now.library.now case.now.plan.now) }
@@ -47,7 +47,7 @@ fn numbers(alloc: Global, case: &Case, catalog: &Catalog) -> Result<Resolved, Ch
     }
 }
 
-/// E29: the stimuli by number, where each fits.
+/// E29: the stimuli by number, if each fits.
 fn judge_stimuli(
     alloc: Global,
     case: &Case,
@@ -65,7 +65,7 @@ fn judge_stimuli(
     }
 }
 
-/// E30: not over a limit.
+/// E30: whether the inputs keep the limits.
 fn judge_limits(alloc: Global, case: &Case, resolved: &Resolved) -> Result<(), CheckError>
     requires resolved { IsResolved case.now.library.now case.now.plan.now resolved.now }
     requires passed { HasPassed 30 case.now }
@@ -78,8 +78,8 @@ fn judge_limits(alloc: Global, case: &Case, resolved: &Resolved) -> Result<(), C
     Ok(())
 }
 
-/// The checks from E22 on, by the places and the numbers of names. For each instance of the application the resource
-/// that holds it, and the stimuli by number.
+/// The checks from E22 on, by the indices and the numbers of names. Returns, for each instance of the application, the
+/// resource that holds it, and the stimuli by number.
 fn judge_by_numbers(
     alloc: Global,
     case: &Case,
@@ -100,7 +100,7 @@ fn judge_by_numbers(
     Ok((holders, rows))
 }
 
-/// What is made of inputs that are accepted. Else the error is as with `judge`.
+/// What the check makes of inputs that are accepted. The errors are those of `judge`.
 pub fn judged<'a>(alloc: Global, case: &Case<'a>) -> Result<Judged<'a>, CheckError>
     ensures accepted { IfOk result (λ _. AreAccepted case.now) }
     ensures catalog { IfOk result (λ j. IsCatalog case.now.library.now case.now.plan.now j.catalog) }
@@ -120,8 +120,11 @@ pub fn judged<'a>(alloc: Global, case: &Case<'a>) -> Result<Judged<'a>, CheckErr
     })
 }
 
-/// Whether the inputs are accepted: `Ok` where none of the conditions from E20 to E30 holds, else the fault with the
-/// least number that applies.
+/// Checks whether the inputs are accepted.
+///
+/// # Errors
+///
+/// `Refused` with the least number from E20 to E30 that applies, and `Memory`.
 pub fn judge(alloc: Global, case: &Case) -> Result<(), CheckError>
     ensures accepted { IfOk result (λ _. AreAccepted case.now) }
     ensures refused { IfErr result (IsRightly (inputs_in case.now)) }

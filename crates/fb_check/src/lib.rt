@@ -1,9 +1,9 @@
-//! The check of a declaration, a deployment and stimuli, and the system that stands for what was accepted.
+//! The check of a declaration, a deployment and stimuli, and the system of inputs that are accepted.
 //!
-//! Guarantees to callers: `judgement::judge` accepts where none of E20 to E30 applies, and else answers the least that does;
-//! `judgement::judged` hands over what was made on the way: places and numbers of names, the resources that hold instances,
-//! and the stimuli by number. `acceptance::accept` gives a system exactly for inputs that are accepted, and else the least
-//! number that applies.
+//! Guarantees to callers: `judgement::judge` accepts if none of E20 to E30 applies, and otherwise returns the least that
+//! does. `judgement::judged` returns what the check made on the way: indices and numbers of names, the resources that
+//! hold instances, and the stimuli by number. `acceptance::accept` returns a system exactly for inputs that are accepted,
+//! and otherwise the least number that applies.
 //!
 //! Read in this order: `case`, `fault` and `error`; `judgement`, the checks in the order of their numbers;
 //! `network_checks` (E22 to E25) and `mapping_checks` (E26 to E28); `stimuli` (E29) with `directory` and

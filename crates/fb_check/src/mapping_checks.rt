@@ -15,7 +15,7 @@ use fb_check_networks::{Mapping, holders_of, lacks_event, lacks_link, mapping_of
 use fb_types::Items;
 use std::alloc::Global;
 
-/// E26: each instance mapped once.
+/// E26: each instance is mapped once.
 fn mapping<'a>(alloc: Global, case: &Case<'a>) -> Result<Mapping<'a>, CheckError>
     requires passed { HasPassed 26 case.now }
     ensures ok { IfOk result (IsMapping case.now.library.now case.now.plan.now) }
@@ -60,7 +60,7 @@ fn judge_events(
     Ok(())
 }
 
-/// The checks from E26 to E28. For each instance of the application the resource that holds it.
+/// The checks from E26 to E28. Returns, for each instance of the application, the resource that holds it.
 pub fn judge_mapping(
     alloc: Global,
     case: &Case,

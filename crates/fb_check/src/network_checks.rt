@@ -28,7 +28,7 @@ fn judge_kinds(case: &Case, catalog: &Catalog, resolved: &Resolved) -> Result<()
     Ok(())
 }
 
-/// E23: data connections to types that hold all values.
+/// E23: data connections to types that contain all values.
 fn judge_ranges(case: &Case, resolved: &Resolved) -> Result<(), CheckError>
     requires resolved { IsResolved case.now.library.now case.now.plan.now resolved.now }
     requires passed { HasPassed 23 case.now }

@@ -1,4 +1,4 @@
-//! The stimuli by number, where an application can take them (E29).
+//! The stimuli by number, if the application can take them (E29).
 
 ghost use Rattle.std.specs.Prelude.{◌≡◌, ◌↔◌, ◌++◌, map, IfOk, IsTrue, MatchOption};
 ghost use Rattle.std.specs.Option.{option_copied};
@@ -20,7 +20,7 @@ use fb_system::{StimulusRow, number_of};
 use fb_types::{Items, Library, Name, Ports, Setting, Stimulus, Value, all_ports};
 use std::alloc::{AllocError, Global};
 
-/// What a stimulus may name of the type of the instance of the application at a place.
+/// What a stimulus may name of the instance at an index of the application.
 fn inputs_at<'d, 'a>(
     library: &Library,
     catalog: &Catalog,
@@ -36,7 +36,7 @@ fn inputs_at<'d, 'a>(
     inputs_named(library, directory, &catalog.types, name)
 }
 
-/// The place of an event input.
+/// The index of an event input.
 fn event_place(inputs: &TypeInputs, event: &[u8]) -> Option<u32>
     ensures { result ≡ place_in inputs.now.events event.now }
 {
@@ -62,7 +62,7 @@ fn has_setting_twice(alloc: Global, stimulus: &Stimulus) -> Result<bool, AllocEr
     Ok(places_of(alloc, names.as_slice())?.is_none())
 }
 
-/// The slot of a data input with the value that it gets, where its type holds the value.
+/// The slot of a data input with its value, if the type contains the value.
 fn held_slot(inputs: &TypeInputs, variable: &[u8], value: Value) -> Option<SlotValue>
     ensures { result ≡ held_slot (input_in inputs.now.variables variable.now) value }
 {
@@ -73,7 +73,7 @@ fn held_slot(inputs: &TypeInputs, variable: &[u8], value: Value) -> Option<SlotV
     Some(SlotValue { place, value })
 }
 
-/// The slot of a variable that goes WITH the event of the stimulus, is not connected, and can hold the value.
+/// The slot of a variable that goes WITH the event of the stimulus, is not connected, and can contain the value.
 fn slot_of<'a>(
     directory: &Directory<'a>,
     inputs: &TypeInputs<'a>,
@@ -92,7 +92,7 @@ fn slot_of<'a>(
     }
 }
 
-/// The slots that a stimulus sets, in the order of its settings, or `None` where one can't be set.
+/// The slots that a stimulus sets, in the order of its settings, or `None` if one can't be set.
 fn slots_of<'a>(
     alloc: Global,
     directory: &Directory<'a>,
@@ -111,7 +111,7 @@ fn slots_of<'a>(
     Ok(Some(slots))
 }
 
-/// A stimulus by number, or `None` where the application can't take it.
+/// A stimulus by number, or `None` if the application can't take it.
 fn row_of<'a>(
     alloc: Global,
     library: &Library,
@@ -148,7 +148,7 @@ fn row_of<'a>(
     }
 }
 
-/// The stimuli by number, each at its row, by what they may name; or `None` where one can't be taken.
+/// The stimuli by number, each at its row, from what they may name; or `None` if one can't be taken.
 fn rows_by<'a>(
     alloc: Global,
     library: &Library,
@@ -170,7 +170,7 @@ fn rows_by<'a>(
     Ok(Some(rows))
 }
 
-/// The stimuli by number, each at its row, by the interfaces of the event blocks.
+/// The stimuli by number, each at its row, from the interfaces of the event blocks.
 fn rows_in(
     alloc: Global,
     library: &Library,
@@ -186,13 +186,13 @@ fn rows_in(
     rows_by(alloc, library, catalog, &directory, stimuli)
 }
 
-/// The stimuli by number, each at its row, in near linear time; or `None` where one names no event input of an instance
-/// of the application, or sets a variable that is not WITH the event, is connected, is set twice, or can't hold the
-/// value (E29).
+/// The stimuli by number, each at its row, in near linear time. The result is `None` if one names no event input of an
+/// instance of the application, or sets a variable that is not WITH the event, is connected, is set twice, or can't
+/// contain the value (E29).
 ///
 /// # Errors
 ///
-/// Want of memory. A place of 2^32 or more counts as that.
+/// When memory runs out. An index of 2^32 or more counts as out of memory.
 pub fn rows_of(
     alloc: Global,
     library: &Library,

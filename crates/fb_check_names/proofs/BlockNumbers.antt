@@ -60,7 +60,7 @@ composite_unknown lib n t at unknown =
 pub has_places : (lib : Library) (c : Catalog) (n : ℕ) (t : BlockType) → HasTypes lib c → slice_get lib.blocks n ≡ Some t → n < length c.blocks.items
 has_places lib c n t has at = subst (λ (m : ℕ). n < m) (sym has.counted) (slice_get_within lib.blocks n t at)
 
--- the places of its ports and of its instances
+-- the indices of its ports and of its instances
 pub composite_ports :
     (lib : Library) (c : Catalog) (n : ℕ) (t : CompositeType) (x : BlockPlaces) → HasTypes lib c → slice_get lib.blocks n ≡ Some (block.Composite t)
     → x ≡ get_or c.blocks.items n x → ArePlacesOf t.ports x.ports

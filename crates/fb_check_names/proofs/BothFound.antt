@@ -1,9 +1,9 @@
--- What is known of two answers together.
+-- What two results say together.
 use Rattle.std.proofs.Common.{◌≡◌, Option, Some, None, Result, sym, ◌∙◌, subst}
 use Rattle.std.specs.Prelude.{Ok, Err, MatchOption, IfOk}
 use Rattle.fb_check_names.specs.Both.{both_of}
 
--- an answer of which is known what it is
+-- a result that is known
 pub told :
     {A X : Type 0} (r : Result (Option A) X) (o e : Option A) → o ≡ e → IfOk r (λ p. p ≡ o) → IfOk r (λ p. MatchOption p (e ≡ None) (λ x. e ≡ Some x))
 told (Err x) o e same h = tt

@@ -1,4 +1,4 @@
--- What the tests of all parts together answer.
+-- The results of the tests of all parts together.
 use Rattle.std.proofs.Common.{◌≡◌, ℕ, List, map, Option, Result, Vec, Global, Contains, Bor, sym, subst}
 use Rattle.std.specs.Prelude.{Ok, IfOk, MatchOption}
 use Rattle.std.specs.BTreeMap.{BTreeMap}
@@ -24,7 +24,7 @@ Places = BTreeMap (Bor Name) ℕ
 abbrev SomeBlockTwice : List BlockType → Type 0
 SomeBlockTwice ts = (t : BlockType) × Contains ts t × BlockTwice t
 
--- ---- Every part answers places
+-- ---- Every part returns indices
 
 pub catalog_answer :
     (lib : Library) (plan : Plan) (c : Catalog) (ts us : List BlockType)
@@ -51,7 +51,7 @@ catalog_answer lib plan c ts us same types same' blocks instances resources =
 
 -- ---- All parts
 
--- the places of the types' names and of what is in them, and of the application's instances and the resources
+-- the indices of the types' names and of what is in them, and of the application's instances and the resources
 abbrev pub AreAll : Library → Plan → (Places × Vec BlockPlaces Global) × (Places × Places) → Type 0
 AreAll lib plan z = IsCatalog lib plan (record { types = z.0.0; blocks = z.0.1; instances = z.1.0; resources = z.1.1 })
 

@@ -8,7 +8,7 @@ use Rattle.fb_types.specs.Names.{Name, Port}
 use Rattle.fb_check_names.specs.Ends.{End}
 use Rattle.fb_check_names.proofs.Seen.{IsExact, end_cmp, name_cmp, pair_cmp-exact, pair_ports}
 
--- where a connection begins the component, if there is one, and the port, and so where it leads
+-- where a connection begins the component, if there is one, and the port, and the same where it leads
 abbrev pub Key : Type 0
 Key = Option (Bor Name) × Bor Name × Option (Bor Name) × Bor Name
 
@@ -31,7 +31,7 @@ then_assoc order.Less s t = refl
 then_assoc order.Equal s t = refl
 then_assoc order.Greater s t = refl
 
--- two keys are equal exactly where their ports are
+-- two keys are equal exactly if their ports are
 pub key_cmp-exact : IsExact key_cmp key_ports
 key_cmp-exact p q =
     subst (λ (r : Ordering). Decides (is_eq r) (key_ports p ≡ key_ports q))

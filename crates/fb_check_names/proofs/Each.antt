@@ -1,4 +1,4 @@
--- What a function makes of each element of a list, one element at a time.
+-- The results of a function for each element of a list, one element at a time.
 use Rattle.std.proofs.Common.{◌≡◌, ℕ, zero, suc, ◌<◌, ◌≤◌, ◌+◌, ◌&&◌, List, [], ◌∷◌, ◌++◌, length, take, get_or, Option, Some, None, refl, sym, ◌∙◌, ap}
 use Rattle.std.specs.Prelude.{slice_get, option_map, option_and_then, is_some}
 use Rattle.std.specs.List.{list_all}
@@ -46,7 +46,7 @@ none_at f (z ∷ zs) (suc i) x h g =
       | Some w ↦ ap (put_first w) (none_at f zs i x h g)
     ]
 
--- nothing is made of all where nothing is made of one
+-- there is no result for all if there is none for one
 pub each_stops :
     {A B : Type 0} (f : A → Option B) (xs : List A) (i : ℕ) (x : A) → i < length xs → x ≡ get_or xs i x → f x ≡ None → each_or_none f xs ≡ None
 each_stops f xs i x h e g = none_at f xs i x (slice_get_read xs (length xs) i x refl h e) g
@@ -84,7 +84,7 @@ each-length f [] zs h = let none : [] ≡ zs = cc in ap length (sym none)
 each-length f (x ∷ xs) zs h =
     let p = each_parts f x xs zs h in ap length p.4 ∙ ap suc (each-length f xs p.1 p.3)
 
--- the element from which one was made
+-- the element from which one result was made
 pub each_from :
     {A B : Type 0} (f : A → Option B) (xs : List A) (zs : List B) (i : ℕ) (z : B) → each_or_none f xs ≡ Some zs → slice_get zs i ≡ Some z
     → (x : A) × (slice_get xs i ≡ Some x) × (f x ≡ Some z)
@@ -98,7 +98,7 @@ each_from {A} {B} f (x ∷ xs) zs (suc i) z h g =
     let p = each_parts f x xs zs h in
     each_from f xs p.1 i z p.3 (ap (λ (ys : List B). slice_get ys (suc i)) (sym p.4) ∙ g)
 
--- what was made of an element
+-- the result for an element
 pub each_at :
     {A B : Type 0} (f : A → Option B) (xs : List A) (zs : List B) (i : ℕ) (x : A) → each_or_none f xs ≡ Some zs → slice_get xs i ≡ Some x
     → (z : B) × (slice_get zs i ≡ Some z) × (f x ≡ Some z)

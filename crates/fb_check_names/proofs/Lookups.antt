@@ -1,4 +1,4 @@
--- Types, ports and instances by the places of their names.
+-- Types, ports and instances by the indices of their names.
 use Rattle.std.proofs.Common.{◌≡◌, ℕ, ◌<◌, ◌≤◌, ◌-◌, List, ◌++◌, length, map, get_or, Some, None, Option, Bor, MatchOption, SomeIff, refl, sym, ◌∙◌, ap, subst, append_assoc}
 use Rattle.std.specs.Prelude.{slice_get, option_map, option_and_then, position}
 use Rattle.std.specs.BTreeMap.{BTreeMap}
@@ -30,7 +30,7 @@ use Rattle.fb_types.proofs.TwiceLaws.{once_right}
 use Rattle.fb_check_names.proofs.Each.{each_at}
 use Rattle.fb_check_names.proofs.Parts.{after_part, first_part}
 
--- ---- Ports by the places of all names of their type
+-- ---- Ports by the indices of all names of their type
 
 abbrev from_data_outs : Ports → List Name → List Name
 from_data_outs p ns = data_outs p ++ ns
@@ -50,7 +50,7 @@ Skips k place r = MatchOption place (r ≡ None) (λ i. SomeIff r (k ≤ i) (i -
 abbrev Keeps : ℕ → Option ℕ → Option ℕ → Type 0
 Keeps k place r = MatchOption place (r ≡ None) (λ i. SomeIff r (i < k) i)
 
--- where the place of a name in the whole list is known
+-- if the index of a name in the whole list is known
 pub record IsPlace (p : Ports) (places : BTreeMap (Bor Name) ℕ) (n : Name) (place : Option ℕ) : Type 0 where
   pub are : ArePlacesOf p places
   pub at : place ≡ position (same_name n) (from_event_ins p are.internals)
@@ -115,7 +115,7 @@ from_last : (a b c d e : List Name) → a ++ b ++ c ++ d ++ e ≡ a ++ (b ++ (c 
 from_last a b c d e =
     append_assoc (a ++ b ++ c) d e ∙ append_assoc (a ++ b) c (d ++ e) ∙ append_assoc a b (c ++ (d ++ e))
 
--- the places of a block type's names are those of its ports
+-- the indices of a block type's names are those of its ports
 pub block_places :
     (lib : Library) (c : Catalog) (ds : List BlockPlaces) (k : ℕ) (t : BlockType) (x : BlockPlaces) (p : Ports) → HasTypes lib c
     → slice_get lib.blocks k ≡ Some t → ds ≡ c.blocks.items → k < length ds → x ≡ get_or ds k x → p ≡ ports_of_block t → ArePlacesOf p x.ports

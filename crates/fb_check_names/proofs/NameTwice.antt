@@ -59,7 +59,7 @@ to_with lib = to_instances lib ++ of_with lib
 abbrev to_parameters : Library → List (List Name)
 to_parameters lib = to_with lib ++ of_parameters lib
 
--- ---- What stands twice in them gives E20
+-- ---- What is twice in them gives E20
 
 from_parameters : (lib : Library) (plan : Plan) → TwiceIn (to_parameters lib) → NameTwice lib plan
 from_parameters lib plan t = inl (TwiceIn-left (to_parameters lib) (of_resources plan) t)
@@ -153,7 +153,7 @@ plan_twice lib plan twice =
       | inr l ↦ inr (inr l)
     ]
 
--- ---- Where no part does, there is no E20
+-- ---- If no part does, there is no E20
 
 -- No part gives anything twice.
 pub record ArePartsOnce (lib : Library) (plan : Plan) : Type 0 where
@@ -162,7 +162,7 @@ pub record ArePartsOnce (lib : Library) (plan : Plan) : Type 0 where
   pub network : ¬ (NetworkTwice lib.application.network)
   pub deployment : ¬ (PlanTwice plan)
 
--- what a basic type gives twice by a test that its parts pass
+-- what a basic type gives twice, from a test that its parts pass
 in_basic : (lib : Library) (plan : Plan) (b : BasicType) → ArePartsOnce lib plan → Contains (basics lib) b → Twice (state_names b) ⊎ Twice (algorithm_names b) → ⊥
 in_basic lib plan b once c t = once.blocks (block.Basic b) (in_basics lib.blocks b c) (inr t)
 

@@ -1,4 +1,4 @@
--- What a network names and nothing stands for, where it gets no numbers (E21).
+-- Names of a network that stand for nothing, if the network has no numbers (E21).
 use Rattle.std.proofs.Common.{◌≡◌, ◌&&◌, ◌||◌, ℕ, Bool, true, false, List, [], map, Some, None, Option, Result, MatchOption, Contains, refl, sym, ◌∙◌, ap, inl, inr}
 use Rattle.std.specs.Prelude.{Ok, IfOk, flat_map, is_some, slice_get, option_map, option_and_then}
 use Rattle.std.specs.List.{list_any, list_all}
@@ -33,16 +33,16 @@ use Rattle.fb_check_names.proofs.BothFound.{both_answer, told}
 use Rattle.fb_check_names.proofs.Each.{is_some-each}
 use Rattle.fb_check_names.proofs.Lookups.{kind_known, kind_of_numbered, type_named-number}
 
--- ---- Wanted names
+-- ---- Required names
 
--- whether a name is among the wanted ones
+-- whether a name is among the required ones
 abbrev pub met : Wanted → Bool
 met w = list_any (same_name w.0) w.1
 
 pub list_all-all_of : (ns sort : List Name) → list_all met (all_of ns sort) ≡ list_all (λ n. list_any (same_name n) sort) ns
 list_all-all_of ns sort = list_all-map met (λ n. (n, sort)) ns
 
--- all names are known where they have places
+-- all names are known if they have indices
 pub places_met : (ns sort : List Name) → list_all met (all_of ns sort) ≡ is_some (each_or_none (place_of sort) ns)
 places_met ns sort =
     list_all-all_of ns sort
@@ -160,7 +160,7 @@ boundary_known boundary e (Some t) =
     sym (is_some-position (same_name e.port) (boundary t.ports))
     ∙ is_some-option_map (λ (f : ℕ). let r : WireEnd = record { component = None; port = f } in r) (place_of (boundary t.ports) e.port)
 
--- an end stands for a port where it has a number
+-- an end stands for a port if it has a number
 end_known :
     (lib : Library) (n : Placed) (component boundary : Ports → List Name) (e : PortName)
     → is_end lib n component boundary e ≡ is_some (end_number lib n component boundary e)
@@ -230,7 +230,7 @@ unknown_data lib n h =
     ∙ ap (λ (o : Option (List Wire)). is_some (each_or_none (event_wire lib n) n.1.event_connections) && is_some o) h
     ∙ and-false (is_some (each_or_none (event_wire lib n) n.1.event_connections)))
 
--- where a network has numbers, all that it names is known
+-- if a network has numbers, all that it names is known
 pub network_known : (lib : Library) (n : Placed) (x : NetworkNumbers) → IsNetwork lib n x → ¬ (NetworkUnknown lib n)
 network_known lib n x is unknown =
     elim unknown [

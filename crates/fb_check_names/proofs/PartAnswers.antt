@@ -1,4 +1,4 @@
--- What the tests of one block type, one network or one deployment answer.
+-- The results of the tests of one block type, one network or one deployment.
 use Rattle.std.proofs.Common.{◌≡◌, ◌⊎◌, ◌||◌, ℕ, zero, suc, ◌<◌, ◌+◌, Bool, true, false, cond, List, [], ◌∷◌, ◌++◌, length, map, take, get_or, Option, Some, Result, Contains, Bor, refl, sym, ◌∙◌, ap, subst, inl, inr, length-append}
 use Rattle.std.specs.Prelude.{◌↔◌, IsTrue, IfOk, MatchOption, slice_get, option_map, is_some}
 use Rattle.std.specs.List.{list_any}
@@ -136,7 +136,7 @@ Twice-cases (x ∷ xs) ys t =
       ]
     ]
 
--- whether a name stands twice
+-- whether a name occurs twice
 unfoldable repeats : List Name → Bool
 repeats [] = false
 repeats (n ∷ ns) = list_any (same_name n) ns || repeats ns
@@ -222,7 +222,7 @@ types_answer r ts b says fails h =
 
 -- ---- Block types, one more at a time
 
--- the block types so far give nothing twice, and their names have their places
+-- the block types so far give nothing twice, and their names have their indices
 pub record AreSoFar (ts : List BlockType) (xs : List BlockPlaces) : Type 0 where
   pub blocks : AreBlocks ts xs
   pub once : (t : BlockType) → Contains ts t → ¬ (BlockTwice t)

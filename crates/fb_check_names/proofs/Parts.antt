@@ -1,4 +1,4 @@
--- Places in a list of names that differ, and in the parts of which it is made.
+-- Indices in a list of names that differ, and in the parts of which it is made.
 use Rattle.std.proofs.Common.{◌≡◌, ℕ, suc, ◌<◌, ◌≤◌, ◌+◌, ◌-◌, Bool, true, false, cond, List, [], ◌∷◌, ◌++◌, length, Some, None, Option, Contains, MatchOption, SomeIff, refl, sym, ◌∙◌, ap, subst, inl, inr, arith}
 use Rattle.std.specs.Prelude.{position, option_map, is_some}
 use Rattle.std.proofs.lemmas.List.Elements.{Contains-append_right}
@@ -52,7 +52,7 @@ place_contains n xs i h = contains_from_any n xs (sym (is_some-position (same_na
 pub place_within : (n : Name) (xs : List Name) (i : ℕ) → position (same_name n) xs ≡ Some i → i < length xs
 place_within n xs i h = (position-Some (same_name n) xs i [] h).0
 
--- ---- The place in a part
+-- ---- The index in a part
 
 abbrev Skips : ℕ → Option ℕ → Option ℕ → Type 0
 Skips k place r = MatchOption place (r ≡ None) (λ i. SomeIff r (k ≤ i) (i - k))
@@ -60,7 +60,7 @@ Skips k place r = MatchOption place (r ≡ None) (λ i. SomeIff r (k ≤ i) (i -
 abbrev Keeps : ℕ → Option ℕ → Option ℕ → Type 0
 Keeps k place r = MatchOption place (r ≡ None) (λ i. SomeIff r (i < k) i)
 
--- an element of the first part has no place in the second
+-- an element of the first part has no index in the second
 skipped : (k i : ℕ) (r : Option ℕ) → i < k → Skips k (Some i) r → r ≡ None
 skipped k i None h s = refl
 skipped k i (Some j) h s = absurd (let le : k ≤ i = s.0 in omega (arith, h, le))

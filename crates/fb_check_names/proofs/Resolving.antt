@@ -196,7 +196,7 @@ deployment_known :
 deployment_known lib plan hs ls h g unknown =
     met_wanted (deployment_wanted lib plan) (deployment_met lib plan ∙ (λ i. is_some (h i) && is_some (g i))) unknown.0 unknown.1 unknown.2
 
--- the numbers by the maps of places
+-- the numbers by the maps of indices
 held_are :
     (lib : Library) (places : BTreeMap (Bor Name) ℕ) (rs : List ResourceEntry) → IsIndex (instance_names lib.application.network) places
     → each_or_none (λ r. each_or_none (place_in places) r.instances) rs ≡ each_or_none (held_numbers lib) rs

@@ -1,4 +1,4 @@
--- Whether something holds of one of a list, by a loop that ends at the first of which it does.
+-- Whether something holds of one element of a list, by a loop that ends at the first such element.
 use Rattle.std.proofs.Common.{◌≡◌, ◌↔◌, ℕ, ◌<◌, ◌≤◌, true, false, List, length, take, get_or, Contains, refl, sym, subst}
 use Rattle.std.specs.Prelude.{All, IsTrue}
 use Rattle.std.proofs.lemmas.Bool.{true≢false}

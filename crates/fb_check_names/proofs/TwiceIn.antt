@@ -1,4 +1,4 @@
--- Names that stand twice in one of several lists.
+-- Names that occur twice in one of several lists.
 use Rattle.std.proofs.Common.{◌⊎◌, List, [], ◌∷◌, ◌++◌, map, Contains, sym, subst, inl, inr}
 use Rattle.std.specs.Prelude.{flat_map}
 use Rattle.std.proofs.lemmas.List.Elements.{Contains-append_left, Contains-append_right, Contains-append_cases}
@@ -7,7 +7,7 @@ use Rattle.fb_types.specs.Repeated.{Twice}
 use Rattle.fb_check_names.specs.GivenTwice.{TwiceIn}
 use Rattle.fb_types.proofs.Elements.{Contains-nil, Contains-cons_cases, Contains-here, Contains-map, map-Contains, Contains-flat_map, flat_map-Contains}
 
--- ---- Names that stand twice in one of the lists
+-- ---- Names that occur twice in one of the lists
 
 pub TwiceIn-left : (ls ms : List (List Name)) → TwiceIn ls → TwiceIn (ls ++ ms)
 TwiceIn-left ls ms t = (t.0, Contains-append_left ls ms t.0 t.1, t.2)

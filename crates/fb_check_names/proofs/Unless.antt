@@ -1,4 +1,4 @@
--- What a function that gives None at a fault answers, where the fault is one of several.
+-- The result of a function that returns None at a fault, if the fault is one of several.
 use Rattle.std.proofs.Common.{◌≡◌, ◌↔◌, Bool, true, false, not, Option, Some, None, Result, refl, sym}
 use Rattle.std.specs.Prelude.{MatchOption, IfOk, IsTrue, is_some}
 use Rattle.std.proofs.lemmas.Bool.{true≢false}

@@ -1,7 +1,7 @@
--- What two calls found.
+-- The results of two calls.
 use Rattle.std.specs.Prelude.{Option, Some, None, Result, Ok, Err}
 
--- both, where each found something; else what the first says that did not
+-- both, if each is there; else the first result that is not
 abbrev pub both_of : {A B E : Type 0} → Result (Option A) E → Result (Option B) E → Result (Option (A × B)) E
 both_of (Err e) second = Err e
 both_of (Ok None) second = Ok None

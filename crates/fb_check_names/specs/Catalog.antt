@@ -1,4 +1,5 @@
--- The places of the names of a declaration and a deployment (IEC 61499-1, 5 to 7; the name spaces are this project's profile).
+-- The indices of the names of a declaration and a deployment (IEC 61499-1, 5 to 7; the name spaces are this project's
+-- profile).
 use Rattle.std.specs.Prelude.{◌≡◌, ℕ, List, [], map, length, Some, slice_get}
 use Rattle.fb_types.specs.Names.{Name}
 use Rattle.fb_types.specs.Flat.{type_name, resource_names_of}
@@ -31,7 +32,7 @@ pub record IsBlock (t : BlockType) (x : BlockPlaces) : Type 0 where
   pub algorithms : IsIndex (algorithms_of t) x.algorithms
   pub instances : IsIndex (instances_of t) x.instances
 
--- No name is given twice, and the catalog has the place of each.
+-- No name is given twice, and the catalog has the index of each.
 pub record IsCatalog (lib : Library) (plan : Plan) (c : Catalog) : Type 0 where
   pub once : ¬ (NameTwice lib plan)
   pub types : IsIndex (map type_name lib.blocks) c.types

@@ -13,7 +13,7 @@ use Rattle.fb_types.specs.declared.deploy.Plan.{Plan}
 use Rattle.fb_check_names.specs.declared.catalog.BlockPlaces.{BlockPlaces}
 use Rattle.fb_check_names.specs.Catalog.{IsBlock}
 
--- A name stands twice in one of the lists.
+-- A name is twice in one of the lists.
 abbrev pub TwiceIn : List (List Name) → Type 0
 TwiceIn lists = (ns : List Name) × Contains lists ns × Twice ns
 
@@ -38,11 +38,11 @@ TypeTwice ts = Twice (map (λ e. e.0) event_blocks ++ map type_name ts)
 abbrev pub PlanTwice : Plan → Type 0
 PlanTwice plan = Twice (resource_names_of plan) ⊎ Twice (link_pairs plan)
 
--- None exactly where something is given twice, else a value of which P holds
+-- None exactly if something is given twice, else a value of which P holds
 abbrev pub Unless : {A : Type 0} → Type 0 → (A → Type 0) → Option A → Type 0
 Unless E P o = MatchOption o E (λ x. ¬ E × P x)
 
--- The names of each block type by their places.
+-- The names of each block type by their indices.
 pub record AreBlocks (ts : List BlockType) (xs : List BlockPlaces) : Type 0 where
   pub counted : length xs ≡ length ts
   pub each : (k : ℕ) (t : BlockType) (x : BlockPlaces) → slice_get ts k ≡ Some t → slice_get xs k ≡ Some x → IsBlock t x

@@ -1,4 +1,5 @@
--- A declaration and a deployment by numbers: types, ports, instances and resources by their places (IEC 61499-1, 5.3 and 7).
+-- A declaration and a deployment by number: types, ports, instances and resources by their indices (IEC 61499-1, 5.3 and
+-- 7).
 use Rattle.std.specs.Prelude.{◌≡◌, ℕ, List, [], ◌∷◌, map, length, Option, Some, None, position, slice_get, option_map, option_and_then}
 use Rattle.fb_types.specs.Names.{Name, same_name}
 use Rattle.fb_types.specs.Blocks.{Kind, Event, event_block_named, ports_of}
@@ -24,7 +25,7 @@ use Rattle.fb_check_names.specs.declared.numbers.LinkEnds.{LinkEnds}
 use Rattle.fb_check_names.specs.declared.numbers.NetworkNumbers.{NetworkNumbers}
 use Rattle.fb_check_names.specs.declared.numbers.Resolved.{Resolved}
 
--- what f makes of each element, or none where it makes nothing of one
+-- the results of f for all elements, or none if one has none
 abbrev pub each_or_none : {A B : Type 0} → (A → Option B) → List A → Option (List B)
 each_or_none f [] = Some []
 each_or_none f (x ∷ xs) = option_and_then (λ y. option_map (λ ys. y ∷ ys) (each_or_none f xs)) (f x)
@@ -48,14 +49,14 @@ kind_of_number lib (number.Declared t) = option_map kind_of (slice_get lib.block
 
 -- ---- Ends of connections
 
--- the ports of the component at a place
+-- the ports of the component at an index
 abbrev pub ports_at_place : Library → Placed → ℕ → Option Ports
 ports_at_place lib n i = option_map ports_of (option_and_then (kind_of_instance lib) (slice_get n.1.instances i))
 
 abbrev pub end_at : Option ℕ → List Name → PortName → Option WireEnd
 end_at component ports e = option_map (λ k. record { component = component; port = k }) (place_of ports e.port)
 
--- an end among the ports of the one sort at a component, or of the other at the boundary
+-- an end among the ports of the one kind at a component, or of the other at the boundary
 abbrev pub end_number : Library → Placed → (component boundary : Ports → List Name) → PortName → Option WireEnd
 end_number lib n component boundary e =
     elim e.component [
@@ -74,7 +75,7 @@ data_wire lib n c = both_ends (end_number lib n data_outs data_ins c.from) (end_
 
 -- ---- Networks
 
--- the places of the data inputs that an instance's parameters set
+-- the indices of the data inputs that an instance's parameters set
 abbrev pub parameter_numbers : Library → Instance → Option (List ℕ)
 parameter_numbers lib i =
     elim (kind_of_instance lib i) [ None ↦ None | Some k ↦ each_or_none (λ x. place_of (data_ins (ports_of k)) x.name) i.parameters ]

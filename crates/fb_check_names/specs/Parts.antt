@@ -1,4 +1,4 @@
--- What the parts of block types name and which kinds they have, apart from networks (IEC 61499-1, 5.2; IEC 61131-3, 7.3).
+-- What the parts of block types name and which kinds they have, except for networks (IEC 61499-1, 5.2; IEC 61131-3, 7.3).
 use Rattle.std.specs.Prelude.{◌≡◌, ◌⊎◌, List, ◌++◌, flat_map, true, false, Contains}
 use Rattle.fb_types.specs.Flat.{kind_of, variables_in}
 use Rattle.fb_types.specs.Repeated.{basics, interfaces}

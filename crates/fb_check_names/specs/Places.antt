@@ -1,4 +1,4 @@
--- Names by their places (this project's profile).
+-- Names by their indices (this project's profile).
 use Rattle.std.specs.Prelude.{◌≡◌, ℕ, List, map, Option, position}
 use Rattle.std.specs.Ordering.{nat_cmp}
 use Rattle.std.specs.Cmp.Lexicographic.{slice_cmp}
@@ -15,7 +15,7 @@ names_in ns = map (λ n. n.now) ns
 abbrev pub place_in : BTreeMap (Bor Name) ℕ → Name → Option ℕ
 place_in places n = get_by (λ k. slice_cmp nat_cmp n k.now) places
 
--- The names differ, and the map gives the place of each.
+-- The names differ, and the map gives the index of each.
 pub record IsIndex (names : List Name) (places : BTreeMap (Bor Name) ℕ) : Type 0 where
   pub once : ¬ (Twice names)
   pub place : (n : Name) → place_in places n ≡ position (same_name n) names

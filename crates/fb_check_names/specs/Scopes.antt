@@ -1,4 +1,4 @@
--- A network with the places of its names (IEC 61499-1, 5.3).
+-- A network with the indices of its names (IEC 61499-1, 5.3).
 use Rattle.std.specs.Prelude.{◌≡◌, List, Option, Some, option_map, option_and_then}
 use Rattle.std.specs.Option.{ForSome}
 use Rattle.fb_types.specs.Names.{Name}
@@ -29,12 +29,12 @@ pub record IsScope (s : NetworkScope) : Type 0 where
 abbrev pub AreTyped : Library → List Instance → List TypeNumber → Type 0
 AreTyped lib is ks = each_or_none (λ i. type_number lib i.block_type) is ≡ Some ks
 
--- an end at a component, among its ports of a sort
+-- an end at a component, among its ports of a kind
 abbrev pub component_number : Library → Placed → (Ports → List Name) → Name → PortName → Option WireEnd
 component_number lib n sort c e =
     option_and_then (λ i. option_and_then (λ p. end_at (Some i) (sort p) e) (ports_at_place lib n i)) (place_of (instance_names n.1) c)
 
--- a connection from ports of the one sort to ports of the other
+-- a connection from ports of the one kind to ports of the other
 abbrev pub wire_number : Library → Placed → WireSorts → Connection → Option Wire
 wire_number lib n f c =
     both_ends (end_number lib n (names_of_sort f.outputs) (names_of_sort f.inputs) c.from)

@@ -1,4 +1,5 @@
--- The sorts of ports, and where they stand among all names of a type (IEC 61499-1, 5.1; the order of the names is this project's profile).
+-- The kinds of ports, and their indices among all names of a type (IEC 61499-1, 5.1; the order of the names is this
+-- project's profile).
 use Rattle.std.specs.Prelude.{ℕ, List, ◌++◌}
 use Rattle.std.specs.Borrow.{Bor}
 use Rattle.std.specs.BTreeMap.{BTreeMap}
@@ -9,14 +10,14 @@ use Rattle.fb_check_names.specs.Places.{IsIndex}
 use Rattle.fb_check_names.specs.declared.ports.PortSort.{PortSort}
 use Rattle.fb_check_names.specs.declared.ports.PortSort.TheVariants.{EventInput, EventOutput, Input, Output}
 
--- the names of the ports of a sort
+-- the names of the ports of a kind
 abbrev pub names_of_sort : PortSort → Ports → List Name
 names_of_sort EventInput = event_ins
 names_of_sort EventOutput = event_outs
 names_of_sort Input = data_ins
 names_of_sort Output = data_outs
 
--- The map has the places of the ports, and of the internal variables after them, as one list.
+-- The map has the indices of the ports, and of the internal variables after them, as one list.
 pub record ArePlacesOf (p : Ports) (places : BTreeMap (Bor Name) ℕ) : Type 0 where
   pub internals : List Name
   pub index : IsIndex (event_ins p ++ (event_outs p ++ (data_ins p ++ (data_outs p ++ internals)))) places

@@ -1,4 +1,4 @@
--- The types of a declaration with the places of their names (IEC 61499-1, 5.1).
+-- The types of a declaration with the indices of their names (IEC 61499-1, 5.1).
 use Rattle.std.specs.Prelude.{◌≡◌, ℕ, List, map, length, Option, Some, slice_get, option_and_then}
 use Rattle.fb_types.specs.Names.{Name}
 use Rattle.fb_types.specs.Blocks.{ports_of}
@@ -15,7 +15,7 @@ use Rattle.fb_check_names.specs.Numbers.{place_of, kind_of_number}
 use Rattle.fb_check_names.specs.declared.numbers.TypeNumber.{TypeNumber}
 use Rattle.fb_check_names.specs.declared.types.Types.{Types}
 
--- The catalog has the places of the types and of their names.
+-- The catalog has the indices of the types and of their names.
 pub record HasTypes (lib : Library) (c : Catalog) : Type 0 where
   pub types : IsIndex (map type_name lib.blocks) c.types
   pub counted : length c.blocks.items ≡ length lib.blocks
@@ -28,6 +28,6 @@ pub record AreTypes (t : Types) : Type 0 where
 abbrev pub ports_of_block : BlockType → Ports
 ports_of_block t = ports_of (kind_of t)
 
--- the place of a port of a type among those of its sort
+-- the index of a port of a type among those of its kind
 abbrev pub port_number : Library → TypeNumber → (Ports → List Name) → Name → Option ℕ
 port_number lib t sort n = option_and_then (λ k. place_of (sort (ports_of k)) n) (kind_of_number lib t)

@@ -1,4 +1,5 @@
--- E21 by its parts: what a network, a composite type or the deployment names and nothing stands for (IEC 61499-1, 5.3 and 7).
+-- E21 by its parts: names of a network, a composite type or the deployment that stand for nothing (IEC 61499-1, 5.3 and
+-- 7).
 use Rattle.std.specs.Prelude.{◌≡◌, ◌⊎◌, ℕ, List, ◌++◌, length, flat_map, false, Option, Some, None, Contains, slice_get}
 use Rattle.fb_types.specs.Repeated.{Placed, networks_in}
 use Rattle.fb_types.specs.Unknown.{Wanted, types_wanted, parameters_wanted, deployment_wanted, ends_known}
@@ -27,12 +28,12 @@ BlockUnknown lib = (n : Placed) × Contains (flat_map networks_in lib.blocks) n 
 abbrev pub DeploymentUnknown : Library → Plan → Type 0
 DeploymentUnknown lib plan = (w : Wanted) × Contains (deployment_wanted lib plan) w × ¬ (Contains w.1 w.0)
 
--- the network of a block type by numbers, none of a basic type
+-- the network of a block type by number, none of a basic type
 abbrev pub IsBlockNumbers : Library → BlockType → Option NetworkNumbers → Type 0
 IsBlockNumbers lib (block.Basic t) o = o ≡ None
 IsBlockNumbers lib (block.Composite t) o = (x : NetworkNumbers) × (o ≡ Some x) × IsNetwork lib (Some t, t.network) x
 
--- the networks of the composite types, each at the place of its type
+-- the networks of the composite types, each at the index of its type
 pub record AreBlocks (lib : Library) (xs : List (Option NetworkNumbers)) : Type 0 where
   pub counted : length xs ≡ length lib.blocks
   pub basics : (k : ℕ) (t : BasicType) → slice_get lib.blocks k ≡ Some (block.Basic t) → slice_get xs k ≡ Some None

@@ -1,4 +1,4 @@
-//! The networks of all composite types by numbers.
+//! The networks of all composite types by number.
 
 ghost use Rattle.std.specs.Prelude.{◌≡◌, Some, IfOk, MatchOption, slice_get};
 ghost use Rattle.fb_check_names.specs.Types.{AreTypes};
@@ -11,8 +11,8 @@ use crate::types::Types;
 use fb_types::{BlockType, Items};
 use std::alloc::{AllocError, Global};
 
-/// The network of the block type at a place by numbers, none for a basic type. It is `None` where the network names
-/// something unknown.
+/// The network of the block type at an index, by number, or none for a basic type. The result is `None` if the network
+/// names something unknown.
 fn block_numbers(
     alloc: Global,
     types: &Types,
@@ -40,8 +40,8 @@ fn block_numbers(
     }
 }
 
-/// For each block type of the declaration its network, none for a basic type. It is `None` where a composite type's
-/// network names something unknown.
+/// For each block type of the declaration its network, or none for a basic type. The result is `None` if a composite
+/// type's network names something unknown.
 pub fn blocks_of(
     alloc: Global,
     types: &Types,

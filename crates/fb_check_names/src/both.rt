@@ -1,14 +1,14 @@
-//! What two calls found.
+//! The results of two calls.
 
 ghost use Rattle.std.specs.Prelude.{◌≡◌};
 ghost use Rattle.fb_check_names.specs.Both.{both_of};
 
 use std::alloc::AllocError;
 
-/// What the two calls found, or `None` where one of them found nothing.
+/// The results of two calls, or `None` if one of them is `None`.
 ///
-/// A value of a type parameter is dropped by one call. Where `?` stands beside owned values of other types, the drop of
-/// each is written out at each exit, and proved there.
+/// `?` writes out the drop of every owned value in scope at each exit, and each drop is proved there. A value of a type
+/// parameter is dropped by one call. So owned values of several types pass through this function.
 pub(crate) fn both<A: Drop, B: Drop>(
     first: Result<Option<A>, AllocError>,
     second: Result<Option<B>, AllocError>,

@@ -1,4 +1,4 @@
-//! The places of all names of a declaration and a deployment.
+//! The indices of all names of a declaration and a deployment.
 
 ghost use Rattle.std.specs.Prelude.{◌≡◌, IfOk, MatchOption};
 ghost use Rattle.fb_types.specs.Repeated.{NameTwice};
@@ -10,15 +10,15 @@ use crate::spaces::{blocks_places, network_places, resource_places, type_places}
 use fb_types::{Library, Plan};
 use std::alloc::{AllocError, Global};
 
-/// The places of the names of a block type.
+/// The indices of the names of a block type.
 pub struct BlockPlaces<'a> {
     /// Event inputs, event outputs, inputs, outputs and internal variables, numbered in this order as one list.
     pub ports: Places<'a>,
-    /// The states of a basic type, else none.
+    /// The states of a basic type, otherwise none.
     pub states: Places<'a>,
-    /// The algorithms of a basic type, else none.
+    /// The algorithms of a basic type, otherwise none.
     pub algorithms: Places<'a>,
-    /// The instances of a composite type, else none.
+    /// The instances of a composite type, otherwise none.
     pub instances: Places<'a>,
 }
 
@@ -34,7 +34,7 @@ impl Drop for BlockPlaces<'_> {
     }
 }
 
-/// The places of the names of a declaration and a deployment, in which no name is given twice.
+/// The indices of the names of a declaration and a deployment, in which no name is given twice.
 pub struct Catalog<'a> {
     /// The block types of the declaration. The event blocks are not among them.
     pub types: Places<'a>,
@@ -57,7 +57,7 @@ impl Drop for Catalog<'_> {
     }
 }
 
-/// The places of all names, or `None` where a name, a connection or a link is given twice.
+/// The indices of all names, or `None` if a name, a connection or a link is given twice.
 pub fn catalog_of<'a>(
     alloc: Global,
     library: &'a Library,

@@ -1,4 +1,4 @@
-//! Resources and links by numbers.
+//! Resources and links by number.
 
 ghost use Rattle.std.specs.Prelude.{◌≡◌, IfOk, option_map, option_and_then};
 ghost use Rattle.fb_check_names.specs.Places.{place_in};
@@ -9,7 +9,7 @@ use crate::placing::{Places, place_of};
 use fb_types::{Items, Link, Name, ResourceEntry};
 use std::alloc::{AllocError, Global};
 
-/// The places of names, or `None` where one is unknown.
+/// The indices of names, or `None` if one is unknown.
 fn places_of_names(
     alloc: Global,
     places: &Places,
@@ -27,7 +27,7 @@ fn places_of_names(
     Ok(Some(numbers))
 }
 
-/// The instances that each resource lists, or `None` where one is unknown.
+/// The instances that each resource lists, or `None` if one is unknown.
 pub fn held_of(
     alloc: Global,
     instances: &Places,
@@ -53,7 +53,7 @@ fn ends_of(resources: &Places, link: &Link) -> Option<LinkEnds>
     Some(LinkEnds { from, to })
 }
 
-/// The resources of each link, or `None` where one is unknown.
+/// The resources of each link, or `None` if one is unknown.
 pub fn links_of(
     alloc: Global,
     resources: &Places,

@@ -1,4 +1,4 @@
-//! Connections by numbers.
+//! Connections by number.
 
 ghost use Rattle.std.specs.Prelude.{◌≡◌, IfOk, option_and_then};
 ghost use Rattle.fb_check_names.specs.Numbers.{each_or_none, end_at, end_number};
@@ -13,21 +13,24 @@ use crate::types::Types;
 use fb_types::{CompositeType, Connection, Items, Name, Network, PortName};
 use std::alloc::{AllocError, Global};
 
-/// A network, and where the names in it are found.
+/// A network, with the indices of the names in it.
 #[derive(Clone, Copy)]
 pub struct NetworkScope<'a, 'b> {
-    /// The composite type that the network is inside of, with the places of its names, or none for the application's.
+    /// The composite type that contains the network, with the indices of its names, or none for the application's.
     pub composite: Option<(&'a CompositeType, &'a Places<'b>)>,
+    /// The network itself.
     pub network: &'a Network,
     /// The instances of the network.
     pub instances: &'a Places<'b>,
 }
 
-/// The directions of a connection's ends: it goes from the one sort to the other at components, and the other way
-/// round at the boundary.
+/// The kinds of ports at the ends of a connection: it goes from the one kind to the other at components, and the other
+/// way round at the boundary.
 #[derive(Clone, Copy)]
 pub struct WireSorts {
+    /// The kind from which a connection leads at components.
     pub outputs: PortSort,
+    /// The kind to which a connection leads at components.
     pub inputs: PortSort,
 }
 
@@ -79,7 +82,7 @@ fn component_end(
     })
 }
 
-/// An end, among the ports of the one sort at a component, or of the other at the boundary.
+/// An end, among the ports of the one kind at a component, or of the other at the boundary.
 fn end_of(
     types: &Types,
     scope: &NetworkScope,
@@ -130,7 +133,7 @@ fn wire_of(
     Some(Wire { from, to })
 }
 
-/// The connections by numbers, or `None` where an end is no port of the right sort.
+/// The connections by number, or `None` if an end is no port of the right kind.
 pub fn wires_of(
     alloc: Global,
     types: &Types,

@@ -1,13 +1,13 @@
-//! Names: the places of all names of a declaration and a deployment, and what stands behind each by number. So it is
-//! found which are given twice (E20), and where one of a network or a deployment stands for nothing (E21).
+//! Names: their indices in a declaration and a deployment, and the numbers of what they stand for. This finds names that
+//! are given twice (E20), and names of networks and deployments that stand for nothing (E21).
 //!
-//! Guarantees to callers: `catalog::catalog_of` gives the place of every name, or none exactly where E20 applies.
-//! `resolution::resolve` gives types, ports, instances, resources and links by their places, or none exactly where such a
-//! name stands for nothing of the wanted sort.
+//! Guarantees to callers: `catalog::catalog_of` returns the index of every name, or `None` exactly if E20 applies.
+//! `resolution::resolve` returns types, ports, instances, resources and links by their indices, or `None` exactly if such
+//! a name stands for nothing of the required kind.
 //!
 //! Read in this order: `both`; `named` and `placing`, the names of one list; `spaces`, those of a type, a network or a
-//! deployment; `repeats`; `catalog`. Then `numbers`, what is answered; `types`, `ports` and `ends`; `networks`, `blocks`
-//! and `deployment`; `resolution`.
+//! deployment; `repeats`; `catalog`. Then `numbers`, the results; `types`, `ports` and `ends`; `networks`, `blocks` and
+//! `deployment`; `resolution`.
 #![tactic(auto)]
 
 mod blocks;

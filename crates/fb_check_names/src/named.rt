@@ -1,4 +1,4 @@
-//! What has a name, and the names of a list.
+//! Items with names, and the names of a list.
 
 ghost use Rattle.std.specs.Prelude.{◌≡◌, ◌++◌, map, IfOk, MatchOption};
 ghost use Rattle.fb_check_names.specs.Places.{IsIndex, names_in};
@@ -10,7 +10,7 @@ use fb_types::{
 };
 use std::alloc::{AllocError, Global};
 
-/// What stands in a name space by a name.
+/// An item that has a name in a name space.
 pub trait Named {
     ghost use Rattle.std.specs.Prelude.{List, ℕ};
 
@@ -105,7 +105,7 @@ pub fn push_names<'a, T: Named>(names: &mut Vec<&'a Name>, items: &'a [T]) -> Re
     Ok(())
 }
 
-/// The places of the names of a list, or `None` where a name is given twice.
+/// The indices of the names of a list, or `None` if a name is given twice.
 pub fn places<'a, T: Named>(alloc: Global, items: &'a [T]) -> Result<Option<Places<'a>>, AllocError>
     ensures { IfOk result (λ o. MatchOption o (Twice (map T.called items.now)) (IsIndex (map T.called items.now))) }
 {

@@ -1,4 +1,4 @@
-//! Networks by numbers.
+//! Networks by number.
 
 ghost use Rattle.std.specs.Prelude.{◌≡◌, IfOk, MatchOption};
 ghost use Rattle.fb_check_names.specs.Numbers.{IsNetwork, each_or_none, parameter_numbers, type_number};
@@ -14,7 +14,7 @@ use crate::types::Types;
 use fb_types::{Instance, Items};
 use std::alloc::{AllocError, Global};
 
-/// The type of each instance, or `None` where a type is unknown.
+/// The type of each instance, or `None` if a type is unknown.
 fn types_of(
     alloc: Global,
     types: &Types,
@@ -33,7 +33,7 @@ fn types_of(
     Ok(Some(numbers))
 }
 
-/// The places of the inputs that an instance's parameters set, or `None` where one is no input of its type.
+/// The indices of the inputs that an instance's parameters set, or `None` if one is no input of its type.
 fn input_places(
     alloc: Global,
     types: &Types,
@@ -55,7 +55,7 @@ fn input_places(
     Ok(Some(places))
 }
 
-/// The inputs that the parameters of each instance set, or `None` where one is no input of the instance's type.
+/// The inputs that the parameters of each instance set, or `None` if one is no input of the instance's type.
 fn parameters_of(
     alloc: Global,
     types: &Types,
@@ -74,7 +74,7 @@ fn parameters_of(
     Ok(Some(all))
 }
 
-/// A network by numbers, or `None` where it names an unknown type, parameter, component or port.
+/// A network by number, or `None` if it names an unknown type, parameter, component or port.
 pub fn network_numbers(
     alloc: Global,
     types: &Types,

@@ -1,4 +1,4 @@
-//! Names by their places.
+//! Names by their indices.
 
 ghost use Rattle.std.specs.Prelude.{◌≡◌, IfOk, MatchOption};
 ghost use Rattle.fb_check_names.specs.Places.{IsIndex, names_in, place_in};
@@ -8,10 +8,10 @@ use fb_types::Name;
 use std::alloc::{AllocError, Global};
 use std::collections::BTreeMap;
 
-/// The place of each name of a list, from 0.
+/// The index of each name of a list, from 0.
 pub type Places<'a> = BTreeMap<&'a [u8], usize, Global>;
 
-/// The places of names, or `None` where a name is given twice.
+/// The indices of names, or `None` if a name is given twice.
 pub fn places_of<'a>(alloc: Global, names: &[&'a Name]) -> Result<Option<Places<'a>>, AllocError>
     ensures { IfOk result (λ o. MatchOption o (Twice (names_in names.now)) (IsIndex (names_in names.now))) }
 {
@@ -24,7 +24,7 @@ pub fn places_of<'a>(alloc: Global, names: &[&'a Name]) -> Result<Option<Places<
     Ok(Some(places))
 }
 
-/// The place of a name, if the list has it.
+/// The index of a name, if the list has it.
 pub fn place_of(places: &Places, name: &[u8]) -> Option<usize>
     ensures { result ≡ place_in places.now name.now }
 {

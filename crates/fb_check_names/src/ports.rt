@@ -1,4 +1,4 @@
-//! Ports of a type by their places among the ports of their sort.
+//! Ports of a type by their indices among the ports of their sort.
 
 ghost use Rattle.std.specs.Prelude.{◌≡◌, ◌<◌, ◌≤◌, ◌-◌, None, MatchOption, SomeIff, map};
 ghost use Rattle.fb_check_names.specs.Numbers as spec;
@@ -8,7 +8,7 @@ use crate::named::Named;
 use crate::placing::{Places, place_of};
 use fb_types::{Name, Ports};
 
-/// A sort of ports, each with a direction.
+/// A kind of ports, including the direction.
 #[derive(Clone, Copy)]
 pub enum PortSort {
     EventInput,
@@ -17,7 +17,7 @@ pub enum PortSort {
     Output,
 }
 
-/// The place of what has a name in a list.
+/// The index of the item with a name in a list.
 fn place_named<T: Named>(items: &[T], name: &Name) -> Option<usize>
     ensures { result ≡ spec.place_of (map T.called items.now) name.now }
 {
@@ -29,7 +29,7 @@ fn place_named<T: Named>(items: &[T], name: &Name) -> Option<usize>
     None
 }
 
-/// The place of a port among those of its sort. It goes through all of them, as suits an interface with few.
+/// The index of a port among those of its kind. It compares all of them, which is fast for an interface with few.
 pub(crate) fn place_among(ports: &Ports, sort: PortSort, name: &Name) -> Option<usize>
     ensures { result ≡ spec.place_of (names_of_sort sort ports.now) name.now }
 {
@@ -41,14 +41,14 @@ pub(crate) fn place_among(ports: &Ports, sort: PortSort, name: &Name) -> Option<
     }
 }
 
-/// A place in the rest of a list, from its place in the list.
+/// The index in the rest of a list, from the index in the whole list.
 fn after(place: Option<usize>, count: usize) -> Option<usize>
     ensures { MatchOption place (result ≡ None) (λ p. SomeIff result (count ≤ p) (p - count)) }
 {
     place?.checked_sub(count)
 }
 
-/// A place, if it is within the first of a list.
+/// An index, if it is within the first part of a list.
 fn within(place: Option<usize>, count: usize) -> Option<usize>
     ensures { MatchOption place (result ≡ None) (λ p. SomeIff result (p < count) p) }
 {
@@ -58,7 +58,7 @@ fn within(place: Option<usize>, count: usize) -> Option<usize>
     }
 }
 
-/// The place of a port among those of its sort, from the places of all names of the type.
+/// The index of a port among those of its kind, from the indices of all names of the type.
 pub(crate) fn place_in(ports: &Ports, places: &Places, sort: PortSort, name: &Name) -> Option<usize>
     requires { ArePlacesOf ports.now places.now }
     ensures { result ≡ spec.place_of (names_of_sort sort ports.now) name.now }

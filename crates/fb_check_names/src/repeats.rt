@@ -63,7 +63,8 @@ pub fn end_names(port: &PortName) -> EndNames<'_>
     }
 }
 
-/// The names at both ends of a connection: where it begins the component, if there is one, and the port, and so where it leads.
+/// The names at both ends of a connection: the component, if there is one, and the port of its beginning, and the same of
+/// its end.
 type ConnectionNames<'a> = (Option<&'a [u8]>, &'a [u8], Option<&'a [u8]>, &'a [u8]);
 
 /// Whether a connection is given twice.

@@ -1,4 +1,4 @@
-//! E21: names that stand for nothing of the wanted sort.
+//! E21: names that stand for nothing of the required kind.
 
 ghost use Rattle.std.specs.Prelude.{◌≡◌, IfOk, MatchOption};
 ghost use Rattle.fb_types.specs.Unknown.{NameUnknown};
@@ -18,7 +18,7 @@ use crate::types::Types;
 use fb_types::{Library, Plan};
 use std::alloc::{AllocError, Global};
 
-/// The declaration and the deployment by numbers, by the types of the declaration.
+/// The declaration and the deployment by number, from the types of the declaration.
 fn resolve_by(alloc: Global, plan: &Plan, types: &Types) -> Result<Option<Resolved>, AllocError>
     requires types { AreTypes types.now }
     requires catalog { IsCatalog types.now.library.now plan.now types.now.catalog.now }
@@ -57,7 +57,7 @@ fn resolve_by(alloc: Global, plan: &Plan, types: &Types) -> Result<Option<Resolv
     }
 }
 
-/// The declaration and the deployment by numbers, or `None` where a name stands for nothing of the wanted sort.
+/// The declaration and the deployment by number, or `None` if a name stands for nothing of the required kind.
 pub fn resolve(
     alloc: Global,
     library: &Library,

@@ -1,4 +1,4 @@
-//! The places of the names of one block type, one network or one deployment.
+//! The indices of the names of one block type, one network or one deployment.
 
 ghost use Rattle.std.specs.Prelude.{◌≡◌, ◌⊎◌, [], map, is_some, Contains, IfOk, OnOk};
 ghost use Rattle.std.specs.List.{list_any};
@@ -21,7 +21,7 @@ use fb_types::{
 use std::alloc::{AllocError, Global};
 use std::collections::BTreeMap;
 
-/// Puts the names of ports and of internal variables into a list that is empty.
+/// Adds the names of ports and of internal variables to an empty list.
 fn push_port_names<'a>(
     names: &mut Vec<&'a Name>,
     ports: &'a Ports,
@@ -38,8 +38,8 @@ fn push_port_names<'a>(
     Ok(())
 }
 
-/// The places of ports and of internal variables, as one list, or `None` where a name or a variable WITH
-/// an event is given twice.
+/// The indices of ports and of internal variables, as one list, or `None` if a name or a variable WITH an event is
+/// given twice.
 fn port_places<'a>(
     alloc: Global,
     ports: &'a Ports,
@@ -58,8 +58,8 @@ fn port_places<'a>(
     places_of(alloc, names.as_slice())
 }
 
-/// The places of the instances of a network, or `None` where a name, a parameter of an instance or an
-/// event connection is given twice.
+/// The indices of the instances of a network, or `None` if a name, a parameter of an instance or an event connection
+/// is given twice.
 pub fn network_places<'a>(
     alloc: Global,
     network: &'a Network,
@@ -130,7 +130,7 @@ fn block_places<'a>(
     }
 }
 
-/// The places of the names of each block type, or `None` where one of them gives something twice.
+/// The indices of the names of each block type, or `None` if one of them gives something twice.
 pub fn blocks_places<'a>(
     alloc: Global,
     blocks: &'a [BlockType],
@@ -159,7 +159,7 @@ fn has_event_block(blocks: &[BlockType]) -> bool
     false
 }
 
-/// The places of the block types, or `None` where a name is given twice or is an event block's.
+/// The indices of the block types, or `None` if a name is given twice or is an event block's.
 pub fn type_places<'a>(
     alloc: Global,
     blocks: &'a [BlockType],
@@ -172,7 +172,7 @@ pub fn type_places<'a>(
     places(alloc, blocks)
 }
 
-/// The places of the resources, or `None` where a name or a link is given twice.
+/// The indices of the resources, or `None` if a name or a link is given twice.
 pub fn resource_places<'a>(alloc: Global, plan: &'a Plan) -> Result<Option<Places<'a>>, AllocError>
     ensures { IfOk result (Unless (PlanTwice plan.now) (IsIndex (resource_names_of plan.now))) }
 {

@@ -1,4 +1,4 @@
-//! Types of instances and their ports, by names.
+//! Types of instances and their ports, by name.
 
 ghost use Rattle.std.specs.Prelude.{◌≡◌, IfOk};
 ghost use Rattle.fb_check_names.specs.Numbers as spec;
@@ -12,16 +12,23 @@ use crate::ports::{PortSort, place_among, place_in};
 use fb_types::{Items, Library, Name, Ports, all_ports, kind_named};
 use std::alloc::{AllocError, Global};
 
-/// The block types of a declaration, with the places of their names, and the ports of the event blocks.
+/// The block types of a declaration, with the indices of their names, and the ports of the event blocks.
 #[derive(Drop)]
 pub struct Types<'a, 'b> {
+    /// The declaration.
     pub library: &'a Library,
+    /// The indices of its names.
     pub catalog: &'a Catalog<'b>,
     /// In the order of the event blocks' kinds.
     event_ports: Items<Ports>,
 }
 
 impl<'a, 'b> Types<'a, 'b> {
+    /// The types of a declaration, from the indices of its names.
+    ///
+    /// # Errors
+    ///
+    /// When memory runs out.
     pub fn new(
         alloc: Global,
         library: &'a Library,
@@ -51,7 +58,7 @@ impl<'a, 'b> Types<'a, 'b> {
         }
     }
 
-    /// The place of a port of a type among those of its sort.
+    /// The index of a port of a type among those of its kind.
     pub fn port_of(&self, number: TypeNumber, sort: PortSort, name: &Name) -> Option<usize>
         requires { AreTypes self.now }
         ensures { result ≡ port_number self.now.library.now number (names_of_sort sort) name.now }

@@ -1,4 +1,4 @@
--- E30 by numbers: what is counted after so many rounds are the paths at most as many names deep.
+-- E30 by number: the instances that are counted after a number of rounds are those with paths at most that deep.
 use Rattle.std.proofs.Common.{◌≡◌, ℕ, zero, suc, ◌+◌, ◌<◌, List, [], ◌∷◌, map, length, Option, Some, None, refl, sym, ◌∙◌, ap, subst, arith, min}
 use Rattle.std.specs.Prelude.{slice_get, option_map, option_and_then, unwrap_or, flat_map, nat_lt, ◌↔◌, IsTrue}
 use Rattle.std.specs.List.{sum_by}
@@ -34,7 +34,7 @@ inner steps lib p o = elim o [ None ↦ [] | Some net ↦ paths_inside steps lib
 abbrev capped : ℕ → ℕ
 capped n = min n 4097
 
--- The count of a composite type is that of the paths inside it so deep, and no other type has any.
+-- The count of a composite type is that of the paths inside it of this depth, and no other type has any.
 abbrev CountOf : Library → ℕ → Option BlockType → ℕ → Type 0
 CountOf lib steps None c = c ≡ 0
 CountOf lib steps (Some (block.Basic t)) c = c ≡ 0
@@ -133,12 +133,12 @@ counts_more xs n counts seen more h same e =
 pub counts_done : (xs : List (Option NetworkNumbers)) (n m : ℕ) (counts : List ℕ) → counts ≡ counts_after n xs → n ≡ m → counts ≡ counts_after m xs
 counts_done xs n m counts h e = h ∙ ap (λ n. counts_after n xs) e
 
--- ---- The answer
+-- ---- The result
 
 over_limit : (c n : ℕ) → c ≡ capped n → IsTrue (nat_lt 4096 c) ↔ (4096 < n)
 over_limit c n e = (λ h. grind (arith, nat_tests), λ h. grind (arith, nat_tests))
 
--- what the counts after 16 rounds answer
+-- the result of the counts after 16 rounds
 pub counts_answer :
     (lib : Library) (plan : Plan) (r : Resolved) (xs : List (Option NetworkNumbers)) (counts seen : List ℕ) (ts : List TypeNumber) (c : ℕ) → xs ≡ r.blocks
     → counts ≡ counts_after 16 xs → seen ≡ counts → ts ≡ r.application.types → c ≡ count_of seen ts → IsResolved lib plan r

@@ -1,4 +1,4 @@
--- E23 by numbers: a data connection that leads from a type to one that does not hold all its values.
+-- E23 by number: a data connection to a type that does not contain all values of the source type.
 use Rattle.std.proofs.Common.{◌≡◌, ℕ, Bool, true, false, not, List, [], ◌∷◌, ◌++◌, Option, Some, None, Contains, refl, sym, ◌∙◌, ap, subst, cond, inl, inr}
 use Rattle.std.specs.Prelude.{slice_get, option_map, option_and_then, position, flat_map, ◌↔◌, IsTrue}
 use Rattle.std.specs.Bool.{Decides}
@@ -61,20 +61,20 @@ variable_name v = v.name
 named_at : (vs : List Variable) (n : Name) (k : ℕ) → place_of (variable_names vs) n ≡ Some k → named variable_name n vs ≡ slice_get vs k
 named_at vs n k h = named-position variable_name n vs ∙ ap (option_and_then (slice_get vs)) h
 
--- the type of a data input by its place
+-- the type of a data input by its index
 inputs_among : (p : Ports) (e : PortName) (k : ℕ) → place_of (variable_names p.inputs) e.port ≡ Some k → type_at p.inputs k ≡ type_among p e
 inputs_among p e k h =
     let at = position_is variable_name e.port p.inputs k h in
     let first = named_at p.inputs e.port k h ∙ at.1 in
     ap (option_map (λ (v : Variable). v.ty)) (at.1 ∙ sym (named_front variable_name e.port p.inputs p.outputs at.0 first))
 
--- what has a place among the names is among them
+-- what has an index among the names is among them
 has_name : (vs : List Variable) (n : Name) (k : ℕ) → place_of (variable_names vs) n ≡ Some k → Contains (variable_names vs) n
 has_name vs n k h =
     let at = position_is variable_name n vs k h in
     subst (λ (m : Name). Contains (variable_names vs) m) at.2 (slice_get-Contains variable_name vs k at.0 at.1)
 
--- the type of a data output by its place: no data input has its name
+-- the type of a data output by its index: no data input has its name
 outputs_among :
     (p : Ports) (e : PortName) (k : ℕ) → IsApart p → place_of (variable_names p.outputs) e.port ≡ Some k → type_at p.outputs k ≡ type_among p e
 outputs_among p e k apart h =
@@ -87,11 +87,11 @@ outputs_among p e k apart h =
 
 -- ---- Ends of connections
 
--- The types of the variables of a sort are found by their places.
+-- The types of the variables of a kind are found by their indices.
 abbrev Finds : (Ports → List Variable) → Ports → Type 0
 Finds sort p = (e : PortName) (k : ℕ) → place_of (variable_names (sort p)) e.port ≡ Some k → type_at (sort p) k ≡ type_among p e
 
--- the type at an end, among the variables of the one sort at a component, or of the other at the boundary
+-- the type at an end, among the variables of the one kind at a component, or of the other at the boundary
 abbrev end_type : Library → (component boundary : Ports → List Variable) → Option Ports → List TypeNumber → WireEnd → Option Ty
 end_type lib component around ports types e =
     elim e.component [
@@ -246,7 +246,7 @@ network_by_number lib plan n x once there is = (
       (same ∙ (out-Decides (type_at_end lib n w.0.from) (type_at_end lib n w.0.to)).1 w.2),
 )
 
--- what the test answers
+-- the result of the test
 pub ranges_answer :
     (lib : Library) (plan : Plan) (r : Resolved) (b : Bool) → b ≡ network_passes (leads_out_in lib) lib r → IsResolved lib plan r → ¬ (NameTwice lib plan)
     → IsTrue b ↔ OutOfRange lib

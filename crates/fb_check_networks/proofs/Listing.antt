@@ -98,7 +98,7 @@ is_some-number_in (p ∷ ps) n =
       | false ↦ is_some-number_in ps n
     ])
 
--- ---- The map after so many names
+-- ---- The map after a number of names
 
 pub held_none : (m : tree.BTreeMap (Bor Name) ℕ) → m.entries ≡ [] → IsHeld [] m
 held_none m e = record {
@@ -170,7 +170,7 @@ pub held_all :
 held_all ps number ns j m ended held =
     let P : List Name → Type 0 = λ ns. IsHeld (ps ++ at_number number ns) m in subst P (take_all j ns ended) held
 
--- what stands twice up to a name stands twice in all
+-- what is twice up to a name is twice in all
 pub held_twice :
     (ps : List (Name × ℕ)) (number : ℕ) (ns : List Name) (j : ℕ) (n : Name) (m : tree.BTreeMap (Bor Name) ℕ) (k : Bor Name) (o : Option ℕ)
     → j < length ns → n ≡ get_or ns j n → k.now ≡ n → IsHeld (ps ++ at_number number (take j ns)) m → o ≡ tree.get name_cmp m k → is_some o ≡ true
@@ -204,7 +204,7 @@ held_resource rs number r items m m' b h e same listed new held =
     ∙ ap (λ n. holdings 0 (take number rs) ++ at_number n r.instances) counted in
     subst P (ap (λ ns. holdings 0 (take number rs) ++ at_number number ns) same ∙ sym more) (listed.held (holdings 0 (take number rs)) held new)
 
--- what stands twice up to a resource stands twice in all
+-- what is twice up to a resource is twice in all
 pub resource_twice :
     (rs : List ResourceEntry) (number : ℕ) (r : ResourceEntry) (items : List Name) (m m' : tree.BTreeMap (Bor Name) ℕ) (b : Bool) → number < length rs → r ≡ get_or rs number r
     → items ≡ r.instances → AreListed items number m m' b → b ≡ false → IsHeld (holdings 0 (take number rs)) m → Twice (flat_map (λ r. r.instances) rs)

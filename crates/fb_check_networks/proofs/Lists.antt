@@ -1,4 +1,4 @@
--- Lists by their places: tests of elements and of pairs, what is made of each element, and where names stand.
+-- Lists by their indices: tests of elements and of pairs, the results for each element, and where names are.
 use Rattle.std.proofs.Common.{◌≡◌, ℕ, zero, suc, Bool, true, false, ◌||◌, List, [], ◌∷◌, length, Some, None, refl, sym, ◌∙◌, ap, inl, inr, arith}
 use Rattle.std.specs.Prelude.{slice_get}
 use Rattle.std.specs.List.{list_any, zip}

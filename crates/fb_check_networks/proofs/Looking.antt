@@ -5,7 +5,7 @@ use Rattle.std.specs.List.{list_all, list_any, zip}
 use Rattle.std.proofs.lemmas.List.{at_drop_all, at_drop_more}
 use Rattle.std.proofs.lemmas.Option.{get_or_from_slice_get, slice_get_cases, slice_get_read, slice_get_within}
 
--- ---- Where the loop stands
+-- ---- Where the loop is
 
 -- at an element
 pub at_element : {A : Type 0} (xs : List A) (i : ℕ) (x : A) → i < length xs → x ≡ get_or xs i x → slice_get xs i ≡ Some x

@@ -63,7 +63,7 @@ any_listed [] n = refl
 any_listed (r ∷ rs) n =
     ap (λ b. among r.instances n || b) (any_listed rs n) ∙ sym (list_any-append (same_name n) r.instances (flat_map (λ r. r.instances) rs))
 
--- the map has a name exactly where a resource lists it
+-- the map has a name exactly if a resource lists it
 found_is : (rs : List ResourceEntry) (m : tree.BTreeMap (Bor Name) ℕ) (n : Name) → IsListing rs m → is_some (place_in m n) ≡ list_any (same_name n) (flat_map (λ r. r.instances) rs)
 found_is rs m n listing = ap is_some (listing.place n) ∙ is_some-position (λ r. among r.instances n) rs ∙ any_listed rs n
 
@@ -108,7 +108,7 @@ not_listed lib plan m h listing some =
           ∙ sym (found_is plan.resources m i.name listing) ∙ lacks.2),
     )
 
--- what the map has of the name of an instance
+-- the entry of the map for the name of an instance
 pub listed_found :
     (m : tree.BTreeMap (Bor Name) ℕ) (i : Instance) (q : Bor Name) (b c : Bool) → q.now ≡ i.name → b ≡ is_some (tree.get name_cmp m q) → b ≡ c → is_listed m i ≡ c
 listed_found m i q b c g found there = ap (λ n. is_some (place_in m n)) (sym g) ∙ sym found ∙ there

@@ -1,4 +1,4 @@
--- E25 by numbers: what is marked after so many rounds leads as many steps down.
+-- E25 by number: what is marked after a number of rounds leads that number of steps down.
 use Rattle.std.proofs.Common.{◌≡◌, ℕ, zero, suc, ◌+◌, Bool, true, false, List, map, Option, Some, None, Contains, refl, sym, ◌∙◌, ap, subst, inl, inr, arith}
 use Rattle.std.specs.Prelude.{slice_get, option_map, unwrap_or, is_some, ◌↔◌, IsTrue}
 use Rattle.std.specs.Bool.{Decides}
@@ -27,11 +27,11 @@ use Rattle.fb_check_networks.proofs.Naming.{type_by_number}
 
 -- ---- Marks
 
--- Some composite type stands so many steps below.
+-- Some composite type is this number of steps below.
 abbrev Leads : Library → ℕ → CompositeType → Type 0
 Leads lib steps t = (u : CompositeType) × Descends lib steps t u
 
--- A composite type is marked exactly where so many steps lead down from it, and no other type is.
+-- A composite type is marked exactly if this number of steps leads down from it, and no other type is.
 abbrev MarkOf : Library → ℕ → Option BlockType → Bool → Type 0
 MarkOf lib steps None b = b ≡ false
 MarkOf lib steps (Some (block.Basic t)) b = b ≡ false
@@ -73,7 +73,7 @@ marked_from_leads lib steps marks (number.Declared d) are w =
 
 -- ---- A round
 
--- a composite type holds a marked one exactly where one more step leads down
+-- a composite type contains a marked one exactly if one more step leads down
 holds-Decides :
     (lib : Library) (steps : ℕ) (marks : List Bool) (t : CompositeType) (x : NetworkNumbers) → AreMarks lib steps marks
     → IsNetwork lib (Some t, t.network) x → Decides (holds_marked marks (Some x)) (Leads lib (suc steps) t)
@@ -136,9 +136,9 @@ marks_more xs n marks seen more h same e =
 pub marks_done : (xs : List (Option NetworkNumbers)) (n m : ℕ) (marks : List Bool) → marks ≡ marks_after n xs → n ≡ m → marks ≡ marks_after m xs
 marks_done xs n m marks h e = h ∙ ap (λ n. marks_after n xs) e
 
--- ---- Types that hold themselves
+-- ---- Types that contain themselves
 
--- from a type that leads to one that holds itself any number of steps lead down
+-- from a type that leads to one that contains itself, any number of steps leads down
 around :
     (lib : Library) (n : ℕ) (t : CompositeType) → Descends lib (suc n) t t → (steps left : ℕ) (m : CompositeType) → Descends lib left m t → Leads lib steps m
 around lib n t cycle zero left m d = (m, refl)
@@ -147,7 +147,7 @@ around lib n t cycle (suc steps) zero m d =
     let r = around lib n t cycle steps n cycle.0 cycle.2 in
     (r.0, (cycle.0, subst (λ (x : CompositeType). Holds lib x cycle.0) (sym d) cycle.1, r.1))
 
--- ---- The answer
+-- ---- The result
 
 some_mark : (lib : Library) (n : ℕ) (marks : List Bool) (t : CompositeType) → AreMarks lib n marks → Contains lib.blocks (block.Composite t) → Leads lib n t → list_any (λ b. b) marks ≡ true
 some_mark lib n marks t are there w =
@@ -175,7 +175,7 @@ chain_of lib n marks are h =
     from_block lib n (Some (block.Basic t)) b there is h = absurd (true≢false (sym h ∙ is))
     from_block lib n (Some (block.Composite t)) b there is h = (t, there (block.Composite t) refl, is.0 h)
 
--- what the marks after 16 rounds answer
+-- the result of the marks after 16 rounds
 pub heights_answer :
     (lib : Library) (plan : Plan) (r : Resolved) (xs : List (Option NetworkNumbers)) (marks seen : List Bool) (b : Bool) → xs ≡ r.blocks
     → marks ≡ marks_after 16 xs → seen ≡ marks → b ≡ list_any (λ b. b) seen → IsResolved lib plan r → IsTrue b ↔ TooHigh lib

@@ -1,4 +1,4 @@
--- What the numbers of types and the places of ports say of the names that they stand for.
+-- What the numbers of types and the indices of ports say of the names that they stand for.
 use Rattle.std.proofs.Common.{◌≡◌, ℕ, zero, suc, List, [], ◌∷◌, ◌++◌, map, Some, None, Contains, refl, sym, ◌∙◌, ap, subst, inl, inr}
 use Rattle.std.specs.Prelude.{slice_get, option_map, option_and_then, position, flat_map, codes}
 use Rattle.std.proofs.lemmas.Bool.{true≢false}
@@ -45,7 +45,7 @@ type_by_number lib n t h = type_numbered lib n ∙ ap (option_and_then (kind_of_
 
 -- ---- Networks
 
--- the composite type that a network other than the application's is inside of
+-- the composite type that contains a network other than the application's
 pub composite_at :
     (bs : List BlockType) (n : Placed) → Contains (flat_map networks_in bs) n
     → (k : ℕ) × (t : CompositeType) × (slice_get bs k ≡ Some (block.Composite t)) × ((Some t, t.network) ≡ n)

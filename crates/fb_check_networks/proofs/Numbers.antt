@@ -41,7 +41,7 @@ kind_of_type lib n t h =
 
 -- ---- Ends of connections
 
--- an end of a connection of the application, with what stands there
+-- an end of a connection of the application, with the port there
 pub record IsKnown (lib : Library) (component : Ports → List Name) (p : PortName) (e : WireEnd) : Type 0 where
   pub name : Name
   pub place : ℕ

@@ -66,7 +66,7 @@ passes_from lib plan r test P is tells n h p =
           elim (test top r.application) as (λ b. (b || others) ≡ true) [ true ↦ refl | false ↦ any ]
     ]
 
--- The test passes exactly where it tells something of some network.
+-- The test passes exactly if it says something of some network.
 pub network_tells :
     (lib : Library) (plan : Plan) (r : Resolved) (test : Placed → NetworkNumbers → Bool) (P : Placed → Type 0) → IsResolved lib plan r → Tells lib test P
     → Decides (network_passes test lib r) ((n : Placed) × Contains (networks lib) n × P n)

@@ -1,4 +1,4 @@
--- Which types hold all values of another, by their ranges.
+-- Which types contain all values of another, by their ranges.
 use Rattle.std.proofs.Common.{◌≡◌, Bool, true, false, ◌&&◌, Option, Some, None, refl, sym, ◌∙◌, ap, arith}
 use Rattle.std.specs.Prelude.{ℤ, pos, int_le, int_lt, ◌-ℤ◌}
 use Rattle.std.specs.Bool.{Decides}
@@ -120,7 +120,7 @@ range-Decides (Some r) None some = (
 )
 range-Decides (Some r) (Some q) some = (holds_range r q, within_range r q some)
 
--- the table says which types hold all values of another
+-- the table says which types contain all values of another
 pub within-Decides : (s t : Ty) → Decides (is_within s t) (IsWithin s t)
 within-Decides s t =
     let d = range-Decides (range_of s) (range_of t) (first_of_range s) in (

@@ -32,7 +32,7 @@ then_itself order.Less = refl
 then_itself order.Equal = refl
 then_itself order.Greater = refl
 
--- two ends are equal exactly where their ports are
+-- two ends are equal exactly if their ports are
 pub end_cmp-exact : IsExact end_cmp end_port
 end_cmp-exact a b =
     let d = pair_cmp-exact (a, a) (b, b) in (
@@ -78,7 +78,7 @@ from_inside lib w =
       | block.Composite t ↦ λ e twice. ((Some t, t.network), inside_in lib at.0 t e, twice)
     ] at.1 w.2
 
--- what the test of the application's network answers where it finds such a port
+-- the result of the test of the application's network, if it finds such a port
 pub sources_first :
     (lib : Library) (a : Bool) (cs : List Connection) → cs ≡ lib.application.network.data_connections → (IsTrue a ↔ Twice (targets cs)) → a ≡ true
     → IsTrue true ↔ TwoSources lib

@@ -149,7 +149,7 @@ no_link_cases lib plan n =
       | inr d ↦ inr (unlinked_among plan lib.application.network.data_connections n.0 d n.2 n.3)
     ]
 
--- the answer for one connection whose ends lie in two resources
+-- the result for one connection whose ends are in two resources
 pub unlinked-is :
     (plan : Plan) (m : Mapping) (c : Connection) (ways : set.BTreeSet Pair) (r s : ℕ) (from to : Bor Name) (found : Bool) → IsTried plan m c ways r s from to found
     → r ≢ s → (IsTrue (not found) ↔ IsUnlinked plan c)
@@ -160,14 +160,14 @@ unlinked-is plan m c ways r s from to found t apart =
     false_from_not true h = sym h
     false_from_not false h = refl
 
--- the answer where an event connection has no link
+-- the result if an event connection has no link
 pub link_lacking :
     (lib : Library) (plan : Plan) (cs : List Connection) (b : Bool) → cs ≡ lib.application.network.event_connections → (IsTrue b ↔ HasUnlinked plan cs) → b ≡ true
     → (IsTrue true ↔ NoLink lib plan)
 link_lacking lib plan cs b all is h =
     let X : List Connection → Type 0 = λ cs. HasUnlinked plan cs in (λ _. no_link_events lib plan (subst X all (is.0 h)), λ _. refl)
 
--- the answer where each event connection has its link
+-- the result if each event connection has its link
 pub link_answer :
     (lib : Library) (plan : Plan) (cs ds : List Connection) (b d : Bool) → cs ≡ lib.application.network.event_connections → ds ≡ lib.application.network.data_connections
     → (IsTrue b ↔ HasUnlinked plan cs) → b ≡ false → (IsTrue d ↔ HasUnlinked plan ds) → (IsTrue d ↔ NoLink lib plan)

@@ -139,7 +139,7 @@ no_event_to lib plan x once network n =
     let unserved = subst S (sym d.2) n.3 in
     (d.0, d.1, (subst C (sym d.2) n.2, λ serves. unserved (served_from lib plan d.0 k.0 k.1 serves)))
 
--- the answer for all data connections
+-- the result for all data connections
 pub event_answer :
     (lib : Library) (plan : Plan) (x : NetworkNumbers) (cs : List Connection) (b : Bool) → ¬ (NameTwice lib plan) → IsNetwork lib (None, lib.application.network) x
     → cs ≡ lib.application.network.data_connections → (IsTrue b ↔ HasUnserved lib plan cs) → (IsTrue b ↔ NoEvent lib plan)

@@ -1,4 +1,4 @@
--- E22 by numbers: a parameter that is no value of its input's type.
+-- E22 by number: a parameter that is not a value of its input's type.
 use Rattle.std.proofs.Common.{◌≡◌, ℕ, Bool, true, false, not, ◌||◌, ◌&&◌, List, [], ◌∷◌, Option, Some, None, Contains, refl, sym, ◌∙◌, ap}
 use Rattle.std.specs.Prelude.{slice_get, option_map, option_and_then, ◌↔◌, IsTrue}
 use Rattle.std.specs.Bool.{Decides}
@@ -108,7 +108,7 @@ network_by_number lib n x is =
           by_names ∙ any_from (λ i. not (parameters_right lib i)) n.1.instances at.0 w.0 at.1 (ap not w.2),
     )
 
--- what the test answers
+-- the result of the test
 pub parameters_answer :
     (lib : Library) (plan : Plan) (r : Resolved) (b : Bool) → b ≡ network_passes (λ n x. has_wrong_in lib n.1 x) lib r → IsResolved lib plan r
     → IsTrue b ↔ ParameterWrong lib

@@ -1,4 +1,4 @@
--- The variables WITH an output event, where the names of a type differ.
+-- The variables WITH an output event, if the names of a type differ.
 use Rattle.std.proofs.Common.{◌≡◌, ◌||◌, ◌&&◌, Bool, true, false, cond, List, [], ◌∷◌, ◌++◌, map, Option, Some, None, Contains, refl, sym, ◌∙◌, ap, subst, inl, inr}
 use Rattle.std.specs.Prelude.{option_map, flat_map}
 use Rattle.std.specs.List.{list_any}
@@ -78,7 +78,7 @@ listed_from_with ps vs e v once c =
 
 -- ---- The output events of a type differ
 
--- whether a name stands twice
+-- whether a name occurs twice
 abbrev repeats : List Name → Bool
 repeats [] = false
 repeats (n ∷ ns) = list_any (same_name n) ns || repeats ns

@@ -1,4 +1,5 @@
--- Which composite types lead so many steps down, by numbers (IEC 61499-1, 5.3; the height is this project's profile).
+-- From which composite types a number of steps leads down, by number (IEC 61499-1, 5.3; the height is this project's
+-- profile).
 use Rattle.std.specs.Prelude.{ℕ, zero, suc, List, map, Bool, false, Option, Some, None, slice_get, unwrap_or, is_some}
 use Rattle.std.specs.List.{list_any}
 use Rattle.fb_check_names.specs.declared.numbers.TypeNumber.{TypeNumber}
@@ -10,12 +11,12 @@ abbrev pub is_marked : List Bool → TypeNumber → Bool
 is_marked marks (number.Event k) = false
 is_marked marks (number.Declared t) = unwrap_or (slice_get marks t) false
 
--- whether a composite type holds a marked one
+-- whether a composite type contains a marked one
 abbrev pub holds_marked : List Bool → Option NetworkNumbers → Bool
 holds_marked marks None = false
 holds_marked marks (Some x) = list_any (is_marked marks) x.types
 
--- the marks after so many rounds; at first all composite types are marked
+-- the marks after these rounds; at first all composite types are marked
 abbrev pub marks_after : ℕ → List (Option NetworkNumbers) → List Bool
 marks_after zero xs = map is_some xs
 marks_after (suc n) xs = map (holds_marked (marks_after n xs)) xs

@@ -1,4 +1,4 @@
--- Data connections that lead out of a range, by numbers (IEC 61499-1, 5.3; the range of types is this project's profile).
+-- Data connections that lead out of a range, by number (IEC 61499-1, 5.3; the range of types is this project's profile).
 use Rattle.std.specs.Prelude.{List, Bool, false, not, Option, Some, None}
 use Rattle.std.specs.List.{list_any}
 use Rattle.fb_types.specs.Repeated.{Placed}
@@ -12,7 +12,7 @@ use Rattle.fb_check_networks.specs.Ranges.{is_within}
 use Rattle.fb_check_networks.specs.Variables.{source_type, target_type}
 use Rattle.fb_check_networks.specs.Networks.{boundary}
 
--- from a type to one that does not hold all its values
+-- to a type that does not contain all values of the source type
 abbrev pub is_out : Option Ty → Option Ty → Bool
 is_out (Some s) (Some t) = not (is_within s t)
 is_out (Some s) None = false

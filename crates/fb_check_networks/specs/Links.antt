@@ -24,7 +24,7 @@ pub record AreWays (links : List Link) (ways : BTreeSet (Bor Name × Bor Name)) 
   pub has : (from to : Name)
       → Decides (contains_by (λ k. ordering_then (slice_cmp nat_cmp from k.0.now) (slice_cmp nat_cmp to k.1.now)) ways) (Contains {X = Name × Name} (map names_of_link links) (from, to))
 
--- The ends of a connection lie in two resources, with no link from the one to the other.
+-- The ends of a connection are in two resources, with no link from the one to the other.
 abbrev pub IsUnlinked : Plan → Connection → Type 0
 IsUnlinked plan c =
     IsCut plan (pair_of c) × (link_between plan (resource_of plan (pair_of c).0.at) (resource_of plan (pair_of c).1.at) ≡ None)

@@ -26,12 +26,12 @@ names_of ps = map (λ p. p.0) ps
 abbrev pub number_in : List (Name × ℕ) → Name → Option ℕ
 number_in ps n = option_map (λ p. p.1) (named (λ p. p.0) n ps)
 
--- The map has these names with their numbers, and none of them stands twice.
+-- The map has these names with their numbers, and no name twice.
 pub record IsHeld (ps : List (Name × ℕ)) (m : BTreeMap (Bor Name) ℕ) : Type 0 where
   pub once : ¬ (Twice (names_of ps))
   pub place : (n : Name) → place_in m n ≡ number_in ps n
 
--- The names of a resource stand in the map behind those of before, or one of them stands twice.
+-- The map has the names of a resource after those of before, or one name is there twice.
 pub record AreListed (names : List Name) (number : ℕ) (old new : BTreeMap (Bor Name) ℕ) (all_new : Bool) : Type 0 where
   pub held : (ps : List (Name × ℕ)) → IsHeld ps old → all_new ≡ true → IsHeld (ps ++ at_number number names) new
   pub twice : (ps : List (Name × ℕ)) → IsHeld ps old → all_new ≡ false → Twice (names_of ps ++ names)

@@ -1,4 +1,4 @@
--- Parameters that are no values of their inputs' types, by numbers (IEC 61499-1, 5.3; IEC 61131-3, 6.4.2).
+-- Parameters that are not values of their inputs' types, by number (IEC 61499-1, 5.3; IEC 61131-3, 6.4.2).
 use Rattle.std.specs.Prelude.{◌≡◌, ℕ, List, Bool, false, not, Some, None, Contains}
 use Rattle.std.specs.List.{list_any, zip}
 use Rattle.fb_types.specs.Values.{fits}
@@ -12,18 +12,18 @@ use Rattle.fb_check_names.specs.declared.numbers.TypeNumber.{TypeNumber}
 use Rattle.fb_check_names.specs.declared.numbers.NetworkNumbers.{NetworkNumbers}
 use Rattle.fb_check_networks.specs.Variables.{input_type}
 
--- An instance has a parameter that is no value of its input's type.
+-- An instance has a parameter that is not a value of its input's type.
 abbrev pub ParameterWrong : Library → Type 0
 ParameterWrong lib =
     (n : Placed) × (i : Instance) × Contains (networks lib) n × Contains n.1.instances i × (parameters_right lib i ≡ false)
 
--- ---- By numbers
+-- ---- By number
 
--- a parameter, with the place of its input
+-- a parameter, with the index of its input
 abbrev pub is_wrong : Library → TypeNumber → Parameter → ℕ → Bool
 is_wrong lib t x k = elim (input_type lib t k) [ None ↦ false | Some s ↦ not (fits s x.value) ]
 
--- an instance, with its type and the places of its parameters' inputs
+-- an instance, with its type and the indices of its parameters' inputs
 abbrev pub has_wrong : Library → Instance → TypeNumber → List ℕ → Bool
 has_wrong lib i t ks = list_any (λ p. is_wrong lib t p.0 p.1) (zip i.parameters ks)
 

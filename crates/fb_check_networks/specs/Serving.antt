@@ -1,5 +1,5 @@
--- The data that event connections carry along: an output event brings the variables WITH it (IEC 61499-1, 5.2.1 and 7; that a data
--- connection between resources needs an event connection beside it is this project's profile).
+-- The data that event connections carry along: an output event brings the variables WITH it (IEC 61499-1, 5.2.1 and 7;
+-- that a data connection between resources needs a matching event connection is this project's profile).
 use Rattle.std.specs.Prelude.{◌≡◌, ◌⊎◌, ℕ, List, [], ◌∷◌, Option, Some, None, Contains, slice_get, option_and_then, IsTrue}
 use Rattle.std.specs.Bool.{Decides}
 use Rattle.std.specs.Ordering.{nat_cmp, ordering_then}
@@ -53,7 +53,7 @@ lead_cmp a b = ordering_then (ordering_then (option_cmp name_cmp a.0 b.0) (name_
 abbrev pub path_of : Option (Bor Name) → Path
 path_of o = elim o [ None ↦ [] | Some c ↦ c.now ∷ [] ]
 
--- the port for which the names stand
+-- the port that the names stand for
 abbrev pub lead_port : Lead → Port
 lead_port k = record { at = path_of k.0; name = k.1.now }
 
@@ -68,12 +68,12 @@ Serves lib plan q r =
 pub record AreServed (lib : Library) (plan : Plan) (served : BTreeSet Lead) : Type 0 where
   pub has : (k : Lead) → Decides (contains lead_cmp served k) (Serves lib plan (lead_port k) k.2)
 
--- the names in the list, at the component, lead to the resource, beside what led there before
+-- the names in the list, at the component, lead to the resource, in addition to what led there before
 pub record IsExtended (component : Option (Bor Name)) (names : List Name) (resource : ℕ) (old new : BTreeSet Lead) : Type 0 where
   pub has : (k : Lead)
       → Decides (contains lead_cmp new k) (IsTrue (contains lead_cmp old k) ⊎ ((path_of component ≡ (lead_port k).at) × Contains names (lead_port k).name × (resource ≡ k.2)))
 
--- The ends of a data connection lie in two resources, and no event serves the second.
+-- The ends of a data connection are in two resources, and no event serves the second.
 abbrev pub IsUnserved : Library → Plan → Connection → Type 0
 IsUnserved lib plan c = IsCut plan (pair_of c) × ¬ (Serves lib plan (pair_of c).0 (resource_of plan (pair_of c).1.at))
 

@@ -1,4 +1,4 @@
--- The types of variables by the numbers of block types and the places of ports (IEC 61499-1, 5.3).
+-- The types of variables by the numbers of block types and the indices of ports (IEC 61499-1, 5.3).
 use Rattle.std.specs.Prelude.{ℕ, List, Option, Some, None, slice_get, option_map, option_and_then}
 use Rattle.fb_types.specs.Blocks.{ports_of}
 use Rattle.fb_types.specs.declared.value.Ty.{Ty}
@@ -9,7 +9,7 @@ use Rattle.fb_check_names.specs.declared.numbers.TypeNumber.{TypeNumber}
 use Rattle.fb_check_names.specs.declared.numbers.WireEnd.{WireEnd}
 use Rattle.fb_check_names.specs.Numbers.{kind_of_number}
 
--- the type of the variable at a place
+-- the type of the variable at an index
 abbrev pub type_at : List Variable → ℕ → Option Ty
 type_at vs k = option_map (λ v. v.ty) (slice_get vs k)
 

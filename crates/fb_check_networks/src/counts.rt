@@ -1,4 +1,4 @@
-//! E30: counts of the instances of an application, with those inside composites.
+//! E30: the number of instances of an application, including those inside composites.
 
 ghost use Rattle.std.specs.Prelude.{◌≡◌, ◌↔◌, ◌<◌, length, map, IfOk, IsTrue};
 ghost use Rattle.fb_types.specs.Flat.{paths_of};
@@ -10,10 +10,11 @@ ghost use Rattle.fb_check_networks.specs.Counts as spec;
 use fb_check_names::{NetworkNumbers, Resolved, TypeNumber};
 use std::alloc::{AllocError, Global};
 
-/// The instances that an application may have, composites and their components among them.
+/// The most instances of an application, including composites and their components.
 const MOST: usize = 4096;
 
-/// How deep an instance stands inside a type at most: the components of the highest composite's lowest one.
+/// The greatest depth of an instance inside a type: in a composite of the greatest height, the components of the
+/// innermost one.
 const DEPTH: usize = 16;
 
 fn inside_count(counts: &[usize], number: TypeNumber) -> usize
@@ -25,8 +26,8 @@ fn inside_count(counts: &[usize], number: TypeNumber) -> usize
     }
 }
 
-/// Counts instances of these types with all that stands inside them, where `counts` has how many stand inside
-/// each block type. It counts no further than one past the limit.
+/// The number of instances of these types and all inside them, from the number inside each block type. It counts no
+/// further than one past the limit.
 fn count_of(counts: &[usize], types: &[TypeNumber]) -> usize
     ensures { result ≡ spec.count_of counts.now types.now }
 {
@@ -47,7 +48,7 @@ fn count_inside(counts: &[usize], numbers: &Option<NetworkNumbers>) -> usize
     }
 }
 
-/// Counts what stands one name deeper inside each block type.
+/// The numbers of instances inside each block type, one name deeper.
 fn count_again(
     alloc: Global,
     blocks: &[Option<NetworkNumbers>],
@@ -62,7 +63,7 @@ fn count_again(
     Ok(again)
 }
 
-/// Counts nothing yet inside any block type.
+/// Zero for each block type.
 fn count_none(alloc: Global, blocks: &[Option<NetworkNumbers>]) -> Result<Vec<usize>, AllocError>
     ensures { IfOk result (λ v. v.items ≡ map spec.no_count blocks.now) }
 {
@@ -73,7 +74,7 @@ fn count_none(alloc: Global, blocks: &[Option<NetworkNumbers>]) -> Result<Vec<us
     Ok(counts)
 }
 
-/// The counts after so many rounds: of what stands at most so many names deep inside each block type.
+/// The numbers after these rounds: of instances inside each block type, at most that many names deep.
 fn counts_after(
     alloc: Global,
     blocks: &[Option<NetworkNumbers>],
@@ -88,8 +89,8 @@ fn counts_after(
     Ok(counts)
 }
 
-/// Whether an application has more than 4,096 instances, composites and their components counted, in a
-/// declaration that has these numbers.
+/// Whether the application of a declaration with these numbers has more than 4,096 instances, including composites and
+/// their components.
 pub fn has_too_many_instances(alloc: Global, numbers: &Resolved) -> Result<bool, AllocError>
     ensures { IfOk result (λ b. (library : Library) (plan : Plan) → IsResolved library plan numbers.now → (IsTrue b ↔ (4096 < length (paths_of library)))) }
 {

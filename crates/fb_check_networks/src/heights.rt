@@ -1,4 +1,4 @@
-//! E25: composite types that hold themselves, or have a height over 16.
+//! E25: composite types that contain themselves, or have a height over 16.
 
 ghost use Rattle.std.specs.Prelude.{◌≡◌, ◌↔◌, map, is_some, IfOk, IsTrue};
 ghost use Rattle.std.specs.List.{list_any};
@@ -11,7 +11,7 @@ ghost use Rattle.fb_check_networks.specs.Heights as spec;
 use fb_check_names::{NetworkNumbers, Resolved, TypeNumber};
 use std::alloc::{AllocError, Global};
 
-/// The height that a composite type may have. One that holds no composite type has height 1.
+/// The greatest height of a composite type. One that contains no composite type has height 1.
 const MOST: usize = 16;
 
 fn is_marked(marks: &[bool], number: TypeNumber) -> bool
@@ -71,8 +71,8 @@ fn mark_again(
     Ok(again)
 }
 
-/// The marks after so many rounds. At first each composite type is marked, and so after a number of rounds each
-/// from which as many steps lead down.
+/// The marks after these rounds. At first each composite type is marked. After n rounds those are marked from which n
+/// steps lead down.
 fn marks_after(
     alloc: Global,
     blocks: &[Option<NetworkNumbers>],
@@ -98,8 +98,8 @@ fn has_mark(marks: &[bool]) -> bool
     false
 }
 
-/// Whether a composite type holds itself at any depth, or has a height over 16, in a declaration that has these
-/// numbers. From one that holds itself any number of steps leads down.
+/// Whether a composite type contains itself at any depth, or has a height over 16, in a declaration with these numbers.
+/// From one that contains itself, any number of steps leads down.
 pub fn is_too_high(alloc: Global, numbers: &Resolved) -> Result<bool, AllocError>
     ensures { IfOk result (λ b. (library : Library) (plan : Plan) → IsResolved library plan numbers.now → (IsTrue b ↔ TooHigh library)) }
 {

@@ -1,13 +1,13 @@
-//! What is checked of networks and of their mapping by numbers: values of parameters (E22), types at the ends of data
-//! connections (E23), sources of data (E24), heights of composite types (E25), instances and connections that a
-//! deployment does not map to resources and links (E26 to E28), and counts of instances (E30).
+//! Checks of networks and of their mapping, by number: values of parameters (E22), types at the ends of data connections
+//! (E23), sources of data (E24), heights of composite types (E25), instances and connections that a deployment does not
+//! map to resources and links (E26 to E28), and the number of instances (E30).
 //!
-//! Guarantees to callers: a function for each, which says whether it applies; and for E26 the mapping, or none exactly
-//! where it applies. Heights and counts come from rounds over types, so no instance is made to refuse a declaration.
-//! `values::is_within` says which types hold all values of another.
+//! Guarantees to callers: a function for each says whether it applies, and for E26 returns the mapping, or `None` exactly
+//! if it applies. Heights and numbers of instances are computed in rounds over types, so no instance is made to refuse a
+//! declaration. `values::is_within` says which types contain all values of another.
 //!
-//! Read in this order: `variables` and `values`, types by number; `parameters`, `ranges`, `sources`, `heights`,
-//! `counts`. Then `mapping` (E26); `links` (E27); `interfaces`, `serving` and `uncarried` (E28).
+//! Read in this order: `variables` and `values`, types by number; `parameters`, `ranges`, `sources`, `heights`, `counts`.
+//! Then `mapping` (E26); `links` (E27); `interfaces`, `serving` and `uncarried` (E28).
 #![tactic(auto)]
 
 pub mod counts;

@@ -11,10 +11,10 @@ use fb_types::{Connection, Library, Link, Plan};
 use std::alloc::{AllocError, Global};
 use std::collections::BTreeSet;
 
-/// The names of two resources: the one that sends, and the one that receives.
+/// The names of two resources: the sender, and the receiver.
 type Way<'a> = (&'a [u8], &'a [u8]);
 
-/// Adds the ordered pairs of resources that have a link, where there is none before.
+/// Adds the ordered pairs of resources that have a link to an empty set.
 fn add_ways<'a>(ways: &mut BTreeSet<Way<'a>, Global>, links: &'a [Link]) -> Result<(), AllocError>
     requires { AreWays [] ways.old }
     ensures { OnOk result (AreWays links.now ways.new) }
@@ -25,7 +25,7 @@ fn add_ways<'a>(ways: &mut BTreeSet<Way<'a>, Global>, links: &'a [Link]) -> Resu
     Ok(())
 }
 
-/// The name of the resource at a place.
+/// The name of the resource at an index.
 fn name_of(plan: &Plan, resource: usize) -> &[u8]
     ensures { result.now ≡ name_of_resource plan.now resource }
 {

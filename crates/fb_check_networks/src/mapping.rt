@@ -11,19 +11,19 @@ use fb_types::{Instance, Items, Library, Name, Plan, PortName, ResourceEntry};
 use std::alloc::{AllocError, Global};
 use std::collections::BTreeMap;
 
-/// The resource that lists each name, by its place from 0.
+/// The resource that lists each name, by its index from 0.
 pub type Listing<'a> = BTreeMap<&'a [u8], usize, Global>;
 
-/// Where the instances of the application lie.
+/// Which resource holds each instance of the application.
 #[derive(Drop)]
 pub enum Mapping<'a> {
-    /// All in the one resource.
+    /// The one resource holds all.
     All,
-    /// Each in the resource that lists it.
+    /// Each is held by the resource that lists it.
     Listed(Listing<'a>),
 }
 
-/// Lists the names of the resource of a number, and says whether none was listed before.
+/// Adds the names that a resource lists, and returns whether none was listed before.
 fn list_names<'a>(
     listing: &mut Listing<'a>,
     names: &'a [Name],
@@ -39,7 +39,7 @@ fn list_names<'a>(
     Ok(true)
 }
 
-/// Lists what each resource lists, where nothing is listed before, and says whether no name is listed twice.
+/// Adds the names that each resource lists to an empty listing, and returns whether no name is listed twice.
 fn list_all<'a>(
     listing: &mut Listing<'a>,
     resources: &'a [ResourceEntry],
@@ -68,7 +68,7 @@ fn lists_each(listing: &Listing, instances: &[Instance]) -> bool
     true
 }
 
-/// Where the instances of the application lie, or `None` where one is not mapped or a name is mapped twice.
+/// Which resource holds each instance of the application, or `None` if one is not mapped or a name is mapped twice.
 pub fn mapping_of<'a>(
     alloc: Global,
     library: &Library,
@@ -90,7 +90,7 @@ pub fn mapping_of<'a>(
     Ok(Some(Mapping::Listed(listing)))
 }
 
-/// The resource that holds an instance of the application, by its place from 0. A name that is not mapped gives 0.
+/// The index of the resource that holds an instance of the application. A name that is not mapped gives 0.
 fn holder(mapping: &Mapping, name: &[u8]) -> usize
     ensures { result ≡ holder_in mapping.now name.now }
 {
@@ -100,7 +100,7 @@ fn holder(mapping: &Mapping, name: &[u8]) -> usize
     }
 }
 
-/// The resource in which an end of a connection of the application lies, by its place from 0. The boundary gives 0.
+/// The index of the resource that holds the component at an end of a connection of the application. The boundary gives 0.
 pub fn resource_of(mapping: &Mapping, end: &PortName) -> usize
     ensures { result ≡ resource_in mapping.now end.now }
 {
@@ -110,7 +110,7 @@ pub fn resource_of(mapping: &Mapping, end: &PortName) -> usize
     }
 }
 
-/// For each instance of the application, the resource that holds it, by its place from 0.
+/// For each instance of the application, the index of the resource that holds it.
 pub fn holders_of(
     alloc: Global,
     library: &Library,

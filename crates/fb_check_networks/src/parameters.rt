@@ -1,4 +1,4 @@
-//! E22: parameters that are no values of their inputs' types.
+//! E22: parameters that are not values of their inputs' types.
 
 ghost use Rattle.std.specs.Prelude.{◌≡◌, ◌↔◌, IsTrue};
 ghost use Rattle.fb_types.specs.declared.deploy.Plan.{Plan};
@@ -10,7 +10,7 @@ use crate::variables::input_type;
 use fb_check_names::{NetworkNumbers, Resolved, TypeNumber};
 use fb_types::{BlockType, Instance, Library, Network, Parameter};
 
-/// Whether a parameter is no value of the type of the input that it sets.
+/// Whether a parameter is not a value of the type of the input that it sets.
 fn is_wrong(library: &Library, number: TypeNumber, parameter: &Parameter, input: usize) -> bool
     ensures { result ≡ spec.is_wrong library.now number parameter.now input }
 {
@@ -85,7 +85,7 @@ fn has_wrong_in_some(library: &Library, blocks: &[Option<NetworkNumbers>]) -> bo
     false
 }
 
-/// Whether an instance has a parameter that is no value of its input's type, where the numbers are those of the
+/// Whether an instance has a parameter that is not a value of its input's type. The numbers are those of the
 /// declaration.
 pub fn has_wrong_parameter(library: &Library, numbers: &Resolved) -> bool
     ensures { (plan : Plan) → IsResolved library.now plan numbers.now → (IsTrue result ↔ spec.ParameterWrong library.now) }

@@ -1,4 +1,4 @@
-//! E23: data connections that lead from a type to one that does not hold all its values.
+//! E23: data connections to a type that does not contain all values of the source type.
 
 ghost use Rattle.std.specs.Prelude.{◌≡◌, ◌↔◌, IsTrue};
 ghost use Rattle.std.specs.List.{list_any};
@@ -71,8 +71,8 @@ fn leads_out_in_some(library: &Library, blocks: &[Option<NetworkNumbers>]) -> bo
     false
 }
 
-/// Whether a data connection leads from a type to one that does not hold all its values, where no name is given
-/// twice and the numbers are those of the declaration.
+/// Whether a data connection leads to a type that does not contain all values of the source type. No name is given twice,
+/// and the numbers are those of the declaration.
 pub fn leads_out_of_range(library: &Library, numbers: &Resolved) -> bool
     ensures { (plan : Plan) → IsResolved library.now plan numbers.now → ¬ (NameTwice library.now plan) → (IsTrue result ↔ OutOfRange library.now) }
 {

@@ -14,7 +14,7 @@ use fb_types::{Library, Name, Plan, PortName, Ports};
 use std::alloc::{AllocError, Global};
 use std::collections::BTreeSet;
 
-/// A component, or none at the boundary, with a port of it, and a resource to which it leads.
+/// A component, or none at the boundary, with a port of it, and the resource to which it leads.
 type Lead<'a> = (Option<&'a [u8]>, &'a [u8], usize);
 
 /// Ports with the resources to which they lead.
@@ -45,8 +45,8 @@ fn extend<'a>(
     Ok(())
 }
 
-/// Adds the variables that output events carry from their components to resources. `events` are the events that were
-/// met: at first none, as nothing is served.
+/// Adds the variables that output events carry from their components to resources. `events` has the events that were met;
+/// at first both sets are empty.
 fn serve_all<'a>(
     events: &mut Leads<'a>,
     served: &mut Leads<'a>,

@@ -1,11 +1,11 @@
-//! Which types hold all values of another.
+//! Which types contain all values of another.
 
 ghost use Rattle.std.specs.Prelude.{◌≡◌};
 ghost use Rattle.fb_check_networks.specs.Ranges as spec;
 
 use fb_types::Ty;
 
-/// The least whole number of a type and the one past its greatest, none of BOOL.
+/// The least whole number of a type and the one past its greatest, or `None` for BOOL.
 fn range_of(ty: Ty) -> Option<(i128, i128)>
     ensures { result ≡ spec.range_of ty }
 {
@@ -23,7 +23,7 @@ fn range_of(ty: Ty) -> Option<(i128, i128)>
     Some(range)
 }
 
-/// Whether each value of the one type is one of the other.
+/// Whether each value of the one type is a value of the other.
 pub fn is_within(from: Ty, to: Ty) -> bool
     ensures { result ≡ spec.is_within from to }
 {

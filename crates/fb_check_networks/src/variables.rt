@@ -1,4 +1,4 @@
-//! The types of variables by the numbers of block types and the places of ports.
+//! The types of variables by the numbers of block types and the indices of ports.
 
 ghost use Rattle.std.specs.Prelude.{◌≡◌, map, slice_get, option_map};
 ghost use Rattle.std.specs.Option.{option_copied};

@@ -29,7 +29,7 @@ pub and_true : (b : Bool) → (b && true) ≡ b
 and_true true = refl
 and_true false = refl
 
--- what a function answers that makes two tests
+-- the result of a function that makes two tests
 pub then_answer : {r s a c : Bool} (b : Bool) → r ≡ a → s ≡ b → c ≡ (a && b) → r ≡ true → s ≡ c
 then_answer b p q e h = q ∙ sym (e ∙ ap (λ x. x && b) (sym p ∙ h))
 

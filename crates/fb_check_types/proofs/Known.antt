@@ -38,7 +38,7 @@ pub variable_known : (t : BasicType) (e : Expr) (n v : Name) → e ≡ expr.Vari
 variable_known t e n v is same =
     ap (known t) is ∙ ap (known_said t) (variable_says v) ∙ and_true (is_known t (OfVariable v)) ∙ ap (λ (n : Name). is_known t (OfVariable n)) (sym same)
 
--- the operands are those that the code looks at
+-- the operands are those that the code uses
 pub group_known : (t : BasicType) (e a b : Expr) → e ≡ expr.Group b → a ≡ b → known t e ≡ known t a
 group_known t e a b is same = ap (known t) is ∙ ap (known_said t) (group_says b) ∙ ap (known t) (sym same)
 
@@ -81,7 +81,7 @@ pub assign_known :
 assign_known t s n v e is same =
     ap (known_in t) is ∙ ap (known_done t) (assign_says v e) ∙ ap (λ (n : Name). is_known t (OfVariable n) && known t e) (sym same)
 
--- the lists are those that the code goes through
+-- the lists are those that the code uses
 pub if_known :
     (t : BasicType) (s : Stmt) (cs ds : List Choice) (os ps : List Stmt) → s ≡ read.If ds ps → cs ≡ ds → os ≡ ps
     → known_in t s ≡ (known_choices t cs && known_body t os)
@@ -89,7 +89,7 @@ if_known t s cs ds os ps is choices others =
     ap (known_in t) is ∙ ap (known_done t) (if_says ds ps) ∙ known_two t (mentions_choices (choices_of ds)) (mentions_body (all_of ps))
     ∙ (λ i. known_choices t (sym choices i) && known_body t (sym others i))
 
--- a WHILE or a REPEAT, of which the condition is looked at first
+-- a WHILE or a REPEAT, whose condition is tested first
 pub looped_known :
     (t : BasicType) (s : Stmt) (c : Expr) (os ps : List Stmt) → (s ≡ read.While c ps) ⊎ (s ≡ read.Repeat ps c) → os ≡ ps
     → known_in t s ≡ (known t c && known_body t os)
@@ -103,7 +103,7 @@ looped_known t s c os ps (inr is) body =
 pub statements_known : (t : BasicType) (s : Stmt) (ss : List Stmt) → known_body t (s ∷ ss) ≡ (known_in t s && known_body t ss)
 statements_known t s ss = known_two t (mentions_in (stmt_of s)) (mentions_body (all_of ss))
 
--- a condition and the statements behind it, and those behind labels
+-- a condition and the statements after it, and those after labels
 abbrev pub known_choice : BasicType → Choice → Bool
 known_choice t c = all_known t (mentions (choice_of c).0) && all_known t (mentions_body (choice_of c).1)
 

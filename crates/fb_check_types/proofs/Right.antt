@@ -18,14 +18,14 @@ right p s = is_right p (stmt_of s)
 abbrev pub right_body : Place → List Stmt → Bool
 right_body p ss = body_right p (all_of ss)
 
--- the lists are those that the code goes through
+-- the lists are those that the code uses
 pub if_right :
     (p : Place) (s : Stmt) (cs ds : List Choice) (os ps : List Stmt) → s ≡ read.If ds ps → cs ≡ ds → os ≡ ps
     → right p s ≡ (choices_right p (choices_of cs) && right_body p os)
 if_right p s cs ds os ps is choices others =
     ap (right p) is ∙ ap (is_right p) (if_says ds ps) ∙ (λ i. choices_right p (choices_of (sym choices i)) && right_body p (sym others i))
 
--- a WHILE or a REPEAT, of which the condition is looked at first
+-- a WHILE or a REPEAT, whose condition is tested first
 pub looped_right :
     (p : Place) (s : Stmt) (c : Expr) (os ps : List Stmt) → (s ≡ read.While c ps) ⊎ (s ≡ read.Repeat ps c) → os ≡ ps
     → right p s ≡ (is_condition p (expr_of c) && right_body (looped p) os)
@@ -35,7 +35,7 @@ looped_right p s c os ps (inr is) body =
     ap (right p) is ∙ ap (is_right p) (repeat_says ps c) ∙ and_flip (right_body (looped p) ps) (is_condition p (expr_of c))
     ∙ ap (λ (ss : List Stmt). is_condition p (expr_of c) && right_body (looped p) ss) (sym body)
 
--- a condition and the statements behind it, and those behind labels
+-- a condition and the statements after it, and those after labels
 abbrev pub right_choice : Place → Choice → Bool
 right_choice p c = is_condition p (choice_of c).0 && body_right p (choice_of c).1
 

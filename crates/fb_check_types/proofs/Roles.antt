@@ -50,7 +50,7 @@ is_some-named f n (x ∷ xs) =
       | false ↦ is_some-named f n xs
     ])
 
--- ---- Lists in which no name stands twice
+-- ---- Lists in which no name occurs twice
 
 apart : (n : Name) (xs ys : List Name) → ¬ (Twice (xs ++ ys)) → among xs n ≡ true → among ys n ≡ false
 apart n xs ys once h =
@@ -243,7 +243,7 @@ type_is None None None (Some x) l one = refl
 type_is None None None None (Some x) one = refl
 type_is None None None None None one = refl
 
--- ---- What each method answers
+-- ---- What each method returns
 
 pub event_input_says : (d : Declared) (n : Name) (r : Option Role) → r ≡ role_of d n → says is_event_input r ≡ among (event_names d.ports.event_inputs) n
 event_input_says d n r is =
@@ -287,7 +287,7 @@ type_says d n r is once =
     ∙ ap variable_type (sym (named-append (λ v. v.name) n (d.ports.inputs ++ d.ports.outputs) d.internals
     ∙ ap (λ r. or_else r (variable_at d.internals n)) (named-append (λ v. v.name) n d.ports.inputs d.ports.outputs)))
 
--- ---- By places
+-- ---- By indices
 
 events_named : (r : Role) (es : List EventPort) → map (λ d. d.0) (events_as r es) ≡ event_names es
 events_named r [] = refl
@@ -328,7 +328,7 @@ role_found d n o at =
     ∙ ap (λ q. option_map (λ r. r.1) (option_and_then (slice_get (with_roles d)) q)) (at ∙ ap (position (same_name n)) (sym (same_names d)))
     ∙ ap (option_map (λ r. r.1)) (sym (named-position (λ r. r.0) n (with_roles d)))
 
--- ---- What stands at a place
+-- ---- What is at an index
 
 minus : (i n : ℕ) → suc i - suc n ≡ i - n
 minus i n = omega arith
@@ -349,7 +349,7 @@ second o = option_map (λ d. d.1) o
 abbrev pub role_at : Declared → ℕ → Option Role
 role_at d i = second (slice_get (with_roles d) i)
 
--- among the events of one sort
+-- among the events of one kind
 event_here : (r : Role) (es : List EventPort) (rest : List (Name × Role)) (i : ℕ) → ¬ (length es ≤ i)
     → Some r ≡ second (slice_get (events_as r es ++ rest) i)
 event_here r es rest i h =
@@ -371,7 +371,7 @@ pub at_event_output : (d : Declared) (i j n m : ℕ) → n ≡ length d.ports.ev
 at_event_output d i j n m e h is f g =
     event_here EventOutput d.ports.event_outputs (past_events d) j (λ k. g (omega (arith, f, k))) ∙ sym (past_first d i j n e h is)
 
--- where a place past the events stands among the variables
+-- if an index past the events is among the variables
 pub record IsPast (d : Declared) (i k : ℕ) : Type 0 where
   pub rest : role_at d i ≡ second (slice_get (past_events d) k)
 

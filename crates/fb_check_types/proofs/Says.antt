@@ -1,4 +1,4 @@
--- What the expressions and statements that were read say, each by its parts (IEC 61131-3, 7.3).
+-- What the expressions and statements that were read mean, each by its parts (IEC 61131-3, 7.3).
 use Rattle.std.proofs.Common.{◌≡◌, List, Option, refl, rules}
 use Rattle.fb_types.specs.Names.{Name}
 use Rattle.fb_types.specs.Syntax.{Variable, Unary, Binary, Call, Assign, If, Case, For, While, Repeat, expr_of, step_of, stmt_of}

@@ -17,7 +17,7 @@ use Rattle.fb_check_types.proofs.Says.{binary_says, call_says, group_says, unary
 abbrev sort_in : Types → Expr → Option Sort
 sort_in types e = sort_of types (expr_of e)
 
--- the operands are those that the code looks at
+-- the operands are those that the code uses
 pub variable_sort : (types : Types) (e : Expr) (n v : Name) → e ≡ expr.Variable v → n ≡ v → sort_in types e ≡ Some (sort_of_type (types n))
 variable_sort types e n v is same =
     ap (sort_in types) is ∙ ap (sort_of types) (variable_says v) ∙ ap (λ (n : Name). Some (sort_of_type (types n))) (sym same)

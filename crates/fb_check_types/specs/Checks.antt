@@ -1,4 +1,4 @@
--- What is tested of each block type, apart from networks (IEC 61499-1, 5.2; IEC 61131-3, 7.3).
+-- The tests of each block type, except for networks (IEC 61499-1, 5.2; IEC 61131-3, 7.3).
 use Rattle.std.specs.Prelude.{◌≡◌, ℕ, length, slice_get, List, [], ◌++◌, map, Bool, true, ◌&&◌, Some, None}
 use Rattle.std.specs.List.{list_all}
 use Rattle.fb_types.specs.Syntax.{body_of, expr_of}
@@ -21,14 +21,14 @@ use Rattle.fb_check_names.specs.Sorts.{names_of_sort}
 use Rattle.fb_check_names.specs.declared.catalog.BlockPlaces.{BlockPlaces}
 use Rattle.fb_check_names.specs.declared.ports.PortSort.{PortSort}
 
--- The places of the names of each block type, in the order of the types.
+-- The indices of the names of each block type, in the order of the types.
 pub record AreBlocks (ts : List BlockType) (xs : List BlockPlaces) : Type 0 where
   pub counted : length xs ≡ length ts
   pub blocks : (k : ℕ) (t : BlockType) (x : BlockPlaces) → slice_get ts k ≡ Some t → slice_get xs k ≡ Some x → IsBlock t x
 
 -- ---- Names
 
--- a name is among those of the sort that is wanted
+-- a name is among those of the required kind
 abbrev pub is_met : Wanted → Bool
 is_met w = among w.1 w.0
 
@@ -38,7 +38,7 @@ all_met ws = list_all is_met ws
 abbrev pub action_wanted : BasicType → Action → List Wanted
 action_wanted t a = all_of (optional a.algorithm) (algorithm_names t) ++ all_of (optional a.output) (event_names t.ports.event_outputs)
 
--- ports of a sort alone stand WITH an event
+-- only ports of a kind are WITH an event
 abbrev pub with_ports : PortSort → Ports → EventPort → Bool
 with_ports s p e = list_all (among (names_of_sort s p)) e.with
 
@@ -80,7 +80,7 @@ is_known_block b = all_met (withs_wanted (ports_of (kind_of b))) && is_known_cha
 
 -- ---- Kinds
 
--- where the statements of a type stand, in a loop or not
+-- the statements of a type, in a loop or not
 abbrev pub in_place : BasicType → Bool → Place
 in_place t looped = record (place_in t) { in_loop = looped }
 

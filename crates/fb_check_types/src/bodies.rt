@@ -12,7 +12,7 @@ use crate::sorts::{
 };
 use fb_types::{Body, Branch, Choice, Sort, Stmt};
 
-/// Whether the statements of an algorithm have the right kinds, assign no input and leave no loop from outside.
+/// Whether the statements of an algorithm have the right kinds, assign no input, and have EXIT only in loops.
 pub fn is_body_right(body: &Body, scope: &Scope) -> bool
     ensures { result ≡ body_right (place_in scope.now) (body_of body.now) }
 {

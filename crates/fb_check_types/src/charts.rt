@@ -12,7 +12,7 @@ use crate::scope::Scope;
 use fb_check_names::PortSort;
 use fb_types::{Action, EventPort, Name, State, Transition};
 
-/// Whether each name is that of a port of the sort.
+/// Whether each name is that of a port of the kind.
 fn are_ports(names: &[Name], sort: PortSort, interface: &Interface) -> bool
     ensures { result ≡ list_all (among (names_of_sort sort interface.now.ports)) names.now }
 {
@@ -24,7 +24,7 @@ fn are_ports(names: &[Name], sort: PortSort, interface: &Interface) -> bool
     true
 }
 
-/// Whether only ports of the sort stand WITH the events.
+/// Whether only ports of the kind are WITH the events.
 fn have_ports(events: &[EventPort], sort: PortSort, interface: &Interface) -> bool
     ensures { result ≡ list_all (with_ports sort interface.now.ports) events.now }
 {
@@ -36,7 +36,7 @@ fn have_ports(events: &[EventPort], sort: PortSort, interface: &Interface) -> bo
     true
 }
 
-/// Whether inputs stand WITH event inputs and outputs WITH event outputs.
+/// Whether inputs are WITH event inputs and outputs WITH event outputs.
 pub fn are_withs_known(interface: &Interface) -> bool
     ensures { result ≡ all_met (withs_wanted interface.now.ports) }
 {

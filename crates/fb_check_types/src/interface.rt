@@ -1,4 +1,4 @@
-//! What the names of a block type's interface stand for, by their places.
+//! What the names of a block type's interface stand for, by their indices.
 
 ghost use Rattle.std.specs.Prelude.{◌≡◌, List, option_map, slice_get};
 ghost use Rattle.fb_types.specs.Blocks.{among, named};
@@ -22,7 +22,7 @@ pub enum Role {
 }
 
 impl Role {
-    /// Whether it is a port of the sort.
+    /// Whether it is a port of the kind.
     fn is_port(self, sort: PortSort) -> bool
         ensures { result ≡ is_port sort self }
     {
@@ -46,8 +46,8 @@ impl Role {
     }
 }
 
-/// The ports and the internal variables of a block type, whose names have places. Contracts see the ports
-/// and the variables.
+/// The ports and the internal variables of a block type, whose names have indices. Contracts see the ports and the
+/// variables.
 #[derive(Drop)]
 pub struct Interface<'a, 'n> {
     ports: &'a Ports,
@@ -67,6 +67,7 @@ impl<'a, 'n> Model for Interface<'a, 'n> {
 }
 
 impl<'a, 'n> Interface<'a, 'n> {
+    /// The interface with these ports and internal variables. `places` has the index of each name.
     pub fn new(
         ports: &'a Ports,
         internals: &'a [Variable],
@@ -82,13 +83,14 @@ impl<'a, 'n> Interface<'a, 'n> {
         }
     }
 
+    /// The ports.
     pub fn ports(&self) -> &'a Ports
         ensures { result.now ≡ self.now.ports }
     {
         self.ports
     }
 
-    /// What stands at a place of all names.
+    /// What is at an index of all names.
     fn role_at(&self, place: usize) -> Option<Role>
         ensures { result ≡ option_map (λ d. d.1) (slice_get (with_roles self.now) place) }
     {
@@ -121,7 +123,7 @@ impl<'a, 'n> Interface<'a, 'n> {
         self.role_at(place)
     }
 
-    /// Whether a name is that of a port of the sort.
+    /// Whether a name is that of a port of the kind.
     pub fn has_port(&self, sort: PortSort, name: &Name) -> bool
         ensures { result ≡ among (names_of_sort sort self.now.ports) name.now }
     {

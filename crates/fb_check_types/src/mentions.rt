@@ -41,7 +41,7 @@ fn are_arguments_known(arguments: &[Expr], scope: &Scope) -> bool
     true
 }
 
-/// The same of the step of FOR, if there is one.
+/// The same for the step of FOR, if there is one.
 fn is_step_known(step: &Option<Expr>, scope: &Scope) -> bool
     ensures { result ≡ all_known scope.now (mentions (step_of step.now)) }
 {

@@ -1,4 +1,4 @@
-//! The checks of what block types hold, apart from networks.
+//! The checks of what block types contain, except for networks.
 
 ghost use Rattle.std.specs.Prelude.{◌≡◌, ◌↔◌, ◌++◌, IsTrue};
 ghost use Rattle.std.specs.List.{list_all};
@@ -19,8 +19,8 @@ use crate::values::are_declared_right;
 use fb_check_names::{BlockPlaces, Catalog};
 use fb_types::{Algorithm, BlockType, Library, Ports, Transition, Variable};
 
-/// Whether each name in a WITH list, a chart, a guard or a body stands for something of the sort that is wanted
-/// in its place (E21).
+/// Whether each name in a WITH list, a chart, a guard or a body stands for something of the kind that is required there
+/// (E21).
 pub fn are_parts_known(library: &Library, catalog: &Catalog) -> bool
     requires { (plan : Plan) × IsCatalog library.now plan catalog.now }
     ensures { IsTrue result ↔ ArePartsKnown library.now }
@@ -28,8 +28,8 @@ pub fn are_parts_known(library: &Library, catalog: &Catalog) -> bool
     are_blocks_known(library.blocks.as_slice(), catalog.blocks.as_slice())
 }
 
-/// Whether a guard, a body or a declared value has the wrong kind, an input is assigned, or EXIT stands outside
-/// of loops (E22). A name that stands for no variable counts as a truth value here.
+/// Whether a guard, a body or a declared value has the wrong kind, an input is assigned, or EXIT is outside of loops
+/// (E22). A name that stands for no variable counts as a truth value here.
 pub fn has_wrong_part(library: &Library, catalog: &Catalog) -> bool
     requires { (plan : Plan) × IsCatalog library.now plan catalog.now }
     ensures { IsTrue result ↔ PartWrong library.now }
@@ -172,7 +172,7 @@ fn are_bodies_right(algorithms: &[Algorithm], scope: &Scope) -> bool
     true
 }
 
-/// Whether the guards are truth values, and the bodies right.
+/// Whether the guards are truth values, and the statements right.
 fn is_chart_right(scope: &Scope) -> bool
     ensures { result ≡ chart_right scope.now }
 {

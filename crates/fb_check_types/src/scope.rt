@@ -12,7 +12,7 @@ use fb_check_names::{BlockPlaces, PortSort, place_of};
 use fb_types::{BasicType, Name, Ty};
 use std::marker::Model;
 
-/// A basic type, whose names have places. Contracts see the type.
+/// A basic type, whose names have indices. Contracts see the type.
 #[derive(Drop)]
 pub struct Scope<'a, 'n> {
     block: &'a BasicType,
@@ -37,6 +37,7 @@ impl<'a, 'n> Model for Scope<'a, 'n> {
 }
 
 impl<'a, 'n> Scope<'a, 'n> {
+    /// The scope of a basic type. `places` has the indices of its names.
     pub fn new(block: &'a BasicType, places: &'a BlockPlaces<'n>) -> Scope<'a, 'n>
         requires { IsBlock (Basic block.now) places.now }
         ensures { result ≡ block.now }
@@ -59,24 +60,28 @@ impl<'a, 'n> Scope<'a, 'n> {
         Interface::new(&block.ports, block.internals.as_slice(), &self.places.ports)
     }
 
+    /// Whether a name is that of a state.
     pub fn is_state(&self, name: &Name) -> bool
         ensures { result ≡ among (state_names self.now) name.now }
     {
         place_of(&self.places.states, name.as_bytes()).is_some()
     }
 
+    /// Whether a name is that of an algorithm.
     pub fn is_algorithm(&self, name: &Name) -> bool
         ensures { result ≡ among (algorithm_names self.now) name.now }
     {
         place_of(&self.places.algorithms, name.as_bytes()).is_some()
     }
 
+    /// Whether a name is that of a data input.
     pub fn is_input(&self, name: &Name) -> bool
         ensures { result ≡ is_input self.now.ports name.now }
     {
         self.interface().has_port(PortSort::Input, name)
     }
 
+    /// Whether a name is that of a variable: an input, an output or an internal one.
     pub fn is_variable(&self, name: &Name) -> bool
         ensures { result ≡ among (variable_names (variables_of self.now)) name.now }
     {

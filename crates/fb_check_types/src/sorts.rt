@@ -8,13 +8,13 @@ ghost use Rattle.fb_check_types.specs.Trees.{arguments_of};
 
 use fb_types::{BinaryOperator, Expr, Function, Name, Sort, Ty, UnaryOperator};
 
-/// What has variables, each of a type.
+/// Variables with their types.
 pub trait Typing {
     ghost use Rattle.fb_types.specs.Values.{Types};
 
     ghost types: { Self → Types };
 
-    /// The type of a variable. What is no variable has the type BOOL here, and is refused elsewhere.
+    /// The type of a variable. For a name that is no variable it is BOOL, since that name is refused elsewhere.
     fn type_of(&self, name: &Name) -> Ty
         ensures { result ≡ types self.now name.now };
 }
@@ -29,7 +29,7 @@ pub fn sort_of_type(ty: Ty) -> Sort
     }
 }
 
-/// Whether two kinds are one.
+/// Whether two kinds are the same.
 pub fn are_same(left: Sort, right: Sort) -> bool
     ensures { result ≡ same_sort left right }
 {
@@ -51,7 +51,7 @@ fn are_whole(left: Sort, right: Sort) -> bool
     are_same(left, Sort::WholeNumber) && are_same(right, Sort::WholeNumber)
 }
 
-/// The kind of a unary operator's value, or none where the operand has another kind.
+/// The kind of a unary operator's value, or `None` if the operand has another kind.
 fn unary_sort(operator: UnaryOperator, operand: Sort) -> Option<Sort>
     ensures { result ≡ unary_sort operator operand }
 {
@@ -62,7 +62,7 @@ fn unary_sort(operator: UnaryOperator, operand: Sort) -> Option<Sort>
     }
 }
 
-/// The kind of a binary operator's value, or none where the operands have other kinds.
+/// The kind of a binary operator's value, or `None` if the operands have other kinds.
 fn binary_sort(operator: BinaryOperator, left: Sort, right: Sort) -> Option<Sort>
     ensures { result ≡ binary_sort operator left right }
 {
@@ -86,7 +86,7 @@ fn binary_sort(operator: BinaryOperator, left: Sort, right: Sort) -> Option<Sort
     if are_right { Some(sort) } else { None }
 }
 
-/// The kind of a function's value at one argument, or none where it takes another number of arguments or another kind.
+/// The kind of a function's value with one argument, or `None` if it takes another number of arguments or another kind.
 fn sort_of_one(function: Function, argument: Sort) -> Option<Sort>
     ensures { result ≡ function_sort function (argument ∷ []) }
 {
@@ -96,7 +96,7 @@ fn sort_of_one(function: Function, argument: Sort) -> Option<Sort>
     }
 }
 
-/// The same at two arguments.
+/// The same with two arguments.
 fn sort_of_two(function: Function, first: Sort, second: Sort) -> Option<Sort>
     ensures { result ≡ function_sort function (first ∷ second ∷ []) }
 {
@@ -106,7 +106,7 @@ fn sort_of_two(function: Function, first: Sort, second: Sort) -> Option<Sort>
     }
 }
 
-/// The same at three arguments.
+/// The same with three arguments.
 fn sort_of_three(function: Function, first: Sort, second: Sort, third: Sort) -> Option<Sort>
     ensures { result ≡ function_sort function (first ∷ second ∷ third ∷ []) }
 {
@@ -117,7 +117,7 @@ fn sort_of_three(function: Function, first: Sort, second: Sort, third: Sort) -> 
     }
 }
 
-/// The kind of an expression, or none where an operand or the number of arguments is wrong.
+/// The kind of an expression, or `None` if an operand or the number of arguments is wrong.
 #[cycle(sort)]
 pub fn sort_of<T: Typing>(expr: &Expr, typing: &T) -> Option<Sort>
     ensures { result ≡ sort_of (T.types typing.now) (expr_of expr.now) }
@@ -153,7 +153,7 @@ fn sort_of_call<T: Typing>(function: Function, arguments: &[Expr], typing: &T) -
             let second = sort_of(two, typing)?;
             sort_of_three(function, first, second, sort_of(three, typing)?)
         }
-        // no function has no argument, or more than three
+        // Every function has one to three arguments.
         _ => None,
     }
 }
@@ -182,7 +182,7 @@ pub fn is_whole<T: Typing>(expr: &Expr, typing: &T) -> bool
     is_sort(Sort::WholeNumber, expr, typing)
 }
 
-/// The same of the step of FOR, if there is one.
+/// The same for the step of FOR, if there is one.
 pub fn is_step_whole<T: Typing>(step: &Option<Expr>, typing: &T) -> bool
     ensures { result ≡ is_sort WholeNumber (sort_of (T.types typing.now) (step_of step.now)) }
 {

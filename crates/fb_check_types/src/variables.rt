@@ -1,4 +1,4 @@
-//! Variables that are looked for from name to name.
+//! Variables, found by comparing names.
 
 ghost use Rattle.std.specs.Prelude.{◌≡◌, ◌++◌};
 ghost use Rattle.fb_check_types.specs.Roles.{type_named};
@@ -28,7 +28,7 @@ pub fn port_type(ports: &Ports, name: &Name) -> Option<Ty>
     }
 }
 
-/// The same of all variables of a basic type.
+/// The same for all variables of a basic type.
 pub fn type_among(ports: &Ports, internals: &[Variable], name: &Name) -> Option<Ty>
     ensures { result ≡ type_named ((ports.now.inputs ++ ports.now.outputs) ++ internals.now) name.now }
 {

@@ -23,9 +23,9 @@ use Rattle.fb_inputs.specs.Words.{Text}
 use Rattle.fb_inputs.specs.Rows.{Row}
 use Rattle.fb_inputs.specs.Stimuli.{IsOfReading}
 
--- ---- A record takes at least one byte, and the reader stands between records behind it.
+-- ---- A record takes at least one byte, and the reader is between records after it.
 
--- where a step ends a record, the state is one between records
+-- if a step ends a record, the state is one between records
 abbrev Parts : State × Action → Type 0
 Parts x = is_end x.1 ≡ true → ends_at_end x.0 ≡ false
 
@@ -83,7 +83,7 @@ leaves s fields field (c ∷ z) = by (is_end (step default_config s c).1) refl (
     by true e h = (omega arith, λ _. omega arith, step-parts s c e)
     by false e h = leaves-longer s (step default_config s c).0 c z more h
 
--- ---- The records from a place on
+-- ---- The records from an index on
 
 enough : (k m : ℕ) (s : State) (z : Text) → ends_at_end s ≡ false → length z < k → length z < m → records_from default_config k s z ≡ records_from default_config m s z
 unfolding records_from
@@ -113,7 +113,7 @@ rows_from-more s z r between h =
 
 -- ---- A reader of a text
 
--- rows of any lengths are read as bytes, so that no other error comes
+-- rows of any lengths are read as bytes, so there is no other error
 pub of_reading : (it : ByteRecordsIntoIter (Bor (List ℕ))) (z : Text) (b : Reader (Bor (List ℕ))) (k : ErrorKind) → IsAt it z → ExplainsRead known it.rdr b false k → IsOfReading k
 of_reading it z b (kind.Io e) here why = tt
 of_reading it z b kind.OutOfMemory here why = tt

@@ -83,7 +83,7 @@ latency_table t latencies rise short = record {
   latencies = latencies_within t latencies;
 }
 
--- ---- Links, one after the other
+-- ---- Links, one after another
 
 pub passes_first : (test : List LatencyDraft → Bool) (d : LinkDraft) (ds rest : List LinkDraft) → rest ≡ d ∷ ds → all_tables test rest ≡ true → test d.table ≡ true
 passes_first test d ds rest split h = (and_parts (test d.table) (all_tables test ds) (rw split at h)).0

@@ -1,4 +1,4 @@
--- Tests of each element of a list, one after the other.
+-- Tests of each element of a list, one after another.
 use Rattle.std.proofs.Common.{◌≡◌, ℕ, ◌+◌, ◌<◌, ◌≤◌, Bool, true, false, ◌&&◌, List, [], ◌∷◌, drop, get_or, length, sym, ◌∙◌, ap}
 use Rattle.std.proofs.lemmas.List.{at_drop_all, at_drop_more}
 

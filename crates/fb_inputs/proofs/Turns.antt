@@ -1,4 +1,4 @@
--- What a reader gives next, put behind what was found.
+-- What a reader returns next, appended to what was found.
 use Rattle.std.proofs.Common.{◌≡◌, ℕ, Bool, true, false, List, length, Some, Result, Ok, Err, Bor, refl, sym, ◌∙◌, ap}
 use Rattle.std.specs.Option.{IfSome}
 use Rattle.std.proofs.lemmas.Option.{same_Some}
@@ -44,7 +44,7 @@ turn_refused a b z front behind (Err x) e here step flexible added = let memory 
 
 -- ---- The heading
 
--- what is answered, once the first record was looked at
+-- the result, once the first record was tested
 abbrev pub heading_of : Result Bool InputError → Result Bool InputError
 heading_of (Ok true) = Ok true
 heading_of (Ok false) = Err Row

@@ -1,7 +1,7 @@
--- What stands beside what was found.
+-- The second part of a pair.
 use Rattle.std.specs.Prelude.{Option, Some, None, Result, Ok, Err}
 
--- what was read behind it, by what was made of both
+-- what was read after it, from the result for both
 abbrev pub second_of : {A B E : Type 0} → Result (Option (A × B)) E → Result (Option B) E
 second_of (Ok (Some both)) = Ok (Some both.1)
 second_of (Ok None) = Ok None

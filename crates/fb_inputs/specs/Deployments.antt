@@ -1,4 +1,4 @@
--- Deployments, by the tree that the TOML reader gives for their bytes (this project's profile).
+-- Deployments, from the tree that the TOML reader returns for their bytes (this project's profile).
 use Rattle.std.specs.Prelude.{ℕ, ◌^◌, ℤ, pos, negsuc, unsigned_abs, Bool, true, false, ◌&&◌, if◌then◌else◌, ◌==◌, nat_le, nat_lt, List, [], ◌∷◌, map, length, Option, Some, None, Ok, Err}
 use Rattle.std.specs.List.{list_all}
 use Rattle.std.specs.Str.{is_utf8}
@@ -25,12 +25,12 @@ is_latency (negsuc n) = false
 abbrev pub has_latencies : List LatencyDraft → Bool
 has_latencies = list_all (λ p. is_latency p.ticks)
 
--- a tick behind another one
+-- a tick after another one
 abbrev pub is_after : ℕ → ℤ → Bool
 is_after last (pos n) = nat_lt last n && nat_le n (10 ^ 12)
 is_after last (negsuc n) = false
 
--- each tick is behind the one before it
+-- each tick is after the one before it
 abbrev pub rises_from : ℕ → List LatencyDraft → Bool
 rises_from last [] = true
 rises_from last (p ∷ ps) = is_after last p.start && rises_from (unsigned_abs p.start) ps
@@ -63,7 +63,7 @@ link_of l = record { from = l.start; to = l.end; latency = map entry l.table }
 abbrev pub plan_of : PlanDraft → Plan
 plan_of d = record { resources = d.resources; links = map link_of d.links; holds_all = false }
 
--- The numbers are judged latencies first, then tables, then counts.
+-- The numbers are judged in this order: latencies, tables, counts.
 unfoldable pub judged : PlanDraft → Outcome Plan
 judged d =
     if all_tables has_latencies d.links

@@ -67,7 +67,7 @@ table_of None (Some d) = array_of pair d
 table_of None None = None
 table_of (Some d) (Some e) = None
 
--- two resources and what a message takes from the one to the other, and no other key
+-- two resources and the latency from the one to the other, and no other key
 unfoldable pub link : Data → Option LinkDraft
 link d = do
   keys ← as_table d
@@ -76,7 +76,7 @@ link d = do
   table ← table_of (get_member (codes "latency") keys) (get_member (codes "latencies") keys)
   if (count_of keys == 3) && not (same_name start end) then Some (record { start = start; end = end; table = table }) else None
 
--- how many of the two keys of a document it has, where it has resources
+-- how many of the two keys of a document it has, if it has resources
 abbrev pub known_keys : Members → ℕ
 known_keys keys = if is_some (get_member (codes "link") keys) then 2 else 1
 

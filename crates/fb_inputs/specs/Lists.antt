@@ -5,7 +5,7 @@ infixl 10 ◌>>=◌
 abbrev pub ◌>>=◌ : {A B : Type 0} → Option A → (A → Option B) → Option B
 o >>= f = option_and_then f o
 
--- what a function gives for each of the elements, where it gives something for all of them
+-- the results of a function for all of the elements, if it has a result for each
 unfoldable pub each : {A B : Type 0} → (A → Option B) → List A → Option (List B)
 each f [] = Some []
 each f (x ∷ xs) = do

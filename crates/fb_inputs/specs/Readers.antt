@@ -21,7 +21,7 @@ use Rattle.fb_inputs.specs.Words.{Text}
 abbrev pub known : Bor (List ℕ) → Option (List ℕ)
 known s = Some s.now
 
--- the reader stands between records, with this text left
+-- the reader is between records, with this text left
 pub record IsAt (it : ByteRecordsIntoIter (Bor (List ℕ))) (z : Text) : Type 0 where
   pub trim : it.rdr.trim ≡ trim.None
   pub ready : Ready it.rdr
@@ -35,11 +35,11 @@ pub record IsAt (it : ByteRecordsIntoIter (Bor (List ℕ))) (z : Text) : Type 0 
 abbrev pub IsOpened : ByteRecordsIntoIter (Bor (List ℕ)) → Text → Type 0
 IsOpened it z = IsAt it z × (it.rdr.state ≡ st.StartRecord)
 
--- the records from a place on
+-- the records from an offset on
 abbrev pub rows_from : State → Text → List Row
 rows_from s z = records_from default_config (length z + 1) s z
 
--- the reader stands behind a heading
+-- the reader is after a heading
 pub record IsHeaded (bytes : Text) (it : ByteRecordsIntoIter (Bor (List ℕ))) : Type 0 where
   pub left : Text
   pub here : IsAt it left
@@ -54,24 +54,24 @@ pub record HasOtherHead (bytes : Text) : Type 0 where
   pub read : records default_config (strip_bom bytes) ≡ first ∷ rows
   pub other : is_head first ≡ false
 
--- where a reader stands that has read a heading, if there is any record, or why none stands there
+-- where a reader is that has read a heading, if there is any record, or why there is none
 abbrev pub Opens : Text → Result (Option (ByteRecordsIntoIter (Bor (List ℕ)))) InputError → Type 0
 Opens bytes (Ok None) = records default_config (strip_bom bytes) ≡ []
 Opens bytes (Ok (Some it)) = IsHeaded bytes it
 Opens bytes (Err e) = IfSome (number_of e) (λ n. (n ≡ bad_row) × HasOtherHead bytes)
 
--- whether what was read is a heading: no error is met but want of memory
+-- whether what was read is a heading: the only error is out of memory
 abbrev pub IsTold : Result ByteRecord Error → Result Bool InputError → Type 0
 IsTold (Ok row) told = told ≡ Ok (is_head (fields_of row))
 IsTold (Err e) told = told ≡ Err Memory
 
--- a value, where a test was passed
+-- a value, if a test was passed
 abbrev pub kept_of : {A : Type 0} → A → Result Bool InputError → Result (Option A) InputError
 kept_of x (Ok true) = Ok (Some x)
 kept_of x (Ok false) = Ok None
 kept_of x (Err e) = Err e
 
--- the stimulus of what was read stands behind the others, unless it is refused or memory is wanting
+-- the stimulus of what was read follows the others, unless it is refused or memory runs out
 abbrev pub IsAdded : Result ByteRecord Error → List Stimulus → List Stimulus → Result (Unit {0}) InputError → Type 0
 IsAdded (Ok row) old new (Ok u) = (s : Stimulus) × (stimulus (length old) (fields_of row) ≡ Ok s) × (new ≡ old ++ s ∷ [])
 IsAdded (Ok row) old new (Err e) = IfSome (number_of e) (λ n. stimulus (length old) (fields_of row) ≡ Err n)

@@ -1,4 +1,4 @@
--- What a definition says of an input, and what a function that reads it may answer (this project's profile).
+-- What a definition says of an input, and what a function that reads it may return (this project's profile).
 use Rattle.std.specs.Prelude.{◌≡◌, ℕ, Option, Some, None, IfSome, Result, Ok, Err}
 use Rattle.fb_inputs.specs.declared.error.InputError.{InputError}
 use Rattle.fb_inputs.specs.declared.error.InputError.TheVariants.{Memory, Document, Shape, Latency, Row, Number, Limit, Table}
@@ -45,12 +45,12 @@ abbrev pub ◌>>=◌ : {A B : Type 0} → Outcome A → (A → Outcome B) → Ou
 Ok x >>= f = f x
 Err n >>= f = Err n
 
--- the value, where there is one, or this refusal
+-- the value, if there is one, or this refusal
 abbrev pub or_refuse : {A : Type 0} → ℕ → Option A → Outcome A
 or_refuse n (Some x) = Ok x
 or_refuse n None = Err n
 
--- A function answers this outcome, of which contracts see so much, unless memory is wanting.
+-- A function returns this outcome, as far as contracts see it, unless memory runs out.
 abbrev pub Answers : {X Y : Type 0} → (X → Y) → Outcome Y → Result X InputError → Type 0
 Answers seen outcome (Ok x) = outcome ≡ Ok (seen x)
 Answers seen outcome (Err e) = IfSome (number_of e) (λ n. outcome ≡ Err n)

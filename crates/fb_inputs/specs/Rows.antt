@@ -20,18 +20,18 @@ event z = do
   event ← name ends.1
   Some (instance, event)
 
--- the words that spaces part
+-- the words between spaces
 unfoldable pub words : Text → List Text
 words z = filter (λ w. not (length w == 0)) (slice_split (nat_eq 32) z)
 
--- the word `NAME=VALUE`, with its value, where that is one
+-- the word `NAME=VALUE`, with its value, if that is one
 unfoldable pub word : Text → Option Word
 word z = do
   ends ← parted 61 z
   variable ← name ends.0
   Some (record { variable = variable; value = value_of ends.1 })
 
--- the shape of a row: what stands in it, with each value, where it is one
+-- the shape of a row: its parts, each with its value, if that is one
 unfoldable pub draft : Text → Text → Option Draft
 draft at values = do
   ends ← event at

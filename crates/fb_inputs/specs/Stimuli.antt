@@ -1,4 +1,4 @@
--- Stimuli, by the records that the CSV reader gives for their bytes (this project's profile).
+-- Stimuli, from the records that the CSV reader returns for their bytes (this project's profile).
 use Rattle.std.specs.Prelude.{ℕ, ◌+◌, ◌++◌, ◌^◌, Bool, ◌&&◌, if◌then◌else◌, nat_le, nat_lt, false, List, [], ◌∷◌, length, Option, Some, None, Ok, Err, codes}
 use Rattle.std.specs.Option.{option_map_or}
 use Rattle.std.specs.Str.{bytes_eq}
@@ -12,7 +12,7 @@ use Rattle.fb_inputs.specs.Words.{Text}
 use Rattle.fb_inputs.specs.Numbers.{natural}
 use Rattle.fb_inputs.specs.Rows.{Row, draft, setting}
 
--- The reader of records of bytes was refused memory, or failed itself.
+-- Memory ran out for the reader of records of bytes, or it failed itself.
 abbrev pub IsOfReading : ErrorKind → Type 0
 IsOfReading (kind.Io e) = Unit {0}
 IsOfReading kind.OutOfMemory = Unit {0}
@@ -32,7 +32,7 @@ unfoldable pub three : Row → Option (Text × Text × Text)
 three (a ∷ b ∷ c ∷ []) = Some (a, b, c)
 three _ = None
 
--- The stimulus of a row. So many rows come before it.
+-- The stimulus of a row, after this number of rows.
 unfoldable pub stimulus : ℕ → Row → Outcome Stimulus
 stimulus before row = do
   fields ← or_refuse bad_row (three row)

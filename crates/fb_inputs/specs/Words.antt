@@ -16,7 +16,7 @@ is_letter b = is_ascii_alphabetic b || b == 95
 abbrev pub is_word : ℕ → Bool
 is_word b = is_letter b || is_ascii_digit b
 
--- a letter, and letters, digits and underscores behind it
+-- a letter, and letters, digits and underscores after it
 abbrev pub is_identifier : Text → Bool
 is_identifier [] = false
 is_identifier (b ∷ z) = is_letter b && list_all is_word z
@@ -78,6 +78,6 @@ is_keyword word =
 unfoldable pub name : Text → Option Text
 name z = if is_identifier z && not (is_keyword (in_upper z)) then Some (in_upper z) else None
 
--- what stands before the first place of a mark, and what stands behind it
+-- what is before the first mark, and what follows it
 unfoldable pub parted : ℕ → Text → Option (Text × Text)
 parted mark z = option_map (λ i. (take i z, drop (i + 1) z)) (position (nat_eq mark) z)

@@ -1,14 +1,14 @@
-//! What was found, with what is read behind it.
+//! What was found, with what is read after it.
 
 ghost use Rattle.std.specs.Prelude.{◌≡◌, IfOk, IfSome};
 ghost use Rattle.fb_inputs.specs.Beside.{second_of};
 
 use std::alloc::AllocError;
 
-/// What was found, beside what was read behind it, where that is something.
+/// Returns `found` with what was read after it, if that is something.
 ///
-/// A value of a type parameter is dropped by one call. Where `?` stands beside owned values of other types, the drop of
-/// each is written out at each exit, and proved there.
+/// `?` writes out the drop of every owned value in scope at each exit, and each drop is proved there. A value of a type
+/// parameter is dropped by one call. So owned values of several types pass through this function.
 pub fn beside<A: Drop, B: Drop>(
     found: A,
     read: Result<Option<B>, AllocError>,

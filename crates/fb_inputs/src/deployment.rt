@@ -12,7 +12,7 @@ use fb_types::{Deploy, MOST_BYTES, MOST_LINKS, MOST_RESOURCES, Plan};
 use std::alloc::Global;
 use toml::Table;
 
-/// The deployment, where its numbers are within their limits.
+/// The deployment, if its numbers are within their limits.
 #[tactic(auto, unfolding(crate::specs::Deployments::judged))]
 fn judge(alloc: Global, draft: PlanDraft) -> Result<Deploy, InputError>
     requires { 1 ≤ length draft.resources }
@@ -39,7 +39,7 @@ fn judge(alloc: Global, draft: PlanDraft) -> Result<Deploy, InputError>
     }))
 }
 
-/// The document that the bytes are.
+/// The document in TOML.
 fn document(alloc: Global, bytes: &[u8]) -> Result<Table, InputError>
     ensures { Answers (λ t. table_view t) (or_refuse no_document (spec.document bytes.now)) result }
 {
@@ -55,13 +55,15 @@ fn document(alloc: Global, bytes: &[u8]) -> Result<Table, InputError>
     }
 }
 
-/// The deployment that bytes of TOML give: resources with their instances, and links with their latencies in ticks,
-/// which are milliseconds. Names are in upper case.
+/// Reads a deployment in TOML: resources with their instances, and links with their latencies in ticks, which are
+/// milliseconds. Names become upper case.
 ///
-/// Refused are, over the whole document and in this order: more than 1 MiB (E15); what is no TOML (E10); a key that is
-/// missing, unknown or of the wrong kind, a text that is no name, a link from a resource to itself (E11); a latency
-/// outside 1 to 1,000,000 (E12); a table of latencies that doesn't rise from tick 0 to at most 10^12 (E16); more than
-/// 256 resources, 1,024 links or 64 entries of a table (E15).
+/// # Errors
+///
+/// The first of these that applies to the whole document: more than 1 MiB (E15); not TOML (E10); a key that is missing,
+/// unknown or of the wrong kind, a text that is no name, a link from a resource to itself (E11); a latency outside 1 to
+/// 1,000,000 (E12); a table of latencies that doesn't rise from tick 0 to at most 10^12 (E16); more than 256 resources,
+/// 1,024 links or 64 entries of a table (E15). `Memory` if memory runs out.
 #[tactic(auto, unfolding(crate::specs::Deployments::deploy_of, crate::specs::Deployments::deployment))]
 pub fn read_deploy(alloc: Global, bytes: &[u8]) -> Result<Deploy, InputError>
     ensures { Answers (λ d. d) (spec.deploy_of bytes.now) result }

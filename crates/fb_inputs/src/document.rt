@@ -1,4 +1,4 @@
-//! What a document says of a deployment, before its numbers are judged.
+//! What a document says of a deployment, before its numbers are checked.
 
 ghost use Rattle.std.specs.Prelude.{◌≡◌, ◌≤◌, map, length, codes, IfOk, IfSome, option_map};
 ghost use Rattle.toml.specs.Data.{get_member};
@@ -12,29 +12,36 @@ use fb_types::{Items, Name, ResourceEntry};
 use std::alloc::{AllocError, Global};
 use toml::{Table, Value};
 
-/// A latency as it is written: from this tick on, so many ticks.
+/// A latency as it is written: a number of ticks, from this tick on.
 #[derive(Clone, Copy)]
 pub struct LatencyDraft {
+    /// The tick of sending from which it holds, as written.
     pub start: i64,
+    /// The latency in ticks, as written.
     pub ticks: i64,
 }
 
 /// A link with its latencies as they are written.
 #[derive(Drop)]
 pub struct LinkDraft {
+    /// The resource that sends.
     pub start: Name,
+    /// The resource that receives.
     pub end: Name,
+    /// The latencies, in the order of the document.
     pub table: Items<LatencyDraft>,
 }
 
 /// The resources and links of a document.
 #[derive(Drop)]
 pub struct PlanDraft {
+    /// The resources, in the order of the document.
     pub resources: Items<ResourceEntry>,
+    /// The links, in the order of the document.
     pub links: Items<LinkDraft>,
 }
 
-/// What a value of a document stands for, where it stands for anything of that sort.
+/// What a value of a document stands for, if it is of that kind.
 trait Piece: Drop {
     ghost use Rattle.std.specs.Prelude.{Option};
     ghost use Rattle.toml.specs.Data.{Data};
@@ -45,7 +52,7 @@ trait Piece: Drop {
         ensures { IfOk result (λ r. r ≡ meaning (view value.now)) };
 }
 
-/// What all of the values stand for.
+/// What the values stand for, if all of them are of that kind.
 fn each<T: Piece>(alloc: Global, values: &[Value]) -> Result<Option<Items<T>>, AllocError>
     ensures { IfOk result (λ r. r ≡ lists.each T.meaning (map view values.now)) }
 {
@@ -59,7 +66,7 @@ fn each<T: Piece>(alloc: Global, values: &[Value]) -> Result<Option<Items<T>>, A
     Ok(Some(found))
 }
 
-/// What all of the items of an array stand for.
+/// What the items of an array stand for, if all of them are of that kind.
 fn array<T: Piece>(alloc: Global, value: &Value) -> Result<Option<Items<T>>, AllocError>
     ensures { IfOk result (λ r. r ≡ spec.array_of T.meaning (view value.now)) }
 {
@@ -218,7 +225,7 @@ impl Piece for LinkDraft {
     }
 }
 
-/// The links of a document, which may have none.
+/// The links of a document, if any.
 fn links_at(alloc: Global, keys: &Table) -> Result<Option<Items<LinkDraft>>, AllocError>
     ensures { IfOk result (λ r. r ≡ spec.optional_array spec.link (get_member (codes "link") (table_view keys.now))) }
 {
@@ -238,7 +245,7 @@ fn known_keys(keys: &Table) -> usize
     }
 }
 
-/// The resources and links of a document, where its shape is right.
+/// The resources and links of a document, if its shape is right.
 #[tactic(auto, unfolding(crate::specs::Documents::draft))]
 pub fn draft_of(alloc: Global, keys: &Table) -> Result<Option<PlanDraft>, AllocError>
     ensures value { IfOk result (λ r. r ≡ spec.draft (table_view keys.now)) }

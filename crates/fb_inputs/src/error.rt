@@ -37,7 +37,7 @@ impl From<AllocError> for InputError {
 }
 
 impl InputError {
-    /// The number of the refusal, from 10 to 16. Want of memory has none.
+    /// The number of the refusal, from 10 to 16. `Memory` has none.
     pub fn number(&self) -> Option<u8>
         ensures { result ≡ number_of self.now }
     {

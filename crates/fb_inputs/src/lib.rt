@@ -1,10 +1,10 @@
 //! The readers of deployments and stimuli.
 //!
-//! Guarantees to callers: `read_deploy` gives the plan that the definitions make of the tree of the TOML reader, and
-//! `read_stimuli` the stimuli that they make of the records of the CSV reader, or the number of the refusal.
+//! Guarantees to callers: `read_deploy` returns the plan that the definitions make of the TOML reader's document, and
+//! `read_stimuli` the stimuli that they make of the CSV reader's records, or the number of the refusal.
 //!
-//! Read in this order: `deployment`, `document` and `table`; `stimuli` and `row`; `beside`; `text`, `number`,
-//! `keyword` and `error`.
+//! Read in this order: `deployment`, `document` and `table`; `stimuli` and `row`; `beside`; `text`, `number`, `keyword`
+//! and `error`.
 #![tactic(auto)]
 
 mod beside;

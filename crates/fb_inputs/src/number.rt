@@ -6,10 +6,10 @@ ghost use Rattle.fb_inputs.specs.Numbers as spec;
 
 use fb_types::Value;
 
-/// The greatest magnitude of a number below 0.
+/// The greatest magnitude of a negative number.
 const MOST_BELOW: u128 = 170_141_183_460_469_231_731_687_303_715_884_105_728;
 
-/// The number that decimal digits make, or one more than the greatest where it is greater.
+/// The number of decimal digits, or one more than the greatest number if it is greater.
 #[tactic(auto, unfolding(crate::specs::Numbers::natural))]
 pub fn natural(text: &[u8], most: u128) -> Option<u128>
     requires low { 9 ≤ most }

@@ -10,18 +10,23 @@ use crate::text::{name, parted};
 use fb_types::{Items, Name, Setting, Value};
 use std::alloc::{AllocError, Global};
 
-/// A variable, and the value that a row gives it, where it is one.
+/// A variable, with the value that a row gives it, if that is a value.
 #[derive(Drop)]
 pub struct Word {
+    /// The name of the variable.
     pub variable: Name,
+    /// The value, or none if the text is not a value.
     pub value: Option<Value>,
 }
 
-/// A row of the right shape, but for its tick.
+/// A row of the right shape, without its tick.
 #[derive(Drop)]
 pub struct Draft {
+    /// The name of the instance.
     pub instance: Name,
+    /// The name of the event.
     pub event: Name,
+    /// The variables with their values, in the order of the row.
     pub words: Items<Word>,
 }
 
@@ -54,7 +59,7 @@ fn word_of(alloc: Global, text: &[u8]) -> Result<Option<Word>, AllocError>
     Ok(Some(Word { variable, value }))
 }
 
-/// The words that spaces part.
+/// The words between spaces.
 fn words(alloc: Global, text: &[u8]) -> Result<Option<Items<Word>>, AllocError>
     ensures { IfOk result (λ r. r ≡ each spec.word (spec.words text.now)) }
 {
@@ -71,7 +76,7 @@ fn words(alloc: Global, text: &[u8]) -> Result<Option<Items<Word>>, AllocError>
     Ok(Some(found))
 }
 
-/// What stands in a row, with each value, where it is one.
+/// The parts of a row, each with its value, if that is a value.
 #[tactic(auto, unfolding(crate::specs::Rows::draft))]
 pub fn draft_of(alloc: Global, at: &[u8], values: &[u8]) -> Result<Option<Draft>, AllocError>
     ensures { IfOk result (λ r. r ≡ spec.draft at.now values.now) }
@@ -90,7 +95,7 @@ pub fn draft_of(alloc: Global, at: &[u8], values: &[u8]) -> Result<Option<Draft>
     }))
 }
 
-/// The values for the slots, where all of them are values.
+/// The values for the slots, if all of them are values.
 pub fn settings(alloc: Global, words: Items<Word>) -> Result<Option<Items<Setting>>, AllocError>
     ensures { IfOk result (λ r. r ≡ each spec.setting words) }
 {

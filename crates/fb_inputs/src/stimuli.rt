@@ -41,14 +41,14 @@ fn is_head(row: &ByteRecord) -> bool
     }
 }
 
-/// Whether the record is `tick,event,values`. It is freed here, so that no caller holds it at its exits.
+/// Whether the record is `tick,event,values`. It is dropped here, so that no caller has to drop it at its exits.
 pub fn is_heading(row: ByteRecord) -> bool
     ensures { result ≡ spec.is_head (fields_of row) }
 {
     is_head(&row)
 }
 
-/// The stimulus of a row of three fields, before which so many rows come.
+/// The stimulus of a row of three fields, after this number of rows.
 #[tactic(auto, unfolding(crate::specs::Stimuli::stimulus, crate::specs::Stimuli::three))]
 pub fn stimulus_of(
     alloc: Global,
@@ -85,7 +85,7 @@ pub fn stimulus_of(
     })
 }
 
-/// The stimulus of a record, before which so many rows come.
+/// The stimulus of a record, after this number of rows.
 #[tactic(auto, unfolding(crate::specs::Stimuli::stimulus))]
 fn stimulus_at(alloc: Global, before: usize, row: &ByteRecord) -> Result<Stimulus, InputError>
     ensures { Answers (λ s. s) (spec.stimulus before (fields_of row.now)) result }
@@ -96,15 +96,16 @@ fn stimulus_at(alloc: Global, before: usize, row: &ByteRecord) -> Result<Stimulu
     }
 }
 
-/// The stimulus of a record, before which so many rows come. It is freed here, so that no caller holds it at its exits.
+/// The stimulus of a record, after this number of rows. The record is dropped here, so that no caller has to drop it at
+/// its exits.
 fn stimulus(alloc: Global, before: usize, row: ByteRecord) -> Result<Stimulus, InputError>
     ensures { Answers (λ s. s) (spec.stimulus before (fields_of row)) result }
 {
     stimulus_at(alloc, before, &row)
 }
 
-/// What an error of reading a record tells. Records of bytes, of any lengths, are refused for want of memory, or because
-/// the reader underneath failed; over a slice nothing but memory can fail there.
+/// The refusal for an error of the CSV reader. Records of bytes may have any length, so over a slice only memory can
+/// fail.
 fn refusal(error: Error) -> InputError
     requires { spec.IsOfReading (error_kind error) }
     ensures { result ≡ InputError.Memory }
@@ -115,7 +116,7 @@ fn refusal(error: Error) -> InputError
     }
 }
 
-/// The reader of the records of bytes of CSV, of any lengths. One leading byte order mark is skipped.
+/// The CSV reader of records of bytes, of any length. One leading byte order mark is skipped.
 pub fn records_of(alloc: Global, bytes: &[u8]) -> ByteRecordsIntoIter<&[u8]>
     ensures { IsOpened result (strip_bom bytes.now) }
 {
@@ -126,7 +127,7 @@ pub fn records_of(alloc: Global, bytes: &[u8]) -> ByteRecordsIntoIter<&[u8]>
     reader.into_byte_records()
 }
 
-/// Whether what was read is the heading.
+/// Whether the record is the heading.
 fn is_headed(read: Result<ByteRecord, Error>) -> Result<bool, InputError>
     requires { IfErr read (λ e. spec.IsOfReading (error_kind e)) }
     ensures { IsTold read result }
@@ -137,7 +138,7 @@ fn is_headed(read: Result<ByteRecord, Error>) -> Result<bool, InputError>
     }
 }
 
-/// Reads the heading, and says whether there is any record.
+/// Reads the heading, and returns whether there is any record.
 fn take_heading(rows: &mut ByteRecordsIntoIter<&[u8]>) -> Result<bool, InputError>
     requires { (left : Text) × IsOpened rows.old left }
     ensures { (bytes : Text) → IsOpened rows.old (strip_bom bytes) → Opens bytes (kept_of rows.new result) }
@@ -152,14 +153,15 @@ fn take_heading(rows: &mut ByteRecordsIntoIter<&[u8]>) -> Result<bool, InputErro
     }
 }
 
-/// A value, where a test was passed. The drop of a value of a type parameter is one call, and that of a reader is many.
+/// The value, if a test was passed. A value of a type parameter is dropped by one call; the parts of a reader would be
+/// many.
 fn kept<T: Drop>(value: T, test: Result<bool, InputError>) -> Result<Option<T>, InputError>
     ensures { result ≡ kept_of value test }
 {
     if test? { Ok(Some(value)) } else { Ok(None) }
 }
 
-/// The reader of the records behind the first one of bytes of CSV, which is `tick,event,values`, if there is any record.
+/// The reader of the records after the heading `tick,event,values`, if there is any record.
 pub fn rows_of(
     alloc: Global,
     bytes: &[u8],
@@ -171,7 +173,7 @@ pub fn rows_of(
     kept(rows, has_heading)
 }
 
-/// Puts the stimulus of what was read behind the others.
+/// Appends the stimulus of a record.
 fn add(
     alloc: Global,
     read: Result<ByteRecord, Error>,
@@ -189,7 +191,7 @@ fn add(
     }
 }
 
-/// Puts the stimuli of the rows that are left behind the others.
+/// Appends the stimuli of the remaining records.
 fn add_all(
     alloc: Global,
     rows: &mut ByteRecordsIntoIter<&[u8]>,
@@ -204,11 +206,13 @@ fn add_all(
     Ok(())
 }
 
-/// The stimuli that bytes of CSV give: none without a record, else those of the rows behind the first record,
-/// which is `tick,event,values`. Ticks are milliseconds.
+/// Reads stimuli in CSV: none without a record, otherwise those of the rows after the heading `tick,event,values`. Ticks
+/// are milliseconds.
 ///
-/// Refused are more than 16 MiB (E15), and else the first row that is faulty: its shape (E13), a tick or a value that
-/// is none (E14), a tick over 10^12 or a row behind 100,000 others (E15).
+/// # Errors
+///
+/// More than 16 MiB (E15), otherwise the first faulty row: its shape (E13), a tick or a value that is not a number (E14),
+/// a tick over 10^12 or a row after 100,000 others (E15). `Memory` if memory runs out.
 #[tactic(auto, unfolding(crate::specs::Stimuli::stimuli_of))]
 pub fn read_stimuli(alloc: Global, bytes: &[u8]) -> Result<Vec<Stimulus>, InputError>
     ensures { Answers (λ v. v.items) (spec.stimuli_of bytes.now) result }
@@ -222,7 +226,7 @@ pub fn read_stimuli(alloc: Global, bytes: &[u8]) -> Result<Vec<Stimulus>, InputE
     };
     let mut found = Items::new(alloc);
     let added = add_all(alloc, &mut rows, &mut found);
-    // One call, where each way out would drop each part of the reader.
+    // Drops with one call. Each exit would drop each part of the reader.
     drop(rows);
     added?;
     Ok(found.into_vec())

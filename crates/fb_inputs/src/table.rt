@@ -25,7 +25,7 @@ fn has_latencies(table: &[LatencyDraft]) -> bool
     true
 }
 
-/// Whether an entry may begin at a tick behind one that begins at `last`.
+/// Whether an entry may begin at a tick after one that begins at `last`.
 pub fn is_after(last: u64, start: i64) -> bool
     ensures { result ≡ spec.is_after last start }
 {
@@ -123,7 +123,7 @@ fn entries_of(alloc: Global, table: &[LatencyDraft]) -> Result<Items<Entry>, All
     Ok(Items::from_vec(entries))
 }
 
-/// The latency of a table that was judged.
+/// The latency of a table that was checked.
 fn latency_of(alloc: Global, table: &[LatencyDraft]) -> Result<Latency, AllocError>
     requires latencies { spec.has_latencies table.now ≡ true }
     requires rising { spec.rises table.now ≡ true }
@@ -134,7 +134,7 @@ fn latency_of(alloc: Global, table: &[LatencyDraft]) -> Result<Latency, AllocErr
     Ok(Latency::new(entries))
 }
 
-/// The links whose tables were judged.
+/// The links whose tables were checked.
 pub(crate) fn links_of(alloc: Global, drafts: Items<LinkDraft>) -> Result<Items<Link>, AllocError>
     requires latencies { spec.all_tables spec.has_latencies drafts ≡ true }
     requires rising { spec.all_tables spec.rises drafts ≡ true }

@@ -56,7 +56,7 @@ fn in_upper(alloc: Global, text: &[u8]) -> Result<Items<u8>, AllocError>
     Ok(Items::from_vec(bytes))
 }
 
-/// The name that a text is, in upper case. A keyword is no name.
+/// The name of a text, in upper case. A keyword is no name.
 #[tactic(auto, unfolding(crate::specs::Words::name))]
 pub fn name(alloc: Global, text: &[u8]) -> Result<Option<Name>, AllocError>
     ensures { IfOk result (λ n. n ≡ spec.name text.now) }
@@ -71,7 +71,7 @@ pub fn name(alloc: Global, text: &[u8]) -> Result<Option<Name>, AllocError>
     Ok(Some(Name::from_slice(alloc, upper.as_slice())?))
 }
 
-/// What stands before the first place of a mark, and what stands behind it.
+/// What is before the first mark, and what follows it.
 #[tactic(auto, unfolding(crate::specs::Words::parted))]
 pub fn parted(text: &[u8], mark: u8) -> Option<(&[u8], &[u8])>
     ensures { option_map (λ p. (p.0.now, p.1.now)) result ≡ spec.parted mark text.now }

@@ -30,7 +30,7 @@ use Rattle.fb_types.proofs.Lookups.{option_cases, none_some}
 use Rattle.fb_types.proofs.ByPlace.{element_of_place}
 use Rattle.fb_types.proofs.EachLaws.{each_append}
 
--- ---- Places in lists
+-- ---- Indices in lists
 
 each_contained : {X : Type 0} (P : X → Type 0) (xs : List X) → ((x : X) → Contains xs x → P x) → Each P xs
 each_contained P [] h = tt
@@ -50,7 +50,7 @@ placed p (y ∷ ys) i e =
     let h = position-Some p (y ∷ ys) i y e in
     (slice_index_or (y ∷ ys) i y, slice_get-get_or (y ∷ ys) i y h.0, h.1)
 
--- of two that are equal, at two places
+-- of two that are equal, at two indices
 twice_at : {X : Type 0} (xs : List X) (i j : ℕ) (x : X) → i < j → slice_get xs i ≡ Some x → slice_get xs j ≡ Some x → Twice xs
 twice_at [] i j x b e f = absurd (none_some None x refl e)
 twice_at (y ∷ ys) i zero x b e f = absurd (omega arith)
@@ -60,7 +60,7 @@ twice_at (y ∷ ys) zero (suc j) x b e f =
     inl (subst (λ z. Contains ys z) (sym h) (element_of_place ys j x f))
 twice_at (y ∷ ys) (suc i) (suc j) x b e f = inr (twice_at ys i j x (omega arith) e f)
 
--- a name that stands once is found at its place
+-- a name that occurs once is found at its index
 name_place : (names : List Name) → (Twice names → ⊥) → (r : ℕ) → r < length names → unwrap_or (position (same_name (unwrap_or (slice_get names r) [])) names) 0 ≡ r
 name_place names once r b =
     let n = unwrap_or (slice_get names r) [] in
@@ -130,7 +130,7 @@ module _ (plan : Plan) (some : 1 ≤ length plan.resources) where
 -- ---- Links
 
 module _ (lib : Library) (plan : Plan) (some : 1 ≤ length plan.resources) (once : Twice (resource_names_of plan) → ⊥) (linked : NoLink lib plan → ⊥) where
-  -- the link between two resources, where there is one
+  -- the link between two resources, if there is one
   link_is : (r s l : ℕ) → r < length (resource_names_of plan) → s < length (resource_names_of plan) → link_between plan r s ≡ Some l → IsLink (flat lib plan) r s
   link_is r s l b c e =
       let x = placed (λ l. same_name l.from (name_of_resource plan r) && same_name l.to (name_of_resource plan s)) plan.links l e in
@@ -155,7 +155,7 @@ module _ (lib : Library) (plan : Plan) (some : 1 ≤ length plan.resources) (onc
       (λ s. link_is (resource_of plan c.0.at) (resource_of plan c.1.at) s.0 (resource_below plan some c.0.at) (resource_below plan some c.1.at) s.1)
       (option_cases (link_between plan (resource_of plan c.0.at) (resource_of plan c.1.at))))
 
-  -- the ports inside a composite lie where it lies
+  -- the ports inside a composite are in its resource
   port_lies : (n : Name) (p : Path) (e : PortName) → resource_of plan (port_in (n ∷ p) e).at ≡ resource_of plan (n ∷ p)
   port_lies n p e = go e.component
     where

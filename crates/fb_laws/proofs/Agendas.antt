@@ -1,4 +1,4 @@
--- What is said of all events that wait on an agenda.
+-- Facts of all events that wait on an agenda.
 use Rattle.std.proofs.Common.{◌≡◌, subst, Bool, true, false, cond, List, [], ◌∷◌, Option, Some, None, All}
 use Rattle.std.proofs.lemmas.List.Elements.{All-head, All-tail}
 use Rattle.fb_types.specs.Keys.{or_else, found, same_key, changed_to, without, Map}
@@ -7,7 +7,7 @@ use Rattle.fb_types.specs.States.{Event}
 use Rattle.fb_types.specs.declared.key.Key.{Key}
 use Rattle.std.proofs.lemmas.Option.{same_Some}
 
--- said of what is there, if anything is
+-- holds of what is there, if anything is
 abbrev pub Holds : {X : Type 0} → (X → Type 0) → Option X → Type 0
 Holds {X} P o = (x : X) → o ≡ Some x → P x
 

@@ -1,4 +1,4 @@
--- A reaction reads the part of its resource alone: where two worlds agree on it, the outcomes agree.
+-- A reaction reads only the part of its resource: if two worlds agree on it, the outcomes agree.
 use Rattle.std.proofs.Common.{◌≡◌, ℕ, refl, sym, subst, List, [], ◌∷◌, ◌++◌, Bool, true, false, Option, Some, None}
 use Rattle.std.specs.Prelude.{if◌then◌else◌, ◌==◌}
 use Rattle.std.proofs.lemmas.Bool.{eqb-true}

@@ -1,4 +1,4 @@
--- What the simulation has of a resource is what the resource alone leaves.
+-- What the simulation leaves of a resource is what the resource alone leaves.
 use Rattle.std.specs.Prelude.{if◌then◌else◌}
 use Rattle.std.proofs.Common.{◌≡◌, ℕ, ◌+◌, ◌≤◌, Option, None, List, [], ◌∷◌, refl, sym, ap, ◌∙◌, ⊎_elim, arith}
 use Rattle.std.proofs.lemmas.Bool.{cases_lt, cases_eq, cond-true, cond-false, lt-ltb, le-ltb}
@@ -18,7 +18,7 @@ use Rattle.fb_laws.proofs.Global.{at_mine, at_other, sim_late, Like, like_chain}
 use Rattle.fb_laws.proofs.FamilyEnds.{each_at, like_start, Story, story, reach_high, reach_least}
 
 module _ (M : Machine) where
-  -- the own events do not hang on the arrivals
+  -- the own events do not depend on the arrivals
   pub end_own : (is : List (Item M)) (l m : Local M) → ((k : Key) → l.own k ≡ m.own k) → (k : Key) → (end M l is).own k ≡ (end M m is).own k
   end_own [] l m h k = h k
   end_own (i ∷ is) l m h k = end_own is (after M l i) (after M m i) (λ z. ap (λ o. changed_to ((i.out.changes z)) (if same_key i.key z then None else o)) (h z)) k
@@ -89,7 +89,7 @@ module _ (M : Machine) where
         rests = λ q k e b. sym (ap (λ o. or_else o ((end M l is).inbox k)) (g.own k e b) ∙ ap (λ o. or_else ((end M m is).own k) o) (g.inbox k e b)) ∙ x.rests (g.stop ∙ q) k e b;
       }
 
-  -- One resource: where its history is told, it is what the takes of the resource alone leave
+  -- One resource: where it has a history, it is what the takes of the resource alone leave
   pub one_resource : IsLawful M → (w : World M) (horizon : ℕ) (is : List (Item M)) → IsOpening M w → Simulation M w horizon is → (r t : ℕ) → HasTold M horizon is r t →
       Run M r (apart M w is r t) t (taken_at M is r t) × IsSameAt M r (end M (apart M w is r t) (taken_at M is r t)) (left_at M w is r t)
   one_resource law w horizon is o x r t h =

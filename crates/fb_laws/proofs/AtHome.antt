@@ -1,4 +1,4 @@
--- Facts of a core that a schedule has come to: where its clocks are, what waits and what is on its way.
+-- Facts of a core after a schedule: where its clocks are, what waits and what is on its way.
 use Rattle.std.proofs.Common.{◌≡◌, ℕ, zero, suc, ◌+◌, ◌<◌, ◌≤◌, ◌⊎◌, max, Option, Some, None, List, [], ◌∷◌, refl, sym, ap, ◌∙◌, subst, inl, inr, ⊎_elim, arith}
 use Rattle.std.proofs.lemmas.Bool.{cases_lt}
 use Rattle.fb_types.specs.declared.key.Key.{Key}
@@ -64,7 +64,7 @@ module _ (M : Machine) where
     pub clock_in_range : (r : ℕ) → (c r).out ≡ None → (c r).clock ≤ horizon
     clock_in_range r home = let b = clock_limit r home in let d = v.range r in omega arith
 
-    -- the clock of who has stopped is below the horizon
+    -- the clock of a resource that has stopped is below the horizon
     pub stop_in_range : (r : ℕ) (reason : M.Reason) → (c r).out ≡ None → (c r).state.stop ≡ Some reason → (c r).clock < horizon
     stop_in_range r reason home stop =
         let e : limit M (c r) ≡ passed M (c r) = ap (λ z. limit_of z (passed M (c r))) home in
@@ -72,7 +72,7 @@ module _ (M : Machine) where
         let d = v.range r in
         omega arith
 
-    -- Who is at home may stay at its clock.
+    -- A resource that is at home may stay at its clock.
     pub clock_legal : (r : ℕ) → (c r).out ≡ None → IsLegal M c r (c r).clock
     clock_legal r home =
         let b = clock_limit r home in
@@ -174,14 +174,14 @@ module _ (M : Machine) where
 -- ---- The least stop
 
 module _ (M : Machine) where
-  -- of so many resources the first with the least clock, which is before the tick
+  -- of the first n resources the first with the least clock, which is before the tick
   record IsLow (tick : ℕ) (c : Core M) (n : ℕ) : Type 0 where
     number : ℕ
     below : number < n
     low : (c number).clock < tick
     least : (q : ℕ) → q < n → ((c number).clock < (c q).clock) ⊎ (((c number).clock ≡ (c q).clock) × (number ≤ q))
 
-  -- Where the clock of each that has not stopped is at the tick: either all clocks are, or there is the least stop.
+  -- If the clock of each that has not stopped is at the tick: either all clocks are, or there is the least stop.
   pub rises_or_stops : (count tick : ℕ) (c : Core M) → ((r : ℕ) → r < count → (c r).state.stop ≡ None → tick ≤ (c r).clock)
       → ((r : ℕ) → count ≤ r → (c r).state.stop ≡ None)
       → ((r : ℕ) → r < count → tick ≤ (c r).clock) ⊎ ((s : ℕ) × (reason : M.Reason) × IsLeastStop M count c s reason)

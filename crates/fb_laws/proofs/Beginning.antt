@@ -1,4 +1,4 @@
--- The final lines of a core are what the lines of the simulation begin with.
+-- The lines of the simulation begin with the final lines of a core.
 use Rattle.std.proofs.Common.{◌≡◌, ℕ, zero, suc, ◌+◌, ◌<◌, ◌≤◌, ◌⊎◌, refl, sym, ap, ◌∙◌, subst, inl, inr, ⊎_elim, List, [], ◌∷◌, ◌++◌, Bool, true, false, Some, arith, append-nil}
 use Rattle.std.specs.Prelude.{if◌then◌else◌, ◌==◌, nat_lt}
 use Rattle.std.proofs.lemmas.Bool.{cases_lt, cond-true, cond-false, lt-ltb, le-ltb, eqb-true}
@@ -107,7 +107,7 @@ module _ (M : Machine) (t r : ℕ) where
           (λ c. let n = c.0 in let f = c.1 in ⊎_elim (λ a. omega arith) (λ a. let g = a.1 in absurd (omega arith)) u)
           (until_cases q)
 
-  -- what is before a final place is final
+  -- what is before a final point is final
   final_before : (count : ℕ) (c : Core M) (m u s : ℕ) → (u < t) ⊎ ((u ≡ t) × (s ≤ r)) → IsFinal M count c m t r → IsFinal M count c m u s
   final_before count c m u s b f q less = ⊎_elim going (λ h. stopped h) (f q less)
     where
@@ -129,7 +129,7 @@ module _ (M : Machine) (t r : ℕ) where
           ⊎_elim (λ g. inl (inr (omega arith, omega arith))) (λ g. inr (omega arith, h.1, omega arith)) (cases_lt s r))
           b
 
-  -- the lines to a final place, where each final line of a resource is of the whole
+  -- the lines to a final point, if each final line of a resource is one of the whole
   pub record Begins (count : ℕ) (c : Core M) (xs : List M.Line) : Type 0 where
     pub front : List M.Line
     pub rest : List M.Line

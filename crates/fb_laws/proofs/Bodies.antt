@@ -10,7 +10,7 @@ use Rattle.fb_types.specs.declared.value.Value.TheVariants as value
 use Rattle.fb_types.specs.declared.value.Reason.{Reason}
 use Rattle.fb_types.specs.declared.value.Reason.TheVariants as reason
 
--- The values that a run leaves are such, where those before it are.
+-- The values that a run leaves are such, if those before it are.
 abbrev pub KeepsAt : (Values → Type 0) → Running → Point → Type 0
 KeepsAt Good R p = (e : End) (q : Point) → R p e q → Good p.vars → Good q.vars
 

@@ -1,4 +1,4 @@
--- The messages of all outboxes: under a key stands what stands in the outbox of its sender.
+-- The messages of all outboxes: under a key is what the outbox of its sender has.
 use Rattle.std.proofs.Common.{◌≡◌, ℕ, zero, suc, Option, Some, None, List, [], ◌∷◌, refl, sym, ap, ◌∙◌, arith}
 use Rattle.std.specs.Prelude.{flat_map, slice_get, if◌then◌else◌}
 use Rattle.fb_types.specs.declared.key.Key.{Key}
@@ -7,7 +7,7 @@ use Rattle.fb_types.proofs.KeyLaws.{same_key_itself}
 use Rattle.fb_types.proofs.Lookups.{none_since, or_else_none, or_else_nones, found-append}
 
 module _ {A E : Type 0} (box : A → List (Key × E)) (k : Key) where
-  -- what stands under the key in a box, where there is one
+  -- what a box has under the key, if there is one
   abbrev pub found_in : Option A → Option E
   found_in None = None
   found_in (Some a) = found k (box a)
@@ -17,7 +17,7 @@ module _ {A E : Type 0} (box : A → List (Key × E)) (k : Key) where
   found_nowhere (a ∷ boxes) h =
       found-append k (box a) (flat_map box boxes) ∙ or_else_nones _ _ (found_nowhere boxes (λ s x e. h (suc s) x e)) (h 0 a refl)
 
-  -- Where no other box has the key, all boxes together have under it what this one has.
+  -- If no other box has the key, all boxes together have under it what this one has.
   pub found_at : (q : ℕ) (boxes : List A) → ((s : ℕ) (a : A) → slice_get boxes s ≡ Some a → (s ≡ q → ⊥) → found k (box a) ≡ None)
       → found k (flat_map box boxes) ≡ found_in (slice_get boxes q)
   found_at q [] h = refl
@@ -30,12 +30,12 @@ module _ {A E : Type 0} (box : A → List (Key × E)) (k : Key) where
       ∙ or_else_none (found k (flat_map box boxes))
       ∙ found_at q boxes (λ s x e n. h (suc s) x e (λ z. n (omega arith)))
 
-  -- So it is where each box has its own sender's messages alone.
+  -- This is so if each box has only messages of its own sender.
   pub found_with_sender : (sender : Key → ℕ) (boxes : List A) → ((s : ℕ) (a : A) → slice_get boxes s ≡ Some a → (e : E) → found k (box a) ≡ Some e → sender k ≡ s)
       → found k (flat_map box boxes) ≡ found_in (slice_get boxes (sender k))
   found_with_sender sender boxes own = found_at (sender k) boxes (λ s a e n. none_since _ (λ v f. n (sym (own s a e v f))))
 
--- what is in a list stands under its key, or something after it does
+-- what is in a list is under its key, or something after it is
 pub found_some : {E : Type 0} (xs : List (Key × E)) (i : ℕ) (x : Key × E) → slice_get xs i ≡ Some x → (e : E) × (found x.0 xs ≡ Some e)
 found_some {E} [] i x h = let g : None ≡ Some x = h in absurd cc
 found_some {E} (y ∷ ys) zero x h =

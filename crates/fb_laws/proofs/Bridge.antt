@@ -21,7 +21,7 @@ use Rattle.fb_laws.proofs.Stops.{HasStop}
 use Rattle.fb_laws.proofs.Effects.{AllFit, takes_good, agenda_fits}
 use Rattle.fb_laws.proofs.OwnPart.{takes_stays}
 
--- what holds at each place holds of each element
+-- what holds at each index holds of each element
 pub all_each : {X : Type 0} (P : X → Type 0) (xs : List X) → All P xs → Each P xs
 all_each P [] h = tt
 all_each P (x ∷ xs) h = (h 0 x (omega arith), all_each P xs (λ k d b. h (suc k) d (omega arith)))

@@ -33,7 +33,7 @@ trial_leaves [] present vars left = omega arith
 trial_leaves (t ∷ ts) present vars zero = omega arith
 trial_leaves (t ∷ ts) present vars (suc left) = by_leaves (is_true t.condition present vars) t.to left (trial_of ts present vars left) (trial_leaves ts present vars left)
 
--- where a chart comes to from a place, with so many steps left at most
+-- where a chart gets from a position, with at most this number of steps left
 abbrev Comes : Moving → ℕ → Place → Type 0
 Comes R n p = (s : Option Reason) × (q : Place) × R p s q × (q.left ≤ n)
 

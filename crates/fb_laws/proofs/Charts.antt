@@ -1,4 +1,4 @@
--- What the runs of bodies keep, the reaction of a chart keeps, and what it emits is told from such values.
+-- What the runs of bodies keep, the reaction of a chart keeps, and it emits such values.
 use Rattle.std.proofs.Common.{ℕ, zero, suc, sym, subst, List, [], ◌∷◌, Option, Some, None, All}
 use Rattle.std.proofs.lemmas.List.Elements.{All-push}
 use Rattle.fb_types.specs.Names.{Name}
@@ -12,7 +12,7 @@ use Rattle.fb_types.specs.declared.value.Reason.{Reason}
 use Rattle.fb_types.specs.declared.value.Reason.TheVariants.{Steps}
 use Rattle.fb_laws.proofs.Bodies.{Keeps}
 
--- a place with such values, where all that was emitted is good
+-- a position with such values, where all that was emitted is good
 pub record IsGoodPlace (Good : Values → Type 0) (Told : Emission → Type 0) (p : Place) : Type 0 where
   pub vars : Good p.vars
   pub emitted : All Told p.emitted

@@ -35,7 +35,7 @@ module _ (M : Machine) where
     s : Story M w horizon is
     s = story M law w horizon is o x
 
-    -- a resource that has come as far has taken all that the simulation takes of it
+    -- a resource that has run as far has taken all that the simulation takes of it
     reached : (st : StopsAt M is) → ((r : ℕ) → s.family.bound r ≡ reach M st.item.key r) → (r : ℕ) → reach M st.item.key r ≤ passed M (c r) → cut M (reach M st.item.key r) (runs r) ≡ at M r is
     reached st b r h =
         let t = reach M st.item.key r in
@@ -47,7 +47,7 @@ module _ (M : Machine) where
     core_stops : (r : ℕ) (j : Key) (q : M.Reason) → HasStop M (runs r) j q → (c r).state.stop ≡ Some q
     core_stops r j q h = let a = v.each r in (a.state 0).stop ∙ chain_stops M r (runs r) _ j q a.chain h
 
-    -- the resource of the stop, once it has come as far
+    -- the resource of the stop, once it has run as far
     reached_stop : (st : StopsAt M is) → ((r : ℕ) → s.family.bound r ≡ reach M st.item.key r) → st.item.key.tick < passed M (c st.item.key.resource) → HasStop M (runs st.item.key.resource) st.item.key st.reason
     reached_stop st b h =
         let r = st.item.key.resource in
@@ -61,7 +61,7 @@ module _ (M : Machine) where
     stop_below : (st : StopsAt M is) → st.item.key.tick < horizon
     stop_below st = has_each M (λ k. k.tick < horizon) is st.item.key st.reason x.below (stop_has M is st)
 
-    -- a schedule that comes to the horizon: the simulation does too, and all has been taken
+    -- a schedule that reaches the horizon: the simulation does too, and all has been taken
     pub record EndsAlike : Type 0 where
       pub live : (r : ℕ) → (last M w is).stops r ≡ None
       pub taken_all : (r : ℕ) → r < count → at M r is ≡ runs r
@@ -110,7 +110,7 @@ module _ (M : Machine) where
         passed_is : passed M (c r) ≡ (c r).clock + 1
         passed_is = ap (λ z. done_of z (c r).clock) e.stopped
 
-        -- what is told of r to its stop is in the simulation
+        -- what r has taken to its stop is in the simulation
         told : (c r).clock < s.family.bound r → HasStop M is mine.key q
         told h =
             let t = (c r).clock + 1 in
@@ -131,7 +131,7 @@ module _ (M : Machine) where
         mine_here : mine.key.resource ≡ r
         mine_here = has_each M (λ k. k.resource ≡ r) (runs r) mine.key q (each_map _ _ (runs r) (λ i (f : Fair M r i). f.mine) (chain_fair M law r (runs r) _ (v.each r).chain)) mine.has
 
-        -- every resource has come as far as the least stop
+        -- every resource has run as far as the least stop
         come : (z : ℕ) → z < count → (c r).clock + 1 ≤ passed M (c z)
         come z b =
             ⊎_elim

@@ -60,7 +60,7 @@ composite-declared lib t (inr b) = go b.0 b.1 b.2
 
 -- ---- Networks
 
--- A network at a path is one of the declaration, and inside the composite type that stands there.
+-- A network at a path is one of the declaration, and inside the composite type of the instance there.
 pub record IsNetworkAt (lib : Library) (p : Path) (net : Network) : Type 0 where
   pub composite : Option CompositeType
   pub declared : Contains (networks lib) (composite, net)

@@ -1,4 +1,4 @@
--- Edges: what lies before one is final and nothing else, and a merge to an edge goes on from there.
+-- Edges: exactly what is before one is final, and a merge to an edge continues from there.
 use Rattle.std.proofs.Common.{◌≡◌, ℕ, ◌+◌, ◌<◌, ◌≤◌, ◌⊎◌, min, max, Bool, true, false, cond, not, Option, Some, None, List, [], ◌∷◌, ◌++◌, refl, sym, ap, ◌∙◌, subst, inl, inr, ⊎_elim, arith}
 use Rattle.std.specs.Prelude.{nat_lt, ◌==◌, ◌&&◌, is_some}
 use Rattle.std.specs.List.{filter}
@@ -38,7 +38,7 @@ module _ (e : Edge) (r : ℕ) where
       (λ d. ⊎_elim (λ l. inl (until_before l, inl l)) (λ l. inr (until_past l, inl l)) d)
       (cases_order r e.resource)
 
--- what lies before an edge does not come after what lies from it on
+-- what is before an edge does not come after what is from it on
 pub edge_between : (e : Edge) (t r u q : ℕ) → t < until e r → until e q ≤ u → (t < u) ⊎ ((t ≡ u) × (r ≤ q))
 edge_between e t r u q a b =
     ⊎_elim (λ l. inl l)
@@ -55,7 +55,7 @@ edge_between e t r u q a b =
     (until_cases e r))
     (cases_lt t u)
 
--- ---- Final places
+-- ---- Final points
 
 floor_up : {R : Type 0} (stop : Option R) (clock m n : ℕ) → m ≤ n → floor_of stop clock m ≤ floor_of stop clock n
 floor_up None clock m n b = omega arith
@@ -89,7 +89,7 @@ module _ (M : Machine) (count : ℕ) (c : Core M) where
       ⊎_elim (λ d. inl (floor_within (c q).state.stop (c q).clock n horizon t r q b d)) (λ s. inr s) (f q less)
 
   module _ (m : ℕ) (e : Edge) (is : IsEdge M count c m e) where
-    -- what lies before the edge is final
+    -- what is before the edge is final
     pub final_edge : (r t : ℕ) → t < until e r → IsFinal M count c m t r
     final_edge r t b q less =
         ⊎_elim
@@ -148,7 +148,7 @@ module _ (M : Machine) (count : ℕ) (c : Core M) where
         omega arith)
         (f e.resource is.counted)
 
-    -- nor by any other, below the horizon, where the floor is the greatest
+    -- nor by any other, below the horizon, if the floor is the greatest
     pub not_final_in : (horizon : ℕ) → IsLeastTick M horizon c m → (r t : ℕ) → t < horizon → until e r ≤ t → IsFinalIn M count c t r → ⊥
     not_final_in horizon low r t b u f =
         not_final r t u (final_up (min f.0 horizon) m t r (low.most f.0 f.1) (final_within f.0 horizon t r b f.2))
@@ -247,7 +247,7 @@ module _ (M : Machine) where
     each_at P count xs k.1 (λ r b. each_rest P x (lines_at M r xs) (M.line_resource x == r) (h r b)),
   )
 
-  -- where nothing lies from a tick on, all lines lie before it
+  -- if nothing is from a tick on, all lines are before it
   pub before_whole : (u : ℕ) (xs : List M.Line) → lines_from M u xs ≡ [] → lines_before M u xs ≡ xs
   before_whole u [] e = refl
   before_whole u (x ∷ xs) e =
@@ -256,7 +256,7 @@ module _ (M : Machine) where
       (λ (b : u ≤ M.line_tick x). absurd (let n : [] ≡ x ∷ lines_from M u xs = sym e ∙ from_in u x xs b in cc))
       (cases_lt (M.line_tick x) u)
 
-  -- the same of lines that are merged, by their resource
+  -- the same for lines that are merged, by their resource
   pub each_merged : (P : ℕ → M.Line → Type 0) (count : ℕ) (lists : ℕ → List M.Line) (xs : List M.Line) → IsMerge M count lists xs
       → ((r : ℕ) → r < count → Each (P r) (lists r)) → Each (λ (x : M.Line). P (M.line_resource x) x) xs
   each_merged P count lists xs merge h =
@@ -274,7 +274,7 @@ module _ (M : Machine) where
     counted = each_append _ xs ys h.counted g.counted;
   }
 
-  -- A merge of what lies before an edge, and then one of what lies from it to the next, is a merge of all to the next.
+  -- A merge of what is before an edge, and then one of what is from it to the next, is a merge of all to the next.
   pub merge_more : (count : ℕ) (e f : Edge) (lists : ℕ → List M.Line) (xs ys : List M.Line)
       → ((r : ℕ) → r < count → TicksRise M (lists r))
       → ((r : ℕ) → r < count → Each (λ (x : M.Line). M.line_tick x < until e r → M.line_tick x < until f r) (lists r))
@@ -303,7 +303,7 @@ module _ (M : Machine) where
 
 -- ---- What is handed out after one more round
 
--- A core that has gone on: lines were added that were not final before, and what was final is final still.
+-- A core after more steps: lines were added that were not final before, and what was final is final still.
 pub record IsLater (M : Machine) (count horizon : ℕ) (c d : Core M) (more : ℕ → List M.Line) : Type 0 where
   pub grown : (r : ℕ) → r < count → (d r).lines ≡ (c r).lines ++ more r
   pub rise : (r : ℕ) → r < count → TicksRise M (d r).lines
@@ -313,7 +313,7 @@ pub record IsLater (M : Machine) (count horizon : ℕ) (c d : Core M) (more : �
 
 module _ (M : Machine) (count horizon : ℕ) (c d : Core M) (kept more : ℕ → List M.Line) (ls : List M.Line)
     (later : IsLater M count horizon c d more) (h : HaveLeft M count horizon c kept ls) where
-  -- what was added lies from the old edge on
+  -- what was added is from the old edge on
   late : (r : ℕ) → r < count → Each (λ (x : M.Line). until h.edge r ≤ M.line_tick x) (more r)
   late r b =
       each_both _ _ _ (more r)
@@ -332,7 +332,7 @@ module _ (M : Machine) (count horizon : ℕ) (c d : Core M) (kept more : ℕ →
       ap (λ z. z ++ more r) (h.rest r b) ∙ ap (λ z. lines_from M (until h.edge r) (c r).lines ++ z) (sym (all_from M (until h.edge r) (more r) (late r b)))
       ∙ sym (filter_joined (λ z. not (is_before M (until h.edge r) z)) (c r).lines (more r)) ∙ ap (λ z. lines_from M (until h.edge r) z) (sym (later.grown r b))
 
-  -- Where none of it is handed out, it is kept with what was kept before.
+  -- If none of it is handed out, it is kept with what was kept before.
   pub kept_more : HaveLeft M count horizon d (λ r. kept r ++ more r) ls
   kept_more = record {
     edge = h.edge;
@@ -355,7 +355,8 @@ module _ (M : Machine) (count horizon : ℕ) (c d : Core M) (kept more : ℕ →
   rest : (r : ℕ) → r < count → lines_from M (until f r) (kept r ++ more r) ≡ lines_from M (until f r) (d r).lines
   rest r b = ap (λ z. lines_from M (until f r) z) (whole M count horizon c d kept more ls later h r b) ∙ from_from M (until h.edge r) (until f r) (d r).lines (inside r b)
 
-  -- Of what was kept, and what was added, the part before the new edge was merged and handed out. Then all that was handed out is a merge to that edge.
+  -- The part before the new edge, of what was kept and what was added, was merged and handed out. Then all that was
+  -- handed out is a merge to that edge.
   pub handed_merge : (out : List M.Line) → IsMerge M count (λ r. lines_before M (until f r) (kept r ++ more r)) out → IsMerge M count (λ r. lines_before M (until f r) (d r).lines) (ls ++ out)
   handed_merge out merge =
       merge_more M count h.edge f (λ r. (d r).lines) ls out later.rise inside

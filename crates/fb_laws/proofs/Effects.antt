@@ -21,7 +21,7 @@ use Rattle.fb_laws.proofs.Timers.{IsLater}
 use Rattle.fb_laws.proofs.Outs.{GoodOutcome, reacts_good}
 use Rattle.fb_laws.proofs.Posting.{each_found, IsRaised, IsSent, post_all_good}
 
--- a choice that comes to something
+-- a choice with a result
 pub if_some : {A : Type 0} (b : Bool) (x y : Option A) (v : A) → (if b then x else y) ≡ Some v → ((b ≡ true) × (x ≡ Some v)) ⊎ ((b ≡ false) × (y ≡ Some v))
 if_some true x y v h = inl (refl, h)
 if_some false x y v h = inr (refl, h)
@@ -121,7 +121,7 @@ module _ (sys : System) (sound : IsSound sys) (k : Key) where
   unfolding Takes
   takes_good limit s e home x h = let m = begun limit k.tick (s.meters k.resource) in takes_with_good s e home m m.left x h
 
-  -- the facts that the law asks for
+  -- the facts that the law requires
   pub is_taking : (limit : ℕ) (x : Effect) → GoodEffect x → IsTaking (machine sys limit) k (outcome_of sys k x)
   is_taking limit x g = record {
     own = λ j v h. (g.changes j v h).own;

@@ -67,7 +67,7 @@ module _ (sys : System) (sound : IsTypedSystem sys) where
 
   -- ---- Values that outputs show
 
-  -- an emission tells values of the types, where those are all outputs' values
+  -- an emission carries values of the types, if those are values of outputs
   pub outputs-told : (p : Path) (k : Kind) → sys.kind p ≡ Some k → (vars : Values) → AllFit (ports_of k).outputs vars → (e : Name)
       → IsToldAt sys p (record { event = e; values = bound (outputs_with (ports_of k) e) vars })
   outputs-told p k is vars fit e =

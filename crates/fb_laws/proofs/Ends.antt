@@ -1,4 +1,4 @@
--- A data connection leads from a variable to one that holds all its values.
+-- A data connection leads to a variable that holds all values of its source.
 use Rattle.std.proofs.Common.{◌≡◌, ◌⊎◌, inl, inr, ⊎_elim, refl, subst, ap, ◌∙◌, Bool, true, false, cond, List, [], ◌∷◌, map, filter, Option, Some, None, Contains}
 use Rattle.std.specs.Prelude.{option_and_then}
 use Rattle.std.proofs.lemmas.List.Elements.{Contains-append_cases}
@@ -73,7 +73,7 @@ source-led lib q s h =
 
 -- ---- The ends of a connection
 
--- What stands at the end of a connection: a kind with such a port, whose type is the type there.
+-- The end of a connection: a kind with such a port, whose type is the type there.
 pub record IsEnd (lib : Library) (p : Path) (net : Network) (o : Option CompositeType) (component boundary : Ports → List Name) (e : PortName) : Type 0 where
   pub kind : Kind
   pub there : kind_at lib (port_in p e).at ≡ Some kind

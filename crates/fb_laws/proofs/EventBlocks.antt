@@ -1,4 +1,4 @@
--- What an event block remembers shows outputs of their types, and its count stays within them.
+-- The outputs that an event block remembers have their types, and its count stays within them.
 use Rattle.std.proofs.Common.{◌≡◌, ◌≤◌, ◌<◌, ◌+◌, ℕ, refl, sym, subst, ap, ltb, leb, nat_le, Bool, true, false, cond, List, [], ◌∷◌, Some, codes, arith}
 use Rattle.std.proofs.lemmas.Bool.{ltb-true, lt-ltb, le-leb, and_from}
 use Rattle.fb_types.specs.Names.{Name, same_name}

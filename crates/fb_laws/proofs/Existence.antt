@@ -1,4 +1,5 @@
--- There is a simulation: each taking that does not stop uses a step, of which a resource has so many in one tick.
+-- There is a simulation: each taking that does not stop uses a step, of which a resource has a limited number in one
+-- tick.
 use Rattle.std.proofs.Common.{◌≡◌, ℕ, zero, suc, ◌+◌, ◌<◌, ◌≤◌, ◌⊎◌, refl, sym, ap, ◌∙◌, subst, inl, inr, ⊎_elim, List, [], ◌∷◌, ◌++◌, Option, Some, None, arith}
 use Rattle.std.proofs.lemmas.Bool.{cases_lt, cases_eq}
 use Rattle.fb_types.specs.Keys.{Precedes, found, without, changed_to, NoneBelow, timer_key}
@@ -85,7 +86,7 @@ module _ (sys : System) (sound : IsSound sys) (horizon limit : ℕ) where
   abbrev From : ℕ → ℕ → Config → Type 0
   From t r c = (k : Key) → (k.tick < t) ⊎ ((k.tick ≡ t) × (k.resource < r)) → c.agenda k ≡ None
 
-  -- what waits is not before this place
+  -- what waits is not before this point
   not_before : (t r : ℕ) (c : Config) (i : Taken) → From t r c → TakesLeast sys limit c i → (t < i.key.tick) ⊎ ((i.key.tick ≡ t) × (r ≤ i.key.resource))
   not_before t r c i f x =
       ⊎_elim
@@ -163,7 +164,7 @@ module _ (sys : System) (sound : IsSound sys) (horizon limit : ℕ) where
           (λ b. idle c (λ k d. x.least k (tick_before k i.key (omega arith))))
           (cases_lt i.key.tick horizon)
 
-  -- the steps that are left in this place, after a taking there
+  -- the steps that are left at this point, after a taking there
   lower_next : (t r : ℕ) (c : Config) (n : Next c) → n.taken.effect.stop ≡ None → n.taken.key.tick ≡ t → n.taken.key.resource ≡ r → left_in limit t r (after c n.taken).state < left_in limit t r c.state
   lower_next t r c n e p q =
       subst (λ (z : ℕ). left_in limit z r (after c n.taken).state < left_in limit z r c.state) p

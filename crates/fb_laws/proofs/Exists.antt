@@ -123,7 +123,7 @@ module _ (M : Machine) where
           (before_cases y.0.key x.item.key))
           (list_cases (rs n))
 
-  -- a resource with what it will still take, when all that is still to be sent has arrived beforehand
+  -- a resource with what it will still take, if all that is still to be sent has arrived beforehand
   record Ahead (w : World M) (rs : ℕ → List (Item M)) (t r : ℕ) (l : Local M) (is : List (Item M)) : Type 0 where
     part : l.part ≡ w.parts r
     stop : l.stop ≡ w.stops r

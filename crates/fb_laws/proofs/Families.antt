@@ -55,7 +55,7 @@ module _ (M : Machine) where
       let z : A.heard k.resource k ≡ B.heard k.resource k = x ∙ ap (λ w. found k (sent_by M w)) h ∙ ap (λ w. found k (sent_by M (cut M w (B.runs (M.sender k))))) (both_sym first A B t (M.sender k)) ∙ sym y in
       subst (λ (q : ℕ). A.heard q k ≡ B.heard q k) e z
 
-  -- two families with one opening take the same items below a tick, as far as both are told
+  -- two families with one opening take the same items below a tick, as far as both go
   pub family_agree : IsLawful M → (first : ℕ → Local M) (A B : Family first) (t r : ℕ) → cut M (both A B t r) (A.runs r) ≡ cut M (both A B t r) (B.runs r)
   family_agree law first A B zero r =
       let e : both A B zero r ≡ 0 = omega arith in

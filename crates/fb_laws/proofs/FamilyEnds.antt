@@ -52,7 +52,7 @@ module _ (M : Machine) where
       (cases_lt i.key.tick k.tick))
       (cases_lt k.tick i.key.tick)
 
-  -- the ticks and resources that are taken rise
+  -- the ticks and resources of the takings rise
   pub sim_above : IsLawful M → (k : Key) (is : List (Item M)) (w : World M) → NoneBefore k w → Simulates M w is → Each (λ (i : Item M). PlaceUpTo k i.key) is
   sim_above law k [] w h x = tt
   sim_above law k (i ∷ is) w h x =
@@ -190,7 +190,7 @@ module _ (M : Machine) where
       (cases_eq r j.resource))
       (cases_lt j.resource r)
 
-  -- how far the simulation goes for each resource, and the family to there
+  -- up to which tick the simulation goes for each resource, and the family to there
   pub record Story (w : World M) (horizon : ℕ) (is : List (Item M)) : Type 0 where
     pub family : Family M (view M w)
     pub runs_are : (r : ℕ) → family.runs r ≡ at M r is

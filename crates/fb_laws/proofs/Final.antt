@@ -75,7 +75,7 @@ module _ (M : Machine) where
         let one = chain_one M r (runs r) _ j other.key st.reason st.reason a.chain has other.has in
         ((st.reason, stop), sym other.tick_is ∙ ap (λ k. k.tick) (sym one.0))
 
-    -- what is final is told by the simulation
+    -- what is final is in the simulation
     final_told : (t r : ℕ) → r < count → t < horizon → IsFinal M count c m t r → t < s.family.bound r
     final_told t r b u f = ⊎_elim (λ y. let e = y.1 r in omega arith) (λ y. stops y.0 y.1) s.ends
       where

@@ -15,7 +15,8 @@ use Rattle.fb_laws.proofs.AtHome.{has_turned, exchanged_floor, rises_or_stops}
 use Rattle.fb_laws.proofs.Phasing.{IsRound, all_turned}
 
 module _ (M : Machine) where
-  -- Each of so many resources that has not stopped has its turn to a bound past the tick, and no other resource has a turn or anything to do.
+  -- Each of the first resources that has not stopped has its turn to a bound past the tick, and no other resource has a
+  -- turn or anything to do.
   pub record AreOver (count m : ℕ) (c : Core M) (turns : ℕ → Option (Turn M)) : Type 0 where
     pub over : (r : ℕ) → r < count → (c r).state.stop ≡ None → (t : Turn M) × (turns r ≡ Some t) × (m < t.bound)
     pub stopped : (r : ℕ) (reason : M.Reason) → (c r).state.stop ≡ Some reason → turns r ≡ None

@@ -1,4 +1,4 @@
--- What a run hands out: it goes on from round to round, it begins the lines of the simulation, and at the end it is all of them.
+-- What a run hands out: each round continues it, it begins the lines of the simulation, and at the end it is all of them.
 use Rattle.std.proofs.Common.{◌≡◌, ℕ, zero, suc, ◌+◌, ◌<◌, ◌≤◌, ◌⊎◌, max, true, false, not, None, List, [], ◌∷◌, ◌++◌, refl, sym, ap, ◌∙◌, subst, inl, inr, ⊎_elim, arith}
 use Rattle.std.specs.Prelude.{nat_lt, is_some, if◌then◌else◌}
 use Rattle.std.proofs.lemmas.Bool.{cases_lt, cases_Bool, cond-true, cond-false, lt-ltb, le-ltb}
@@ -133,7 +133,7 @@ module _ (sys : System) (sound : IsSound sys) (stimuli : List Stimulus) (horizon
   pub lines_told : (r : ℕ) → AreLinesOf M horizon r (c r).lines
   lines_told r = core_lines M law horizon w c _ inv r
 
-  -- the core goes on by further steps
+  -- the core after further steps
   pub later_told : (fs : List (CoreStep M)) → IsSchedule M horizon c fs → (more : ℕ → List Line) → ((r : ℕ) → r < count_of sys → (core_after M c fs r).lines ≡ (c r).lines ++ more r)
       → IsLater M (count_of sys) horizon c (core_after M c fs) more
   later_told fs x more grown = is_later M law w horizon fs c _ inv (count_of sys) x more grown
@@ -150,7 +150,7 @@ module _ (sys : System) (sound : IsSound sys) (stimuli : List Stimulus) (horizon
     empty : count_of sys ≡ 0 → Begins
     empty e = nothing (none_counted M _ ls (subst (λ n. IsMerge M n (λ r. lines_before M (until h.edge r) (c r).lines) ls) e h.merged))
 
-    -- by a final place to which the lines are those to the edge
+    -- by a final point to which the lines are those to the edge
     by_place : (t r : ℕ) → t < horizon → r < count_of sys → IsFinalIn M (count_of sys) c t r
         → ((q : ℕ) → q < count_of sys → lines_before M (until h.edge q) (c q).lines ≡ lines_to sys limit t r c q) → Begins
     by_place t r a b f same =
@@ -164,7 +164,7 @@ module _ (sys : System) (sound : IsSound sys) (stimuli : List Stimulus) (horizon
     to_low : (t r q : ℕ) → r < q → lines_to sys limit t r c q ≡ lines_before M t (c q).lines
     to_low t r q b = ap (λ z. lines_before M z (c q).lines) (cond-true (nat_lt r q) t (t + 1) (lt-ltb r q b))
 
-    -- where the lines to the edge are those below one tick
+    -- if the lines to the edge are those below one tick
     by_tick : (u : ℕ) → u ≤ horizon → ((q t : ℕ) → q < count_of sys → t < u → t < until h.edge q)
         → ((q : ℕ) → q < count_of sys → lines_before M (until h.edge q) (c q).lines ≡ lines_before M u (c q).lines) → Begins
     by_tick zero a f same =

@@ -1,4 +1,4 @@
--- The lines of a core as a schedule goes on: they rise, new ones were not final before, and what is final stays so.
+-- The lines of a core during a schedule: they rise, new ones were not final before, and what is final stays so.
 use Rattle.std.proofs.Common.{◌≡◌, ℕ, ◌<◌, ◌≤◌, max, Some, None, List, [], ◌∷◌, ◌++◌, refl, sym, ap, ◌∙◌, subst, inl, inr, ⊎_elim, arith, append_assoc}
 use Rattle.std.proofs.lemmas.Bool.{cases_lt}
 use Rattle.fb_types.specs.declared.key.Key.{Key}
@@ -29,7 +29,7 @@ each_swap P (x ∷ xs) h = (λ y. (h y).0, each_swap P xs (λ y. (h y).1))
 module _ (M : Machine) where
   -- ---- The lines of one resource
 
-  -- Their ticks do not fall, they lie below the horizon, and they are its own.
+  -- Their ticks do not fall, they are below the horizon, and they are its own.
   pub record AreLinesOf (horizon r : ℕ) (xs : List M.Line) : Type 0 where
     pub rise : TicksRise M xs
     pub below : Each (λ (x : M.Line). M.line_tick x < horizon) xs

@@ -20,7 +20,7 @@ use Rattle.fb_laws.proofs.Stops.{HasStop, has_append}
 use Rattle.fb_laws.proofs.Steps.{put_ind, put_ind2, Stopped, run_ends, end_more}
 use Rattle.fb_laws.proofs.Alone.{end_own}
 
--- one more than the tick of a stop, else the clock: all that was taken lies below
+-- one more than the tick of a stop, else the clock: all that was taken is below
 abbrev pub done_of : {R : Type 0} → Option R → ℕ → ℕ
 done_of None clock = clock
 done_of (Some reason) clock = clock + 1
@@ -157,7 +157,7 @@ module _ (M : Machine) where
   floor_stopped : {R : Type 0} (stop : Option R) (reason : R) (clock m : ℕ) → stop ≡ Some reason → floor_of stop clock m ≡ clock
   floor_stopped stop reason clock m e = ap (λ z. floor_of z clock m) e
 
-  -- what a run does to the numbers of a seat
+  -- what a run does to the numbers of a resource
   pub record Moved (m r bound : ℕ) (s : Member M) (is : List (Item M)) (s' : Member M) : Type 0 where
     pub live : s.state.stop ≡ None
     pub limit_is : limit s ≡ bound

@@ -1,4 +1,4 @@
--- A reaction leaves each variable with a value of its type, and what it puts out carries such values.
+-- A reaction leaves each variable with a value of its type, and what it emits carries such values.
 use Rattle.std.proofs.Common.{◌≡◌, ℕ, refl, sym, subst, Bool, true, false, List, [], ◌∷◌, Option, Some, None, All}
 use Rattle.std.specs.Prelude.{if◌then◌else◌}
 use Rattle.std.proofs.lemmas.List.Elements.{All-nil, All-cons}
@@ -161,7 +161,7 @@ module _ (sys : System) (sound : IsTypedSystem sys) (k : Key) where
   reacts_at-typed w typed q left (Some (Composite t)) is o h =
       subst (KeepsTypes sys) (sym h) (crossing-typed w typed q t is left (is_event_input t.ports q.name))
 
--- Where sources fit what they feed, each reaction to a typed event keeps the types.
+-- If sources fit what they feed, each reaction to a typed event keeps the types.
 pub reacts_typed : TypesAreKept
 reacts_typed sys sound k w (Stimulated q bs) left o typed event h =
     reacts_at-typed sys sound k (with_slots q.at bs w) (slots_typed sys w typed q bs event) q left (sys.kind q.at) refl o h

@@ -157,7 +157,9 @@ begun_same limit tick m e =
     let same : is_tick m.tick tick ≡ true = ap (λ o. is_tick o tick) e ∙ eq-eqb tick tick refl in
     ap (λ b. if b then m else record { tick = Some tick; left = limit; locals = 0 }) same
 
--- What holds of each configuration that the simulation comes to: running timers have times, classes are those there are, local events have numbers below the count of their tick and resource, and nothing is left of a tick that a resource has come to.
+-- What holds of each configuration of the simulation: running timers have times, classes are those that exist, local
+-- events have numbers below the count of their tick and resource, and nothing is left of a tick that a resource has
+-- passed.
 record IsOrderly (c : Config) : Type 0 where
   long : AreLong c.state.blocks
   classes : (j : Key) (v : Event) → c.agenda j ≡ Some v → j.class ≤ 3
@@ -165,13 +167,13 @@ record IsOrderly (c : Config) : Type 0 where
       → ((c.state.meters j.resource).tick ≡ Some j.tick) × (j.a < (c.state.meters j.resource).locals)
   reached : (r s : ℕ) → (c.state.meters r).tick ≡ Some s → NoneBelow c.agenda s
 
--- what the taking of a key is known to do
+-- what the taking of a key does
 record IsStep (limit : ℕ) (k : Key) (s : State) (x : Effect) : Type 0 where
   long : AreLong x.state.blocks
   changes : (j : Key) (v : Event) → x.changes j ≡ Some (Some v)
       → IsNumbered k (begun limit k.tick (s.meters k.resource)).locals (x.state.meters k.resource).locals j ⊎ IsSetLater k j
   others : (r : ℕ) → (r ≡ k.resource → ⊥) → x.state.meters r ≡ s.meters r
-  -- either nothing was begun, or the resource has come to the tick
+  -- either nothing was begun, or the resource has reached the tick
   own : ((x.state ≡ s) × ((j : Key) (v : Event) → x.changes j ≡ Some (Some v) → ⊥)) ⊎ (((x.state.meters k.resource).tick ≡ Some k.tick) × ((begun limit k.tick (s.meters k.resource)).locals ≤ (x.state.meters k.resource).locals))
 
 module _ (sys : System) (sound : IsSound sys) (limit : ℕ) where
@@ -272,11 +274,11 @@ module _ (sys : System) (sound : IsSound sys) (limit : ℕ) where
         (λ q. not_earlier j v q) a)
         (waits_after j v h)
 
-    -- what is asked of the counts of a resource where a local event of it waits
+    -- what must hold of the counts of a resource if a local event of it waits
     abbrev Counts : Key → Meter → Type 0
     Counts j m = (m.tick ≡ Some j.tick) × (j.a < m.locals)
 
-    -- a resource has come to no later tick than that of the key taken
+    -- a resource has not reached a later tick than that of the key taken
     come_to : (r s : ℕ) → (c.state.meters r).tick ≡ Some s → s ≤ t.key.tick
     come_to r s h =
         ⊎_elim (λ b. absurd (none_some _ t.event (orderly.reached r s h t.key b) least.waits)) (λ b. b) (cases_lt t.key.tick s)

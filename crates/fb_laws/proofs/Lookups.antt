@@ -15,7 +15,7 @@ same_name_turned m n h = let e : m ≡ n = same_from_same_name m n h in rw e (sa
 same_name_apart : (m n : Name) → same_name m n ≡ false → same_name n m ≡ false
 same_name_apart m n h = false_from_ne_true (same_name n m) (λ e. both_ways (same_name m n) h (same_name_turned n m e))
 
--- ---- In two lists, one behind the other
+-- ---- In two lists, one after the other
 
 front_step : (b : Bool) (v x : Variable) (o p : Option Variable) → (o ≡ Some x → p ≡ Some x)
     → cond b (Some v) o ≡ Some x → cond b (Some v) p ≡ Some x
@@ -75,7 +75,7 @@ among-filter test (m ∷ ns) n h =
     (λ e. or_right (same_name n m) (among ns n) (among-filter test ns n e))
     (filter_step (test m) m n (filter test ns) h)
 
--- each value with its name is so, where each name among them has such a value
+-- each value with its name is such, if each name among them has such a value
 pub All-bound : (P : Bound → Type 0) (vars : Values) (ns : List Name)
     → ((n : Name) → among ns n ≡ true → P (record { variable = n; value = vars n })) → All P (bound ns vars)
 All-bound P vars [] h = All-nil P

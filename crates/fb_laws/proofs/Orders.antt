@@ -1,4 +1,4 @@
--- The steps of a phase may come in every order, and all orders come to one core.
+-- The steps of a phase may come in every order, and all orders lead to one core.
 use Rattle.std.proofs.Common.{◌≡◌, ℕ, ◌≤◌, refl, sym, ap, ◌∙◌, subst, ⊎_elim, List, [], ◌∷◌, Option, Some, None}
 use Rattle.std.proofs.lemmas.Bool.{cases_eq, eq-eqb, ne_eqb}
 use Rattle.fb_types.specs.Takes.{with_at}
@@ -66,7 +66,7 @@ module _ (M : Machine) (horizon : ℕ) where
     schedule : IsSchedule M horizon d es
     comes_to : (r : ℕ) → core_after M d es r ≡ after_steps (d r) (steps_of M r es)
 
-  -- a step at q, where the rest is in order
+  -- a step at q, if the rest is in order
   module _ (d : Core M) (q : ℕ) (s : Member M) (es : List (CoreStep M)) where
     abbrev new : Core M
     new = with_at q s d

@@ -1,4 +1,5 @@
--- What a reaction puts out: events to its own resource, messages over its links, lines under its key, timers of now or later.
+-- What a reaction emits: events to its own resource, messages over its links, lines under its key, timers of now or
+-- later.
 use Rattle.std.proofs.Common.{◌≡◌, ℕ, refl, sym, subst, ⊎_elim, List, [], ◌∷◌, Bool, true, false, Option, Some, None}
 use Rattle.std.specs.Prelude.{if◌then◌else◌}
 use Rattle.std.proofs.lemmas.Bool.{cases_eq, eq-eqb, ne_eqb}

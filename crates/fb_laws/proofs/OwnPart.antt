@@ -1,4 +1,4 @@
--- A taking of a key of a resource reads and changes that resource's part alone.
+-- A taking of a key of a resource reads and changes only that resource's part.
 use Rattle.std.proofs.Common.{◌≡◌, ℕ, zero, suc, refl, sym, ap, ◌∙◌, subst, ⊎_elim, List, [], Bool, true, false, Some, None, arith}
 use Rattle.std.specs.Prelude.{if◌then◌else◌, ◌==◌}
 use Rattle.std.proofs.lemmas.Bool.{eqb-true, eq-eqb, cond-true, cases_Bool}
@@ -38,7 +38,7 @@ only_true : {A : Type 0} (t : Bool) (x y : A) → t ≡ true → (if t then Some
 only_true t x y h e = same_Some x y (sym (cond-true t (Some x) None h) ∙ e ∙ cond-true t (Some y) None h)
 
 module _ (sys : System) (sound : IsSound sys) (k : Key) where
-  -- ---- It reads its resource's part alone
+  -- ---- It reads only its resource's part
 
   abbrev r : ℕ
   r = k.resource
@@ -95,7 +95,7 @@ module _ (sys : System) (sound : IsSound sys) (k : Key) where
       let f : n ≡ m = ap (λ z. begun limit k.tick z.meter) (sym h) in
       takes_with_same e home m m.left s u x y h a (subst (λ (z : Meter). TakesWith sys u k e z z.left y) f b)
 
-  -- ---- It changes its resource's part alone
+  -- ---- It changes only its resource's part
 
   apart_paths : (e : Event) → IsAtResource sys k e → (q : ℕ) → (q ≡ r → ⊥) → (p : Path) → sys.resource p ≡ q → same_path p (path_of e) ≡ false
   apart_paths e home q n p f =

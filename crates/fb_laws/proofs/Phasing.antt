@@ -1,4 +1,4 @@
--- A phase and the exchange after it, behind the steps that a core has come by.
+-- A phase and the exchange after it, after the steps before.
 use Rattle.std.proofs.Common.{◌≡◌, ℕ, zero, suc, ◌<◌, ◌≤◌, Option, Some, None, List, [], ◌∷◌, ◌++◌, refl, sym, ap, ◌∙◌, subst, ⊎_elim, arith}
 use Rattle.std.proofs.lemmas.Bool.{cases_lt, eq-eqb, ne_eqb}
 use Rattle.fb_types.specs.Machines.{Machine, Item}
@@ -69,7 +69,7 @@ module _ (M : Machine) where
       ∙ subst (λ (z : ℕ). steps_of M z (turn_steps M n (turns n)) ≡ turn_steps M z (turns z)) e (own_steps n (turns n)))
       (cases_lt r n)
 
-  -- The turns one after another are a phase, where there are none past these numbers.
+  -- The turns one after another are a phase, if there are none past these numbers.
   pub is_phase : (turns : ℕ → Option (Turn M)) (count : ℕ) → ((r : ℕ) → count ≤ r → turns r ≡ None) → IsPhase M turns (phase_of turns count)
   is_phase turns count none r =
       ⊎_elim
@@ -87,7 +87,7 @@ module _ (M : Machine) where
   abbrev pub all_turned : Core M → (ℕ → Option (Turn M)) → Core M
   all_turned c turns = λ r. turned M (c r) (turns r)
 
-  -- Behind the steps `es` come those of the phase, and then the exchange.
+  -- After the steps `es` come those of the phase, and then the exchange.
   pub record IsRound (horizon : ℕ) (first : Core M) (es fs : List (CoreStep M)) (turns : ℕ → Option (Turn M)) : Type 0 where
     -- the resources back from their turns
     pub back : IsSchedule M horizon first (es ++ fs)

@@ -1,4 +1,4 @@
--- Elements of lists by their places.
+-- Elements of lists by their indices.
 use Rattle.std.proofs.Common.{◌≡◌, ℕ, zero, suc, ◌+◌, ◌<◌, Option, Some, None, List, [], ◌∷◌, ◌++◌, length, map, drop, refl, sym, ap, ◌∙◌, arith}
 use Rattle.std.specs.Prelude.{slice_get, slice_index_or}
 
@@ -48,7 +48,7 @@ module _ {X : Type 0} where
   index_at (y ∷ ys) zero x d e = let f : y ≡ x = cc in f
   index_at (y ∷ ys) (suc n) x d e = index_at ys n x d e
 
-  -- what is left from a place on begins with the element there
+  -- what is left from an index on begins with the element there
   pub drop_first : (xs : List X) (n : ℕ) (y : X) (ys : List X) → y ∷ ys ≡ drop n xs → (slice_get xs n ≡ Some y) × (ys ≡ drop (n + 1) xs)
   drop_first xs n y ys e = go (slice_get xs n) refl
     where

@@ -16,7 +16,7 @@ use Rattle.fb_types.proofs.Lookups.{same_cases, or_else_some, none_some}
 use Rattle.fb_types.proofs.EachLaws.{each_append}
 use Rattle.fb_laws.proofs.Outs.{IsGood}
 
--- what is said of each pair holds of what is found
+-- what holds of each pair holds of what is found
 pub each_found : {V : Type 0} (P : Key → V → Type 0) (es : List (Key × V)) → Each (λ (e : Key × V). P e.0 e.1) es → (j : Key) (v : V) → found j es ≡ Some v → P j v
 each_found P [] h j v e = absurd (none_some None v refl e)
 each_found {V} P (x ∷ es) h j v e =

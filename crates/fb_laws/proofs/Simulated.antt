@@ -27,7 +27,7 @@ module _ (sys : System) (sound : IsTypedSystem sys) where
   abbrev pub IsTypedAgenda : Agenda → Type 0
   IsTypedAgenda a = (k : Key) → Holds (IsTypedEvent sys) (a k)
 
-  -- ---- What a reaction puts out
+  -- ---- What a reaction emits
 
   record ArePostsTyped (x : Posts) : Type 0 where
     raised : AreTypedEvents x.raised

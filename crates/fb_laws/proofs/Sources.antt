@@ -158,7 +158,7 @@ event-apart CountUp n x h i =
     (only-name (variable (codes "PV") Uint) i.0 n i.1) h)
 event-apart _ n x h i = none-some x h
 
--- a name that is that of an input and of an output stands twice
+-- a name that is that of an input and of an output is there twice
 ports-twice : (p : Ports) (vs : List Variable) (n : Name) → Contains (variable_names p.inputs) n → Contains (variable_names p.outputs) n
     → Twice (names_of_ports p vs)
 ports-twice p vs n i o =

@@ -1,4 +1,4 @@
--- A reaction changes the block of its event alone.
+-- A reaction changes only the block of its event.
 use Rattle.std.proofs.Common.{◌≡◌, ℕ, refl, ap, ◌∙◌, List, [], ◌∷◌, Bool, true, false, Option, Some, None}
 use Rattle.std.specs.Prelude.{if◌then◌else◌}
 use Rattle.fb_types.specs.Names.{Path, same_path, Port}

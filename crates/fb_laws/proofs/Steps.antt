@@ -1,4 +1,4 @@
--- What a run of one resource adds, and functions changed at one place.
+-- What a run of one resource adds, and functions changed at one index.
 use Rattle.std.proofs.Common.{◌≡◌, ℕ, ◌<◌, ◌≤◌, ◌⊎◌, false, Option, Some, None, List, [], ◌∷◌, refl, sym, ap, ◌∙◌, subst, inl, inr, ⊎_elim, arith}
 use Rattle.std.proofs.lemmas.Bool.{cases_eq}
 use Rattle.fb_types.specs.declared.key.Key.{Key}

@@ -26,12 +26,12 @@ use Rattle.fb_laws.proofs.Alone.{sim_cut}
 use Rattle.fb_laws.proofs.Lines.{Rises, lines_of_cut, sim_here}
 
 module _ (M : Machine) where
-  -- it stops at (m, r) exactly where the takes of r alone below m + 1 end by a reason, which is then the simulation's
+  -- it stops at (m, r) exactly if the takes of r alone below m + 1 end with a reason, which is then the simulation's
   pub record StopsWhere (w : World M) (is : List (Item M)) (m r : ℕ) (alone_run : List (Item M)) : Type 0 where
     pub there : (q : M.Reason) → (end M (apart M w is r (m + 1)) alone_run).stop ≡ Some q → (s : StopsAt M is) × (s.item.key.tick ≡ m) × (s.item.key.resource ≡ r) × (s.reason ≡ q)
     pub back : (s : StopsAt M is) → s.item.key.tick ≡ m → s.item.key.resource ≡ r → (end M (apart M w is r (m + 1)) alone_run).stop ≡ Some s.reason
 
-  -- a chain that ends by a reason has an item that stops
+  -- a chain that ends with a reason has an item that stops
   end_has : (r : ℕ) (is : List (Item M)) (l : Local M) (q : M.Reason) → Chain M r l is → l.stop ≡ None → (end M l is).stop ≡ Some q → (j : Key) × HasStop M is j q × (j.resource ≡ r)
   end_has r [] l q c n e = absurd (none_some _ _ n e)
   end_has r (i ∷ is) l q c n e =

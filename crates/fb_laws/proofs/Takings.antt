@@ -1,4 +1,4 @@
--- A resource by itself, whose inbox alone holds arrivals, takes an event from all that waits.
+-- A resource by itself, with its arrivals only in its inbox, takes an event from all that waits.
 use Rattle.std.proofs.Common.{◌≡◌, Bool, true, false, cond, Option, Some, None, refl, sym, ap, ◌∙◌, ⊎_elim}
 use Rattle.std.specs.Prelude.{◌==◌}
 use Rattle.std.proofs.lemmas.Bool.{cases_Bool}
@@ -47,7 +47,7 @@ module _ (M : Machine) where
           go o a None false p = or_else_none (changed_to o a) ∙ ap (changed_to o) (sym (or_else_none a))
           go o a (Some v) b p = absurd cc
 
-  -- .. in the same two places
+  -- .. separated in the same way
   pub parted_after : (l : Local M) (i : Item M) → IsParted l → ChangesOwn i → IsParted (after M l i)
   parted_after l i parted own = record {
     own = λ j h. ap (λ o. changed_to o (without i.key l.own j)) (no_change i own j h) ∙ without_none i.key l.own j (parted.own j h);

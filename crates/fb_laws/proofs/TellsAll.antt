@@ -1,4 +1,4 @@
--- The law of schedules, of every schedule of accepted inputs.
+-- The law of schedules, for every schedule of accepted inputs.
 use Rattle.std.proofs.Common.{ℕ, ◌+◌, sym, ◌∙◌, subst, ⊎_elim, List, [], None}
 use Rattle.std.specs.Prelude.{if◌then◌else◌, nat_lt}
 use Rattle.fb_types.specs.Systems.{System}

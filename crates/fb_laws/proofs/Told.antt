@@ -1,4 +1,4 @@
--- The law of one resource, of every simulation of accepted inputs.
+-- The law of one resource, for every simulation of accepted inputs.
 use Rattle.std.proofs.Common.{◌≡◌, ℕ, ◌+◌, ◌<◌, ◌≤◌, ◌⊎◌, refl, sym, ap, ◌∙◌, subst, inl, ⊎_elim, List, [], ◌∷◌, ◌++◌, Some, None, arith}
 use Rattle.std.specs.Prelude.{if◌then◌else◌, nat_lt}
 use Rattle.std.proofs.lemmas.Bool.{cases_lt, cond-true, cond-false, lt-ltb, le-ltb}
@@ -82,7 +82,7 @@ module _ (sys : System) (sound : IsSound sys) (stimuli : List Stimulus) (horizon
         ends_as;
   }
 
-  -- stops are one
+  -- there is only one stop
   same_stop : (s u : StopsAt M is) → (s.item.key ≡ u.item.key) × (s.reason ≡ u.reason)
   same_stop s u = sim_one M is w s.item.key u.item.key s.reason u.reason simulated.0 (stop_has M is s) (stop_has M is u)
 

@@ -51,7 +51,7 @@ port-found (Composite t) n x h = h
 pub input-found : (k : Kind) (n : Name) (x : Variable) → variable_named n (ports_of k).inputs ≡ Some x → variable_named n (port_variables k) ≡ Some x
 input-found k n x h = named-front (ports_of k).inputs (ports_of k).outputs n x h
 
--- what stands among the variables is the port of its name, where there is one
+-- what is among the variables is the port of its name, if there is one
 port-first : (k : Kind) (n : Name) (x y : Variable) → variable_named n (variables_in k) ≡ Some x → variable_named n (port_variables k) ≡ Some y → x ≡ y
 port-first k n x y h g = same_Some x y (sym h ∙ port-found k n y g)
 

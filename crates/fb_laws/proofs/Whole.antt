@@ -1,4 +1,4 @@
--- Where a schedule is complete there is a simulation.
+-- If a schedule is complete there is a simulation.
 use Rattle.std.proofs.Common.{◌≡◌, ℕ, ◌<◌, None, List, ap}
 use Rattle.fb_types.specs.Machines.{Machine, Item}
 use Rattle.fb_laws.specs.Facts.{IsLawful}
@@ -22,7 +22,7 @@ use Rattle.fb_laws.proofs.Reached.{both_take, passed_live, inv_after, reached_by
 use Rattle.fb_laws.proofs.Stops.{has_cut, has_whole, sim_stops}
 
 module _ (M : Machine) where
-  -- there is a simulation where a schedule is complete
+  -- there is a simulation if a schedule is complete
   pub exists_end : IsLawful M → (count : ℕ) (w : World M) (horizon : ℕ) (es : List (CoreStep M)) → IsOpening M w → IsCounted M count w → IsSchedule M horizon (opening M w) es → IsAtHorizon M count horizon (reached_by M w es) → (is : List (Item M)) × Simulation M w horizon is
   exists_end law count w horizon es o n sc e =
       let c = reached_by M w es in

@@ -27,7 +27,7 @@ with_block-typed sys w typed p b t = record {
     go q k is true e = t k (sym (ap sys.kind (same_path_is q p e)) ∙ is)
     go q k is false e = typed.blocks q k is
 
--- what is typed at the kind that stands at a path
+-- what is typed at the kind of the instance at a path
 pub at_kind : (sys : System) (p : Path) (k : Kind) (b : Block) → sys.kind p ≡ Some k → IsTypedBlock k b → (l : Kind) → sys.kind p ≡ Some l → IsTypedBlock l b
 at_kind sys p k b is t l same = subst (λ (z : Kind). IsTypedBlock z b) (kind_one (sys.kind p) k l is same) t
 

@@ -4,7 +4,7 @@ use Rattle.fb_types.specs.Systems.{System}
 use Rattle.fb_types.specs.Cores.{floor_of}
 use Rattle.fb_types.specs.declared.value.Reason.{Reason}
 
--- The greatest tick that is not over the top and that each of so many numbers allows.
+-- The greatest tick that is at most `top` and that each of `count` numbers allows.
 pub record IsCut (Allows : (number tick : ℕ) → Type 0) (top count tick : ℕ) : Type 0 where
   pub within : tick ≤ top
   pub each : (i : ℕ) → i < count → Allows i tick

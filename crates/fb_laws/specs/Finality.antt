@@ -11,7 +11,8 @@ use Rattle.fb_types.specs.Cores.{Core, CoreStep, IsFloor, floor, opening_core}
 use Rattle.fb_types.specs.Schedules.{core_after, IsFinal}
 use Rattle.fb_types.specs.declared.run.Line.{Line}
 
--- A place in the order of lines, which are ordered by tick, then resource: before the lines of this tick and resource, or just within them, which means past them.
+-- A point in the order of lines, which are ordered by tick, then resource: before the lines of this tick and resource, or
+-- past them.
 pub record Edge : Type 0 where
   pub tick : ℕ
   pub resource : ℕ
@@ -31,7 +32,8 @@ module _ (M : Machine) where
   TicksRise [] = Unit {0}
   TicksRise (x ∷ xs) = Each (λ (y : M.Line). M.line_tick x ≤ M.line_tick y) xs × TicksRise xs
 
-  -- A line at a tick and resource is final: so for some tick that no event and no message precedes. The greatest such tick allows the most.
+  -- A line at a tick and resource is final: it is so for some tick that no event and no message precedes. The greatest
+  -- such tick allows the most.
   abbrev pub IsFinalIn : (count : ℕ) → Core M → (tick resource : ℕ) → Type 0
   IsFinalIn count c t r = (m : ℕ) × IsFloor M c m × IsFinal M count c m t r
 
@@ -47,7 +49,7 @@ module _ (M : Machine) where
     pub least : (q : ℕ) → q < count → (e.tick < floor M c m q) ⊎ ((e.tick ≡ floor M c m q) × (e.resource ≤ q))
     pub stopped : e.within ≡ is_some (c e.resource).state.stop
 
-  -- These lines were handed out, in the order of the trace: final ones. The rest of each resource's lines is kept.
+  -- These lines were handed out, in the order of the trace: only final ones. The rest of each resource's lines is kept.
   pub record HaveLeft (count horizon : ℕ) (c : Core M) (kept : ℕ → List M.Line) (ls : List M.Line) : Type 0 where
     pub edge : Edge
     pub final : (r t : ℕ) → r < count → t < horizon → t < until edge r → IsFinalIn count c t r
@@ -73,7 +75,7 @@ pub record HasKept (i : Inputs) (limit horizon : ℕ) (c : Core (machine (system
   pub counted : length kept ≡ count_of (system_of i)
   pub left : HaveLeft (machine (system_of i) limit) (count_of (system_of i)) horizon c (lines_in i limit kept) ls
 
--- All final lines were handed out of the core: of those that are kept none is final.
+-- All final lines were handed out of the core: no line that is kept is final.
 pub record HasHanded (i : Inputs) (limit horizon : ℕ) (c : Core (machine (system_of i) limit)) (kept : List (List Line)) (ls : List model.Line) : Type 0 where
   pub handed : HasKept i limit horizon c kept ls
   pub waits : NoneIsFinal (machine (system_of i) limit) (count_of (system_of i)) c (lines_in i limit kept)

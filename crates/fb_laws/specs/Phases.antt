@@ -43,7 +43,7 @@ module _ (M : Machine) where
   turned s None = s
   turned s (Some t) = returned M (record s { out = Some (t.worker, t.bound) }) t.run
 
--- Where each resource may have its turn, the steps in any order are a schedule, and all orders come to one core.
+-- If each resource may have its turn, the steps in any order are a schedule, and all orders lead to one core.
 pub record IsOrderFree (M : Machine) (horizon : ℕ) (c : Core M) (turns : ℕ → Option (Turn M)) (es : List (CoreStep M)) : Type 0 where
   pub schedule : IsSchedule M horizon c es
   pub comes_to : (r : ℕ) → core_after M c es r ≡ turned M (c r) (turns r)

@@ -13,13 +13,13 @@ use Rattle.fb_types.specs.declared.key.Key.{Key}
 use Rattle.fb_types.specs.declared.value.Reason.{Reason}
 use Rattle.fb_laws.specs.Sound.{AreGood}
 
--- Said of every simulation of accepted inputs.
+-- A statement about every simulation of accepted inputs.
 abbrev pub OfEach : ((sys : System) → List Stimulus → (horizon limit : ℕ) → List Taken → Type 0) → Type 0
 OfEach P =
     (i : Inputs) (horizon limit : ℕ) (ts : List Taken) → AreGood i → IsSimulation (system_of i) (stimuli_of i) horizon limit ts
     → P (system_of i) (stimuli_of i) horizon limit ts
 
--- ---- A resource alone comes to its history
+-- ---- A resource alone reaches its history
 
 -- What the simulation takes of the resource below the tick is all that the resource alone takes below it, with the messages that arrive for it; and this leaves the history.
 pub record LeavesHistory (sys : System) (stimuli : List Stimulus) (limit : ℕ) (ts : List Taken) (r t : ℕ) : Type 0 where
@@ -45,11 +45,13 @@ HasLines sys stimuli horizon limit ts =
 
 -- ---- Stops
 
--- the lines of each resource where the simulation stops: a tick more for the resource of the stop and for those below
+-- the lines of each resource if the simulation stops: a tick more for the resource of the stop and for those below
 abbrev pub lines_to_stop : (sys : System) → (limit : ℕ) → List Taken → (tick resource : ℕ) → ℕ → List Line
 lines_to_stop sys limit ts m r s = lines_of_items (machine sys limit) (taken sys limit ts s (if nat_lt r s then m else m + 1))
 
--- What the resource alone takes below m + 1 is what the simulation takes of it there. The simulation stops at m and the resource exactly where this ends by a reason, for that reason; and its lines are then those of the resource to its stop, with the lower resources' lines below m + 1 and the higher ones' below m.
+-- What the resource alone takes below m + 1 is what the simulation takes of it there. The simulation stops at m and the
+-- resource exactly if this ends with a reason, for that reason. Its lines are then those of the resource to its stop,
+-- with the lower resources' lines below m + 1 and the higher ones' below m.
 pub record StopsWithResource (sys : System) (stimuli : List Stimulus) (horizon limit : ℕ) (ts : List Taken) (m r : ℕ) : Type 0 where
   pub run : Run (machine sys limit) r (alone sys stimuli limit ts r (m + 1)) (m + 1) (taken sys limit ts r (m + 1))
   pub there : (reason : Reason) → (end (machine sys limit) (alone sys stimuli limit ts r (m + 1)) (taken sys limit ts r (m + 1))).stop ≡ Some reason

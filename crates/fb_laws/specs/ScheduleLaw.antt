@@ -21,7 +21,7 @@ module _ (M : Machine) where
   has_key k [] = false
   has_key k (i ∷ is) = same_key i.key k || has_key k is
 
--- Said of every schedule of accepted inputs: of the core that it comes to, and of what each resource has taken.
+-- A statement about every schedule of accepted inputs: about the core that it leads to, and what each resource has taken.
 abbrev pub OfEachSchedule : ((sys : System) → List Stimulus → (horizon limit : ℕ) → Core (machine sys limit) → (ℕ → List (Item (machine sys limit))) → Type 0) → Type 0
 OfEachSchedule P =
     (i : Inputs) (horizon limit : ℕ) (es : List (CoreStep (machine (system_of i) limit))) → AreGood i

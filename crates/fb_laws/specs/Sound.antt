@@ -1,4 +1,5 @@
--- What every accepted system keeps of its links and resources (links and their latencies are this project's profile).
+-- What every accepted system guarantees of its links and resources (links and their latencies are this project's
+-- profile).
 use Rattle.std.specs.Prelude.{◌≡◌, ◌≢◌, ◌<◌, ℕ}
 use Rattle.fb_types.specs.Headline.{AreAccepted, Inputs, system_of}
 use Rattle.fb_types.specs.Limits.{IsWithinLimits}
@@ -7,13 +8,13 @@ use Rattle.fb_types.specs.Systems.{System}
 use Rattle.fb_types.specs.Machines.{Each}
 use Rattle.fb_types.specs.Parts.{count_of}
 
--- the link from a resource to another is one of those that there are, and has these ends
+-- the link from a resource to another exists, and has these ends
 pub record IsLink (sys : System) (from to : ℕ) : Type 0 where
   pub there : sys.link from to < sys.links
   pub sender : sys.sender (sys.link from to) ≡ from
   pub receiver : sys.receiver (sys.link from to) ≡ to
 
--- an event that goes to the port goes over a link, where it leaves the resource
+-- if an event leaves the resource for the port, there is a link for it
 abbrev pub IsLinked : System → (resource : ℕ) → Port → Type 0
 IsLinked sys r q = sys.resource q.at ≢ r → IsLink sys r (sys.resource q.at)
 

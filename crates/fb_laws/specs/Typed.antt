@@ -1,4 +1,5 @@
--- Variables that hold values of their types (IEC 61131-3, 6.4; that each assignment, connection and stimulus is judged by the type is this project's profile).
+-- Variables that hold values of their types (IEC 61131-3, 6.4; that each assignment, connection and stimulus is checked
+-- by the type is this project's profile).
 use Rattle.std.specs.Prelude.{◌≡◌, ◌≤◌, ℕ, List, ◌++◌, Bool, true, Option, Some, All}
 use Rattle.fb_types.specs.Names.{Name, Path, Port}
 use Rattle.fb_types.specs.Values.{Values, fits}
@@ -37,7 +38,7 @@ pub record IsTypedBlock (k : Kind) (b : Block) : Type 0 where
   pub slots : AllFit (ports_of k).inputs b.slots
   pub published : AllFit (ports_of k).outputs b.published
 
--- the value is one of the type of the variable at a port, where there is such a variable
+-- the value is one of the type of the variable at a port, if there is such a variable
 abbrev pub FitsAt : System → Port → Value → Type 0
 FitsAt sys q v =
     (k : Kind) (x : Variable) → sys.kind q.at ≡ Some k → variable_named q.name ((ports_of k).inputs ++ (ports_of k).outputs) ≡ Some x →
@@ -61,7 +62,7 @@ SourcesFit sys =
     (q s : Port) (k : Kind) (x : Variable) → sys.source q ≡ Some s → sys.kind q.at ≡ Some k →
     variable_named q.name ((ports_of k).inputs ++ (ports_of k).outputs) ≡ Some x → IsFitting sys x s
 
--- what an event carries is of the types of the variables that it is for
+-- an event carries values of the types of its variables
 abbrev pub IsTypedEvent : System → AnEvent → Type 0
 IsTypedEvent sys (Stimulated q bs) = All (λ (b : Bound). FitsAt sys (record { at = q.at; name = b.variable }) b.value) bs
 IsTypedEvent sys (Expired p) = Unit {0}
@@ -72,12 +73,12 @@ abbrev pub IsTypedOut : System → Out → Type 0
 IsTypedOut sys (Local q) = Unit {0}
 IsTypedOut sys (Sends q cs) = All (λ (c : Port × Value). FitsAt sys c.0 c.1) cs
 
--- What a reaction leaves and puts out is typed.
+-- What a reaction leaves and emits is typed.
 pub record KeepsTypes (sys : System) (o : Outcome) : Type 0 where
   pub world : AreTyped sys o.world
   pub outs : All (IsTypedOut sys) o.outs
 
--- What is asked of a system: its sources fit, and the name of a data output is that of no other variable before it.
+-- What is required of a system: its sources fit, and no variable before a data output has its name.
 pub record IsTypedSystem (sys : System) : Type 0 where
   pub sources : SourcesFit sys
   pub outputs : (p : Path) (k : Kind) (n : Name) (x : Variable) → sys.kind p ≡ Some k →

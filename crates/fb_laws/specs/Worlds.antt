@@ -69,7 +69,7 @@ module _ (M : Machine) where
         stop = w.stops r;
       }
 
-  -- how far a resource has run whole where the last key taken stops
+  -- up to which tick a resource has run whole if the simulation stops after the last key taken
   abbrev pub reach : Key → (resource : ℕ) → ℕ
   reach stop r = if nat_lt stop.resource r then stop.tick else stop.tick + 1
 
@@ -83,7 +83,7 @@ module _ (M : Machine) where
 
   -- ---- One resource
 
-  -- how far the history of a resource goes where the simulation stops under this key
+  -- up to which tick the history of a resource goes if the simulation stops under this key
   abbrev pub far : Key → (resource : ℕ) → ℕ
   far stop r = if nat_lt r stop.resource then stop.tick + 1 else stop.tick
 
@@ -96,7 +96,7 @@ module _ (M : Machine) where
   abbrev pub taken_at : List (Item M) → (resource tick : ℕ) → List (Item M)
   taken_at is r t = at M r (cut M t is)
 
-  -- what there is of a resource after the last take below a tick
+  -- the state of a resource after the last take below a tick
   abbrev pub left_at : World M → List (Item M) → (resource tick : ℕ) → Local M
   left_at w is r t = view (last w (cut M t is)) r
 

@@ -11,16 +11,16 @@ pub fn types_are_kept()
     ensures { TypesAreKept }
 {}
 
-/// What was accepted is typed: sources fit what they feed, the name of an output is that of no other variable, each
-/// variable begins with a value of its type, and stimuli set such values.
+/// What was accepted is typed: sources fit what they feed, no other variable has the name of an output, each variable
+/// begins with a value of its type, and stimuli set such values.
 ///
 /// This function does nothing when it runs, and no program calls it: it is there for its contract.
 pub fn accepted_are_typed()
     ensures { AcceptedAreTyped }
 {}
 
-/// In each simulation of what was accepted, each event that is taken carries values of the types of the variables that
-/// they are for, and leaves each variable with a value of its type.
+/// In each simulation of what was accepted, each event that is taken has values of the types of its variables, and leaves
+/// each variable with a value of its type.
 ///
 /// This function does nothing when it runs, and no program calls it: it is there for its contract.
 pub fn simulations_are_typed()

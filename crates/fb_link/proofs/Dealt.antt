@@ -30,7 +30,7 @@ stays sys all m r n =
     ∙ ap (λ z. filter (goes_to sys r) all ++ z) (cond-false (goes_to sys r m) (m ∷ []) [] (ne_eqb (receiver_of sys m) r (λ e. n (sym e))))
     ∙ append-nil (filter (goes_to sys r) all)
 
--- a message was put behind those for its receiver
+-- a message was put after those for its receiver
 pub dealt_more : (sys : System) (all : List Message) (boxes news : Boxes) (m : Message) (r : ℕ) (box new : Vec Message Global) → r ≡ receiver_of sys m → r < length boxes
     → slice_get boxes r ≡ Some box → new.items ≡ box.items ++ m ∷ [] → news ≡ slice_set boxes r new → AreDealt sys all boxes → AreDealt sys (all ++ m ∷ []) news
 dealt_more sys all boxes news m r box new to within was put set dealt =
@@ -39,7 +39,7 @@ dealt_more sys all boxes news m r box new to within was put set dealt =
     (put ∙ ap (λ z. z ++ m ∷ []) (dealt r box was) ∙ sym (goes sys all m r to))
     (λ q b apart there. dealt q b there ∙ sym (stays sys all m q (λ e. apart (e ∙ sym to)))))
 
--- The lists before a place are sorted, and the others are as they were dealt.
+-- The lists before an index are sorted, and the others are as they were dealt.
 abbrev pub AreSortedTo : System → (all : List Message) → (place : ℕ) → Boxes → Type 0
 AreSortedTo sys all n boxes =
     (r : ℕ) (box : Vec Message Global) → slice_get boxes r ≡ Some box → (r < n → AreFor sys r all box.items) × (n ≤ r → box.items ≡ filter (goes_to sys r) all)

@@ -66,7 +66,7 @@ earliest_all table es i from tick same h is = record {
   reached = is.reached;
 }
 
--- it lies after the tick, by the longest latency at most
+-- it is after the tick, by the longest latency at most
 pub earliest_within : (table : List Entry) (from tick : ℕ) → IsLatencyTable table → IsEarliest table from tick → (from < tick) × (tick ≤ from + 10 ^ 6)
 earliest_within table from tick holds is =
     let (sent, later, at) = is.reached in

@@ -52,7 +52,7 @@ each_all : {X : Type 0} (P : X → Type 0) (xs : List X) → ((x : X) → P x) �
 each_all P [] f = tt
 each_all P (x ∷ xs) f = (f x, each_all P xs f)
 
--- under a key of a resource stands among the messages to it what stands among all
+-- among the messages to a resource, a key of the resource has what it has among all
 pub found_to : (sys : System) (r : ℕ) (ms : List Message) (k : Key) → k.resource ≡ r → found k (keyed sys (filter (goes_to sys r) ms)) ≡ found k (keyed sys ms)
 found_to sys r ms k e = sym (found_kept (key_of sys) k (goes_to sys r) ms (each_all _ ms (λ m n. elsewhere m n)))
   where

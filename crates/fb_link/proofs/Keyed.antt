@@ -55,7 +55,7 @@ module _ {X : Type 0} (key : X → Key) where
   has_key P k (x ∷ xs) h =
       ⊎_elim (λ e. inl (x, h.0, e)) (λ n. ⊎_elim (λ y. inl y) (λ r. inr (n, r)) (has_key P k xs h.1)) (same_cases (key x) k)
 
-  -- the test of the sort is the order of the keys, for the elements that there are
+  -- the test of the sort is the order of the keys, for these elements
   module _ (lt : X → X → Bool) (P : X → Type 0) (agrees : (x y : X) → P x → P y → lt x y ≡ is_lt (key_cmp (key x) (key y))) where
     not_less : (x y : X) → P x → P y → key x ≡ key y → lt x y ≡ false
     not_less x y p q e = agrees x y p q ∙ ap (λ z. is_lt (key_cmp z (key y))) e ∙ ap is_lt (tied_itself key_cmp_total (key y))

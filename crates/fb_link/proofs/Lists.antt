@@ -1,4 +1,4 @@
--- Lists by the places of their elements.
+-- Lists by the indices of their elements.
 use Rattle.std.proofs.Common.{◌≡◌, ◌≢◌, ℕ, ◌<◌, All, List, [], ◌∷◌, ◌++◌, ◌-◌, length, replicate, sym, ap, subst, ◌∙◌, Some, ⊎_elim, get_or, get_or-set_same, get_or-set_other, arith}
 use Rattle.std.specs.Prelude.{slice_get, slice_range, slice_set}
 use Rattle.std.proofs.lemmas.Bool.{cases_eq}
@@ -19,7 +19,7 @@ set_apart xs i j x y apart read =
     let same : get_or (slice_set xs i x) j y ≡ get_or xs j y = get_or-set_other xs i j x y apart in
     slice_get-get_or xs j y within ∙ ap Some (sym same ∙ get_or_from_slice_get (slice_set xs i x) j y y read)
 
--- what is said of each element holds where it is said of the one that was set
+-- what holds of each element holds if it holds of the one that was set
 pub set_each : {A : Type 0} (P : ℕ → A → Type 0) (xs : List A) (i : ℕ) (x : A) → i < length xs
     → P i x → ((j : ℕ) (y : A) → j ≢ i → slice_get xs j ≡ Some y → P j y)
     → (j : ℕ) (y : A) → slice_get (slice_set xs i x) j ≡ Some y → P j y

@@ -23,20 +23,21 @@ abbrev pub KeysRise : {X : Type 0} → (X → Key) → List X → Type 0
 KeysRise key [] = Unit {0}
 KeysRise key (x ∷ xs) = Each (λ y. Precedes (key y) (key x) → ⊥) xs × KeysRise key xs
 
--- the messages of several outboxes, one outbox behind the other
+-- the messages of several outboxes, one outbox after another
 abbrev pub all_of : List (Vec Message Global) → List Message
 all_of boxes = flat_map (λ box. box.items) boxes
 
--- Of all messages, those for a resource, each as often as it is there, in the order of their keys. Of several under one key the last counts in both lists.
+-- Of all messages, those for a resource, each as often as it occurs, sorted by key. Of several with the same key the last
+-- counts in both lists.
 pub record AreFor (sys : System) (r : ℕ) (all ms : List Message) : Type 0 where
   pub those : IsPermutation (filter (goes_to sys r) all) ms
   pub order : KeysRise (key_of sys) ms
   pub last : (k : Key) → k.resource ≡ r → found k (keyed sys ms) ≡ found k (keyed sys all)
 
--- These messages, if they are those for one resource, in the order of their keys.
+-- These messages sorted by key, if they are those for one resource.
 abbrev pub AreSorted : List Message → List Message → Type 0
 AreSorted xs ys = (sys : System) (r : ℕ) (all : List Message) → xs ≡ filter (goes_to sys r) all → AreFor sys r all ys
 
--- Each list has the messages for the resource of its place, as they came.
+-- Each list has the messages for the resource with its index, in the order in which they came.
 abbrev pub AreDealt : System → (all : List Message) → List (Vec Message Global) → Type 0
 AreDealt sys all boxes = (r : ℕ) (box : Vec Message Global) → slice_get boxes r ≡ Some box → box.items ≡ filter (goes_to sys r) all

@@ -8,13 +8,13 @@ ghost use Rattle.fb_link.specs.Arrivals.{arrival_at, IsEarliest};
 use fb_system::System;
 use fb_types::Latency;
 
-/// The latency that holds at a tick of sending: that of the last entry whose tick is at most the tick of sending.
+/// The latency for a tick of sending: that of the last entry whose tick is at most the tick of sending.
 fn latency_at(latency: &Latency, sent_tick: u64) -> u64
     ensures value { result ≡ spec.latency_at latency.now sent_tick }
     ensures least { 1 ≤ result }
     ensures most { result ≤ 10 ^ 6 }
 {
-    // The first entry is from tick 0, so this 1 is never the answer.
+    // The first entry is from tick 0, so this 1 is never the result.
     let mut ticks = 1;
     for entry in latency.entries() {
         if entry.from <= sent_tick {
@@ -47,9 +47,9 @@ pub fn arrival(system: &System, link: u32, sent_tick: u64) -> u64
     arrival_by(system.latency(link as usize), sent_tick)
 }
 
-/// The least tick of arrival of all messages that may be sent at a tick or later over a link with these latencies. It is
-/// later than that tick, by 1,000,000 ticks at most, which must fit in 64 bits. Where a latency falls, a message that is
-/// sent later may arrive first.
+/// The least tick at which a message can arrive that is sent at this tick or later over a link with these latencies. It
+/// is later than this tick, by 1,000,000 ticks at most. The result must fit in 64 bits. If a latency falls, a message
+/// that is sent later may arrive first.
 pub fn earliest(latency: &Latency, from: u64) -> u64
     requires { from + 10 ^ 6 < 2 ^ 64 }
     ensures value { IsEarliest latency.now from result }
@@ -57,7 +57,7 @@ pub fn earliest(latency: &Latency, from: u64) -> u64
     ensures soon { result ≤ from + 10 ^ 6 }
 {
     let mut least = arrival_by(latency, from);
-    // While one entry holds, the message that is sent first arrives first.
+    // During one entry, the message that is sent first arrives first.
     for entry in latency.entries() {
         if from < entry.from {
             least = least.min(entry.from + entry.latency);

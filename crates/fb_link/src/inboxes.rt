@@ -42,16 +42,16 @@ fn deal(
     Ok(())
 }
 
-/// Sorts the messages for one resource by their keys, which differ in these three parts alone.
+/// Sorts the messages for one resource by the three parts in which their keys differ.
 fn sort(messages: &mut Vec<Message>) -> Result<(), AllocError>
     ensures { OnOk result (AreSorted messages.old.items messages.new.items) }
 {
     messages.sort_by_key(|message| (message.arrives, message.link, message.number))
 }
 
-/// Takes one outbox of each resource and gives one inbox for each: exactly the messages for that resource, in the order
-/// of their keys, which is by tick of arrival, then link, then number. No message is copied or lost. Keys are expected to
-/// differ; of several messages under one key, the one that was handed in last stays last.
+/// Takes one outbox of each resource and returns one inbox for each: exactly the messages for that resource, sorted by
+/// key: tick of arrival, then link, then number. No message is copied or lost. Keys are expected to differ. If several
+/// messages have the same key, the one that was passed last stays last.
 ///
 /// # Errors
 /// When memory runs out.

@@ -1,4 +1,4 @@
--- What was read behind what was found.
+-- What was read after what was found.
 use Rattle.std.proofs.Common.{◌≡◌, [], ◌∷◌, ◌++◌, List, Result, Ok, Err, refl, subst}
 use Rattle.fb_read.specs.declared.fault.ParseFault.{ParseFault}
 use Rattle.fb_read.specs.declared.fault.ParseFault.TheVariants as fault
@@ -12,14 +12,14 @@ pub item_of : {A : Type 0} (outcome : Outcome A) (read : Result A ParseFault) (n
 item_of outcome (Ok item) new found all r more = (item, r, more)
 item_of outcome (Err e) new found all r more = absurd more
 
--- nothing was added for the fault for which nothing was read
+-- nothing was added, for the fault for which nothing was read
 pub fault_of : {A : Type 0} (outcome : Outcome A) (read : Result A ParseFault) (new : Tokens) (found : List A) (e : ParseFault)
     → Reads outcome read new → Adds found read (Err e) → Reads outcome (Err e) new
 fault_of outcome read new found fault.Memory r told = tt
 fault_of outcome read new found fault.Syntax r told = subst (λ q. Reads outcome q new) told r
 fault_of outcome read new found fault.Nesting r told = subst (λ q. Reads outcome q new) told r
 
--- the parser goes on with what was found and the item that was read
+-- the parser continues with what was found and the item that was read
 pub added_on : {A B : Type 0} (outcome : Outcome A) (read : Result A ParseFault) (new : Tokens) (found all : List A) (go : List A → Parser B)
     → Reads outcome read new → Adds found read (Ok all) → and_then outcome (λ x. go (found ++ x ∷ [])) ≡ go all new
 added_on outcome (Ok item) new found all go r more = rw (r, more) refl

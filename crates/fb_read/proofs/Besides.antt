@@ -1,4 +1,4 @@
--- A rule that ends with what was read beside what was found.
+-- A rule that ends with what was read after what was found.
 use Rattle.std.proofs.Common.{◌≡◌, Result, Ok, Err, refl, ap, sym, subst}
 use Rattle.std.specs.Prelude.{IfOk}
 use Rattle.fb_read.specs.declared.fault.ParseFault.{ParseFault}

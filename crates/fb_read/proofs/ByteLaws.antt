@@ -155,7 +155,7 @@ parts-word (u ∷ less) z n h = go (parts-word less) (bytes_eq (unit_at z) (name
 pub duration-word : (z : Text) (n : ℕ) → duration (in_upper z) ≡ Some n → AreWord z
 duration-word z n h = in_upper-word z (parts-word falling_units (in_upper z) n h)
 
--- no longer front of the text has letters, digits and underscores alone
+-- no longer front of the text has only letters, digits and underscores
 pub longest : (a rest : Text) → AreWord a → length a ≤ word_len (a ++ rest)
 longest [] rest h = omega arith
 longest (b ∷ a) rest h = rw h.0 (omega (arith, longest a rest h.1))

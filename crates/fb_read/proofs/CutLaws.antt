@@ -1,4 +1,4 @@
--- A token is found at the front of a text exactly where it is cut off there.
+-- A token is found at the front of a text exactly if it is cut off there.
 use Rattle.std.proofs.Common.{◌≡◌, ℕ, ◌+◌, ◌≤◌, Bool, true, false, cond, eqb, pos, neg_ℤ, [], ◌∷◌, ◌++◌, length, take, drop, Option, Some, None, Ok, refl, sym, ap, subst, ◌∙◌, append_assoc, arith}
 use Rattle.std.specs.Prelude.{◌&&◌}
 use Rattle.std.specs.Char.{is_ascii_digit}
@@ -16,7 +16,7 @@ use Rattle.fb_read.specs.Longest.{AreWord, IsToken, is_name, is_decimal, is_base
 use Rattle.fb_read.proofs.ByteLaws.{number-word, decimal-first, duration-word}
 use Rattle.fb_read.proofs.LongestLaws.{time-found, parts_start-least, whole-found, Signs, none, alone, double, signs, IsTimeWord, time_word, time-word, word-is-time, at-behind, drop-behind, drop-two, not_minus, no-duration, IsBase, two, eight, sixteen, base-is, base-most, front-letter, front-digit, front-sign, takes-longest}
 
--- a word ends where no letter, digit or underscore follows
+-- a word ends if no letter, digit or underscore follows
 word-end : (w y : Text) → AreWord w → is_word (at y 0) ≡ false → word_len (w ++ y) ≡ length w
 word-end [] [] h e = refl
 word-end [] (c ∷ y) h e = rw e refl

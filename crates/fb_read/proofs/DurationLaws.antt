@@ -26,7 +26,7 @@ within n m h = go (leb n most) refl h
 small-is : (n : ℕ) → n ≤ most → small n ≡ Some n
 small-is n le = rw (le-leb n most le) refl
 
--- ---- what stands at the front of a part
+-- ---- what is at the front of a part
 
 abbrev NoLetters : Text → Type 0
 NoLetters [] = Prim.Unit {0}
@@ -185,7 +185,7 @@ record Sound (k : ℕ) (z : Text) (n : ℕ) : Type 0 where
 abbrev Reads : List Unit → ℕ → Type 0
 Reads us k = (z : Text) (n : ℕ) → parts us z ≡ Some n → Sound k z n
 
--- a first part, and what its ticks and those behind it come to
+-- a first part, and the sum of its ticks and those after it
 abbrev first_and_rest : Unit → List Unit → Text → Option ℕ
 first_and_rest u less z = small_sum (small_product (number 10 (digits_at z)) (ticks_of u)) (ended (behind_unit z) (parts less (next_part (behind_unit z))))
 
@@ -263,7 +263,7 @@ parts-first u z n (a_last v a m p) = subst (λ (y : Text). is_ascii_digit (at y 
 parts-first u z n (a_further v w a y m k p lt q) = part-first v a y m p
 parts-first u z n (apart v w a y m k p lt q) = part-first v a (95 ∷ y) m p
 
--- a part, with what stands behind it
+-- a part, with what follows it
 part-front : (u : Unit) (a y : Text) (n : ℕ) → IsPart u a n → is_ascii_alphabetic (at y 0) ≡ false
     → (m : ℕ) × (unit_at (a ++ y) ≡ name_of u) × (number 10 (digits_at (a ++ y)) ≡ Some m) × (m * ticks_of u ≡ n) × (behind_unit (a ++ y) ≡ y)
 part-front u a y n (a_part v d m e) h =
@@ -274,7 +274,7 @@ part-front u a y n (a_part v d m e) h =
 abbrev Finds : List Unit → ℕ → Type 0
 Finds us k = (u : Unit) (z : Text) (n : ℕ) → ticks_of u < k → AreParts u z n → n ≤ most → parts us z ≡ Some n
 
--- a part, and what stands behind it
+-- a part, and what follows it
 first-read : (u : Unit) (less : List Unit) (a y : Text) (m n : ℕ) → IsPart u a m → is_ascii_alphabetic (at y 0) ≡ false
     → ended y (parts less (next_part y)) ≡ Some n → m + n ≤ most → parts (u ∷ less) (a ++ y) ≡ Some (m + n)
 unfolding parts
@@ -283,7 +283,7 @@ first-read u less a y m n p h e le =
     let product : small_product (number 10 (digits_at (a ++ y))) (ticks_of u) ≡ Some m = rw (f.2, f.3) (small-is m (omega arith)) in
     rw (f.1, bytes_self (name_of u), product, f.4, e) (small-is (m + n) le)
 
--- the first unit is the wanted one
+-- the first unit is the right one
 read-first : (u : Unit) (less : List Unit) (z : Text) (n : ℕ) → Finds less (ticks_of u) → AreParts u z n → n ≤ most → parts (u ∷ less) z ≡ Some n
 read-first u less z n again (a_last v a m p) le =
     let sum : m + 0 ≡ m = omega arith in
@@ -299,7 +299,7 @@ read-first u less z n again (a_further v w a y m k p lt q) le = behind y (parts-
         first-read v less a (b ∷ y) m k p (no-letter b d) (rw next (again w (b ∷ y) k lt q (omega arith))) le
 read-first u less z n again (apart v w a y m k p lt q) le = first-read v less a (95 ∷ y) m k p refl (again w y k lt q (omega arith)) le
 
--- another unit stands there
+-- another unit is there
 unit-of : (u : Unit) (z : Text) (n : ℕ) → AreParts u z n → unit_at z ≡ name_of u
 unit-of u z n (a_last v a m p) = subst (λ (y : Text). unit_at y ≡ name_of v) (append-nil a) (part-front v a [] m p refl).1
 unit-of u z n (a_further v w a y m k p lt q) = (part-front v a y m p (no-letter (at y 0) (parts-first w y k q))).1

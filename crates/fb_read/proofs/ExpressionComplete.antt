@@ -1,5 +1,5 @@
--- Expressions that the grammar derives are read where there is room for them, and are refused for their nesting where
--- there is none.
+-- Expressions that the grammar derives are read if they keep the limit of nesting, and are refused for their nesting if
+-- they do not.
 use Rattle.std.proofs.Common.{◌≡◌, ℕ, zero, suc, ℤ, pos, ◌<◌, ◌≤◌, max, Bool, true, false, cond, leb, List, [], ◌∷◌, ◌++◌, length, map, Ok, Err, Some, None, refl, sym, ◌∙◌, append_assoc, arith}
 use Rattle.std.proofs.lemmas.Bool.{leb-true, leb-false, le-leb, lt-leb}
 use Rattle.fb_types.specs.Names.{Name}
@@ -25,7 +25,7 @@ use Rattle.fb_read.proofs.Lists.{IsComplete, picked}
 use Rattle.fb_read.proofs.Within.{sized, within, within-fits, within-over, within-zero, bind-within, around-is, leaf-is, one-part}
 use Rattle.fb_read.proofs.Starts.{next-operator, rest-is, chain-stops, primary-starts, arguments-open}
 
--- an expression is read to the depth that there is room for
+-- an expression is read to the depth that the limit allows
 at_depth : (d n : ℕ) (x : Expr) (ts rest : Tokens) → ((below : ℕ) → level_at below (nested_expression below) n ts ≡ within (suc below) x rest) → nested_expression d n ts ≡ within d x rest
 unfolding nested_expression
 at_depth zero n x ts rest h = sym (within-zero x rest)
@@ -35,7 +35,7 @@ chain-grows : {n : ℕ} {first x : Expr} {ts rest : Tokens} → IsChain n first 
 chain-grows ends = omega arith
 chain-grows (goes_on {op = op} {left = left} {right = right} k o r c) = omega (arith, chain-grows c, nesting-Binary op left right)
 
--- one more operator, where the operand after it is known
+-- one more operator, if the operand after it is known
 climb-step : (below n fuel : ℕ) (op : BinaryOperator) (left right x : Expr) (ts before mid rest : Tokens)
     → next_operator n ts ≡ Some op → rest_of ts ≡ before → (operand : Parser Nested) → operand before ≡ within below right mid
     → nesting (e.Binary op left right) ≤ nesting x
@@ -63,7 +63,7 @@ unfolding climb
 climb-end below n zero operand x ts none fits = sym (within-fits (suc below) x ts fits)
 climb-end below n (suc fuel) operand x ts none fits = rw none (sym (within-fits (suc below) x ts fits))
 
--- ---- a rule, where its parts are known
+-- ---- a rule, if its parts are known
 
 abbrev Inner : Type 0
 Inner = ℕ → Parser Nested

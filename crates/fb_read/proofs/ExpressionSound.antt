@@ -185,7 +185,7 @@ unary-right below inner i ts x rest h =
       ]
     ]
 
--- the mark of an operator that comes next
+-- the mark of an operator that is next
 at_level-is : (n : ℕ) (o : Option (ℕ × BinaryOperator)) (op : BinaryOperator) → at_level n o ≡ Some op → o ≡ Some (n, op)
 at_level-is n None op h = absurd cc
 at_level-is n (Some p) op h = go (eqb p.0 n) refl h

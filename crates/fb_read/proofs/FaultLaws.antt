@@ -1,4 +1,4 @@
--- Which fault there is where no token is.
+-- Which fault there is if there is no token.
 use Rattle.std.proofs.Common.{◌≡◌, ℕ, ◌+◌, ◌≤◌, Bool, true, false, cond, eqb, leb, ◌∷◌, Option, Some, None, Err, refl, sym, ap, ◌∙◌, inl, inr, arith}
 use Rattle.std.specs.Prelude.{◌&&◌}
 use Rattle.std.specs.Int.{is_in_range}
@@ -13,7 +13,7 @@ use Rattle.fb_read.specs.Longest.{FaultsExactly}
 use Rattle.fb_read.proofs.Steps.{chosen}
 use Rattle.fb_read.proofs.LongestLaws.{front-letter, front-digit, front-sign}
 
--- ---- a byte of a word or of a sign may stand anywhere
+-- ---- a byte of a word or of a sign may occur anywhere
 
 plain-range : (b : ℕ) → 32 ≤ b → b ≤ 126 → is_plain b ≡ true
 plain-range b lo hi = or_right (eqb b 9) _ (or_right (eqb b 10) _ (or_right (eqb b 13) _ (and_from (leb 32 b) (leb b 126) (le-leb 32 b lo) (le-leb b 126 hi))))
@@ -38,7 +38,7 @@ no-sign b next h =
     let no : (c : ℕ) → is_plain c ≡ true → eqb b c ≡ false = λ c p. false_from_ne_true (eqb b c) (λ t. true≢false (sym p ∙ (ap is_plain (sym (eqb-true b c t)) ∙ h))) in
     rw (no 59 refl, no 58 refl, no 44 refl, no 46 refl, no 40 refl, no 41 refl, no 91 refl, no 93 refl, no 45 refl, no 61 refl, no 60 refl, no 62 refl, no 43 refl, no 42 refl, no 47 refl, no 38 refl) refl
 
--- ---- words and literals are no bad bytes
+-- ---- words and literals are not bad bytes
 
 no-time : (negative : Bool) (n : ℕ) (o : Option ℕ) → timed negative n o ≡ Err bad_byte → ⊥
 no-time negative n None h = cc

@@ -1,4 +1,4 @@
--- An operator and its right operand, behind a left one.
+-- An operator and its right operand, after a left one.
 use Rattle.std.proofs.Common.{◌≡◌, ◌<◌, ℕ, suc, ◌+◌, ◌-◌, max, leb, Bool, true, false, if◌then◌else◌, Some, Ok, Err, refl, ap, ◌∙◌}
 use Rattle.fb_types.specs.declared.text.BinaryOperator.{BinaryOperator}
 use Rattle.fb_types.specs.declared.text.Expr.TheVariants as e

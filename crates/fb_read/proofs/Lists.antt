@@ -73,7 +73,7 @@ pub separated-sound : {A : Type 0} (p : Parser A) (R : A → Tokens → Tokens �
 unfolding separated
 separated-sound p R i ts read rest h = adds-all (AreSeparated R) read ts rest (separated_from-sound p R i (length ts) [] ts read rest h)
 
--- read where the test holds, and refused for nesting where it does not
+-- read if the test holds, and refused for nesting if it does not
 abbrev pub picked : {A : Type 0} → Bool → A → Tokens → Outcome A
 picked b x rest = cond b (done x rest) (Err too_deep)
 
@@ -89,7 +89,7 @@ pass-picked false x mid f y rest h = refl
 abbrev pub all_fit : {A : Type 0} → (A → Bool) → List A → Bool
 all_fit fit xs = list_all fit xs
 
--- an item that nests no statements and no expressions
+-- an item without statements and expressions inside
 abbrev pub always : {A : Type 0} → A → Bool
 always x = true
 
@@ -97,7 +97,7 @@ pub all-always : {A : Type 0} (xs : List A) → all_fit always xs ≡ true
 all-always [] = refl
 all-always (x ∷ xs) = all-always xs
 
--- what the grammar derives before such tokens is read where it fits, and is refused for its nesting where it does not
+-- what the grammar derives before such tokens is read if it fits, and is refused for its nesting if it does not
 abbrev pub IsComplete : {A : Type 0} → Parser A → (A → Tokens → Tokens → Type 0) → (Tokens → Type 0) → (A → Bool) → Type 0
 IsComplete {A = A} p R Before fit = (x : A) (ts rest : Tokens) → R x ts rest → Before rest → p ts ≡ picked (fit x) x rest
 
@@ -177,7 +177,7 @@ pub separated-shorter : {A : Type 0} (R : A → Tokens → Tokens → Type 0) �
 separated-shorter R short {ts = ts} {rest = rest} (last {x = x} r) = short x ts rest r
 separated-shorter R short {ts = ts} (and_next {x = x} {before = before} r k l) = omega (arith, short x ts before r, mark-shorter k, separated-shorter R short l)
 
--- ---- a section, where there is one
+-- ---- a section, if there is one
 
 pub section-sound : {A : Type 0} (p : Parser A) (R : A → Tokens → Tokens → Type 0) (begin end : Mark) (i : IsSound p R) → IsSound (section p begin end) (IsSection R begin end)
 unfolding section
@@ -193,7 +193,7 @@ unfolding section
 section-complete p R fit begin end i xs ts rest no_section ends = rw (ends, after-unseen begin ts ends) refl
 section-complete p R fit begin end i xs ts rest (is_section {a = a} m l) ends = rw (sees-mark m, after-mark m) (i xs a rest l tt)
 
--- what begins no section comes behind it
+-- what begins no section comes after it
 pub section-starts : {A : Type 0} {R : A → Tokens → Tokens → Type 0} {begin end : Mark} {xs : List A} {ts rest : Tokens} (k : Mark) → IsSection R begin end xs ts rest → same_mark begin k ≡ false → sees k rest ≡ false → sees k ts ≡ false
 section-starts k no_section other ends = ends
 section-starts k (is_section is_mark l) other ends = other
@@ -202,7 +202,7 @@ pub section-shorter : {A : Type 0} {R : A → Tokens → Tokens → Type 0} {beg
 section-shorter short no_section = omega arith
 section-shorter {R = R} {end = end} short (is_section k l) = omega (arith, mark-shorter k, many-shorter R end short l)
 
--- ---- the items as long as a mark comes next
+-- ---- the items as long as a mark is next
 
 run_from-sound : {A : Type 0} (p : Parser A) (R : A → Tokens → Tokens → Type 0) (begin : Mark) (i : IsSound p R) (fuel : ℕ) (found : List A) (ts : Tokens) (read : List A) (rest : Tokens)
     → run_from p begin fuel found ts ≡ Ok (read, rest) → Adds (AreAll R) found read ts rest

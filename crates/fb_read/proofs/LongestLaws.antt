@@ -380,11 +380,11 @@ at-within z i c h = elim (cases_lt i (length z)) [
 abbrev Fronts : Text → Token → ℕ → Type 0
 Fronts z t n = IsToken t (take n z)
 
--- `#` at a place, and a word of some length behind it
+-- `#` at an index, and a word of some length after it
 take-word : (z : Text) (i : ℕ) → at z i ≡ 35 → take (i + 1 + word_len (drop (i + 1) z)) z ≡ take i z ++ 35 ∷ word_of (drop (i + 1) z)
 take-word z i h = take-split i (word_len (drop (i + 1) z)) z (at-within z i 34 h) ∙ ap (λ (c : ℕ). take i z ++ c ∷ word_of (drop (i + 1) z)) h
 
--- `#` and `-`, and a word behind them
+-- `#` and `-`, and a word after them
 take-minus : (z : Text) (i : ℕ) → at z i ≡ 35 → at z (i + 1) ≡ 45 → take (i + 1 + 1 + word_len (drop (i + 1 + 1) z)) z ≡ take i z ++ 35 ∷ (45 ∷ word_of (drop (i + 1 + 1) z))
 take-minus z i h m =
     let k = word_len (drop (i + 1 + 1) z) in

@@ -19,7 +19,7 @@ fold-grows : (base n : ℕ) (z : Text) → 1 ≤ base → n ≤ fold (with_digit
 fold-grows base n [] some = omega arith
 fold-grows base n (b ∷ z) some = omega (arith, with_digit-grows base n b some, fold-grows base (with_digit base n b) z some)
 
--- a byte that is a digit is no underscore
+-- a byte that is a digit is not an underscore
 digit_not_mark : (b : ℕ) → digit_of b < 16 → eqb b 95 ≡ false
 digit_not_mark b lt = go (eqb b 95) refl
   where

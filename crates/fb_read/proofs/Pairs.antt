@@ -1,4 +1,4 @@
--- Rules in which a mark stands between two parts.
+-- Rules with a mark between two parts.
 use Rattle.std.proofs.Common.{◌≡◌, Ok, Err, refl, ◌∙◌}
 use Rattle.fb_types.specs.declared.text.Stmt.{Stmt}
 use Rattle.fb_types.specs.declared.text.Stmt.TheVariants as s
@@ -13,7 +13,7 @@ use Rattle.fb_read.specs.Charts.{condition, transition}
 use Rattle.fb_read.specs.Expressions.{expression}
 use Rattle.fb_read.specs.Statements.{assignment, block, for_to, for_statement, repeat_statement}
 
--- a mark and a rule behind what was found, and what goes on with both
+-- a mark and a rule after what was found, and what continues with both
 behind_then : {A B C : Type 0} (x : A) (k : Mark) (q : Parser B) (go : A → B → Parser C) (ts : Tokens)
     → (expect k >> (q >>= go x)) ts ≡ (behind x k q >>= (λ both. go both.0 both.1)) ts
 unfolding behind
@@ -27,7 +27,7 @@ behind_then {A = A} {B = B} {C = C} x k q go ts = behind_none (expect k ts)
     behind_none (Ok u) = behind_mark (q u.1)
     behind_none (Err e) = refl
 
--- two rules and a mark between them, and what goes on with both
+-- two rules and a mark between them, and what continues with both
 pair_then : {A B C : Type 0} (p : Parser A) (k : Mark) (q : Parser B) (go : A → B → Parser C) (ts : Tokens)
     → (p >>= (λ x. expect k >> (q >>= go x))) ts ≡ (pair p k q >>= (λ both. go both.0 both.1)) ts
 unfolding pair
@@ -37,7 +37,7 @@ pair_then {A = A} {B = B} {C = C} p k q go ts = behind_none (p ts)
     behind_none (Ok x) = behind_then x.0 k q go x.1
     behind_none (Err e) = refl
 
--- the same first step, and what goes on alike
+-- the same first step, and what continues the same way
 alike : {A B : Type 0} (o : Outcome A) (f g : A → Parser B) → ((x : A) (ts : Tokens) → f x ts ≡ g x ts) → and_then o f ≡ and_then o g
 alike (Ok x) f g same = same x.0 x.1
 alike (Err e) f g same = refl

@@ -13,12 +13,12 @@ close = codes "*)"
 abbrev feed : Text
 feed = codes "\n"
 
--- ---- what stands nowhere
+-- ---- what occurs nowhere
 
 later : (bytes : Text) (b : ℕ) (z : Text) → HasNo bytes (b ∷ z) → HasNo bytes z
 later bytes b z h before behind e = h (b ∷ before) behind (ap (λ (y : Text). b ∷ y) e)
 
--- no byte and the one behind it close a comment
+-- no byte and the one after it close a comment
 not-closing : (b : ℕ) (z rest : Text) → HasNo close (b ∷ z) → eqb (at rest 0) 41 ≡ false → (eqb b 42 && eqb (at (z ++ rest) 0) 41) ≡ false
 not-closing b z rest h r = false_from_ne_true _ (λ t. let p = and_parts (eqb b 42) (eqb (at (z ++ rest) 0) 41) t in go z h (eqb-true b 42 p.0) p.1)
   where
@@ -62,7 +62,7 @@ skip-pauses : (a z : Text) → ArePauses a → skip Between (a ++ z) ≡ skip Be
 skip-pauses a z no_more = refl
 skip-pauses a z (one_more x y p q) = rw append_assoc (skip-pause x (y ++ z) p ∙ skip-pauses y z q)
 
--- two bytes stand not at the front
+-- two bytes are not at the front
 not-begun : (b x y : ℕ) (z : Text) → ((rest : Text) → x ∷ (y ∷ rest) ≡ b ∷ z → ⊥) → eqb y 0 ≡ false → (eqb b x && eqb (at z 0) y) ≡ false
 not-begun b x y z h r = false_from_ne_true _ (λ t. let p = and_parts (eqb b x) (eqb (at z 0) y) t in go z h (eqb-true b x p.0) (eqb-true (at z 0) y p.1))
   where
@@ -102,7 +102,7 @@ before a z p l = record { left = l.left; leaves = go z l.left l.leaves }
     go z left (a_last_line b inside q h) = subst (λ (y : Text). Leaves y (Some [])) (append_assoc a b (codes "//" ++ inside)) (a_last_line (a ++ b) inside (one_more a b p q) h)
     go z left (not_closed b inside q h) = subst (λ (y : Text). Leaves y None) (append_assoc a b (codes "(*" ++ inside)) (not_closed (a ++ b) inside (one_more a b p q) h)
 
--- where bytes stand first
+-- where bytes occur first
 data Search (bytes : Text) (z : Text) : Type 0 where
   there : (front rest : Text) → HasNo bytes front → front ++ (bytes ++ rest) ≡ z → Search bytes z
   nowhere : HasNo bytes z → Search bytes z

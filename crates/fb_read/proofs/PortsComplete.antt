@@ -95,7 +95,7 @@ variables-shorter (are_variables l) = section-shorter declaration-shorter l
 pub variables-start : {begin : Mark} {xs : List Variable} {ts rest : Tokens} (k : Mark) → AreVariables begin xs ts rest → same_mark begin k ≡ false → sees k rest ≡ false → sees k ts ≡ false
 variables-start k (are_variables l) other ends = section-starts k l other ends
 
--- what stands behind the ports begins none of their sections
+-- what follows the ports begins none of their sections
 pub record EndsPorts (ts : Tokens) : Type 0 where
   pub no_event_inputs : sees mark.EventInput ts ≡ false
   pub no_event_outputs : sees mark.EventOutput ts ≡ false

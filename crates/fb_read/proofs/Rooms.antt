@@ -1,4 +1,4 @@
--- What is read where nothing nests over the limit, and refused for its nesting where something does.
+-- What is read if nothing nests over the limit, and refused for its nesting if something does.
 use Rattle.std.proofs.Common.{◌≡◌, ℕ, zero, suc, ◌-◌, max, Bool, leb, refl, sym, ap, ◌∙◌, inl, inr, arith}
 use Rattle.std.specs.Prelude.{◌&&◌}
 use Rattle.std.proofs.lemmas.Bool.{cases_lt, le-leb, lt-leb}
@@ -21,7 +21,7 @@ pub bind-room : {A B : Type 0} (k m : ℕ) (x : A) (mid : Tokens) (f : A → Par
 bind-room zero m x mid f y rest h = let e : m ≡ max 0 m = omega arith in h ∙ ap (λ (n : ℕ). room n y rest) e
 bind-room (suc k) m x mid f y rest h = rw (lt-leb (suc k) 0 (omega arith), lt-leb (max (suc k) m) 0 (omega arith)) refl
 
--- the same, where the sum of both is known
+-- the same, if the sum of both is known
 pub bind-is : {A B : Type 0} (k m n : ℕ) (x : A) (mid : Tokens) (f : A → Parser B) (y : B) (rest : Tokens) → max k m ≡ n → f x mid ≡ room m y rest → and_then (room k x mid) f ≡ room n y rest
 bind-is k m n x mid f y rest e h = bind-room k m x mid f y rest h ∙ ap (λ (i : ℕ). room i y rest) e
 
@@ -62,7 +62,7 @@ over-both m n a b c d = regroup (a - m) (c - n) (b - m) (d - n) ∙ rw (max-minu
 regroup-one : (p q r : ℕ) → max p (max q r) ≡ max q (max p r)
 regroup-one p q r = omega arith
 
--- of an expression beside the rest
+-- of an expression and the rest
 pub over-expression : (m n e a c : ℕ) → max (e - n) (max (a - m) (c - n)) ≡ max (a - m) (max e c - n)
 over-expression m n e a c = regroup-one (e - n) (a - m) (c - n) ∙ rw (max-minus e c n) refl
 

@@ -62,11 +62,11 @@ pub deepest-over : {A : Type 0} (f g : A → ℕ) (limit : ℕ) (xs : List A) �
 deepest-over f g limit [] = omega arith
 deepest-over f g limit (x ∷ xs) = omega (arith, deepest-over f g limit xs)
 
--- what is derived before such tokens is read, where it keeps its limits
+-- what is derived before such tokens is read, if it keeps its limits
 abbrev pub IsRoomy : {A : Type 0} → Parser A → (A → Tokens → Tokens → Type 0) → (Tokens → Type 0) → (A → ℕ) → Type 0
 IsRoomy {A = A} p R Before over = (x : A) (ts rest : Tokens) → R x ts rest → Before rest → p ts ≡ room (over x) x rest
 
--- what an item begins with begins one, and may stand behind another
+-- what an item begins with begins one, and may follow another
 pub record Begun (begins : Tokens → Bool) (Before : Tokens → Type 0) (ts : Tokens) : Type 0 where
   pub begins_one : begins ts ≡ true
   pub may_follow : Before ts

@@ -1,6 +1,6 @@
--- Statements that the grammar derives are read where they keep the limits of nesting, and are refused for their nesting
--- where they do not. By induction on the depth alone: the lemma on each rule takes as a premise that the parser of the
--- statements inside is complete.
+-- Statements that the grammar derives are read if they keep the limits of nesting, and are refused for their nesting if
+-- they do not. By induction only on the depth: the lemma on each rule takes as a premise that the parser of inner
+-- statements is complete.
 use Rattle.std.proofs.Common.{◌≡◌, ℕ, zero, suc, ◌-◌, ℤ, max, Bool, false, leb, List, [], ◌∷◌, map, Option, Some, None, refl, sym, ap, ◌∙◌, arith}
 use Rattle.std.specs.Prelude.{◌&&◌}
 use Rattle.std.proofs.lemmas.Bool.{lt-leb}
@@ -31,7 +31,7 @@ use Rattle.fb_read.proofs.ExpressionComplete.{stops-mark}
 use Rattle.fb_read.proofs.StatementLengths.{label-shorter, statement-shorter, elsif-shorter, branch-shorter}
 use Rattle.fb_read.proofs.StatementNesting.{nesting-Empty, nesting-Exit, nesting-Return, nesting-Assign, nesting-If, nesting-Case, nesting-For, nesting-While, nesting-Repeat, nesting-choice, nesting-branch, statement-positive, inside-Empty, inside-Exit, inside-Return, inside-Assign, inside-If, inside-Case, inside-For, inside-While, inside-Repeat, inside-choice, inside-branch}
 
--- ---- what stands behind an expression
+-- ---- what follows an expression
 
 then-stops : (rest : Tokens) → Stops loosest (token.Mark mark.Then ∷ rest)
 unfolding same_mark
@@ -68,7 +68,7 @@ unfolding bound whole after same_mark
 bound-complete (is_bound is_whole) = refl
 bound-complete (is_negative is_mark is_whole) = refl
 
--- what may stand behind a label
+-- what may follow a label
 abbrev NoRange : Tokens → Type 0
 NoRange ts = sees mark.DotDot ts ≡ false
 
@@ -247,7 +247,7 @@ step-complete : {x : Option Expr} {ts rest : Tokens} → IsStep x ts (token.Mark
 step-complete {ts = ts} {rest = rest} no_step = no_step-turn ts (do-by rest)
 step-complete {rest = rest} (is_step {x = x} {a = a} is_mark e) = is_step-turn x a (token.Mark mark.Do ∷ rest) (expression-room x a (token.Mark mark.Do ∷ rest) e (do-stops rest))
 
--- ---- statements that hold no others
+-- ---- statements without inner statements
 
 assignment-complete : (limit : ℕ) (n : Name) (x : Expr) (b rest : Tokens) → IsExpression x b (token.Mark mark.Semicolon ∷ rest)
     → assignment (token.Name n ∷ (token.Mark mark.Assign ∷ b)) ≡ room (over (suc limit) (s.Assign n x)) (s.Assign n x) rest
@@ -256,7 +256,7 @@ assignment-complete limit n x b rest e =
     rw (expression-room x b (token.Mark mark.Semicolon ∷ rest) e (semicolon-stops rest))
     (bind-is (expression_over x) 0 (over (suc limit) (s.Assign n x)) x (token.Mark mark.Semicolon ∷ rest) _ (s.Assign n x) rest (omega (arith, nesting-Assign n x, inside-Assign n x)) refl)
 
--- the parser of the statements inside is complete
+-- the parser of inner statements is complete
 module _ (below : ℕ) (inner : Parser Stmt) (i : IsRoomy inner IsStatement Anything (over below)) where
   pub block-complete : (xs : List Stmt) (ts rest : Tokens) → AreStatements xs ts rest → NoStatement rest → block inner ts ≡ room (block_over below xs) xs rest
   unfolding block

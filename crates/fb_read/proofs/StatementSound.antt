@@ -105,7 +105,7 @@ branch-fits below ls xs h = omega (arith, nesting-branch ls xs)
 branch-inside : (ls : List Label) (xs : List Stmt) → deepest (map expression_nesting xs) ≤ most_nesting → branch_expression_nesting (branch_of ls xs) ≤ most_nesting
 branch-inside ls xs a = omega (arith, inside-branch ls xs)
 
--- ---- statements that hold no others
+-- ---- statements without inner statements
 
 -- a statement that is derived and keeps both limits
 abbrev pub StatementRight : ℕ → Stmt → Tokens → Tokens → Type 0
@@ -162,7 +162,7 @@ step-right ts x rest h =
       | inr w ↦ made StepRight None x ts ts rest w.1 (record { derived = no_step; inside = omega arith })
     ]
 
--- ---- statements that hold others
+-- ---- statements with inner statements
 
 abbrev pub BlockRight : ℕ → List Stmt → Tokens → Tokens → Type 0
 BlockRight = ListRight AreStatements statement_nesting expression_nesting
@@ -194,7 +194,7 @@ record BranchesRight (below : ℕ) (xs : List Branch) (ts rest : Tokens) : Type 
   one : BranchRight below first ts mid
   others : ListRight AreBranches branch_nesting branch_expression_nesting below more mid rest
 
--- the parser of the statements inside is right
+-- the parser of inner statements is right
 module _ (below : ℕ) (inner : Parser Stmt) (i : IsSound inner (StatementRight below)) where
   pub block-right : IsSound (block inner) (BlockRight below)
   unfolding block

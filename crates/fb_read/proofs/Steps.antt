@@ -78,7 +78,7 @@ pub after-mark : {k : Mark} {ts rest : Tokens} → IsMark k ts rest → after k 
 unfolding after
 after-mark {k = k} is_mark = rw (same_mark-refl k) refl
 
--- a mark that was taken if it came next
+-- a mark that was taken if it was next
 pub eaten : {A : Type 0} (k : Mark) (p q : Parser A) (ts : Tokens) (z : A × Tokens) → (cond (sees k ts) p q) (after k ts) ≡ Ok z
     → (IsMark k ts (after k ts) × (p (after k ts) ≡ Ok z)) ⊎ ((sees k ts ≡ false) × (q ts ≡ Ok z))
 eaten k p q ts z h = go (sees k ts) refl h

@@ -1,4 +1,4 @@
--- Expressions and statements as the rules that hold them need them.
+-- Expressions and statements as the rules that contain them need them.
 use Rattle.std.proofs.Common.{◌≡◌, Bool, true, false, ◌∷◌, Err, refl, ap, ◌∙◌}
 use Rattle.std.specs.Prelude.{◌&&◌}
 use Rattle.std.proofs.lemmas.Bool.{leb-true, le-leb}

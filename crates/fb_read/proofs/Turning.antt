@@ -1,4 +1,4 @@
--- One turn of a loop that reads items, where what was read is added to what was found.
+-- One turn of a loop that reads items, and adds what was read to what was found.
 use Rattle.std.proofs.Common.{◌≡◌, ℕ, suc, Bool, true, false, List, Result, Ok, refl, subst}
 use Rattle.fb_read.specs.declared.token.Mark.{Mark}
 use Rattle.fb_read.specs.declared.fault.ParseFault.{ParseFault}
@@ -39,7 +39,7 @@ pub after_none : (k : Mark) (ts : Tokens) → sees k ts ≡ false → after k ts
 unfolding after
 after_none k ts none = rw none refl
 
--- a choice behind ELSIF
+-- a choice after ELSIF
 pub elsif_reads :
     (inner : Parser Stmt) (ts mid new : Tokens) (read : Result Choice ParseFault)
     → sees mark.Elsif ts ≡ true → mid ≡ after mark.Elsif ts → Reads (choice inner mid) read new → Reads (elsif inner ts) read new

@@ -23,7 +23,7 @@ at_token p = Ok p
 same_token : (p q : Token × ℕ) → at_token p ≡ at_token q → p ≡ q
 same_token p q e = cc
 
--- two readings of one text go on alike
+-- two readings of one text continue the same way
 record Alike (t u : Token) (a b : Text) : Type 0 where
   token_is : t ≡ u
   rest_is : a ≡ b
@@ -93,7 +93,7 @@ ended-ok (Err fault) x e = absurd cc
 abbrev answer : Bool → Library → Result Library RuleFault
 answer b x = cond b (Ok x) (Err too_deep)
 
--- what is derived is parsed where it keeps the limit of nesting, and refused for its nesting where it does not
+-- what is derived is parsed if it keeps the limit of nesting, and refused for its nesting if it does not
 parsed : (ts : Tokens) (x : Library) → IsLibrary x ts [] → ended (library ts) ≡ answer (fits_library x) x
 parsed ts x l = rw (library-complete x ts [] l refl) (go (fits_library x))
   where
@@ -160,7 +160,7 @@ barren-faulty text f h x l = no-fault l.read h
 pub nothing-faulty : (text : Text) (f : TokenFault) → IsFirstFault f (behind_mark text) → Nothing text
 nothing-faulty text f h x l = no-fault l.derived.read h
 
--- ---- the answer, where the text has tokens
+-- ---- the result, if the text has tokens
 
 module _ (text : Text) (ts : Tokens) (short : length text ≤ most_bytes) (a : AreTokens ts (behind_mark text)) where
   pub is-declared : (r : Result Library ReadError) → Parses r (ended (library ts)) → IfOk r (λ x. IsLibraryText text x)
@@ -219,7 +219,7 @@ module _ (text : Text) (ts : Tokens) (short : length text ≤ most_bytes) (a : A
   not-too-long (Err error.TooLong) h e = h
   not-too-long (Err error.Nesting) h e = cc
 
--- ---- the answer, where it has a fault
+-- ---- the result, if it has a fault
 
 -- another fault than the first one
 pub other-fault : (text : Text) (e : ReadError) (r : Result Library ReadError) (f g : TokenFault) → IsFirstFault f (behind_mark text) → (f ≡ g → ⊥) → (r ≡ Err e → ⊥) → RefusesWhere r e (HasTokenFault g text)

@@ -1,4 +1,4 @@
--- An expression that is read where there is room for it, and refused where there is none.
+-- An expression that is read if it keeps the limit of nesting, and refused if it does not.
 use Rattle.std.proofs.Common.{◌≡◌, ℕ, suc, ◌<◌, ◌≤◌, Bool, true, false, cond, leb, Ok, Err, refl, sym, ap, ◌∙◌, arith}
 use Rattle.std.proofs.lemmas.Bool.{leb-true, leb-false, le-leb, lt-leb}
 use Rattle.fb_types.specs.declared.text.Expr.{Expr}

@@ -1,4 +1,4 @@
--- What is added to what was found.
+-- What is added to the items that were found.
 use Rattle.std.specs.Prelude.{◌≡◌, List, [], ◌∷◌, ◌++◌, Result, Ok, Err}
 use Rattle.fb_read.specs.declared.fault.ParseFault.{ParseFault}
 use Rattle.fb_read.specs.declared.fault.ParseFault.TheVariants as fault
@@ -8,7 +8,7 @@ abbrev pub IsOneMore : {A : Type 0} → List A → Result A ParseFault → List 
 IsOneMore found (Ok item) all = all ≡ found ++ item ∷ []
 IsOneMore found (Err e) all = ⊥
 
--- what was made of what was found and what was read behind it, unless memory fails
+-- the result for what was found and what was read after it, unless memory runs out
 abbrev pub Adds : {A : Type 0} → List A → Result A ParseFault → Result (List A) ParseFault → Type 0
 Adds found read (Ok all) = IsOneMore found read all
 Adds found read (Err fault.Memory) = Unit {0}

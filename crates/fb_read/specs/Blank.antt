@@ -1,4 +1,4 @@
--- Blanks and comments, which stand between tokens.
+-- Blanks and comments, which are between tokens.
 use Rattle.std.specs.Prelude.{ℕ, Bool, true, false, ◌&&◌, ◌||◌, if◌then◌else◌, ◌==◌, List, [], ◌∷◌, Option, Some, None, slice_index}
 use Rattle.fb_read.specs.declared.blank.Position.{Position}
 use Rattle.fb_read.specs.declared.blank.Position.TheVariants.{Between, Opening, Inside, Closing, Line}
@@ -6,7 +6,7 @@ use Rattle.fb_read.specs.declared.blank.Position.TheVariants.{Between, Opening, 
 abbrev pub Text : Type 0
 Text = List ℕ
 
--- the byte at a place, and 0 past the end
+-- the byte at an index, or 0 past the end
 abbrev pub at : Text → ℕ → ℕ
 at = slice_index
 
@@ -16,7 +16,7 @@ start = Between
 abbrev pub is_blank : ℕ → Bool
 is_blank b = b == 32 || (b == 9 || (b == 13 || b == 10))
 
--- where a byte leads to, by the byte after it; None where a token begins
+-- the position after a byte, by the byte after it; None if a token begins
 abbrev pub step : Position → ℕ → ℕ → Option Position
 step Between b next =
     if is_blank b then Some Between else (if b == 40 && next == 42 then Some Opening else (if b == 47 && next == 47 then Some Line else None))
@@ -37,7 +37,7 @@ abbrev pub stepped : (Position → Option Text) → Text → Option Position →
 stepped go here None = Some here
 stepped go here (Some position) = go position
 
--- the text from its next token on; None where a comment isn't closed
+-- the text from its next token on; None if a comment isn't closed
 unfoldable pub skip : Position → Text → Option Text
 skip position [] = if may_end position then Some [] else None
 skip position (b ∷ bs) = stepped (λ next. skip next bs) (b ∷ bs) (step position b (at bs 0))

@@ -12,7 +12,7 @@ use Rattle.fb_read.specs.Network.{network, application}
 use Rattle.fb_read.specs.Ports.{variables, ports}
 use Rattle.fb_read.specs.Charts.{states, transitions, algorithms}
 
--- what stands behind the name and the ports of a basic type
+-- what follows the name and the ports of a basic type
 unfoldable pub basic : Name → Ports → Parser BlockType
 basic n p = do
   internals ← variables mark.Var
@@ -31,7 +31,7 @@ composite n p = do
 unfoldable pub body : Name → Ports → Parser BlockType
 body n p = λ ts. if sees mark.Fbs ts then composite n p ts else basic n p ts
 
--- what stands between the marks of a type
+-- what is between the marks of a type
 unfoldable pub inside : Parser BlockType
 inside = do
   first ← name

@@ -23,12 +23,12 @@ use Rattle.fb_read.specs.ChartsGrammar.{AreStates, AreTransitions, IsAlgorithm}
 
 -- basic = [ VAR { var } END_VAR ] EC_STATES state { state } END_STATES
 --         [ EC_TRANSITIONS { transition } END_TRANSITIONS ] { algorithm }
--- behind the name and the ports
+-- after the name and the ports
 pub data IsBasic (n : Name) (p : Ports) : BasicType → Tokens → Tokens → Type 0 where
   is_basic : {vs : List Variable} {ss : List State} {xs : List Transition} {ys : List Algorithm} {ts a b c rest : Tokens} → AreVariables mark.Var vs ts a → AreStates ss a b
       → AreTransitions xs b c → AreAll IsAlgorithm ys c rest → IsBasic n p (basic_of n p vs ss xs ys) ts rest
 
--- basic | network, behind the name and the ports
+-- basic | network, after the name and the ports
 pub data IsBody (n : Name) (p : Ports) : BlockType → Tokens → Tokens → Type 0 where
   of_basic : {x : BasicType} {ts rest : Tokens} → IsBasic n p x ts rest → IsBody n p (block_type.Basic x) ts rest
   of_composite : {w : Network} {ts rest : Tokens} → IsNetwork w ts rest → IsBody n p (block_type.Composite (composite_of n p w)) ts rest

@@ -74,7 +74,7 @@ transition = do
 unfoldable pub transitions : Parser (List Transition)
 transitions = section transition mark.EcTransitions mark.EndTransitions
 
--- behind the name of an algorithm
+-- after the name of an algorithm
 unfoldable pub structured_text : Parser Body
 structured_text = do
   word (codes "IN")

@@ -1,4 +1,4 @@
--- Durations (IEC 61131-3, 6.3.5, in manner; whole numbers and these units alone are this project's profile).
+-- Durations (IEC 61131-3, 6.3.5, in manner; whole numbers and only these units are this project's profile).
 use Rattle.std.specs.Prelude.{ℕ, ◌+◌, ◌*◌, not, ◌==◌, if◌then◌else◌, List, [], ◌∷◌, take, drop, Option, Some, None, codes}
 use Rattle.std.specs.List.{prefix_len}
 use Rattle.std.specs.Char.{is_ascii_alphabetic}
@@ -23,11 +23,11 @@ ticks_of unit.Minute = 60000
 ticks_of unit.Second = 1000
 ticks_of unit.Millisecond = 1
 
--- the order in which they stand, each at most once
+-- the order in which they occur, each at most once
 abbrev pub falling_units : List Unit
 falling_units = unit.Day ∷ (unit.Hour ∷ (unit.Minute ∷ (unit.Second ∷ (unit.Millisecond ∷ []))))
 
--- how long the digits at the front are, and then the letters of the unit
+-- the length of the digits at the front, and then of the letters of the unit
 abbrev pub digits_len : Text → ℕ
 digits_len = prefix_len (λ b. not (is_ascii_alphabetic b))
 
@@ -46,7 +46,7 @@ unit_at z = take (letters_len (behind_digits z)) (behind_digits z)
 abbrev pub behind_unit : Text → Text
 behind_unit z = drop (letters_len (behind_digits z)) (behind_digits z)
 
--- what stands behind an underscore between two parts
+-- what follows an underscore between two parts
 abbrev pub next_part : Text → Text
 next_part [] = []
 next_part (b ∷ z) = if b == 95 then z else b ∷ z
@@ -60,13 +60,13 @@ small_sum None more = None
 small_sum (Some m) None = None
 small_sum (Some m) (Some n) = small (m + n)
 
--- the ticks of no further part, where the text ends, or else of these
+-- no further ticks if the text ends, or else these
 abbrev pub ended : Text → Option ℕ → Option ℕ
 ended [] more = Some 0
 ended (b ∷ z) more = more
 
--- the ticks of one or more parts with these units alone, in upper case. No part is negative, so the sum is within the
--- bound exactly where each step to it is.
+-- the ticks of one or more parts with only these units, in upper case. No part is negative, so the sum is within the
+-- bound exactly if each step to it is.
 unfoldable pub parts : List Unit → Text → Option ℕ
 parts [] z = None
 parts (u ∷ less) z =

@@ -29,7 +29,7 @@ mutual
     is_unary : {x : Expr} {ts rest : Tokens} → IsUnary x ts rest → IsLevel zero x ts rest
     is_chain : {n : ℕ} {first x : Expr} {ts mid rest : Tokens} → IsLevel n first ts mid → IsChain n first x mid rest → IsLevel (suc n) x ts rest
 
-  -- { operator lower }: what the first expression becomes by the operators of level n + 1 behind it
+  -- { operator lower }: what the first expression becomes by the operators of level n + 1 after it
   pub data IsChain : ℕ → Expr → Expr → Tokens → Tokens → Type 0 where
     ends : {n : ℕ} {x : Expr} {ts : Tokens} → IsChain n x x ts ts
     goes_on : {n : ℕ} {k : Mark} {op : BinaryOperator} {left right x : Expr} {ts before behind rest : Tokens}

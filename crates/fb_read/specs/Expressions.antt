@@ -15,11 +15,11 @@ use Rattle.fb_read.specs.Nesting.{most_nesting}
 abbrev pub leaf : Expr → Nested
 leaf x = record { expr = x; nesting = 1 }
 
--- one level more than the deepest part, where there is room for it
+-- one level more than the deepest part, if the limit allows it
 unfoldable pub around : ℕ → ℕ → Expr → Parser Nested
 around below depth x = λ ts. if nat_le depth below then Ok (record { expr = x; nesting = suc depth }, ts) else Err too_deep
 
--- the expression of an operator, which comes next, behind its left operand
+-- the expression of an operator, which is the next token, after its left operand
 unfoldable pub joined : ℕ → Parser Nested → Nested → BinaryOperator → Parser Nested
 joined below operand left op = λ ts. if nat_le left.nesting below then (do
   right ← operand
@@ -47,7 +47,8 @@ module _ (below : ℕ) (inner : ℕ → Parser Nested) where
     more ← eat mark.Comma
     if more then arguments_from n (found ++ x.expr ∷ []) (max depth x.nesting) else pure (found ++ x.expr ∷ [], max depth x.nesting)
 
-  -- A call without arguments has room where one with arguments has none, so what begins no argument is refused first.
+  -- A call without arguments may be possible where one with arguments nests too deep, so what begins no argument is
+  -- refused first.
   unfoldable pub arguments : Parser (List Expr × ℕ)
   arguments = λ ts. if begins_expression ts then arguments_from (length ts) [] 0 ts else Err syntax
 
@@ -82,7 +83,7 @@ module _ (below : ℕ) (inner : ℕ → Parser Nested) where
       is_not ← eat mark.Not
       if is_not then prefixed sign.Not else primary)
 
-  -- An operator behind an expression that fills the room is one too many, whatever follows it.
+  -- An operator after an expression at the limit nests too deep, whatever follows it.
   abbrev pub operated : (Nested → Parser Nested) → Parser Nested → Nested → Option BinaryOperator → Parser Nested
   operated go operand left None = pure left
   operated go operand left (Some op) = λ ts. if nat_le left.nesting below then (do

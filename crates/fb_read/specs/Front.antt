@@ -36,11 +36,11 @@ abbrev pub timed : Bool → ℕ → Option ℕ → Found
 timed negative n None = Err bad_token
 timed negative n (Some ticks) = found (token.Time (signed negative ticks)) n
 
--- where the parts of a time literal begin, by the place behind its `#`
+-- where the parts of a time literal begin, by the index after its `#`
 abbrev pub parts_start : Text → ℕ → ℕ
 parts_start z start = if at z start == 45 then start + 1 else start
 
--- a time literal, by the place behind its `#`
+-- a time literal, by the index after its `#`
 unfoldable pub time : Text → ℕ → Found
 time z start =
     let first = parts_start z start in
@@ -90,7 +90,7 @@ sign_of b next =
     else (if b == 43 then sign mark.Plus 1 else (if b == 42 then sign mark.Star 1 else (if b == 47 then sign mark.Slash 1
     else (if b == 38 then sign mark.Ampersand 1 else None)))))))))))))))
 
--- a byte that may stand outside of comments
+-- a byte that may occur outside of comments
 abbrev pub is_plain : ℕ → Bool
 is_plain b = b == 9 || (b == 10 || (b == 13 || nat_le 32 b && nat_le b 126))
 
@@ -104,7 +104,7 @@ front z =
     if is_letter (at z 0) then word z
     else (if is_ascii_digit (at z 0) then literal z else marked (at z 0) (sign_of (at z 0) (at z 1)))
 
--- a function gives this, unless memory fails
+-- a function returns this, unless memory runs out
 abbrev pub Gives : Result (Token × ℕ) LexFault → Found → Type 0
 Gives (Ok t) outcome = outcome ≡ Ok t
 Gives (Err fault.Memory) outcome = Unit {0}

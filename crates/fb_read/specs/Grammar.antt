@@ -1,5 +1,5 @@
--- What the rules of the grammar are made of: each relation says what a token list begins with, and which tokens
--- are left behind it (this project's profile, in the manner of IEC 61499-1, Annex B).
+-- What the rules of the grammar are made of: each relation says what a token list begins with, and which tokens are left
+-- after it (this project's profile, in the manner of IEC 61499-1, Annex B).
 use Rattle.std.specs.Prelude.{◌≡◌, ℕ, ℤ, List, [], ◌∷◌, Some}
 use Rattle.fb_types.specs.Names.{Name}
 use Rattle.fb_types.specs.declared.value.Ty.{Ty}

@@ -1,5 +1,5 @@
--- What a text has to be to be one token, apart from where it stands, and the longest token at the front of a text
--- (this project's profile, in the manner of IEC 61131-3, 6.1 to 6.3).
+-- What a text has to be to be one token, regardless of where it is, and the longest token at the front of a text (this
+-- project's profile, in the manner of IEC 61131-3, 6.1 to 6.3).
 use Rattle.std.specs.Prelude.{◌≡◌, ◌↔◌, ℕ, ◌≤◌, pos, neg_ℤ, true, false, [], ◌∷◌, ◌++◌, length, take, Some, Ok, Err}
 use Rattle.fb_read.specs.declared.token.Mark.{Mark}
 use Rattle.fb_read.specs.declared.token.Token.{Token}
@@ -10,7 +10,7 @@ use Rattle.fb_read.specs.Numbers.{number}
 use Rattle.fb_read.specs.Durations.{duration}
 use Rattle.fb_read.specs.Front.{bad_byte, named, is_time_word, base_of, sign_of, is_plain, front}
 
--- letters, digits and underscores alone
+-- only letters, digits and underscores
 abbrev pub AreWord : Text → Type 0
 AreWord [] = Unit {0}
 AreWord (b ∷ z) = (is_word b ≡ true) × AreWord z
@@ -33,7 +33,7 @@ IsLiteral (token.Name n) = ⊥
 IsLiteral (token.Whole n) = Unit {0}
 IsLiteral (token.Time n) = Unit {0}
 
--- These many bytes at the front of the text are this token, and no longer front of it is a token. No letter, digit or
+-- This number of bytes at the front of the text is this token, and no longer front of it is a token. No letter, digit or
 -- underscore follows a literal.
 pub record IsLongest (t : Token) (n : ℕ) (z : Text) : Type 0 where
   pub is_token : IsToken t (take n z)
@@ -44,7 +44,7 @@ pub record IsLongest (t : Token) (n : ℕ) (z : Text) : Type 0 where
 abbrev pub TakesLongest : Type 0
 TakesLongest = (z : Text) (t : Token) (n : ℕ) → front z ≡ Ok (t, n) → IsLongest t n z
 
--- the first word of a literal that goes on behind a `#`: a base, T or TIME
+-- the first word of a literal that continues after a `#`: a base, T or TIME
 pub data BeginsLiteral : Text → Type 0 where
   a_base : {w : Text} {base : ℕ} → base_of w ≡ Some base → BeginsLiteral w
   a_time_word : {w : Text} → is_time_word (in_upper w) ≡ true → BeginsLiteral w
@@ -57,11 +57,11 @@ pub record IsCut (t : Token) (a rest : Text) : Type 0 where
   pub parted : IsLiteral t → is_word (at rest 0) ≡ false
   pub not_begun : BeginsLiteral a → at rest 0 ≡ 35 → ⊥
 
--- A token is found at the front of a text exactly where it is cut off there. So where none is found there is none.
+-- A token is found at the front of a text exactly if it is cut off there. So if none is found there is none.
 abbrev pub CutsExactly : Type 0
 CutsExactly = (t : Token) (a rest : Text) → (front (a ++ rest) ≡ Ok (t, length a)) ↔ IsCut t a rest
 
--- What is at fault at the front of a text that is not empty is its first byte exactly where this may not stand outside of
+-- What is at fault at the front of a text that is not empty is its first byte exactly if this may not occur outside of
 -- comments, and else a token.
 abbrev pub FaultsExactly : Type 0
 FaultsExactly = (b : ℕ) (z : Text) → (front (b ∷ z) ≡ Err bad_byte) ↔ (is_plain b ≡ false)

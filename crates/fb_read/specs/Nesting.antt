@@ -51,11 +51,11 @@ choice_step c = deepest c.body
 unfoldable pub statement_nesting : Stmt → ℕ
 statement_nesting = fold-Stmt ℕ ℕ ℕ statement_step branch_step choice_step
 
--- the deepest statement behind labels
+-- the deepest statement after labels
 unfoldable pub branch_nesting : Branch → ℕ
 branch_nesting = fold-Branch ℕ ℕ ℕ statement_step branch_step choice_step
 
--- the deepest statement behind a condition
+-- the deepest statement after a condition
 unfoldable pub choice_nesting : Choice → ℕ
 choice_nesting = fold-Choice ℕ ℕ ℕ statement_step branch_step choice_step
 
@@ -81,7 +81,7 @@ branch_inside_step b = deepest b.body
 abbrev pub choice_inside_step : Choice-F ℕ ℕ ℕ → ℕ
 choice_inside_step c = max (nesting c.condition) (deepest c.body)
 
--- how deep the deepest expression in a statement nests, and 0 where there is none
+-- how deep the deepest expression in a statement nests, and 0 if there is none
 unfoldable pub expression_nesting : Stmt → ℕ
 expression_nesting = fold-Stmt ℕ ℕ ℕ inside_step branch_inside_step choice_inside_step
 

@@ -3,13 +3,13 @@ use Rattle.std.specs.Prelude.{ℕ, ◌+◌, ◌-◌, ◌*◌, Bool, true, false,
 use Rattle.fb_read.specs.Limits.{most}
 use Rattle.fb_read.specs.Blank.{Text}
 
--- the digit that a byte is; 16, which is a digit of no base, where it is none
+-- the digit that a byte is; 16, which is a digit of no base, if it is none
 abbrev pub digit_of : ℕ → ℕ
 digit_of b =
     if nat_le 48 b && nat_le b 57 then b - 48
     else (if nat_le 65 b && nat_le b 70 then b - 55 else (if nat_le 97 b && nat_le b 102 then b - 87 else 16))
 
--- digits of a base, with single underscores between them; the flag says that a digit has to come next
+-- digits of a base, with single underscores between them; the flag says that a digit has to be next
 abbrev pub are_digits : ℕ → Bool → Text → Bool
 are_digits base wanted [] = not wanted
 are_digits base wanted (b ∷ z) =

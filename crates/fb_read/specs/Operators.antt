@@ -31,7 +31,7 @@ abbrev pub at_level : ℕ → Option (ℕ × BinaryOperator) → Option BinaryOp
 at_level n None = None
 at_level n (Some found) = if found.0 == n then Some found.1 else None
 
--- the operator of that level that comes next
+-- the operator of that level that is next
 abbrev pub next_operator : ℕ → Tokens → Option BinaryOperator
 next_operator n (token.Mark k ∷ ts) = at_level n (operator_of k)
 next_operator n _ = None
@@ -55,7 +55,7 @@ begins_expression [] = false
 begins_expression (token.Mark k ∷ ts) = begins_by k
 begins_expression (_ ∷ ts) = true
 
--- An expression of this level does not go on here.
+-- An expression of this level does not continue here.
 pub record Stops (n : ℕ) (ts : Tokens) : Type 0 where
   pub no_call : sees mark.Open ts ≡ false
   pub no_operator : (m : ℕ) → m ≤ n → next_operator m ts ≡ None

@@ -14,7 +14,7 @@ use Rattle.fb_read.specs.declared.fault.ParseFault.{ParseFault}
 use Rattle.fb_read.specs.declared.fault.ParseFault.TheVariants as fault
 use Rattle.fb_read.specs.Tokens.{Tokens}
 
--- the two marks are one
+-- the two marks are the same
 unfoldable pub same_mark : Mark → Mark → Bool
 same_mark = sameb the_type
 
@@ -66,7 +66,7 @@ refuse = λ ts. Err syntax
 unfoldable pub after : Mark → Tokens → Tokens
 after k ts = if sees k ts then rest_of ts else ts
 
--- takes this mark, if it comes next
+-- takes this mark, if it is next
 abbrev pub eat : Mark → Parser Bool
 eat k = λ ts. Ok (sees k ts, after k ts)
 
@@ -130,20 +130,20 @@ literal (token.Whole n ∷ ts) = Ok (pos n, ts)
 literal (token.Time ticks ∷ ts) = Ok (ticks, ts)
 literal (_ ∷ ts) = Err syntax
 
--- what was found, and this mark behind it
+-- what was found, and this mark after it
 abbrev pub ended : {A : Type 0} → Mark → A → Parser A
 ended end found = do
   expect end
   pure found
 
--- what was found, and this mark and a semicolon behind it
+-- what was found, and this mark and a semicolon after it
 abbrev pub finished : {A : Type 0} → Mark → A → Parser A
 finished end found = do
   expect end
   expect mark.Semicolon
   pure found
 
--- what was found, and what a rule reads behind this mark
+-- what was found, and what a rule reads after this mark
 unfoldable pub behind : {A B : Type 0} → A → Mark → Parser B → Parser (A × B)
 behind found between second = do
   expect between
@@ -171,13 +171,13 @@ many_after item end found = λ ts. many_from item end (length ts) found ts
 unfoldable pub many : {A : Type 0} → Parser A → Mark → Parser (List A)
 many item end = λ ts. many_from item end (length ts) [] ts
 
--- the items of a section, if its first mark comes next
+-- the items of a section, if its first mark is next
 unfoldable pub section : {A : Type 0} → Parser A → Mark → Mark → Parser (List A)
 section item begin end = do
   some ← eat begin
   if some then many item end else pure []
 
--- the items as long as this mark comes next
+-- the items as long as this mark is next
 unfoldable pub run_from : {A : Type 0} → Parser A → Mark → ℕ → List A → Parser (List A)
 run_from item begin zero found = pure found
 run_from item begin (suc n) found = λ ts. if sees begin ts then (item >>= (λ x. run_from item begin n (found ++ x ∷ []))) ts else Ok (found, ts)
@@ -196,7 +196,7 @@ separated_from item (suc n) found = do
 unfoldable pub separated : {A : Type 0} → Parser A → Parser (List A)
 separated item = λ ts. separated_from item (length ts) [] ts
 
--- what the rule reads behind this mark, if the mark comes next
+-- what the rule reads after this mark, if the mark is next
 unfoldable pub optional : {A : Type 0} → Parser A → Mark → Parser (Option A)
 optional item begin = do
   some ← eat begin
@@ -205,13 +205,13 @@ optional item begin = do
     pure (Some x))
       else pure None
 
--- one or more items with commas between them, if this mark comes next
+-- one or more items with commas between them, if this mark is next
 unfoldable pub listed : {A : Type 0} → Parser A → Mark → Parser (List A)
 listed item begin = do
   some ← eat begin
   if some then separated item else pure []
 
--- what a function that reads a rule ensures: the parser's outcome, unless memory fails
+-- what a function that reads a rule ensures: the parser's outcome, unless memory runs out
 abbrev pub Reads : {A : Type 0} → Outcome A → Result A ParseFault → Tokens → Type 0
 Reads outcome (Ok a) new = outcome ≡ Ok (a, new)
 Reads outcome (Err fault.Memory) new = Unit {0}

@@ -1,9 +1,9 @@
--- What stands between two tokens, by the shape of the text: blanks and comments (this project's profile, in the manner of
--- IEC 61131-3, 6.1).
+-- What is between two tokens, by the shape of the text: blanks and comments (this project's profile, in the manner of IEC
+-- 61131-3, 6.1).
 use Rattle.std.specs.Prelude.{◌≡◌, ◌↔◌, ℕ, true, false, [], ◌∷◌, ◌++◌, Option, Some, None, codes}
 use Rattle.fb_read.specs.Blank.{Text, is_blank, start, skip}
 
--- these bytes stand nowhere in the text
+-- these bytes occur nowhere in the text
 abbrev pub HasNo : Text → Text → Type 0
 HasNo bytes text = (before behind : Text) → before ++ (bytes ++ behind) ≡ text → ⊥
 
@@ -23,7 +23,7 @@ pub record BeginsNone (z : Text) : Type 0 where
   pub no_comment : (rest : Text) → codes "(*" ++ rest ≡ z → ⊥
   pub no_line : (rest : Text) → codes "//" ++ rest ≡ z → ⊥
 
--- what is left of a text behind all blanks and comments at its front
+-- what is left of a text after all blanks and comments at its front
 pub data Leaves : Text → Option Text → Type 0 where
   -- the next token, or nothing
   a_rest : (a rest : Text) → ArePauses a → BeginsNone rest → Leaves (a ++ rest) (Some rest)

@@ -1,4 +1,4 @@
--- What it says that a parser reads what a grammar derives, to a limit (this project's profile).
+-- What it means that a parser reads what a grammar derives, up to a limit (this project's profile).
 use Rattle.std.specs.Prelude.{◌≡◌, Ok, Err}
 use Rattle.fb_read.specs.Tokens.{Tokens}
 use Rattle.fb_read.specs.Parser.{Parser, too_deep}
@@ -9,7 +9,7 @@ use Rattle.fb_read.specs.ExpressionGrammar.{IsExpression}
 use Rattle.fb_read.specs.Statements.{body}
 use Rattle.fb_read.specs.StatementGrammar.{IsBody}
 
--- Behind: what may stand behind what is read; Fits: it keeps the limit
+-- Behind: what may follow what is read; Fits: it keeps the limit
 pub record ReadsExactly {A : Type 0} (parser : Parser A) (Derives : A → Tokens → Tokens → Type 0) (Behind : Tokens → Type 0) (Fits : A → Type 0) : Type 0 where
   -- what is read is derived, and keeps the limit
   pub derived : (x : A) (ts rest : Tokens) → parser ts ≡ Ok (x, rest) → Derives x ts rest

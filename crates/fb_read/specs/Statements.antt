@@ -81,7 +81,7 @@ assignment = do
   expect mark.Semicolon
   pure (s.Assign target value)
 
--- what stands behind FOR, up to DO
+-- what follows FOR, up to DO
 unfoldable pub step : Parser (Option Expr)
 step = do
   some ← eat mark.By
@@ -125,7 +125,7 @@ module _ (inner : Parser Stmt) where
   unfoldable pub block : Parser (List Stmt)
   block = several begins_statement inner []
 
-  -- a condition, and what is done behind it
+  -- a condition, and what is done after it
   unfoldable pub choice : Parser Choice
   choice = do
     condition ← expression
@@ -160,7 +160,7 @@ module _ (inner : Parser Stmt) where
     some ← eat mark.Else
     if some then block else pure []
 
-  -- behind IF
+  -- after IF
   unfoldable pub if_statement : Parser Stmt
   if_statement = do
     found ← choices
@@ -169,7 +169,7 @@ module _ (inner : Parser Stmt) where
     expect mark.Semicolon
     pure (s.If found other)
 
-  -- the branches of a CASE and what is done else, from OF on
+  -- the branches of a CASE and its ELSE, from OF on
   unfoldable pub case_body : Parser (List Branch × List Stmt)
   case_body = do
     expect mark.Of
@@ -179,7 +179,7 @@ module _ (inner : Parser Stmt) where
     expect mark.Semicolon
     pure (cases found other)
 
-  -- behind CASE
+  -- after CASE
   unfoldable pub case_statement : Parser Stmt
   case_statement = do
     selector ← expression
@@ -202,7 +202,7 @@ module _ (inner : Parser Stmt) where
     body ← loop_body mark.EndFor
     pure (s.For variable start until.0 until.1 body)
 
-  -- behind FOR
+  -- after FOR
   unfoldable pub for_statement : Parser Stmt
   for_statement = do
     variable ← name
@@ -210,14 +210,14 @@ module _ (inner : Parser Stmt) where
     start ← expression
     for_to variable start
 
-  -- behind WHILE
+  -- after WHILE
   unfoldable pub while_statement : Parser Stmt
   while_statement = do
     condition ← expression
     body ← loop_body mark.EndWhile
     pure (s.While condition body)
 
-  -- behind REPEAT
+  -- after REPEAT
   unfoldable pub repeat_statement : Parser Stmt
   repeat_statement = do
     body ← block

@@ -1,4 +1,4 @@
--- The tokens of a text (this project's profile): at each place the longest one, with blanks and comments between them.
+-- The tokens of a text (this project's profile): at each offset the longest one, with blanks and comments between them.
 use Rattle.std.specs.Prelude.{◌≡◌, ℕ, ◌&&◌, if◌then◌else◌, ◌==◌, List, [], ◌∷◌, map, drop, Some, None, Ok, Err}
 use Rattle.fb_read.specs.declared.token.Token.{Token}
 use Rattle.fb_read.specs.declared.token.Placed.{Placed}
@@ -13,7 +13,7 @@ Tokens = List Token
 abbrev pub tokens_of : List Placed → Tokens
 tokens_of = map (λ p. p.token)
 
--- what stands behind one leading byte order mark
+-- what follows one leading byte order mark
 abbrev pub behind_mark : Text → Text
 behind_mark z = if at z 0 == 239 && (at z 1 == 187 && at z 2 == 191) then drop 3 z else z
 
@@ -22,14 +22,14 @@ pub data AreTokens : Tokens → Text → Type 0 where
   then_token : {t : Token} {n : ℕ} {ts : Tokens} {z here rest : Text} → skip start z ≡ Some here → front here ≡ Ok (t, n) → drop n here ≡ rest
       → AreTokens ts rest → AreTokens (t ∷ ts) z
 
--- the first place at which a text goes on with no token
+-- the first offset at which a text continues with no token
 pub data IsFirstFault (f : TokenFault) : Text → Type 0 where
   open_comment : {z : Text} → f ≡ bad_token → skip start z ≡ None → IsFirstFault f z
   is_here : {b : ℕ} {z here : Text} → skip start z ≡ Some (b ∷ here) → front (b ∷ here) ≡ Err f → IsFirstFault f z
   is_later : {t : Token} {n : ℕ} {z here rest : Text} → skip start z ≡ Some here → front here ≡ Ok (t, n) → drop n here ≡ rest
       → IsFirstFault f rest → IsFirstFault f z
 
--- why a function gives no tokens
+-- why a function returns no tokens
 abbrev pub Tells : LexFault → Text → Type 0
 Tells fault.Memory z = Unit {0}
 Tells fault.Byte z = IsFirstFault bad_byte z

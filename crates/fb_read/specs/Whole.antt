@@ -60,7 +60,7 @@ pub record HasTokens (text : Text) : Type 0 where
   pub tokens : Tokens
   pub read : AreTokens tokens (behind_mark text)
 
--- A result is this refusal exactly where the fact holds, unless memory is wanting.
+-- A result is this refusal exactly if the fact holds, unless memory runs out.
 pub record RefusesWhere (result : Result Library ReadError) (e : ReadError) (P : Type 0) : Type 0 where
   pub only : result ≡ Err e → P
   pub always : P → (result ≡ Err e) ⊎ (result ≡ Err error.Memory)
@@ -82,7 +82,7 @@ IsSyntax (error.Syntax line) = Unit {0}
 IsSyntax error.TooLong = ⊥
 IsSyntax error.Nesting = ⊥
 
--- a function that reads all tokens answers this, unless memory is wanting
+-- a function that reads all tokens returns this, unless memory runs out
 abbrev pub Parses : Result Library ReadError → Result Library RuleFault → Type 0
 Parses (Ok x) outcome = outcome ≡ Ok x
 Parses (Err error.Memory) outcome = Unit {0}

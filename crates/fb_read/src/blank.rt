@@ -3,20 +3,20 @@
 ghost use Rattle.std.specs.Prelude.{◌≡◌, ◌<◌, ◌≤◌, length, option_map, IfSome};
 ghost use Rattle.fb_read.specs.Blank as spec;
 
-/// Where the next byte stands.
+/// What the next byte may be part of.
 #[derive(Clone, Copy)]
 pub enum Position {
     Between,
-    /// The star of `(*` comes.
+    /// The star of `(*`.
     Opening,
     Inside,
-    /// The bracket of `*)` comes.
+    /// The bracket of `*)`.
     Closing,
-    /// Behind `//`.
+    /// A comment that began with `//`.
     Line,
 }
 
-/// The byte at a place, and 0 past the end.
+/// The byte at an index, or 0 past the end.
 pub fn at(bytes: &[u8], i: usize) -> u8
     ensures value { result ≡ spec.at bytes.now i }
     ensures within { 0 < result → i < length bytes.now }
@@ -30,7 +30,7 @@ fn is_blank(b: u8) -> bool
     b == b' ' || b == b'\t' || b == b'\r' || b == b'\n'
 }
 
-/// Where the byte leads to, or `None` where a token begins.
+/// The position after this byte, or `None` if a token begins.
 fn step(position: Position, b: u8, next: u8) -> Option<Position>
     ensures { result ≡ spec.step position b next }
 {
@@ -74,7 +74,7 @@ fn may_end(position: Position) -> bool
     }
 }
 
-/// The text from its next token on, or `None` where a comment is not closed.
+/// The text from its next token on, or `None` if a comment is not closed.
 pub fn skip(bytes: &[u8]) -> Option<&[u8]>
     ensures value { option_map (λ s. s.now) result ≡ spec.skip spec.start bytes.now }
     ensures shorter { IfSome result (λ s. length s.now ≤ length bytes.now) }

@@ -13,7 +13,7 @@ use fb_types::{
     Application, BasicType, BlockType, CompositeType, Items, Library, Name, Network, Ports,
 };
 
-/// What stands behind the name and the ports of a basic type.
+/// What follows the name and the ports of a basic type.
 #[tactic(auto, unfolding(crate::specs::Blocks::basic))]
 fn basic(cursor: &mut Cursor<'_>, name: Name, ports: Ports) -> Result<BlockType, ParseFault>
     ensures { Reads (spec.basic name ports cursor.old) result cursor.new }
@@ -34,7 +34,7 @@ fn basic(cursor: &mut Cursor<'_>, name: Name, ports: Ports) -> Result<BlockType,
     }))
 }
 
-/// What stands behind the name and the ports of a composite type.
+/// What follows the name and the ports of a composite type.
 #[tactic(auto, unfolding(crate::specs::Blocks::composite))]
 fn composite(cursor: &mut Cursor<'_>, name: Name, ports: Ports) -> Result<BlockType, ParseFault>
     ensures { Reads (spec.composite name ports cursor.old) result cursor.new }
@@ -48,7 +48,7 @@ fn composite(cursor: &mut Cursor<'_>, name: Name, ports: Ports) -> Result<BlockT
     }))
 }
 
-/// What stands between the marks of a type: its name, its ports, and the rest. A network begins with FBS.
+/// What is between the marks of a type: its name, its ports, and the rest. A network begins with FBS.
 #[tactic(auto, unfolding(crate::specs::Blocks::inside, crate::specs::Blocks::body))]
 fn inside(cursor: &mut Cursor<'_>) -> Result<BlockType, ParseFault>
     ensures { Reads (spec.inside cursor.old) result cursor.new }

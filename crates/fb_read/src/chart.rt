@@ -46,7 +46,7 @@ impl Rule for State {
     }
 }
 
-/// The states, of which there is one at least.
+/// The states, at least one.
 #[tactic(auto, unfolding(crate::specs::Charts::states))]
 pub fn states(cursor: &mut Cursor<'_>) -> Result<Items<State>, ParseFault>
     ensures { Reads (spec.states cursor.old) result cursor.new }
@@ -56,7 +56,7 @@ pub fn states(cursor: &mut Cursor<'_>) -> Result<Items<State>, ParseFault>
     many_after(cursor, Mark::EndStates, found)
 }
 
-/// The guard of a transition, where there is one.
+/// The guard of a transition, if there is one.
 #[tactic(auto, unfolding(crate::specs::Charts::guard))]
 fn guard(cursor: &mut Cursor<'_>) -> Result<Option<Expr>, ParseFault>
     ensures { Reads (spec.guard cursor.old) result cursor.new }
@@ -103,6 +103,7 @@ impl Rule for Transition {
     }
 }
 
+/// The transitions of a chart, if there is a section of them.
 #[tactic(auto, unfolding(crate::specs::Charts::transitions))]
 pub fn transitions(cursor: &mut Cursor<'_>) -> Result<Items<Transition>, ParseFault>
     ensures { Reads (spec.transitions cursor.old) result cursor.new }
@@ -110,7 +111,7 @@ pub fn transitions(cursor: &mut Cursor<'_>) -> Result<Items<Transition>, ParseFa
     section::<Transition>(cursor, Mark::EcTransitions, Mark::EndTransitions)
 }
 
-/// What stands behind the name of an algorithm: its language, and the statements.
+/// What follows the name of an algorithm: its language, and the statements.
 #[tactic(auto, unfolding(crate::specs::Charts::structured_text))]
 fn structured_text(cursor: &mut Cursor<'_>) -> Result<Body, ParseFault>
     ensures { Reads (spec.structured_text cursor.old) result cursor.new }
@@ -133,6 +134,7 @@ impl Rule for Algorithm {
     }
 }
 
+/// The algorithms of a basic type, as long as one is next.
 #[tactic(auto, unfolding(crate::specs::Charts::algorithms))]
 pub fn algorithms(cursor: &mut Cursor<'_>) -> Result<Items<Algorithm>, ParseFault>
     ensures { Reads (spec.algorithms cursor.old) result cursor.new }

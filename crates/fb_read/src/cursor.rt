@@ -1,4 +1,4 @@
-//! A place in a list of tokens.
+//! A cursor in a list of tokens.
 
 ghost use Rattle.std.specs.Prelude.{◌≡◌, ◌↔◌, [], length, IsNone};
 ghost use Rattle.fb_read.specs.Parser as spec;
@@ -15,7 +15,8 @@ use fb_types::{BinaryOperator, Items, Name, Ty};
 use std::alloc::Global;
 use std::marker::Model;
 
-/// The tokens that are still to be read, and the allocator of what is read. Contracts see the tokens, without their places.
+/// The tokens that are still to be read, and the allocator for what is read. Contracts see the tokens without their
+/// offsets.
 #[derive(Drop)]
 pub struct Cursor<'a> {
     alloc: Global,
@@ -53,32 +54,33 @@ fn ty_of(mark: Mark) -> Option<Ty>
 impl<'a> Cursor<'a> {
     ghost use Rattle.fb_read.specs.Tokens.{tokens_of};
 
+    /// A cursor before these tokens. `alloc` is for what is read.
     pub fn new(alloc: Global, rest: &'a [Placed]) -> Cursor<'a>
         ensures { result ≡ tokens_of rest.now }
     {
         Cursor { alloc, rest }
     }
 
-    /// The allocator of what is read.
+    /// The allocator for what is read.
     pub fn alloc(&self) -> Global {
         self.alloc
     }
 
-    /// A list for what is to be read.
+    /// An empty list for what is to be read.
     pub fn no_items<T>(&self) -> Items<T>
         ensures { result ≡ [] }
     {
         Items::new(self.alloc)
     }
 
-    /// How many tokens are left.
+    /// The number of tokens that are left.
     pub fn left(&self) -> usize
         ensures { result ≡ length self.now }
     {
         self.rest.len()
     }
 
-    /// Where the next token begins, if there is one.
+    /// The offset in bytes of the next token, if there is one.
     pub fn place(&self) -> Option<usize>
         ensures { IsNone result ↔ (self.now ≡ []) }
     {
@@ -88,6 +90,7 @@ impl<'a> Cursor<'a> {
         }
     }
 
+    /// Whether this mark is next.
     #[tactic(auto, unfolding(crate::specs::Parser::same_mark))]
     pub fn sees(&self, mark: Mark) -> bool
         ensures { result ≡ spec.sees mark self.now }
@@ -101,7 +104,7 @@ impl<'a> Cursor<'a> {
         }
     }
 
-    /// Takes the next token, if there is one.
+    /// Skips the next token, if there is one.
     pub fn take(&mut self)
         ensures { self.new ≡ spec.rest_of self.old }
     {
@@ -110,7 +113,7 @@ impl<'a> Cursor<'a> {
         }
     }
 
-    /// Takes this mark, if it comes next.
+    /// Takes this mark, if it is next. Returns whether it was.
     #[tactic(auto, unfolding(crate::specs::Parser::after))]
     pub fn eat(&mut self, mark: Mark) -> bool
         ensures found { result ≡ spec.sees mark self.old }
@@ -123,6 +126,7 @@ impl<'a> Cursor<'a> {
         found
     }
 
+    /// Takes this mark. Any other token is refused.
     #[tactic(auto, unfolding(crate::specs::Parser::expect))]
     pub fn expect(&mut self, mark: Mark) -> Result<(), ParseFault>
         ensures { Reads (spec.expect mark self.old) result self.new }
@@ -153,7 +157,7 @@ impl<'a> Cursor<'a> {
         }
     }
 
-    /// A name with this spelling, in upper case.
+    /// Takes the name with this spelling, in upper case. Any other token is refused.
     #[tactic(auto, unfolding(crate::specs::Parser::word))]
     pub fn word(&mut self, text: &[u8]) -> Result<(), ParseFault>
         ensures { Reads (spec.word text.now self.old) result self.new }
@@ -174,6 +178,7 @@ impl<'a> Cursor<'a> {
         }
     }
 
+    /// Takes a whole literal. Any other token is refused.
     #[tactic(auto, unfolding(crate::specs::Parser::whole))]
     pub fn whole(&mut self) -> Result<Magnitude, ParseFault>
         ensures { Reads (spec.whole self.old) result self.new }
@@ -190,7 +195,7 @@ impl<'a> Cursor<'a> {
         }
     }
 
-    /// A whole literal whose value is 1.
+    /// Takes a whole literal whose value is 1. Any other token is refused.
     #[tactic(auto, unfolding(crate::specs::Parser::one))]
     pub fn one(&mut self) -> Result<(), ParseFault>
         ensures { Reads (spec.one self.old) result self.new }
@@ -211,7 +216,7 @@ impl<'a> Cursor<'a> {
         }
     }
 
-    /// A whole or a time literal.
+    /// Takes a whole or a time literal. Any other token is refused.
     #[tactic(auto, unfolding(crate::specs::Parser::literal))]
     pub fn literal(&mut self) -> Result<i128, ParseFault>
         ensures { Reads (spec.literal self.old) result self.new }
@@ -232,6 +237,7 @@ impl<'a> Cursor<'a> {
         }
     }
 
+    /// Whether a name is next.
     pub fn sees_name(&self) -> bool
         ensures { result ≡ spec.sees_name self.now }
     {
@@ -244,7 +250,7 @@ impl<'a> Cursor<'a> {
         }
     }
 
-    /// Whether an expression may begin here.
+    /// Whether the next token may begin an expression.
     pub fn begins_expression(&self) -> bool
         ensures { result ≡ begins_expression self.now }
     {
@@ -260,7 +266,7 @@ impl<'a> Cursor<'a> {
         }
     }
 
-    /// The operator of this level that comes next.
+    /// The operator of this level, if it is next.
     pub fn operator(&self, level: u8) -> Option<BinaryOperator>
         ensures { result ≡ next_operator level self.now }
     {
@@ -275,7 +281,7 @@ impl<'a> Cursor<'a> {
             None => None,
         }
     }
-    /// Whether a statement may begin here.
+    /// Whether the next token may begin a statement.
     pub fn begins_statement(&self) -> bool
         ensures { result ≡ begins_statement self.now }
     {
@@ -310,7 +316,7 @@ impl<'a> Cursor<'a> {
         }
     }
 
-    /// Whether a label may begin here.
+    /// Whether the next token may begin a label.
     pub fn begins_label(&self) -> bool
         ensures { result ≡ begins_label self.now }
     {

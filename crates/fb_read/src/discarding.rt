@@ -1,9 +1,9 @@
-//! Libraries that are no longer wanted.
+//! Frees libraries.
 
 use fb_types::Library;
 
-/// Frees a library. Each crate that drops one proves the destructors of all its parts once more, so the crates above hand
-/// theirs over.
+/// Frees a library. Each crate that drops one proves the destructors of all its parts once more, so other crates call
+/// this function.
 pub fn discard(library: Library) {
     drop(library);
 }

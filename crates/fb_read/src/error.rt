@@ -7,13 +7,13 @@ use thiserror::Error;
 pub enum ReadError {
     #[error("out of memory")]
     Memory,
-    /// E01: a byte that may stand in comments alone.
+    /// E01: a byte that may occur only in comments.
     #[error("a byte that may stand in comments alone")]
     Byte,
     /// E02: a comment that is not closed, a faulty literal, or a character that begins no token.
     #[error("a faulty token")]
     Token,
-    /// E03: no rule of the grammar goes on with what stands on this line.
+    /// E03: no rule of the grammar continues with the token on this line.
     #[error("a syntax fault in line {line}")]
     Syntax { line: u32 },
     /// E04: more than 1,048,576 bytes.

@@ -18,7 +18,9 @@ const LOOSEST: u8 = 7;
 /// An expression, and how deep it nests.
 #[derive(Drop)]
 pub struct Nested {
+    /// The expression.
     pub expr: Expr,
+    /// How deep it nests, at least 1.
     pub nesting: u32,
 }
 
@@ -40,20 +42,20 @@ fn around(below: u32, depth: u32, expr: Expr, cursor: &Cursor<'_>) -> Result<Nes
             nesting: depth + 1,
         })
     } else {
-        // One call, where the exit would drop each kind of expression by itself.
+        // Drops with one call. The exit would drop each kind of expression separately.
         drop(expr);
         Err(ParseFault::Nesting)
     }
 }
 
-/// Two values on the heap. Of a type parameter, since `?` stands between them: see [`beside`].
+/// Moves two values to the heap. They have a type parameter, since `?` is between them: see [`beside`].
 fn both_boxed<T: Drop>(alloc: Global, x: T, y: T) -> Result<(Boxed<T>, Boxed<T>), AllocError>
     ensures { IfOk result (λ both. both ≡ (x, y)) }
 {
     Ok((Boxed::new(alloc, x)?, Boxed::new(alloc, y)?))
 }
 
-/// The rules that hold expressions take the reader of those as a parameter, so that each is proved by itself.
+/// The rules of expressions take the reader of inner expressions as a parameter, so that each is proved separately.
 #[derive(Drop)]
 struct ExpressionRules<F> {
     /// How deep the parts may nest.
@@ -62,7 +64,7 @@ struct ExpressionRules<F> {
 }
 
 impl<F: Fn(&mut Cursor<'_>, u32, u8) -> Result<Nested, ParseFault>> ExpressionRules<F> {
-    /// A part, whose operators have at most this level.
+    /// An inner expression, whose operators have at most this level.
     fn part(&self, cursor: &mut Cursor<'_>, level: u8) -> Result<Nested, ParseFault>
         requires { Nests self.now.below (F.pre self.now.inner) (F.post self.now.inner) }
         ensures { Reads (spec.nested_expression self.now.below level cursor.old) result cursor.new }
@@ -70,7 +72,7 @@ impl<F: Fn(&mut Cursor<'_>, u32, u8) -> Result<Nested, ParseFault>> ExpressionRu
         (self.inner)(cursor, self.below, level)
     }
 
-    /// What stands behind an opening parenthesis, and the closing one.
+    /// What follows an opening parenthesis, including the closing one.
     #[tactic(auto, unfolding(crate::specs::Expressions::group))]
     fn group(&self, cursor: &mut Cursor<'_>) -> Result<Nested, ParseFault>
         requires { Nests self.now.below (F.pre self.now.inner) (F.post self.now.inner) }
@@ -107,7 +109,7 @@ impl<F: Fn(&mut Cursor<'_>, u32, u8) -> Result<Nested, ParseFault>> ExpressionRu
         requires { Nests self.now.below (F.pre self.now.inner) (F.post self.now.inner) }
         ensures { Reads (spec.arguments self.now.below (spec.nested_expression self.now.below) cursor.old) result cursor.new }
     {
-        // What begins no expression is no argument, however deep arguments may nest.
+        // A token that begins no expression is not an argument, however deep arguments may nest.
         if !cursor.begins_expression() {
             return Err(ParseFault::Syntax);
         }
@@ -124,7 +126,7 @@ impl<F: Fn(&mut Cursor<'_>, u32, u8) -> Result<Nested, ParseFault>> ExpressionRu
         Err(ParseFault::Syntax)
     }
 
-    /// What stands behind the opening parenthesis of a call, and the closing one.
+    /// What follows the opening parenthesis of a call, including the closing one.
     #[tactic(auto, unfolding(crate::specs::Expressions::call))]
     fn call(&self, cursor: &mut Cursor<'_>, function: Name) -> Result<Nested, ParseFault>
         requires { Nests self.now.below (F.pre self.now.inner) (F.post self.now.inner) }
@@ -184,7 +186,7 @@ impl<F: Fn(&mut Cursor<'_>, u32, u8) -> Result<Nested, ParseFault>> ExpressionRu
         }
     }
 
-    /// The expression of this operator, which comes next, behind its left operand.
+    /// The expression of this operator, which is the next token, after its left operand.
     #[tactic(auto, unfolding(crate::specs::Expressions::joined))]
     fn joined(
         &self,
@@ -197,7 +199,7 @@ impl<F: Fn(&mut Cursor<'_>, u32, u8) -> Result<Nested, ParseFault>> ExpressionRu
         requires nests { Nests self.now.below (F.pre self.now.inner) (F.post self.now.inner) }
         ensures { Reads (spec.joined self.now.below (spec.nested_expression self.now.below (level - 1)) left operator cursor.old) result cursor.new }
     {
-        // The operator is one too many, whatever follows it.
+        // The operator nests too deep, whatever follows it.
         if left.nesting > self.below {
             drop(left);
             return Err(ParseFault::Nesting);
@@ -209,8 +211,8 @@ impl<F: Fn(&mut Cursor<'_>, u32, u8) -> Result<Nested, ParseFault>> ExpressionRu
         around(self.below, depth, Expr::Binary(operator, x, y), cursor)
     }
 
-    /// An expression of this level: operands of the level below it, and its operators between them. Each
-    /// turn takes a token.
+    /// An expression of this level: operands of the level below, with its operators between them. Each turn takes a
+    /// token.
     fn level(&self, cursor: &mut Cursor<'_>, level: u8) -> Result<Nested, ParseFault>
         requires { Nests self.now.below (F.pre self.now.inner) (F.post self.now.inner) }
         ensures { Reads (spec.level_at self.now.below (spec.nested_expression self.now.below) level cursor.old) result cursor.new }
@@ -244,8 +246,7 @@ fn nested_expression(cursor: &mut Cursor<'_>, depth: u32, level: u8) -> Result<N
     .level(cursor, level)
 }
 
-/// An expression that nests at most 64 deep. The cursor is left behind it, or at the token at which it is
-/// refused.
+/// Reads an expression that nests at most 64 deep. The cursor is left after it, or at the token that is refused.
 impl Rule for Expr {
     ghost parser = { spec.expression };
 

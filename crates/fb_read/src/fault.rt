@@ -2,10 +2,11 @@
 
 use std::alloc::AllocError;
 
+/// Why a rule of the grammar refuses.
 #[derive(Clone, Copy)]
 pub enum ParseFault {
     Memory,
-    /// No rule reads the next token.
+    /// No rule continues with the next token.
     Syntax,
     /// An expression or a statement nests too deep.
     Nesting,

@@ -22,7 +22,7 @@ use std::alloc::{AllocError, Global};
 #[derive(Clone, Copy)]
 pub enum LexFault {
     Memory,
-    /// A byte that may stand in comments alone.
+    /// A byte that may occur only in comments.
     Byte,
     Token,
 }
@@ -57,7 +57,7 @@ fn parts_start(z: &[u8], start: usize) -> usize
     }
 }
 
-/// The number of ticks, or less than 0 by it.
+/// The number of ticks, negated if `negative` is set.
 fn signed(negative: bool, ticks: u128) -> i128
     requires { ticks ≤ most }
     ensures { result ≡ spec.signed negative ticks }
@@ -70,7 +70,7 @@ fn signed(negative: bool, ticks: u128) -> i128
     }
 }
 
-/// A time literal, by the place behind its `#`.
+/// A time literal, from the index after its `#`.
 #[tactic(auto, unfolding(crate::specs::Front::time))]
 fn time(alloc: Global, z: &[u8], start: usize) -> Result<(Token, usize), LexFault>
     requires some { 0 < start }
@@ -200,7 +200,7 @@ fn sign_of(b: u8, next: u8) -> Option<(Mark, usize)>
     }
 }
 
-/// Whether this byte may stand outside of comments.
+/// Whether this byte may occur outside of comments.
 fn is_plain(b: u8) -> bool
     ensures { result ≡ spec.is_plain b }
 {

@@ -68,7 +68,7 @@ static KEYWORDS: [(&[u8], Mark); 60] = [
     (b"MOD", Mark::Mod),
 ];
 
-/// The mark of the first entry that the word is.
+/// The mark of the first entry with this word.
 fn look_up(mut table: &[(&[u8], Mark)], word: &[u8]) -> Option<Mark>
     ensures { result ≡ spec.look_up (map (λ k. (k.0.now, k.1)) table.entry.now) word.now }
 {

@@ -1,4 +1,5 @@
-//! Laws of the definitions that contracts cite.
+//! Laws of the definitions that contracts cite. Their functions do nothing when they run: they are there for their
+//! contracts.
 
 ghost use Rattle.fb_read.specs.Longest.{TakesLongest, CutsExactly, FaultsExactly};
 ghost use Rattle.fb_read.specs.Pauses.{SkipsExactly};
@@ -7,22 +8,22 @@ ghost use Rattle.fb_read.specs.TimeParts.{DurationsExactly};
 ghost use Rattle.fb_read.specs.Whole.{DeclaresOne};
 ghost use Rattle.fb_read.specs.ReadsExactly.{ReadsExpressions, ReadsBodies};
 
-/// At each place the longest token is taken, and no letter, digit or underscore follows a literal.
+/// At each offset the longest token is taken, and no letter, digit or underscore follows a literal.
 pub fn takes_longest()
     ensures { TakesLongest }
 {}
 
-/// A token is found at the front of a text exactly where it is cut off there, so where none is found there is none.
+/// A token is found at the front of a text exactly if the definitions cut one off there.
 pub fn cuts_exactly()
     ensures { CutsExactly }
 {}
 
-/// Where there is no token, the first byte is at fault exactly where it may not stand outside of comments.
+/// If there is no token, the first byte is at fault exactly if it may not occur outside of comments.
 pub fn faults_exactly()
     ensures { FaultsExactly }
 {}
 
-/// Blanks and comments are skipped between tokens, all of them and nothing else.
+/// Exactly the blanks and comments between tokens are skipped.
 pub fn skips_exactly()
     ensures { SkipsExactly }
 {}
@@ -37,7 +38,7 @@ pub fn signs_exactly()
     ensures { SignsExactly }
 {}
 
-/// A duration is one or more parts with units that fall, and has the sum of their ticks.
+/// A duration is one or more parts with falling units. Its ticks are the sum of their ticks.
 pub fn durations_exactly()
     ensures { DurationsExactly }
 {}
@@ -47,14 +48,14 @@ pub fn declares_one()
     ensures { DeclaresOne }
 {}
 
-/// What is read as an expression is one by the grammar that nests at most 64 deep, what is one is read,
-/// and one that nests deeper is refused for its nesting.
+/// What is read as an expression is one by the grammar, and nests at most 64 deep. Each such expression is read, and one
+/// that nests deeper is refused for its nesting.
 pub fn reads_expressions()
     ensures { ReadsExpressions }
 {}
 
-/// What is read as the statements of an algorithm is so by the grammar, with statements and expressions that
-/// nest at most 64 deep, such statements are read, and those that nest deeper are refused for their nesting.
+/// What is read as the statements of an algorithm is so by the grammar, with statements and expressions that nest at most
+/// 64 deep. Such statements are read, and those that nest deeper are refused for their nesting.
 pub fn reads_bodies()
     ensures { ReadsBodies }
 {}

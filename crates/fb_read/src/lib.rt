@@ -1,12 +1,12 @@
 //! The reader of declaration texts.
 //!
-//! The guarantee to callers is the contract of `read::read_library`: the library that the text declares by the grammar,
-//! or the fault for which it is refused, and where it is refused but for memory, the text declares none. A text
-//! declares one library at most (`laws`).
+//! Guarantee to callers (the contract of `read::read_library`): the result is the library that the text declares by the
+//! grammar, or the fault for which the text is refused. If it is refused for anything but memory, the text declares no
+//! library. A text declares at most one library (`laws`).
 //!
-//! Read in this order: `read`, the entry, and `error`; `token`, `tokens` and `front`, from bytes to tokens, with
-//! `blank`, `word`, `keyword`, `number` and `time`; `cursor`, `rule` and `fault`, how a rule reads; `block`, `ports`,
-//! `network`, `chart`, `operator`, `expression` and `statement`, the rules; `laws`; `discarding`, which frees what was read.
+//! Read in this order: `read`, the entry, and `error`; `token`, `tokens` and `front`, from bytes to tokens, with `blank`,
+//! `word`, `keyword`, `number` and `time`; `cursor`, `rule` and `fault`, how a rule reads; `block`, `ports`, `network`,
+//! `chart`, `operator`, `expression` and `statement`, the rules; `laws`; `discarding`, which frees what was read.
 #![tactic(auto)]
 
 mod blank;

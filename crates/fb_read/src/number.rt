@@ -1,4 +1,4 @@
-//! The numbers that digits make.
+//! Numbers from digits.
 
 ghost use Rattle.std.specs.Prelude.{◌≡◌, ◌≤◌, ◌<◌, ◌+◌, ◌*◌, MatchOption};
 ghost use Rattle.std.specs.Option.{ForSome};
@@ -7,7 +7,7 @@ ghost use Rattle.fb_read.specs.Numbers as spec;
 
 use crate::token::MOST;
 
-/// The digit that a byte is, or 16 where it is none.
+/// The value of a digit, or 16 if the byte is no digit.
 fn digit_of(b: u8) -> u8
     ensures value { result ≡ spec.digit_of b }
     ensures bounded { result ≤ 16 }
@@ -20,7 +20,7 @@ fn digit_of(b: u8) -> u8
     }
 }
 
-/// The number that one more digit makes, where it is not too large.
+/// The number with one more digit, if it is not too large.
 fn with_digit(base: u8, value: u128, digit: u8) -> Option<u128>
     ensures { MatchOption result (most < base * value + digit) (λ n. (n ≡ base * value + digit) × (n ≤ most)) }
 {
@@ -29,8 +29,8 @@ fn with_digit(base: u8, value: u128, digit: u8) -> Option<u128>
     if longer <= MOST { Some(longer) } else { None }
 }
 
-/// The number that digits of this base make, with single underscores between them. `None` where they are
-/// not such digits, and where the number is too large.
+/// The number of digits in this base, with single underscores between them. `None` if they are not such digits, or if the
+/// number is too large.
 #[tactic(auto, unfolding(crate::specs::Numbers::number))]
 pub fn number(base: u8, digits: &[u8]) -> Option<u128>
     requires low { 2 ≤ base }

@@ -70,7 +70,7 @@ fn declared(alloc: Global, declarations: Items<Declaration>) -> Result<Items<Var
     Ok(all)
 }
 
-/// The variables of the section that the mark begins, where there is one.
+/// The variables of the section that begins with this mark, if there is one.
 #[tactic(auto, unfolding(crate::specs::Ports::variables))]
 pub fn variables(cursor: &mut Cursor<'_>, begin: Mark) -> Result<Items<Variable>, ParseFault>
     ensures { Reads (spec.variables begin cursor.old) result cursor.new }

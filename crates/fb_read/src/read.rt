@@ -17,7 +17,7 @@ use crate::tokens::lex;
 use fb_types::{Library, MOST_BYTES};
 use std::alloc::Global;
 
-/// The line of a place, counted from 1 by line feeds.
+/// The line of an offset, counted from 1 by line feeds.
 fn line_of(text: &[u8], place: usize) -> u32
     requires { length text.now ≤ most_bytes }
     ensures { result ≡ 1 + count_by (λ b. b == 10) (take place text.now) }
@@ -41,7 +41,7 @@ fn syntax_fault(text: &[u8], cursor: &Cursor<'_>) -> ReadError
     }
 }
 
-/// The library that all of the tokens are.
+/// The library that all of the tokens form.
 fn parse(alloc: Global, text: &[u8], tokens: &[Placed]) -> Result<Library, ReadError>
     requires { length text.now ≤ most_bytes }
     ensures { Parses result (ended (library (tokens_of tokens.now))) }
@@ -62,13 +62,17 @@ fn parse(alloc: Global, text: &[u8], tokens: &[Placed]) -> Result<Library, ReadE
     }
 }
 
-/// The library that a declaration text declares.
+/// Reads the library that a declaration text declares.
+///
+/// # Errors
+///
+/// Why the text is refused (E01 to E05), or `Memory`.
 pub fn read_library(alloc: Global, text: &[u8]) -> Result<Library, ReadError>
     // What is read is what the text declares.
     ensures declared { IfOk result (λ library. IsLibraryText text.now library) }
-    // A text that is refused, but for memory, declares nothing.
+    // A text that is refused for anything but memory declares nothing.
     ensures none { IfErr result (λ e. ¬ IsMemory e → (library : Library) → IsLibraryText text.now library → ⊥) }
-    // What would be a library without the limit of nesting is refused for its nesting.
+    // A text that would declare a library without the nesting limit is refused for its nesting.
     ensures nesting { IfErr result (λ e. ¬ IsMemory e → (library : Library) → IsDerived text.now library → IsNesting e) }
 
     ensures too_long { IsErrOf result ReadError.TooLong ↔ (most_bytes < length text.now) }

@@ -11,8 +11,8 @@ use crate::fault::ParseFault;
 use crate::token::Mark;
 use fb_types::Items;
 
-/// What a rule of the grammar reads. The cursor begins at the rule's first token and is left behind its
-/// last one, or at the token that the rule refuses.
+/// A rule of the grammar. The cursor begins at the rule's first token and is left after its last one, or at the token
+/// that the rule refuses.
 pub trait Rule: Drop {
     ghost parser: { Parser Self };
 
@@ -20,10 +20,10 @@ pub trait Rule: Drop {
         ensures { Reads (parser cursor.old) result cursor.new };
 }
 
-/// What was found, beside what was read behind it.
+/// Returns `found` with what was read after it.
 ///
-/// A value of a type parameter is dropped by one call. Where `?` stands beside owned values of other types, the drop of
-/// each is written out at each exit, and proved there.
+/// `?` writes out the drop of every owned value in scope at each exit, and each drop is proved there. A value of a type
+/// parameter is dropped by one call. So owned values of several types pass through this function.
 pub fn beside<A: Drop, B: Drop>(found: A, read: Result<B, ParseFault>) -> Result<(A, B), ParseFault>
     ensures found { IfOk result (λ both. both.0 ≡ found) }
     ensures read { read ≡ second_of result }
@@ -31,7 +31,7 @@ pub fn beside<A: Drop, B: Drop>(found: A, read: Result<B, ParseFault>) -> Result
     Ok((found, read?))
 }
 
-/// What was found, and what a rule reads behind this mark.
+/// Returns `found` with what a rule reads after this mark.
 #[tactic(auto, unfolding(crate::specs::Parser::behind))]
 pub fn behind<A: Drop, B: Rule>(
     cursor: &mut Cursor<'_>,
@@ -53,7 +53,7 @@ pub fn pair<A: Rule, B: Rule>(cursor: &mut Cursor<'_>, between: Mark) -> Result<
     behind(cursor, first, between)
 }
 
-/// The items that were found, and what was read behind them.
+/// Appends what was read to the items that were found.
 pub fn added<T: Drop>(found: Items<T>, read: Result<T, ParseFault>) -> Result<Items<T>, ParseFault>
     ensures { Adds found read result }
 {
@@ -62,7 +62,7 @@ pub fn added<T: Drop>(found: Items<T>, read: Result<T, ParseFault>) -> Result<It
     Ok(all)
 }
 
-/// What was found, where this mark stands behind it.
+/// Returns `found`, if this mark is next.
 #[tactic(auto, unfolding(crate::specs::Parser::expect))]
 pub fn ended<T: Drop>(cursor: &mut Cursor<'_>, end: Mark, found: T) -> Result<T, ParseFault>
     ensures { Reads (spec.ended end found cursor.old) result cursor.new }
@@ -71,7 +71,7 @@ pub fn ended<T: Drop>(cursor: &mut Cursor<'_>, end: Mark, found: T) -> Result<T,
     Ok(found)
 }
 
-/// What was found, where this mark and a semicolon stand behind it.
+/// Returns `found`, if this mark and a semicolon are next.
 pub fn finished<T: Drop>(cursor: &mut Cursor<'_>, end: Mark, found: T) -> Result<T, ParseFault>
     ensures { Reads (spec.finished end found cursor.old) result cursor.new }
 {
@@ -79,8 +79,8 @@ pub fn finished<T: Drop>(cursor: &mut Cursor<'_>, end: Mark, found: T) -> Result
     ended(cursor, Mark::Semicolon, found)
 }
 
-/// What the rule reads up to a mark, behind the items that were found, and that mark. Each turn takes a
-/// token, so there are enough turns.
+/// Appends what the rule reads up to a mark, including that mark. Each turn takes a token, so the number of tokens is
+/// enough turns.
 pub fn many_after<T: Rule>(
     cursor: &mut Cursor<'_>,
     end: Mark,
@@ -98,7 +98,7 @@ pub fn many_after<T: Rule>(
     Err(ParseFault::Syntax)
 }
 
-/// What the rule reads up to a mark, and that mark.
+/// What the rule reads up to a mark, including that mark.
 #[tactic(auto, unfolding(crate::specs::Parser::many, crate::specs::Parser::many_after))]
 pub fn many<T: Rule>(cursor: &mut Cursor<'_>, end: Mark) -> Result<Items<T>, ParseFault>
     ensures { Reads (spec.many T.parser end cursor.old) result cursor.new }
@@ -107,7 +107,7 @@ pub fn many<T: Rule>(cursor: &mut Cursor<'_>, end: Mark) -> Result<Items<T>, Par
     many_after(cursor, end, none)
 }
 
-/// The items of the section that begins and ends with these marks, where there is one.
+/// The items of the section that begins and ends with these marks, if there is one.
 #[tactic(auto, unfolding(crate::specs::Parser::section))]
 pub fn section<T: Rule>(
     cursor: &mut Cursor<'_>,
@@ -123,7 +123,7 @@ pub fn section<T: Rule>(
     }
 }
 
-/// What the rule reads as long as this mark comes next, behind the items that were found.
+/// Appends what the rule reads as long as this mark is next.
 pub fn run_after<T: Rule>(
     cursor: &mut Cursor<'_>,
     begin: Mark,
@@ -141,7 +141,7 @@ pub fn run_after<T: Rule>(
     Ok(found)
 }
 
-/// What the rule reads, once or more, with commas between. Each turn takes a token.
+/// What the rule reads, once or more, separated by commas. Each turn takes a token.
 pub fn separated<T: Rule>(cursor: &mut Cursor<'_>) -> Result<Items<T>, ParseFault>
     ensures { Reads (spec.separated T.parser cursor.old) result cursor.new }
 {
@@ -155,7 +155,7 @@ pub fn separated<T: Rule>(cursor: &mut Cursor<'_>) -> Result<Items<T>, ParseFaul
     Err(ParseFault::Syntax)
 }
 
-/// What the rule reads behind this mark, where the mark comes next.
+/// What the rule reads after this mark, if the mark is next.
 #[tactic(auto, unfolding(crate::specs::Parser::optional))]
 pub fn optional<T: Rule>(cursor: &mut Cursor<'_>, begin: Mark) -> Result<Option<T>, ParseFault>
     ensures { Reads (spec.optional T.parser begin cursor.old) result cursor.new }
@@ -167,7 +167,7 @@ pub fn optional<T: Rule>(cursor: &mut Cursor<'_>, begin: Mark) -> Result<Option<
     }
 }
 
-/// What the rule reads behind this mark, once or more with commas between, where the mark comes next.
+/// What the rule reads after this mark, once or more, separated by commas, if the mark is next.
 #[tactic(auto, unfolding(crate::specs::Parser::listed))]
 pub fn listed<T: Rule>(cursor: &mut Cursor<'_>, begin: Mark) -> Result<Items<T>, ParseFault>
     ensures { Reads (spec.listed T.parser begin cursor.old) result cursor.new }

@@ -57,7 +57,7 @@ fn for_end(cursor: &mut Cursor<'_>) -> Result<(Expr, Option<Expr>), ParseFault>
     beside(end, optional::<Expr>(cursor, Mark::By))
 }
 
-/// A statement that holds no others.
+/// A statement without inner statements.
 #[tactic(auto, unfolding(crate::specs::Statements::simple))]
 fn simple(cursor: &mut Cursor<'_>) -> Result<Stmt, ParseFault>
     ensures { Reads (spec.simple cursor.old) result cursor.new }
@@ -73,7 +73,7 @@ fn simple(cursor: &mut Cursor<'_>) -> Result<Stmt, ParseFault>
     }
 }
 
-/// The rules that hold statements take the reader of those as a parameter, so that each is proved by itself.
+/// The rules of statements take the reader of inner statements as a parameter, so that each is proved separately.
 #[derive(Drop)]
 pub struct StatementRules<F> {
     /// How deep the statements inside may nest.
@@ -82,7 +82,7 @@ pub struct StatementRules<F> {
 }
 
 impl<F: Fn(&mut Cursor<'_>, u32) -> Result<Stmt, ParseFault>> StatementRules<F> {
-    /// A statement inside.
+    /// An inner statement.
     fn part(&self, cursor: &mut Cursor<'_>) -> Result<Stmt, ParseFault>
         requires { StatementNests self.now.below (F.pre self.now.inner) (F.post self.now.inner) }
         ensures { Reads (spec.nested_statement self.now.below cursor.old) result cursor.new }
@@ -90,7 +90,7 @@ impl<F: Fn(&mut Cursor<'_>, u32) -> Result<Stmt, ParseFault>> StatementRules<F> 
         (self.inner)(cursor, self.below)
     }
 
-    /// The statements up to what begins none. Each turn takes a token.
+    /// The statements up to the first token that begins none. Each turn takes a token.
     fn block(&self, cursor: &mut Cursor<'_>) -> Result<Items<Stmt>, ParseFault>
         requires { StatementNests self.now.below (F.pre self.now.inner) (F.post self.now.inner) }
         ensures { Reads (spec.block (spec.nested_statement self.now.below) cursor.old) result cursor.new }
@@ -105,7 +105,7 @@ impl<F: Fn(&mut Cursor<'_>, u32) -> Result<Stmt, ParseFault>> StatementRules<F> 
         Ok(found)
     }
 
-    /// A condition, and the statements behind it.
+    /// A condition, and the statements after it.
     #[tactic(auto, unfolding(crate::specs::Statements::choice))]
     fn choice(&self, cursor: &mut Cursor<'_>) -> Result<Choice, ParseFault>
         requires { StatementNests self.now.below (F.pre self.now.inner) (F.post self.now.inner) }
@@ -117,7 +117,7 @@ impl<F: Fn(&mut Cursor<'_>, u32) -> Result<Stmt, ParseFault>> StatementRules<F> 
         Ok(Choice { condition, body })
     }
 
-    /// What stands behind IF, with each ELSIF. Each turn takes a token.
+    /// What follows IF, including each ELSIF. Each turn takes a token.
     fn choices(&self, cursor: &mut Cursor<'_>) -> Result<Items<Choice>, ParseFault>
         requires { StatementNests self.now.below (F.pre self.now.inner) (F.post self.now.inner) }
         ensures { Reads (spec.choices (spec.nested_statement self.now.below) cursor.old) result cursor.new }
@@ -132,7 +132,7 @@ impl<F: Fn(&mut Cursor<'_>, u32) -> Result<Stmt, ParseFault>> StatementRules<F> 
         Ok(found)
     }
 
-    /// Labels, and the statements behind them.
+    /// Labels, and the statements after them.
     #[tactic(auto, unfolding(crate::specs::Statements::branch))]
     fn branch(&self, cursor: &mut Cursor<'_>) -> Result<Branch, ParseFault>
         requires { StatementNests self.now.below (F.pre self.now.inner) (F.post self.now.inner) }
@@ -159,7 +159,7 @@ impl<F: Fn(&mut Cursor<'_>, u32) -> Result<Stmt, ParseFault>> StatementRules<F> 
         Ok(found)
     }
 
-    /// The statements behind ELSE, where there is one.
+    /// The statements after ELSE, if there is one.
     #[tactic(auto, unfolding(crate::specs::Statements::others))]
     fn others(&self, cursor: &mut Cursor<'_>) -> Result<Items<Stmt>, ParseFault>
         requires { StatementNests self.now.below (F.pre self.now.inner) (F.post self.now.inner) }
@@ -172,7 +172,7 @@ impl<F: Fn(&mut Cursor<'_>, u32) -> Result<Stmt, ParseFault>> StatementRules<F> 
         }
     }
 
-    /// What stands behind IF.
+    /// What follows IF.
     #[tactic(auto, unfolding(crate::specs::Statements::if_statement))]
     fn if_statement(&self, cursor: &mut Cursor<'_>) -> Result<Stmt, ParseFault>
         requires { StatementNests self.now.below (F.pre self.now.inner) (F.post self.now.inner) }
@@ -183,7 +183,7 @@ impl<F: Fn(&mut Cursor<'_>, u32) -> Result<Stmt, ParseFault>> StatementRules<F> 
         finished(cursor, Mark::EndIf, Stmt::If(choices, others))
     }
 
-    /// The branches of a CASE and what is done else, from OF on.
+    /// The branches of a CASE and its ELSE, from OF on.
     #[tactic(auto, unfolding(crate::specs::Statements::case_body))]
     fn case_body(&self, cursor: &mut Cursor<'_>) -> Result<(Items<Branch>, Items<Stmt>), ParseFault>
         requires { StatementNests self.now.below (F.pre self.now.inner) (F.post self.now.inner) }
@@ -195,7 +195,7 @@ impl<F: Fn(&mut Cursor<'_>, u32) -> Result<Stmt, ParseFault>> StatementRules<F> 
         finished(cursor, Mark::EndCase, both)
     }
 
-    /// What stands behind CASE.
+    /// What follows CASE.
     #[tactic(auto, unfolding(crate::specs::Statements::case_statement))]
     fn case_statement(&self, cursor: &mut Cursor<'_>) -> Result<Stmt, ParseFault>
         requires { StatementNests self.now.below (F.pre self.now.inner) (F.post self.now.inner) }
@@ -207,7 +207,7 @@ impl<F: Fn(&mut Cursor<'_>, u32) -> Result<Stmt, ParseFault>> StatementRules<F> 
         Ok(Stmt::Case(selector, branches, others))
     }
 
-    /// The statements of a loop, from DO on, up to this mark and the end of the loop.
+    /// The statements of a loop, from DO on, up to this mark, including the end of the loop.
     #[tactic(auto, unfolding(crate::specs::Statements::loop_body))]
     fn loop_body(&self, cursor: &mut Cursor<'_>, end: Mark) -> Result<Items<Stmt>, ParseFault>
         requires { StatementNests self.now.below (F.pre self.now.inner) (F.post self.now.inner) }
@@ -235,7 +235,7 @@ impl<F: Fn(&mut Cursor<'_>, u32) -> Result<Stmt, ParseFault>> StatementRules<F> 
         Ok(Stmt::For(variable, start, end, step, body))
     }
 
-    /// What stands behind FOR.
+    /// What follows FOR.
     #[tactic(auto, using(crate::proofs::Pairs::for_statement_is))]
     fn for_statement(&self, cursor: &mut Cursor<'_>) -> Result<Stmt, ParseFault>
         requires { StatementNests self.now.below (F.pre self.now.inner) (F.post self.now.inner) }
@@ -245,7 +245,7 @@ impl<F: Fn(&mut Cursor<'_>, u32) -> Result<Stmt, ParseFault>> StatementRules<F> 
         self.for_to(cursor, Reference::new(variable), start)
     }
 
-    /// What stands behind WHILE.
+    /// What follows WHILE.
     #[tactic(auto, unfolding(crate::specs::Statements::while_statement))]
     fn while_statement(&self, cursor: &mut Cursor<'_>) -> Result<Stmt, ParseFault>
         requires { StatementNests self.now.below (F.pre self.now.inner) (F.post self.now.inner) }
@@ -256,7 +256,7 @@ impl<F: Fn(&mut Cursor<'_>, u32) -> Result<Stmt, ParseFault>> StatementRules<F> 
         Ok(Stmt::While(condition, body))
     }
 
-    /// What stands behind REPEAT.
+    /// What follows REPEAT.
     #[tactic(auto, using(crate::proofs::Pairs::repeat_is))]
     fn repeat_statement(&self, cursor: &mut Cursor<'_>) -> Result<Stmt, ParseFault>
         requires { StatementNests self.now.below (F.pre self.now.inner) (F.post self.now.inner) }
@@ -302,8 +302,8 @@ fn nested_statement(cursor: &mut Cursor<'_>, depth: u32) -> Result<Stmt, ParseFa
     .statement(cursor)
 }
 
-/// The statements of an algorithm, each of which nests at most 64 deep, and END_ALGORITHM. The cursor is
-/// left behind it, or at the token that is refused.
+/// The statements of an algorithm, each of which nests at most 64 deep, including END_ALGORITHM. The cursor is left after
+/// it, or at the token that is refused.
 #[tactic(auto, unfolding(crate::specs::Statements::body))]
 pub fn body(cursor: &mut Cursor<'_>) -> Result<Body, ParseFault>
     ensures { Reads (spec.body cursor.old) result cursor.new }

@@ -93,8 +93,8 @@ fn small_sum(a: Option<u128>, b: Option<u128>) -> Option<u128>
     if sum <= MOST { Some(sum) } else { None }
 }
 
-/// The ticks of one or more parts with these units alone, in upper case. `None` where the text is no such
-/// parts, and where the sum is too large.
+/// The ticks of one or more parts with only these units, in upper case. `None` if the text is not such parts, or if the
+/// sum is too large.
 #[tactic(auto, unfolding(crate::specs::Durations::parts))]
 fn parts(units: &[Unit], z: &[u8]) -> Option<u128>
     ensures value { result ≡ spec.parts units.now z.now }

@@ -90,19 +90,22 @@ pub enum Mark {
     Ampersand,
 }
 
+/// A token of the declaration text.
 #[derive(Drop)]
 pub enum Token {
     Mark(Mark),
     Name(Name),
     Whole(Magnitude),
-    /// In ticks.
+    /// A duration in ticks, which are milliseconds.
     Time(i128),
 }
 
-/// A token, and the place in the text at which it begins.
+/// A token, and the offset in bytes at which it begins.
 #[derive(Drop)]
 pub struct Placed {
+    /// The token.
     pub token: Token,
+    /// The offset in bytes.
     pub place: usize,
 }
 
@@ -130,6 +133,7 @@ impl Magnitude {
     ghost use Rattle.std.specs.Prelude.{◌≡◌, ◌≤◌, pos, neg_ℤ};
     ghost use Rattle.fb_read.specs.Limits.{most};
 
+    /// A number of at most [`MOST`].
     pub fn new(value: u128) -> Magnitude
         requires { value ≤ most }
         ensures { result ≡ value }
@@ -137,20 +141,21 @@ impl Magnitude {
         Magnitude { value }
     }
 
+    /// The same number.
     pub fn copied(&self) -> Magnitude
         ensures { result ≡ self.now }
     {
         Magnitude { value: self.value }
     }
 
-    /// The number itself.
+    /// The number.
     pub fn positive(&self) -> i128
         ensures { result ≡ pos self.now }
     {
         self.value as i128
     }
 
-    /// Less than 0 by the number.
+    /// The negated number.
     pub fn negative(&self) -> i128
         ensures { result ≡ neg_ℤ (pos self.now) }
     {

@@ -10,7 +10,7 @@ use crate::token::Placed;
 use fb_types::Items;
 use std::alloc::Global;
 
-/// What stands behind one leading byte order mark.
+/// What follows one leading byte order mark.
 fn behind_mark(text: &[u8]) -> &[u8]
     ensures value { result.now ≡ spec.behind_mark text.now }
     ensures shorter { length result.now ≤ length text.now }
@@ -22,7 +22,7 @@ fn behind_mark(text: &[u8]) -> &[u8]
     }
 }
 
-/// The tokens of a text, each with its place.
+/// The tokens of a text, each with its offset.
 pub fn lex(alloc: Global, text: &[u8]) -> Result<Items<Placed>, LexFault>
     ensures found { IfOk result (λ found. AreTokens (spec.tokens_of found) (spec.behind_mark text.now)) }
     ensures fault { IfErr result (λ e. Tells e (spec.behind_mark text.now)) }

@@ -27,7 +27,7 @@ fn upper(b: u8) -> u8
     if b.is_ascii_lowercase() { b - 32 } else { b }
 }
 
-/// How long the word at the front is.
+/// The length of the word at the front.
 pub fn word_len(z: &[u8]) -> usize
     ensures value { result ≡ spec.word_len z.now }
     ensures within { result ≤ length z.now }

@@ -1,4 +1,4 @@
--- What the variables of an instance begin with, as of the inputs as which a system is seen.
+-- The initial values of the variables of an instance, for the inputs that a system stands for.
 use Rattle.std.proofs.Common.{◌≡◌, ℕ, List, [], map, Option, Some, None, refl, sym, ◌∙◌, ap, subst}
 use Rattle.std.specs.Prelude.{option_and_then}
 use Rattle.fb_types.specs.Names.{Path}
@@ -52,7 +52,7 @@ outputs_begun i q p ok is = ap (λ (p : Ports). map initial_of p.outputs) is ∙
 
 -- ---- Inputs
 
--- What `input_values` takes and what it gives.
+-- What `input_values` takes and returns.
 pub record IsBegun (i : Inputs) (q : Path) (p : Ports) (xs : List Parameter) (ks : List ℕ) : Type 0 where
   pub places : each_or_none (λ (x : Parameter). place_of (data_ins p) x.name) xs ≡ Some ks
   pub inputs : ¬ (Twice (variable_names p.inputs))
@@ -96,7 +96,7 @@ inputs_begun i q p x xs ks ok at h is read =
     subst (λ (p : Ports). IsBegun i q p xs ks) same
     (subst (λ (xs : List Parameter). IsBegun i q (ports_of k.0) xs ks) (sym read) (begun i q x ks k.0 ok at h k.1))
 
--- ---- As the tables say it
+-- ---- As the tables have it
 
 abbrev NumbersAt : Library → (instance : ℕ) → List ℕ → Type 0
 NumbersAt lib n ks = (x : Instance) → instance_at lib (path_of lib n) ≡ Some x → parameter_numbers lib x ≡ Some ks

@@ -25,7 +25,7 @@ use Rattle.fb_check_names.specs.declared.numbers.TypeNumber.TheVariants as numbe
 use Rattle.fb_check_names.specs.Numbers.{type_number, kind_of_number}
 use Rattle.fb_check_names.proofs.Lookups.{type_named-number}
 
--- ---- Parts of a list in which nothing stands twice
+-- ---- Parts of a list in which nothing occurs twice
 
 Twice-both : (xs ys : List Name) (n : Name) → Contains xs n → Contains ys n → Twice (xs ++ ys)
 Twice-both [] ys n c d = absurd (Contains-nil n c)
@@ -35,7 +35,7 @@ Twice-both (x ∷ xs) ys n c d =
       | inr rest ↦ inr (Twice-both xs ys n rest d)
     ]
 
--- The names of each sort of ports differ, and no name is of both sorts.
+-- The names of each kind of ports differ, and no name is of both kinds.
 pub record Differ (first second : List Name) : Type 0 where
   pub first_once : ¬ (Twice first)
   pub second_once : ¬ (Twice second)
@@ -58,7 +58,7 @@ pub record ArePortsApart (p : Ports) : Type 0 where
   pub events : Differ (event_ins p) (event_outs p)
   pub variables : Differ (data_ins p) (data_outs p)
 
--- whether a name stands twice
+-- whether a name occurs twice
 unfoldable repeats : List Name → Bool
 repeats [] = false
 repeats (n ∷ ns) = list_any (same_name n) ns || repeats ns
@@ -189,7 +189,7 @@ type_apart lib plan n k once h =
       | Some t ↦ λ g. number_apart lib plan t k once g
     ] (sym (type_named-number lib n) ∙ h)
 
--- the ports of what stands at a path
+-- the ports of the instance at a path
 pub kind_apart : (lib : Library) (plan : Plan) (p : Path) (k : Kind) → ¬ (NameTwice lib plan) → kind_at lib p ≡ Some k → ArePortsApart (ports_of k)
 kind_apart lib plan p k once h =
     elim (instance_at lib p) as (λ o. option_and_then (kind_of_instance lib) o ≡ Some k → ArePortsApart (ports_of k)) [

@@ -1,4 +1,4 @@
--- The paths of an application differ, where the names in each network do.
+-- The paths of an application differ, if the names in each network do.
 use Rattle.std.proofs.Common.{◌≡◌, ◌⊎◌, ℕ, zero, suc, ◌+◌, false, List, [], ◌∷◌, ◌++◌, map, length, Option, Some, None, Contains, refl, sym, ◌∙◌, ap, subst, inl, inr, arith, append_assoc}
 use Rattle.std.specs.Prelude.{slice_get, option_map, position, flat_map}
 use Rattle.std.proofs.lemmas.Bool.{false_from_ne_true}
@@ -31,7 +31,7 @@ Twice-append_cases {A} (x ∷ xs) ys h =
 
 -- ---- Paths that end alike
 
--- what stands before an end shows which element the end begins with
+-- what is before an end shows which element the end begins with
 pub same_end : {A : Type 0} (r s : List A) (x y : A) (p : List A) → r ++ x ∷ p ≡ s ++ y ∷ p → x ≡ y
 same_end [] [] x y p h = cc
 same_end [] (z ∷ s) x y p h =
@@ -44,7 +44,7 @@ same_end (w ∷ r) [] x y p h =
     absurd (omega (arith, long))
 same_end (w ∷ r) (z ∷ s) x y p h = let rest : r ++ x ∷ p ≡ s ++ y ∷ p = cc in same_end r s x y p rest
 
--- ---- Where the paths inside a network lie
+-- ---- Where the paths inside a network are
 
 -- the path leads through an instance of the list
 pub record IsThrough (p : Path) (is : List Instance) (q : Path) : Type 0 where
@@ -63,7 +63,7 @@ paths_from d lib p i = (i.name ∷ p) ∷ below d lib (i.name ∷ p) (inside lib
 later : (p : Path) (i : Instance) (is : List Instance) (q : Path) → IsThrough p is q → IsThrough p (i ∷ is) q
 later p i is q h = record { instance = h.instance; among = Contains-there i is h.instance h.among; deeper = h.deeper; path = h.path }
 
--- the paths of instances, where those inside each are known to lie inside it
+-- the paths of instances, if those inside each are known to be inside it
 through_each :
     (d : ℕ) (lib : Library) (p : Path) (is : List Instance) (q : Path)
     → ((i : Instance) (q : Path) → Contains (below d lib (i.name ∷ p) (inside lib i)) q → (r : Path) × (m : Name) × (q ≡ r ++ m ∷ i.name ∷ p))

@@ -23,19 +23,19 @@ use Rattle.fb_types.proofs.Options.{and_then_parts, map_parts}
 use Rattle.fb_system.specs.Networks.{IsThere, IsEndOf, side, composite_of}
 use Rattle.fb_system.proofs.Differing.{Differ}
 
--- ---- Names and places
+-- ---- Names and indices
 
 map-itself : {A : Type 0} (xs : List A) → map (λ x. x) xs ≡ xs
 map-itself [] = refl
 map-itself (x ∷ xs) = ap (λ ys. x ∷ ys) (map-itself xs)
 
--- the name at its place
+-- the name at its index
 name_there : (ns : List Name) (n : Name) (k : ℕ) → place_of ns n ≡ Some k → slice_get ns k ≡ Some n
 name_there ns n k h =
     let at = position_is (λ (m : Name). m) n ns k (ap (position (same_name n)) (map-itself ns) ∙ h) in
     at.1 ∙ ap (λ (m : Name). Some m) at.2
 
--- two places have the same name exactly where they are one
+-- two indices have the same name exactly if they are the same
 same_at :
     {A : Type 0} (f : A → Name) (xs : List A) (i j : ℕ) (x y : A) → ¬ (Twice (map f xs)) → slice_get xs i ≡ Some x → slice_get xs j ≡ Some y
     → f x ≡ f y → i ≡ j
@@ -66,7 +66,7 @@ same_path_of p q e = ap (λ (r : Path). same_path r q) e ∙ same_path_itself q
 apart_path : (p q : Path) → (p ≡ q → ⊥) → same_path p q ≡ false
 apart_path p q apart = false_from_ne_true (same_path p q) (λ t. apart (same_path_is p q t))
 
--- what stands at the boundary has the path of the network itself, and no component has
+-- what is at the boundary has the path of the network itself, and no component has
 pub at_boundary : (lib : Library) (p a : Path) (c : Option ℕ) → IsThere lib p c a → a ≡ p → c ≡ None
 at_boundary lib p a None h e = refl
 at_boundary lib p a (Some j) h e = absurd (longer h.1.name p (sym h.4 ∙ e))
@@ -75,7 +75,7 @@ pub at_component : (lib : Library) (p a : Path) (n : Name) (c : Option ℕ) → 
 at_component lib p a n None h e = absurd (longer n p (sym e ∙ h))
 at_component lib p a n (Some j) h e = (j, refl)
 
--- Two ends are at one path exactly where they are at one component, or both at the boundary.
+-- Two ends are at one path exactly if they are at one component, or both at the boundary.
 pub paths_there :
     (lib : Library) (p : Path) (net : Network) (c d : Option ℕ) (a b : Path) → network_at lib p ≡ Some net → ¬ (Twice (instance_names net))
     → IsThere lib p c a → IsThere lib p d b → same_path a b ≡ same_component c d
@@ -112,7 +112,7 @@ component_is (Some i) (Some j) h =
 
 -- ---- Ends
 
--- The names of each of the two sorts differ, at each type.
+-- The names of each of the two kinds differ, at each type.
 abbrev pub AreApart : Library → (component boundary : Ports → List Name) → Type 0
 AreApart lib component boundary = (p : Path) (k : Kind) → kind_at lib p ≡ Some k → Differ (component (ports_of k)) (boundary (ports_of k))
 
@@ -120,7 +120,7 @@ pub side_once : (component boundary : Ports → List Name) (c : Option ℕ) (p :
 side_once component boundary None p d = d.second_once
 side_once component boundary (Some j) p d = d.first_once
 
--- ends stand for one port exactly where they are one
+-- ends stand for one port exactly if they are the same
 pub ends_there :
     (lib : Library) (p : Path) (net : Network) (component boundary : Ports → List Name) (e f : WireEnd) (q r : Port) → network_at lib p ≡ Some net
     → ¬ (Twice (instance_names net)) → AreApart lib component boundary → IsEndOf lib p component boundary e q → IsEndOf lib p component boundary f r

@@ -1,4 +1,4 @@
--- The resource that holds an instance is that of the application's instance on the way to it.
+-- The resource that holds an instance is that of the application's instance on the path to it.
 use Rattle.std.proofs.Common.{◌≡◌, ℕ, ◌<◌, List, [], ◌∷◌, ◌++◌, map, length, get_or, Option, Some, None, Contains, refl, sym, ◌∙◌, ap, subst, inl, inr, append_assoc, ◌+◌, below_more, length-append}
 use Rattle.std.specs.Prelude.{flat_map, position, slice_get, unwrap_or}
 use Rattle.std.proofs.lemmas.List.Elements.{Contains-append_cases}
@@ -50,7 +50,7 @@ through lib k h =
     subst (λ (q : Path). IsThrough [] lib.application.network.instances q) (sym is)
     (through_each 16 lib [] lib.application.network.instances (get_or (paths_of lib) k []) (element_of_place (paths_of lib) k (get_or (paths_of lib) k []) there))
 
--- ---- The way begins at that instance
+-- ---- The path begins at that instance
 
 first_stays : (xs ys : List ℕ) (x : ℕ) → slice_get xs 0 ≡ Some x → slice_get (xs ++ ys) 0 ≡ Some x
 first_stays [] ys x h = absurd (cc)
@@ -66,7 +66,7 @@ resource_outside plan [] n = refl
 resource_outside plan (m ∷ []) n = refl
 resource_outside plan (m ∷ k ∷ r) n = resource_outside plan (k ∷ r) n
 
--- the resource of an instance of the application, by its place
+-- the resource of an instance of the application, by its index
 holder_there :
     (lib : Library) (plan : Plan) (x : Linked) (i : Instance) → IsLinked lib plan x → Contains lib.application.network.instances i
     → holder_at x (place_at lib [] i.name) ≡ holder plan i.name
@@ -86,7 +86,7 @@ first_place lib k h =
     let t = through lib k h in
     ap (λ (q : Path). slice_get (route_to lib q) 0) t.path ∙ first_of_route lib t.deeper t.instance.name
 
--- the resource of an instance, by the first place on the way to it
+-- the resource of an instance, by the first index on the path to it
 pub resource_by_place :
     (lib : Library) (plan : Plan) (x : Linked) (k place : ℕ) → IsLinked lib plan x → k < length (paths_of lib)
     → slice_get (route_to lib (path_of lib k)) 0 ≡ Some place → holder_at x place ≡ resource_of plan (path_of lib k)
@@ -129,7 +129,7 @@ homes_next lib x n home homes far is = (
       (ap (slice_get (homes ++ home ∷ [])) (sym far.0) ∙ slice_get-append_here homes home ∙ ap (λ m. Some m) (is plan linked)),
 )
 
--- a way has a first place
+-- a path has a first index
 pub first_there : (lib : Library) (k : ℕ) (route : List ℕ) → k < length (paths_of lib) → route ≡ route_to lib (path_of lib k) → slice_get route 0 ≡ None → ⊥
 first_there lib k route h r none =
     let g : None ≡ Some (places_through lib k h) = sym none ∙ ap (λ (ks : List ℕ). slice_get ks 0) r ∙ first_place lib k h in cc

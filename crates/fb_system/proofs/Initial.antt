@@ -1,4 +1,5 @@
--- What the variables of an instance of an accepted system begin with: the inputs with the parameters, the outputs as they are declared.
+-- Initial values of the variables of an instance of an accepted system: the inputs with the parameters, the outputs as
+-- they are declared.
 use Rattle.std.proofs.Common.{◌≡◌, ℕ, suc, ◌+◌, List, [], ◌∷◌, ◌++◌, length, map, Option, Some, None, Contains, refl, sym, ◌∙◌, ap, subst, inl, inr, append-nil}
 use Rattle.std.specs.Prelude.{slice_get, option_and_then}
 use Rattle.std.proofs.lemmas.List.{map-append}
@@ -69,7 +70,7 @@ declared_is k j v once h =
     let here : named name_of v.name (all ++ r.rest) ≡ Some v = named-append_old name_of v.name all r.rest v (named_of_once name_of all j v names h) in
     ap (λ (vs : List Variable). declared_from (named name_of v.name vs)) r.is ∙ ap declared_from here
 
--- ---- What an instance begins with
+-- ---- Initial values of an instance
 
 abbrev value_from : Option Kind → Name → Option Parameter → Value
 value_from o n x = elim x as (λ _. Value) [ Some x ↦ x.value | None ↦ declared_initial o n ]
@@ -82,7 +83,7 @@ initial_is lib p i k n h of =
     ap (λ (o : Option Instance). value_from (option_and_then (kind_of_instance lib) o) n (option_and_then (λ (i : Instance). named called n i.parameters) o)) h
     ∙ ap (λ (o : Option Kind). value_from o n (named called n i.parameters)) of
 
--- what a data input begins with
+-- the initial value of a data input
 pub input_begins :
     (lib : Library) (p : Path) (i : Instance) (k : Kind) (j : ℕ) (v : Variable) → AreOnce (ports_of k) → instance_at lib p ≡ Some i
     → kind_of_instance lib i ≡ Some k → slice_get (ports_of k).inputs j ≡ Some v
@@ -95,7 +96,7 @@ input_begins lib p i k j v once h of at =
       | None ↦ declared_is k j v once (slice_get-append_left (ports_of k).inputs (ports_of k).outputs j v at)
     ])
 
--- what a data output begins with that no parameter names
+-- the initial value of a data output that no parameter names
 pub output_begins :
     (lib : Library) (p : Path) (i : Instance) (k : Kind) (j : ℕ) (v : Variable) → AreOnce (ports_of k) → instance_at lib p ≡ Some i
     → kind_of_instance lib i ≡ Some k → ¬ (Contains (parameter_names i.parameters) v.name) → slice_get (ports_of k).outputs j ≡ Some v
@@ -106,7 +107,7 @@ output_begins lib p i k j v once h of none at =
 
 -- ---- All variables of an instance
 
--- In a declaration where no name is given twice, what `input_values` gives is what the inputs begin with.
+-- In a declaration where no name is given twice, `input_values` returns the initial values of the inputs.
 pub inputs_begin :
     (lib : Library) (plan : Plan) (p : Path) (i : Instance) (k : Kind) → ¬ (NameTwice lib plan) → instance_at lib p ≡ Some i → kind_of_instance lib i ≡ Some k
     → map (λ n. initial_at lib (record { at = p; name = n })) (variable_names (ports_of k).inputs) ≡ begins_with (ports_of k) i.parameters
@@ -114,7 +115,7 @@ inputs_begin lib plan p i k once h of =
     by_name (λ n. initial_at lib (record { at = p; name = n })) (begin_value i.parameters) (ports_of k).inputs
     (λ j v at. input_begins lib p i k j v (variables_once lib plan i.block_type k once of) h of at)
 
--- Where in addition each name stands for something, what `output_values` gives is what the outputs begin with.
+-- If in addition each name stands for something, `output_values` returns the initial values of the outputs.
 pub outputs_begin :
     (lib : Library) (plan : Plan) (p : Path) (i : Instance) (k : Kind) → ¬ (NameTwice lib plan) → ¬ (NameUnknown lib plan) → instance_at lib p ≡ Some i
     → kind_of_instance lib i ≡ Some k

@@ -1,4 +1,4 @@
--- What stands inside an instance: a network of the declaration, with its numbers.
+-- What is inside an instance: a network of the declaration, with its numbers.
 use Rattle.std.proofs.Common.{◌≡◌, ℕ, [], map, Option, Some, None, Contains, refl, sym, ◌∙◌, ap, subst}
 use Rattle.std.specs.Prelude.{slice_get, option_map, option_and_then, position, flat_map}
 use Rattle.fb_types.specs.Names.{Name, same_name}
@@ -25,7 +25,7 @@ use Rattle.fb_system.specs.Layers.{network_inside, network_of_block}
 
 -- ---- Composite types
 
--- the kind of a composite type is its own alone
+-- no other type has the kind of a composite type
 composite_block : (b : BlockType) (t : CompositeType) → kind_of b ≡ Composite t → b ≡ block.Composite t
 composite_block (block.Basic s) t h = absurd (cc)
 composite_block (block.Composite s) t h = let e : s ≡ t = cc in ap (λ t. block.Composite t) e
@@ -100,7 +100,7 @@ kind_known lib n t =
           (kind_of b.0, ap (kind_of_number lib) (sym place.2) ∙ ap (option_map kind_of) b.1)
     ]
 
--- ---- The network inside an instance by numbers
+-- ---- The network inside an instance by number
 
 -- what is found inside an instance
 abbrev pub IsFound : Library → Option Network → Option (Network × NetworkNumbers) → Type 0

@@ -1,4 +1,4 @@
--- Rows with the ends of connections: what is read of them.
+-- Rows with the ends of connections: what is read from them.
 use Rattle.std.proofs.Common.{◌≡◌, ℕ, true, ◌&&◌, List, Option, Some, Bor, sym, subst}
 use Rattle.std.specs.Prelude.{slice_get, IfSome}
 use lib.Dec.{eqb}

@@ -1,4 +1,4 @@
--- Rows with the heads of lines: what is read of them, and what they are made of.
+-- Rows with the heads of lines: what is read from them, and what they are made of.
 use Rattle.std.proofs.Common.{◌≡◌, ℕ, Bool, true, false, ◌&&◌, ◌<◌, List, [], ◌∷◌, ◌++◌, length, get_or, Option, Some, None, Bor, refl, sym, ◌∙◌, ap, subst, append-nil, append_assoc}
 use Rattle.std.specs.Prelude.{codes, slice_get, IfNone, IfSome}
 use lib.Dec.{eqb}
@@ -45,7 +45,7 @@ row_there sys rows i h x all there some same =
 
 -- ---- What a head is made of
 
--- the name of the first variable behind what stands before it
+-- the name of the first variable after what is before it
 pub first_added :
     (o : Option (Bor Name)) (old new f : List ℕ) → IfNone o (f ≡ []) → IfSome o (λ n. f ≡ codes " " ++ n.now ++ codes "=") → IfNone o (new ≡ old)
     → IfSome o (λ n. new ≡ old ++ codes " " ++ n.now ++ codes "=") → new ≡ old ++ f
@@ -61,7 +61,7 @@ pub event_read : (es fs : List EventPort) (i : ℕ) (e : EventPort) → fs ≡ e
 event_read es fs i e same within read =
     rw (slice_get-map (λ (x : EventPort). x.name) es i, slice_get_read es (length es) i e refl within (rw same at read)) refl
 
--- the place of the first variable, and its name
+-- the index of the first variable, and its name
 pub first_within : (vs : List Variable) (names : List Name) (places : List ℕ) (k : ℕ) → ArePlaces vs names places → slice_get places 0 ≡ Some k → k < length vs
 first_within vs names [] k are there = absurd (cc)
 first_within vs names (p ∷ ps) k are there =

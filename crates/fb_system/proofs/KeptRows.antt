@@ -1,4 +1,4 @@
--- The rows that a system keeps: how they are seen, and what a system is made of.
+-- The rows that a system keeps: how contracts see them, and what a system is made of.
 use Rattle.std.proofs.Common.{◌≡◌, List, [], refl, sym, ◌∙◌, ap, subst}
 use Rattle.std.proofs.lemmas.List.Elements.{All-nil}
 use Rattle.fb_types.specs.Headline.{Inputs, system_of}
@@ -11,7 +11,7 @@ use Rattle.fb_system.specs.declared.heads.Head.{Head}
 use Rattle.fb_system.specs.declared.kept.Kept.{Kept}
 use Rattle.fb_system.specs.declared.whole.Whole.{Whole}
 
--- ---- The rows of the inputs as which a system is seen
+-- ---- The rows of the inputs that a system stands for
 
 pub rows_kept : (h : Kept) (v w : Whole) (i : Inputs) → h ≡ v.kept → v ≡ w → inputs_of w ≡ i → HaveRows w → IsKept i h
 rows_kept h v w i e f s is =
@@ -29,7 +29,7 @@ sources_seen v w i e s is = (rows_kept v.kept v w i refl e s is).sources
 
 -- ---- Making
 
--- Tables with these rows stand for what they stood for, with rows of the inputs as which they were seen.
+-- Tables with these rows stand for what they stood for, with rows of the inputs that they stood for.
 pub with_rows : (u v w : Whole) (h : Kept) (i : Inputs) → u ≡ record v { kept = h } → v ≡ w → inputs_of w ≡ i → StandFor w → IsKept i h → HaveRows u
 with_rows u v w h i e f s is rows =
     subst (λ (x : Whole). HaveRows x) (sym (e ∙ ap (λ (w : Whole). record w { kept = h }) f))

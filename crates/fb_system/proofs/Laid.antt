@@ -41,7 +41,7 @@ pub record IsFit (lib : Library) (r : Resolved) : Type 0 where
 abbrev AreTyped : Library → List Instance → List TypeNumber → Type 0
 AreTyped lib is ts = each_or_none (λ i. type_number lib i.block_type) is ≡ Some ts
 
--- ---- What is to be shown of what is laid out
+-- ---- What must be shown of what is laid out
 
 -- the rows of instances of a network, and of all inside them
 pub record IsLaid (lib : Library) (first : ℕ) (p : Path) (paths : List Path) (is : List Instance) (l : Layer) : Type 0 where
@@ -57,7 +57,7 @@ pub record IsInside (lib : Library) (first : ℕ) (q : Path) (paths : List Path)
 
 -- ---- One row
 
--- An instance with its type, at a place of a network and at its number.
+-- An instance with its type, at an index of a network and at its number.
 pub record IsHere (lib : Library) (p : Path) (o : Around) (number : ℕ) (net : Network) (place : ℕ) (i : Instance) (t : TypeNumber) : Type 0 where
   pub site : IsSite lib p net
   pub around : IsAround lib p number o
@@ -104,7 +104,7 @@ pub record IsAt (lib : Library) (d : ℕ) (p : Path) (o : Around) (first : ℕ) 
   pub around : IsAround lib p first o
   pub deep : IsDeep lib d net
 
--- networks so many names deep are laid out
+-- networks of this depth are laid out
 abbrev AreLaidOut : Library → Resolved → ℕ → Type 0
 AreLaidOut lib r d =
     (o : Around) (first : ℕ) (p : Path) (net : Network) (ts : List TypeNumber) → IsAt lib d p o first net ts → IsPart (paths_of lib) first (paths_inside d lib p net)
@@ -264,7 +264,7 @@ application_laid lib r fit =
     })
     (part_whole (paths_of lib))
 
--- each path stands at its number
+-- each path is at its number
 number_is : (lib : Library) (r : Resolved) (k : ℕ) → IsFit lib r → k < length (paths_of lib) → number_of (paths_of lib) (path_of lib k) ≡ k
 number_is lib r k fit h =
     let ps = paths_of lib in

@@ -22,7 +22,7 @@ use Rattle.fb_types.proofs.Options.{and_then_parts, map_parts}
 use Rattle.fb_check_names.proofs.Each.{each_parts}
 use Rattle.fb_system.specs.Linking.{IsLinked, holders_of, joins}
 
--- ---- Elements of two lists, of which one was made of the other
+-- ---- Elements of two lists, one of which was made from the other
 
 abbrev number_at : {A : Type 0} → (A → ℕ) → Option A → ℕ
 number_at f o = elim o [ None ↦ 0 | Some x ↦ f x ]
@@ -71,7 +71,7 @@ from_nat_eq m n h = grind (arith, nat_tests)
 nat_eq_from : (m n : ℕ) → m ≡ n → nat_eq m n ≡ true
 nat_eq_from m n h = grind (arith, nat_tests)
 
--- a name is that of a resource exactly where the places are equal
+-- a name is that of a resource exactly if the indices are equal
 named_place :
     (plan : Plan) (n : Name) (k r : ℕ) → ¬ (Twice (resource_names_of plan)) → r < length plan.resources → place_of (resource_names_of plan) n ≡ Some k
     → nat_eq k r ≡ same_name n (name_of_resource plan r)

@@ -1,4 +1,4 @@
--- The places of the variables that a WITH list names, and those of the variables WITH an event.
+-- The indices of the variables that a WITH list names, and those of the variables WITH an event.
 use Rattle.std.proofs.Common.{◌≡◌, ℕ, zero, suc, ◌<◌, ◌+◌, Bool, true, false, ◌&&◌, ◌||◌, List, [], ◌∷◌, length, map, get_or, Option, Some, None, Contains, Bor, refl, sym, ◌∙◌, ap, subst, inl, inr, arith}
 use Rattle.std.specs.Prelude.{IsPermutation, slice_get, unwrap_or, option_map, position, IsSorted}
 use Rattle.std.specs.Bool.{Decides}
@@ -30,11 +30,11 @@ name_of v = v.name
 
 -- ---- One name
 
--- the place of a name among variables, or 0 where it is none of them
+-- the index of a name among variables, or 0 if it is none of them
 abbrev pub own_place : List Variable → Name → ℕ
 own_place vs n = unwrap_or (position (same_name n) (variable_names vs)) 0
 
--- a known name has a place among the variables
+-- a known name has an index among the variables
 record IsAt (vs : List Variable) (n : Name) : Type 0 where
   pub variable : Variable
   pub there : slice_get vs (own_place vs n) ≡ Some variable
@@ -62,7 +62,7 @@ known_some vs n c =
     let at = known_at vs n c in
     let h = slice_get_within vs (own_place vs n) at.variable at.there in omega (arith, h)
 
--- what was looked up for the name at a place of a list, and that there are variables
+-- the lookup of the name at an index of a list, and that there are variables
 pub found_place :
     (vs : List Variable) (places : BTreeMap (Bor Name) ℕ) (first : ℕ) (list : List Name) (i : ℕ) (n b : Name) (o : Option ℕ) → StandFrom first vs places
     → IsList vs list → i < length list → n ≡ get_or list i n → b ≡ n → o ≡ place_in places b → (o ≡ Some (first + own_place vs n)) × (0 < length vs)
@@ -71,7 +71,7 @@ found_place vs places first list i n b o stand is h e same looked =
     let known = is.known n listed in
     (looked ∙ ap (place_in places) same ∙ known_place vs places first n stand known, known_some vs n known)
 
--- the place of a variable is its own
+-- the index of a variable is its own
 own_place_of : (vs : List Variable) (i : ℕ) (n : Name) → ¬ (Twice (variable_names vs)) → slice_get (variable_names vs) i ≡ Some n → own_place vs n ≡ i
 own_place_of vs i n once h =
     elim (slice_get_cases vs i).1 [
@@ -84,7 +84,7 @@ own_place_of vs i n once h =
           let g : None ≡ Some n = sym (slice_get-map name_of vs i ∙ ap (option_map name_of) w.1) ∙ h in absurd (cc)
     ]
 
--- the name at the place of a known name is the name
+-- the name at the index of a known name is the name
 name_there : (vs : List Variable) (n : Name) → Contains (variable_names vs) n → variable_at vs (own_place vs n) ≡ n
 name_there vs n c =
     let at = known_at vs n c in
@@ -92,7 +92,7 @@ name_there vs n c =
 
 -- ---- A list of names
 
--- places of names that differ differ
+-- indices of names that differ differ
 own_once : (vs : List Variable) (ns : List Name) → ¬ (Twice ns) → ((n : Name) → Contains ns n → Contains (variable_names vs) n) → AreOnce (map (own_place vs) ns)
 own_once vs [] once known = once_nil
 own_once vs (n ∷ ns) once known =
@@ -104,7 +104,7 @@ own_once vs (n ∷ ns) once known =
     once (inl (subst (λ (k : Name). Contains ns k) same m.1)))
     (own_once vs ns (λ t. once (inr t)) (λ m c. known m (Contains-there n ns m c)))
 
--- sorted, the places of the names of a list are those of the variables that it names
+-- sorted, the indices of the names of a list are those of the variables that it names
 pub list_places :
     (vs : List Variable) (places : BTreeMap (Bor Name) ℕ) (first : ℕ) (list : List Name) (found ks : List ℕ) → StandFrom first vs places → IsList vs list
     → found ≡ map (own_place vs) list → IsPermutation found ks → IsSorted nat_cmp ks → ArePlaces vs (filter (among list) (variable_names vs)) ks
@@ -146,7 +146,7 @@ or_false : (b : Bool) → (b || false) ≡ b
 or_false true = refl
 or_false false = refl
 
--- of events of other names none has the name
+-- no event with another name has the name
 none_named : (events : List EventPort) (n v : Name) → ¬ (Contains (event_names events) n) → list_any (λ p. same_name p.name n && among p.with v) events ≡ false
 none_named [] n v new = refl
 none_named (p ∷ ps) n v new =
@@ -156,7 +156,7 @@ none_named (p ∷ ps) n v new =
     ap (λ b. b && among p.with v || list_any (λ q. same_name q.name n && among q.with v) ps) apart
     ∙ none_named ps n v (λ c. new (Contains-there p.name (event_names ps) n c))
 
--- of events of different names, one event alone has a name
+-- among events of different names, only one has a name
 with_of_once :
     (events : List EventPort) (i : ℕ) (x : EventPort) → ¬ (Twice (event_names events)) → slice_get events i ≡ Some x → (v : Name)
     → list_any (λ p. same_name p.name x.name && among p.with v) events ≡ among x.with v

@@ -1,4 +1,4 @@
--- Two lists that are made side by side, the one by numbers and the other by names.
+-- Two lists that are made side by side, one by number and the other by name.
 use Rattle.std.proofs.Common.{◌≡◌, ℕ, zero, suc, Bool, true, false, cond, List, [], ◌∷◌, ◌++◌, map, length, Option, Some, None, refl, sym, ◌∙◌, ap, subst, append-nil}
 use Rattle.std.specs.Prelude.{slice_get}
 use Rattle.std.specs.List.{filter}
@@ -6,14 +6,15 @@ use Rattle.fb_types.specs.Flat.{first_of}
 use Rattle.fb_check_names.specs.Numbers.{each_or_none}
 use Rattle.fb_check_names.proofs.Each.{each_parts}
 
--- each element of the one list goes with the one at its place in the other
+-- each element of the one list matches the one at its index in the other
 abbrev pub Pairwise : {A B : Type 0} → (A → B → Type 0) → List A → List B → Type 0
 Pairwise R [] [] = Unit {0}
 Pairwise R [] (y ∷ ys) = ⊥
 Pairwise R (x ∷ xs) [] = ⊥
 Pairwise R (x ∷ xs) (y ∷ ys) = R x y × Pairwise R xs ys
 
--- Of wires that are made of connections one by one, those that pass a test go with the connections that pass one that agrees.
+-- Of wires that are made of connections one by one, those that pass a test match the connections that pass one that
+-- agrees.
 pub alike :
     {C W P A B : Type 0} (f : C → Option W) (R : A → B → Type 0) (pass : W → Bool) (value : W → A) (pair : C → P) (chosen : P → Bool) (part : P → B)
     → ((c : C) (w : W) → f c ≡ Some w → (chosen (pair c) ≡ pass w) × R (value w) (part (pair c)))
@@ -48,7 +49,7 @@ none_chosen f pair chosen part fails (c ∷ cs) ws h =
     ap (λ b. map part (cond b (pair c ∷ filter chosen (map pair cs)) (filter chosen (map pair cs)))) (fails c r.0 r.2)
     ∙ none_chosen f pair chosen part fails cs r.1 r.3
 
--- ---- Look-ups
+-- ---- Lookups
 
 pub pair_at :
     {A B : Type 0} (R : A → B → Type 0) (xs : List A) (ys : List B) (k : ℕ) (x : A) → Pairwise R xs ys → slice_get xs k ≡ Some x

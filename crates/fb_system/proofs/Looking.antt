@@ -1,4 +1,4 @@
--- What is looked up at an end of a connection.
+-- Lookups at an end of a connection.
 use Rattle.std.proofs.Common.{◌≡◌, ℕ, ◌+◌, ◌-◌, ◌<◌, ◌≤◌, ◌^◌, Bool, true, false, not, List, [], ◌∷◌, map, length, get_or, Option, Some, None, refl, sym, ◌∙◌, ap, subst, arith, lit<}
 use Rattle.std.specs.Prelude.{slice_get, option_map, option_and_then, unwrap_or, is_none, is_some, IsTrue, nat_lt, ◌↔◌}
 use Rattle.std.specs.List.{filter}
@@ -77,13 +77,13 @@ kind_narrow lib p k narrow h =
       | Some i ↦ λ g. type_narrow lib i.block_type k narrow g
     ] h
 
--- ---- Targets and places of variables
+-- ---- Targets and indices of variables
 
 here : (lib : Library) (m : ℕ) (a : Path) (k : Kind) → path_of lib m ≡ a → kind_at lib a ≡ Some k → ports_here lib m ≡ ports_of k
 here lib m a k at kind =
     ap (λ (o : Option Kind). elim o as (λ _. Ports) [ None ↦ ports [] [] [] [] | Some k ↦ ports_of k ]) (ap (kind_at lib) at ∙ kind)
 
--- the lengths of the names of a sort, at a component and at the boundary
+-- the lengths of the names of a kind, at a component and at the boundary
 within_names : (ns : List Name) (k n : ℕ) (q : Name) → slice_get ns k ≡ Some q → length ns ≡ n → k < n
 within_names ns k n q h e = let w : k < length ns = slice_get_within ns k q h in omega (arith, w, e)
 
@@ -105,7 +105,7 @@ place_small lib p e q narrow is =
       | Some j ↦ λ h. let w = within_names (data_outs ps) e.port (length ps.outputs) q.name h (length-map ps.outputs (λ (x : _). x.name)) in let l = n.outputs in omega (arith, w, l)
     ] is.name
 
--- the port of a name at a place
+-- the port of a name at an index
 abbrev named_at : Path → List Name → ℕ → Port
 named_at a ns k = record { at = a; name = unwrap_or (slice_get ns k) [] }
 
@@ -246,7 +246,7 @@ component_in_range lib p j c ks a are is there =
 
 -- ---- Connections
 
--- the port that a wire at a place leads to
+-- the port that a wire at an index leads to
 pub target_end :
     (lib : Library) (plan : Plan) (p : Path) (x : NetworkNumbers) (e w : WireEnd) (q : Port) (place : ℕ) → ¬ (NameTwice lib plan) → IsWired lib p x
     → IsEndOf lib p event_outs event_ins e q → slice_get (targets_in x e) place ≡ Some w
@@ -266,7 +266,7 @@ pub targets_counted :
 targets_counted lib plan p x e q once is key =
     same_length (IsEndOf lib p event_ins event_outs) (targets_in x e) (targets_along (events_inside lib p) q) (targets_there lib plan p x e q once is key)
 
--- whether more than one of the ends is left from a place on
+-- whether more than one of the ends is left from an index on
 pub more_follow : (n m place : ℕ) → n ≡ m → IsTrue (nat_lt 1 (n - place)) ↔ (place + 1 < m)
 more_follow n m place e = (λ more. let lt = ltb-true 1 (n - place) more in omega (arith, lt, e), λ more. lt-ltb 1 (n - place) (omega (arith, more, e)))
 
@@ -286,7 +286,7 @@ source_none lib plan p x e q once is key h =
     no_first (IsEndOf lib p data_outs data_ins) (map (λ w. w.from) (filter (λ w. same_end w.to e) x.data_wires)) (map (λ c. c.0) (filter (λ c. same_port c.1 q) (data_inside lib p)))
     (sources_there lib plan p x e q once is key) h
 
--- ---- Answers of tests and look-ups
+-- ---- Results of tests and lookups
 
 pub none_tested : (c : Option ℕ) (b : Bool) → is_some c ≡ not b → b ≡ is_none c
 none_tested None true h = refl

@@ -12,7 +12,7 @@ use Rattle.fb_system.specs.Layouts.{IsLayout}
 use Rattle.fb_system.specs.declared.layout.Layout.{Layout}
 use Rattle.fb_system.specs.Networks.{AreNarrow, AreTables}
 
--- what a result that is Ok promised
+-- what a result that is Ok guarantees
 pub ok_read : {A E : Type 0} (r : Result A E) (P : A → Type 0) (a : A) → IfOk r P → r ≡ Ok a → P a
 ok_read {A} {E} r P a h e = subst (λ (r : Result A E). IfOk r P) e h
 

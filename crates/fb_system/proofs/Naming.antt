@@ -1,4 +1,5 @@
--- What accepted names say of an instance: the variables of its type differ, and its parameters name inputs, each once.
+-- What accepted names guarantee of an instance: the variables of its type differ, and its parameters name inputs, each
+-- once.
 use Rattle.std.proofs.Common.{◌≡◌, ◌⊎◌, ℕ, Bool, true, false, not, ◌&&◌, List, [], ◌∷◌, ◌++◌, Option, Some, None, Contains, refl, sym, ◌∙◌, ap, subst, inl, inr, append_assoc}
 use Rattle.std.specs.Prelude.{flat_map, option_map, option_and_then}
 use Rattle.std.proofs.lemmas.Bool.{true≢false}
@@ -123,7 +124,7 @@ pub inputs_once : (lib : Library) (plan : Plan) (n : Name) (k : Kind) → ¬ (Na
 inputs_once lib plan n k once h t =
     (variables_once lib plan n k once h).once (Twice-append_left (variable_names (ports_of k).inputs) (variable_names (ports_of k).outputs) t)
 
--- ---- The network that an instance stands in
+-- ---- The network that contains an instance
 
 -- A network of the declaration.
 record IsMember (lib : Library) (net : Network) : Type 0 where
@@ -191,7 +192,7 @@ instance_placed lib (n ∷ p) i h =
 
 -- ---- Parameters
 
--- the numbers of an instance's parameters are the places that `input_values` takes
+-- the numbers of an instance's parameters are the indices that `input_values` takes
 pub parameters_placed :
     (lib : Library) (i : Instance) (k : Kind) (ks : List ℕ) → kind_of_instance lib i ≡ Some k → parameter_numbers lib i ≡ Some ks
     → each_or_none (λ x. place_of (data_ins (ports_of k)) x.name) i.parameters ≡ Some ks
@@ -206,7 +207,7 @@ parameters_once lib plan p i once h t =
     let listed : Contains (parameter_lists at.network) (names i) = Contains-map names at.network.instances i at.there in
     once (at.member.twice plan (inr (inl (names i, listed, t))))
 
--- a parameter names no variable that is no input
+-- a parameter names no variable that is not an input
 pub parameter_unknown :
     (lib : Library) (plan : Plan) (p : Path) (i : Instance) (k : Kind) (n : Name) → ¬ (NameUnknown lib plan) → instance_at lib p ≡ Some i
     → kind_of_instance lib i ≡ Some k → ¬ (Contains (variable_names (ports_of k).inputs) n) → ¬ (Contains (parameter_names i.parameters) n)

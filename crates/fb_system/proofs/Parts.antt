@@ -1,4 +1,4 @@
--- Parts of a list, and what holds of each element at its place.
+-- Parts of a list, and what holds of each element at its index.
 use Rattle.std.proofs.Common.{◌≡◌, ◌⊎◌, ℕ, zero, suc, ◌+◌, List, [], ◌∷◌, ◌++◌, length, Some, refl, ◌∙◌, ap, subst, inl, inr, arith}
 use Rattle.std.specs.Prelude.{slice_get}
 use Rattle.fb_types.proofs.ByPlace.{slice_get-append_left}
@@ -23,7 +23,7 @@ at_cases (y ∷ xs) ys (suc j) x h =
 
 -- ---- What holds of each element
 
--- P holds of each element and its place, where the first has a place
+-- P holds of each element and its index, starting at `first`
 pub record AreEach {A : Type 0} (P : ℕ → A → Type 0) (first : ℕ) (xs : List A) : Type 0 where
   pub at : (j : ℕ) (x : A) → slice_get xs j ≡ Some x → P (first + j) x
 
@@ -74,7 +74,7 @@ each-cons {A} P first x xs p e = record { at = at P first x xs p e }
 
 -- ---- Parts
 
--- the part stands in the whole from a place on
+-- the part is in the whole from an index on
 abbrev pub IsPart : {A : Type 0} → List A → ℕ → List A → Type 0
 IsPart whole first part = AreEach (λ k x. slice_get whole k ≡ Some x) first part
 

@@ -1,4 +1,4 @@
--- Parameters that are put at the places of the inputs that they set, one after the other.
+-- Parameters that are put at the indices of the inputs that they set, one after another.
 use Rattle.std.proofs.Common.{◌≡◌, ℕ, zero, suc, ◌<◌, ◌≤◌, ◌+◌, List, [], ◌∷◌, ◌++◌, length, take, map, get_or, Option, Some, None, Contains, refl, sym, ◌∙◌, ap, subst, inl, inr, arith}
 use Rattle.std.specs.Prelude.{slice_get}
 use Rattle.std.proofs.Math.ListN.{set}
@@ -45,7 +45,7 @@ all_old ps x (v ∷ vs) h =
     let tail = all_old ps x vs (λ c. h (Contains-there v.name (variable_names vs) x.name c)) in
     λ i. head i ∷ tail i
 
--- one more parameter, put at its place
+-- one more parameter, put at its index
 put_at :
     (vs : List Variable) (ps : List Parameter) (x : Parameter) (k : ℕ) (v : Variable) → ¬ (Twice (variable_names vs)) → ¬ (Contains (parameter_names ps) x.name)
     → slice_get vs k ≡ Some v → v.name ≡ x.name → set (map (begin_value ps) vs) k x.value ≡ map (begin_value (ps ++ x ∷ [])) vs
@@ -63,14 +63,14 @@ put_at (w ∷ ws) ps x (suc k) v once new at same =
     let tail = put_at ws ps x k v (λ t. once (inr t)) new at same in
     λ i. sym head i ∷ tail i
 
--- Where the parameters have their places.
+-- Where the parameters have their indices.
 abbrev pub ArePlaced : Ports → List Parameter → List ℕ → Type 0
 ArePlaced its ps ks = each_or_none (λ (x : Parameter). place_of (data_ins its) x.name) ps ≡ Some ks
 
 pub place_within : (its : Ports) (ps : List Parameter) (ks : List ℕ) (i : ℕ) → ArePlaced its ps ks → i < length ps → i < length ks
 place_within its ps ks i are h = let e = each-length (λ (x : Parameter). place_of (data_ins its) x.name) ps ks are in omega (arith, e, h)
 
--- the place of a parameter is that of an input
+-- the index of a parameter is that of an input
 place_is :
     (its : Ports) (ps : List Parameter) (ks : List ℕ) (i k : ℕ) (x : Parameter) → ArePlaced its ps ks → i < length ps → x ≡ get_or ps i x → k ≡ get_or ks i 0
     → place_of (data_ins its) x.name ≡ Some k

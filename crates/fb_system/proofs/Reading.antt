@@ -9,7 +9,7 @@ use Rattle.fb_system.specs.NetworkTables.{ends_at}
 use Rattle.fb_system.specs.Wirings.{same_end}
 use Rattle.fb_system.specs.declared.wiring_table.WiringTable.{WiringTable}
 
--- what a function makes of the elements that pass a test, with one element more
+-- the results of a function for the elements that pass a test, with one element more
 picked_more :
     {A B : Type 0} (f : A → B) (p : A → Bool) (xs : List A) (i : ℕ) (d : A) → i < length xs
     → map f (filter p (take (i + 1) xs)) ≡ cond (p (get_or xs i d)) (map f (filter p (take i xs)) ++ f (get_or xs i d) ∷ []) (map f (filter p (take i xs)))

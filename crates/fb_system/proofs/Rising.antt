@@ -1,4 +1,5 @@
--- Rising places are those of a filter: places in ascending order, each once, keep the names that a test passes, in the order of the list.
+-- Rising indices are those of a filter: indices in ascending order, each once, keep the names that a test passes, in the
+-- order of the list.
 use Rattle.std.proofs.Common.{◌≡◌, ◌⊎◌, ℕ, suc, ◌<◌, ◌≤◌, ◌+◌, Bool, true, false, cond, List, [], ◌∷◌, length, map, Some, Contains, refl, sym, ◌∙◌, ap, subst, inl, inr, arith}
 use Rattle.std.specs.Prelude.{IsPermutation, sum_by, slice_get}
 use Rattle.std.specs.Bool.{Decides}
@@ -10,7 +11,7 @@ use Rattle.std.proofs.lemmas.List.Sorted.{sum_by-IsPermutation}
 use Rattle.fb_types.specs.Names.{Name}
 use Rattle.fb_types.proofs.Elements.{Contains-nil, Contains-cons_cases, Contains-here, Contains-there}
 
--- ---- How often a place stands in a list
+-- ---- How often an index is in a list
 
 abbrev score : {A B : Type 0} → A ⊎ B → ℕ
 score (inl a) = 1
@@ -53,7 +54,7 @@ times-some k (x ∷ xs) h =
       | inr rest ↦ let there : 1 ≤ times k xs = times-some k xs rest in omega (arith, one, there)
     ]
 
--- no place stands twice
+-- no index is there twice
 pub record AreOnce (ks : List ℕ) : Type 0 where
   pub at_most : (k : ℕ) → times k ks ≤ 1
 
@@ -88,7 +89,7 @@ once_head k ks once c =
 once_tail : (k : ℕ) (ks : List ℕ) → AreOnce (k ∷ ks) → AreOnce ks
 once_tail k ks once = record { at_most = λ n. let one : times n (k ∷ ks) ≡ hit n k + times n ks = sum_by-cons (hit n) k ks in omega (arith, one, once.at_most n) }
 
--- ---- Rising places
+-- ---- Rising indices
 
 -- each is at least the bound before it, and below the last
 abbrev pub Rising : (low high : ℕ) → List ℕ → Type 0
@@ -127,7 +128,7 @@ rising_more low high (k ∷ ks) up new =
     let le : low + 1 ≤ k = elim (cases_lt low k) [ inl l ↦ omega (arith, l) | inr g ↦ absurd (apart (omega (arith, g, up.0))) ] in
     (le, up.1, up.2)
 
--- the first of rising places, where the bound is one of them
+-- the first of rising indices, where the bound is one of them
 rising_first : (low high : ℕ) (ks : List ℕ) → Rising low high ks → Contains ks low → (rest : List ℕ) × (ks ≡ low ∷ rest) × Rising (low + 1) high rest
 rising_first low high [] up c = absurd (Contains-nil low c)
 rising_first low high (k ∷ ks) up c =
@@ -138,7 +139,7 @@ rising_first low high (k ∷ ks) up c =
 
 -- ---- The filter
 
--- at each place of a list, counted from low, stands its name, and the test passes it exactly where the place is one of these
+-- at each index of a list, counted from low, is its name, and the test passes it exactly if the index is one of these
 pub record AreKept (name_at : ℕ → Name) (test : Name → Bool) (low : ℕ) (ns : List Name) (ks : List ℕ) : Type 0 where
   pub name : (i : ℕ) (n : Name) → slice_get ns i ≡ Some n → name_at (low + i) ≡ n
   pub kept : (i : ℕ) (n : Name) → slice_get ns i ≡ Some n → Decides (test n) (Contains ks (low + i))
@@ -182,7 +183,7 @@ rising_filter name_at test (n ∷ ns) low high ks e up are =
           (kept_rest name_at test low n ns ks ks are (λ i lt c. c) (λ i c. c))
     ] refl
 
--- what a sort leaves of places that differ
+-- what a sort leaves of indices that differ
 pub sorted_filter :
     (name_at : ℕ → Name) (test : Name → Bool) (ns : List Name) (ks : List ℕ) → IsNonDecreasing ks → AreOnce ks
     → ((k : ℕ) → Contains ks k → k < length ns) → AreKept name_at test 0 ns ks → map name_at ks ≡ filter test ns

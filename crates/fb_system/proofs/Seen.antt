@@ -1,4 +1,4 @@
--- What the tables say of the inputs as which a system is seen.
+-- What the tables say of the inputs that a system stands for.
 use Rattle.std.proofs.Common.{◌≡◌, ℕ, ◌<◌, ◌≤◌, ◌+◌, List, [], length, get_or, Option, Some, None, Ok, refl, sym, ◌∙◌, ap, subst, inl, inr}
 use Rattle.std.specs.Prelude.{IfOk, IfSome, IsTrue, ◌↔◌, Result, option_map, slice_get}
 use Rattle.std.proofs.lemmas.Bool.{cases_lt}
@@ -174,7 +174,7 @@ comes_seen v w i to o e s h =
 pub stimuli_seen : (v w : Whole) (i : Inputs) → v ≡ w → inputs_of w ≡ i → v.stimuli ≡ i.stimuli
 stimuli_seen v w i e s = ap (λ (w : Whole). w.stimuli) e ∙ ap (λ (i : Inputs). i.stimuli) s
 
--- the plan that is read of the tables
+-- the plan that is read from the tables
 pub plan_read : (v w : Whole) (i : Inputs) (p : Plan) → v ≡ w → inputs_of w ≡ i → p ≡ v.deploy → p ≡ i.plan
 plan_read v w i p e s r = r ∙ plan_seen v w i e s
 
@@ -228,7 +228,7 @@ abbrev whole_of : Plan → List Stimulus → Library → Linked → List Ports �
 whole_of plan stimuli lib links blocks interfaces rows homes kept =
     record { deploy = plan; stimuli = stimuli; netlist = lib; links = links; event_blocks = blocks; interfaces = interfaces; rows = rows; homes = homes; kept = kept }
 
--- what a result that is Ok promised
+-- what a result that is Ok guarantees
 pub ok_read : {A E : Type 0} (r : Result A E) (P : A → Type 0) (a : A) → IfOk r P → r ≡ Ok a → P a
 ok_read {A} {E} r P a h e = subst (λ (r : Result A E). IfOk r P) e h
 

@@ -1,4 +1,4 @@
--- Networks at their paths: which composite they are inside of, and how deep they stand.
+-- Networks at their paths: which composite contains them, and how deep they are.
 use Rattle.std.proofs.Common.{◌≡◌, ◌⊎◌, ℕ, zero, suc, ◌+◌, ◌<◌, List, [], ◌∷◌, ◌++◌, map, Option, Some, None, Contains, refl, sym, ◌∙◌, ap, subst, inl, inr, arith}
 use Rattle.std.specs.Prelude.{slice_get, option_map, option_and_then, unwrap_or, position, flat_map, codes}
 use Rattle.std.proofs.lemmas.List.Elements.{Contains-append_left, Contains-append_right}
@@ -45,7 +45,7 @@ all_once lib plan once = record {
 
 -- ---- How deep
 
--- a network so many steps below a composite type of the declaration
+-- a network this number of steps below a composite type of the declaration
 pub record IsBelow (lib : Library) (steps : ℕ) (net : Network) : Type 0 where
   pub outer : CompositeType
   pub declared : Contains lib.blocks (block.Composite outer)
@@ -53,7 +53,7 @@ pub record IsBelow (lib : Library) (steps : ℕ) (net : Network) : Type 0 where
   pub descends : Descends lib steps outer inner
   pub network : inner.network ≡ net
 
--- the application's network, or one inside composites, with room for paths so many names deep
+-- the application's network, or one inside composites, with room for paths of this depth
 abbrev pub IsDeep : Library → ℕ → Network → Type 0
 IsDeep lib d net = (d ≡ 17) ⊎ ((s : ℕ) × (s + d ≡ 16) × IsBelow lib s net)
 
@@ -76,7 +76,7 @@ deep_inside lib d net i inner (inr below) among h =
     let holds : Holds lib b.inner t.0 = (i, subst (λ (net : Network). Contains net.instances i) (sym b.network) among, t.1) in
     inr (suc below.0, less, record { outer = b.outer; declared = b.declared; inner = t.0; descends = descends_more lib below.0 b.outer b.inner t.0 b.descends holds; network = t.2 })
 
--- no composite lies deeper than the paths go
+-- no composite is deeper than the paths go
 pub never_deeper : (lib : Library) (net : Network) → ¬ (TooHigh lib) → ¬ (IsDeep lib 0 net)
 never_deeper lib net low (inl top) = absurd (omega (arith, top))
 never_deeper lib net low (inr below) =
@@ -85,9 +85,9 @@ never_deeper lib net low (inr below) =
     let b = below.2 in
     low (b.outer, b.inner, b.declared, inr (subst (λ n. Descends lib n b.outer b.inner) steps b.descends))
 
--- ---- Where a network stands
+-- ---- Where a network is
 
--- the composite round a network, which has an earlier number
+-- the composite around a network, which has an earlier number
 pub record IsRound (lib : Library) (p : Path) (number : ℕ) (c : ℕ × InstanceRow) : Type 0 where
   pub earlier : c.0 < number
   pub there : path_of lib c.0 ≡ p

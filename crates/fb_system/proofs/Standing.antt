@@ -29,7 +29,7 @@ network_inside lib i r around o is e h =
     h ∙ ap (option_and_then network_of) (is.numbered ∙ sym is.is_kind) ∙ sym (network_by_kind lib i is.placed)
     ∙ ap (λ (o : Option ℕ). network_at lib (path_around lib o)) (sym e)
 
--- ---- An instance in the network that it stands in
+-- ---- An instance in the network that contains it
 
 pub around_there : (lib : Library) (i : ℕ) (r : InstanceRow) → (is : IsRow lib i r) → network_at lib (path_around lib r.parent) ≡ Some is.placed.network
 around_there lib i r is = ap (network_at lib) (parent_around lib i r.parent is.parent_is) ∙ is.placed.is_network
@@ -52,7 +52,7 @@ network_is :
 network_is lib i r o net is h e =
     same_Some net.now is.placed.network (sym (ap option_copied e) ∙ h ∙ around_there lib i r is)
 
--- the instance at its place in the network that is read
+-- the instance at its index in the network that is read
 pub declared_there :
     (lib : Library) (i : ℕ) (r : InstanceRow) (o : Option (Bor Network)) (net : Bor Network) (q : Option ℕ) (route : List ℕ) (place : ℕ) (all : List Instance) → (is : IsRow lib i r)
     → option_copied o ≡ network_at lib (path_around lib r.parent) → o ≡ Some net → q ≡ last_of route → route ≡ r.route → q ≡ Some place → all ≡ net.now.instances
@@ -91,7 +91,7 @@ none_wired lib i r o is h e =
     subst (λ (o : Option (Bor NetworkNumbers)). MatchOption o (network_at lib (path_around lib r.parent) ≡ None) (λ w. IsWired lib (path_around lib r.parent) w.now)) e h in
     let g : None ≡ Some is.placed.network = sym none ∙ around_there lib i r is in cc
 
--- the parameters by number of the instance at its place
+-- the parameters by number of the instance at its index
 pub parameters_there :
     (lib : Library) (i : ℕ) (r : InstanceRow) (w : NetworkNumbers) (q : Option ℕ) (route : List ℕ) (place : ℕ) (all : List (List ℕ)) → (is : IsRow lib i r)
     → IsWired lib (path_around lib r.parent) w → q ≡ last_of route → route ≡ r.route → q ≡ Some place → all ≡ w.parameters

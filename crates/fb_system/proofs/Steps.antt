@@ -85,7 +85,7 @@ pub below_some :
 below_some inside number row o n l h rows numbers =
     same_layer l (inside (Some (number, row)) (number + 1) n.0 n.1.types) rows numbers ∙ ap (layer_inside inside number row) h
 
--- the same at a number that is written otherwise
+-- the same at a number that is written differently
 numbered_so :
     (b : ℕ) (lib : Library) (r : Resolved) (o : Around) (n number place : ℕ) (is : List Instance) (ts : List TypeNumber) (all : Layer) (rows : List InstanceRow) (numbers : List ℕ)
     → number ≡ n → AreLaid all (left b lib r o n place is ts) place rows numbers → AreLaid all (left b lib r o number place is ts) place rows numbers

@@ -1,4 +1,4 @@
--- The stimuli by number, as of the inputs as which a system is seen.
+-- The stimuli by number, for the inputs that a system stands for.
 use Rattle.std.proofs.Common.{◌≡◌, ℕ, ◌<◌, false, All, List, [], ◌∷◌, map, length, Option, Some, None, refl, sym, ◌∙◌, ap, subst, arith}
 use Rattle.std.specs.Prelude.{option_map, slice_get, unwrap_or}
 use Rattle.std.specs.Borrow.{Bor}
@@ -35,7 +35,7 @@ row_within v w i k is e s h = let counted = (rows_seen v w i is e s).counted in 
 
 -- ---- The instance of a row
 
--- the path of an instance of the application, by its place
+-- the path of an instance of the application, by its index
 path_there :
     (lib : Library) (is : List Instance) (numbers : List ℕ) (place : ℕ) (n : ℕ) (x : Instance) → AreNumbers lib [] is numbers → slice_get numbers place ≡ Some n
     → slice_get is place ≡ Some x → path_of lib n ≡ x.name ∷ []

@@ -27,7 +27,7 @@ use Rattle.fb_system.specs.Networks.{AreTables, IsAround, IsThere, IsWired, comp
 use Rattle.fb_types.proofs.ByPlace.{element_at, all_at}
 use Rattle.fb_system.proofs.Differing.{instances_once}
 
--- ---- Elements at places
+-- ---- Elements at indices
 
 pub last_pushed : (xs : List ℕ) (x : ℕ) → last_of (xs ++ x ∷ []) ≡ Some x
 last_pushed [] x = refl
@@ -130,7 +130,7 @@ inside_declared lib layout app blocks i k r o are is e there =
     declared_inside lib layout app blocks (path_of lib i) k b.0 o are b.1 there kind
     (network_by_kind lib i is.placed ∙ ap (option_and_then network_of) kind)
 
--- the place of the type is one of the tables'
+-- the index of the type is one of the tables'
 pub place_declared :
     (lib : Library) (layout : Layout) (app : NetworkNumbers) (blocks : List (Option NetworkNumbers)) (i k : ℕ) (r : InstanceRow)
     → AreTables lib layout app blocks → IsRow lib i r → r.kind ≡ number.Declared k → k < length blocks
@@ -176,7 +176,7 @@ around_wired lib layout app blocks (Some i) net are within h =
     let r = row_there lib layout app blocks i are within in
     row_wired lib layout app blocks i r.0 r.0.kind net are r.1 refl h
 
--- ---- Where an instance stands
+-- ---- Where an instance is
 
 pub parent_around : (lib : Library) (i : ℕ) (o : Option ℕ) → IsParent lib i o → path_around lib o ≡ parent (path_of lib i)
 parent_around lib i None h = sym h

@@ -1,4 +1,4 @@
--- The interfaces of types, as of the inputs as which a system is seen.
+-- The interfaces of types, for the inputs that a system stands for.
 use Rattle.std.proofs.Common.{◌≡◌, ℕ, ◌<◌, List, [], length, get_or, Option, Some, None, refl, sym, ◌∙◌, ap, subst, arith}
 use Rattle.std.specs.Prelude.{option_map, slice_get}
 use Rattle.std.proofs.lemmas.Option.{same_Some, slice_get_read}

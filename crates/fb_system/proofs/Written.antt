@@ -1,4 +1,5 @@
--- What a catalog and known names say of each block type: its variables stand one after another among all names, and its WITH lists name variables, each once.
+-- What a catalog and known names guarantee of each block type: its variables follow each other among all names, and its
+-- WITH lists name variables, each once.
 use Rattle.std.proofs.Common.{◌≡◌, ◌⊎◌, ℕ, ◌+◌, true, false, List, [], ◌∷◌, ◌++◌, length, map, Some, Contains, Bor, refl, sym, ◌∙◌, ap, subst, inl, inr, length-append, append_assoc}
 use Rattle.std.specs.Prelude.{slice_get, position, option_map, flat_map}
 use Rattle.std.specs.List.{list_any}
@@ -64,7 +65,7 @@ list_twice : (t : BlockType) → TwiceIn (with_lists (ports_of (kind_of t))) →
 list_twice (block.Basic b) h = inl (inr h)
 list_twice (block.Composite b) h = inl (inr h)
 
--- no name stands twice in a WITH list
+-- no name is in a WITH list twice
 list_once : (lib : Library) (plan : Plan) (t : BlockType) (e : EventPort) → ¬ (NameTwice lib plan) → Contains lib.blocks t
     → Contains (ports_of (kind_of t)).event_inputs e ⊎ Contains (ports_of (kind_of t)).event_outputs e → ¬ (Twice e.with)
 list_once lib plan t e once there among twice =

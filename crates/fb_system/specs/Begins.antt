@@ -1,4 +1,5 @@
--- What the data inputs of an instance begin with (IEC 61499-1, 5.1; IEC 61131-3, 6.5.1 for values that are not declared).
+-- Initial values of the data inputs of an instance (IEC 61499-1, 5.1; IEC 61131-3, 6.5.1 for values that are not
+-- declared).
 use Rattle.std.specs.Prelude.{List, map, None, Some}
 use Rattle.fb_types.specs.Names.{Name}
 use Rattle.fb_types.specs.Blocks.{named, initial_of}

@@ -1,4 +1,4 @@
--- The heads of lines, as they are kept by number (this project's profile).
+-- The heads of lines, by number (this project's profile).
 use Rattle.std.specs.Prelude.{◌≡◌, ◌<◌, ◌≤◌, ℕ, List, [], ◌∷◌, ◌++◌, length, take, All, if◌then◌else◌, codes, slice_get, unwrap_or}
 use Rattle.fb_types.specs.Names.{Name}
 use Rattle.fb_types.specs.Blocks.{inputs_with, outputs_with}
@@ -9,7 +9,7 @@ use Rattle.fb_types.specs.declared.library.EventPort.{EventPort}
 use Rattle.fb_system.specs.declared.heads.Head.{Head}
 use Rattle.fb_system.specs.declared.heads.HeadOf.{HeadOf}
 
--- the events among which that of a head has its place
+-- the events among which the event of a head has its index
 abbrev pub head_events : System → HeadOf → List EventPort
 head_events sys x = let its = ports_at sys (path_at sys x.instance) in if x.taken then its.event_inputs else its.event_outputs
 
@@ -32,12 +32,12 @@ head_variables sys x =
     let n = head_event sys x in
     if x.taken then inputs_with its n else outputs_with its n
 
--- what a line has of the names of variables before its first value
+-- the names of variables that a line has before its first value
 abbrev pub first_text : List Name → List ℕ
 first_text [] = []
 first_text (n ∷ ns) = codes " " ++ n ++ codes "="
 
--- what a line has behind the tick and before its first value, or its end where it has no value
+-- what a line has after the tick and before its first value, or before its end if it has no value
 abbrev pub head_text : System → HeadOf → List ℕ
 head_text sys x =
     unwrap_or (slice_get sys.resource_names x.resource) [] ++ (if x.taken then codes " > " else codes " < ")
@@ -48,7 +48,7 @@ pub record IsHead (sys : System) (x : HeadOf) (h : Head) : Type 0 where
   pub within : h.width ≤ 48
   pub text : take h.width h.text ≡ head_text sys x
 
--- A row that has the text of its own head, or none where it is empty.
+-- A row that has the text of its own head, or no text if it is empty.
 abbrev pub IsRowOfHead : System → Head → Type 0
 IsRowOfHead sys h = 0 < h.width → IsHead sys h.of h
 

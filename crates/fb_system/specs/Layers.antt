@@ -25,7 +25,7 @@ abbrev pub network_inside : Library → Resolved → TypeNumber → Option (Netw
 network_inside lib r (number.Event k) = None
 network_inside lib r (number.Declared t) = option_and_then (network_of_block (slice_get r.blocks t)) (slice_get lib.blocks t)
 
--- A composite round a network: its number and its row, whose components do not matter.
+-- A composite around a network: its number and its row, whose components do not matter.
 abbrev pub Around : Type 0
 Around = Option (ℕ × InstanceRow)
 
@@ -65,7 +65,7 @@ abbrev pub layer_inside : (Around → ℕ → Network → List TypeNumber → La
 layer_inside inside k row None = no_layer
 layer_inside inside k row (Some n) = inside (Some (k, row)) (k + 1) n.0 n.1.types
 
--- instances from a number and a place on, where `inside` lays out what is inside them
+-- instances from a number and an index on, where `inside` lays out what is inside them
 abbrev pub layer_among : (Around → ℕ → Network → List TypeNumber → Layer) → Library → Resolved → Around → (first place : ℕ) → List Instance → List TypeNumber → Layer
 layer_among inside lib r o first place [] ts = no_layer
 layer_among inside lib r o first place (i ∷ is) [] = no_layer
@@ -74,7 +74,7 @@ layer_among inside lib r o first place (i ∷ is) (t ∷ ts) =
     let below = layer_inside inside first row (network_inside lib r t) in
     layer_of first row below (layer_among inside lib r o (first + 1 + length below.rows) (place + 1) is ts)
 
--- a network, at most so many names deep, whose first instance has a number
+-- a network, at most `depth` names deep, whose first instance has a number
 unfoldable pub layer : (depth : ℕ) → Library → Resolved → Around → (first : ℕ) → Network → List TypeNumber → Layer
 layer zero lib r o first net ts = no_layer
 layer (suc d) lib r o first net ts = layer_among (layer d lib r) lib r o first 0 net.instances ts

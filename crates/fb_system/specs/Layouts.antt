@@ -16,11 +16,11 @@ use Rattle.fb_system.specs.declared.layout.Layout.{Layout}
 abbrev pub path_of : Library → ℕ → Path
 path_of lib k = unwrap_or (slice_get (paths_of lib) k) []
 
--- the place of a component in the network at a path
+-- the index of a component in the network at a path
 abbrev pub place_at : Library → Path → Name → ℕ
 place_at lib p n = elim (network_at lib p) [ None ↦ 0 | Some net ↦ unwrap_or (position (same_name n) (instance_names net)) 0 ]
 
--- the places of the components on the way to an instance, from the outermost
+-- the indices of the components on the path to an instance, from the outermost
 abbrev pub route_to : Library → Path → List ℕ
 route_to lib [] = []
 route_to lib (n ∷ p) = route_to lib p ++ place_at lib p n ∷ []
@@ -30,16 +30,16 @@ pub record AreNumbers (lib : Library) (p : Path) (instances : List Instance) (nu
   pub paths : map (path_of lib) numbers ≡ map (λ i. i.name ∷ p) instances
   pub within : All (λ k. k < length (paths_of lib)) numbers
 
--- the numbers of the components of what stands at a path: none where it is no composite
+-- the numbers of the components of the instance at a path: none if it is not a composite
 abbrev pub AreComponents : Library → Path → List ℕ → Type 0
 AreComponents lib p numbers = elim (network_at lib p) [ None ↦ numbers ≡ [] | Some net ↦ AreNumbers lib p net.instances numbers ]
 
--- the number of the composite that an instance is in, which is less than its own, or none in the application
+-- the number of the composite that contains an instance, which is less than its own, or none in the application
 abbrev pub IsParent : Library → ℕ → Option ℕ → Type 0
 IsParent lib k None = parent (path_of lib k) ≡ []
 IsParent lib k (Some j) = (j < k) × (path_of lib j ≡ parent (path_of lib k))
 
--- The instance stands in the network of its composite, under its name.
+-- The instance is in the network of its composite, under its name.
 pub record IsPlaced (lib : Library) (k : ℕ) : Type 0 where
   pub network : Network
   pub is_network : network_at lib (parent (path_of lib k)) ≡ Some network
@@ -59,7 +59,7 @@ pub record IsRow (lib : Library) (k : ℕ) (r : InstanceRow) : Type 0 where
   pub route : r.route ≡ route_to lib (path_of lib k)
   pub components : AreComponents lib (path_of lib k) r.components
 
--- Each instance has a row at the place of its number.
+-- Each instance has a row, indexed by its number.
 pub record IsLayout (lib : Library) (x : Layout) : Type 0 where
   pub counted : length x.rows ≡ length (paths_of lib)
   pub rows : (k : ℕ) (r : InstanceRow) → slice_get x.rows k ≡ Some r → IsRow lib k r

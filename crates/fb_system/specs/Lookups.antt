@@ -1,4 +1,5 @@
--- Variables whose names have places among all names of their type, and WITH lists that name them (IEC 61499-1, 5.1; the order of the names is this project's profile).
+-- Variables whose names have indices among all names of their type, and WITH lists that name them (IEC 61499-1, 5.1; the
+-- order of the names is this project's profile).
 use Rattle.std.specs.Prelude.{◌≡◌, ◌+◌, ℕ, List, Some, Contains, slice_get}
 use Rattle.std.specs.Borrow.{Bor}
 use Rattle.std.specs.BTreeMap.{BTreeMap}
@@ -10,7 +11,7 @@ use Rattle.fb_types.specs.declared.library.Ports.{Ports}
 use Rattle.fb_types.specs.declared.library.Variable.{Variable}
 use Rattle.fb_check_names.specs.Places.{place_in}
 
--- Variables of different names that stand one after another among all names, the first at a place.
+-- Variables of different names that follow each other among all names, the first at an index.
 pub record StandFrom (first : ℕ) (vs : List Variable) (places : BTreeMap (Bor Name) ℕ) : Type 0 where
   pub once : ¬ (Twice (variable_names vs))
   pub place : (k : ℕ) (v : Variable) → slice_get vs k ≡ Some v → place_in places v.name ≡ Some (first + k)
@@ -25,7 +26,8 @@ pub record AreEvents (vs : List Variable) (events : List EventPort) : Type 0 whe
   pub once : ¬ (Twice (event_names events))
   pub lists : (e : ℕ) (p : EventPort) → slice_get events e ≡ Some p → IsList vs p.with
 
--- An interface in which no name is given twice and each WITH list names variables, and a map that has the places of its names.
+-- An interface in which no name is given twice and each WITH list names variables, and a map from its names to their
+-- indices.
 pub record IsPlaced (its : Ports) (places : BTreeMap (Bor Name) ℕ) : Type 0 where
   pub first_input : ℕ
   pub inputs : StandFrom first_input its.inputs places

@@ -30,7 +30,7 @@ event_output lib i e = record { at = path_of lib i; name = event_at (ports_here 
 abbrev pub port_of : Library → Target → Port
 port_of lib t = if t.is_output then event_output lib t.instance t.event else event_input lib t.instance t.event
 
--- the events among which it has its place
+-- the events among which it has its index
 abbrev pub events_here : Library → Target → List EventPort
 events_here lib t = if t.is_output then (ports_here lib t.instance).event_outputs else (ports_here lib t.instance).event_inputs
 
@@ -40,7 +40,7 @@ pub record IsPort (lib : Library) (t : Target) : Type 0 where
 
 -- ---- Data
 
--- the name of the variable at a place
+-- the name of the variable at an index
 abbrev pub variable_at : List Variable → ℕ → Name
 variable_at vs k = unwrap_or (slice_get (variable_names vs) k) []
 
@@ -54,7 +54,7 @@ data_output lib i v = record { at = path_of lib i; name = variable_at (ports_her
 abbrev pub variable_of : Library → Place → Port
 variable_of lib x = if x.is_output then data_output lib x.instance x.variable else data_input lib x.instance x.variable
 
--- the variables among which it has its place
+-- the variables among which it has its index
 abbrev pub variables_here : Library → Place → List Variable
 variables_here lib x = if x.is_output then (ports_here lib x.instance).outputs else (ports_here lib x.instance).inputs
 

@@ -1,4 +1,4 @@
--- Lists of ends by an end, and what the tables of a network's wiring hold (IEC 61499-1, 5.3).
+-- Lists of ends by an end, and what the tables of a network's wiring contain (IEC 61499-1, 5.3).
 use Rattle.std.specs.Prelude.{◌≡◌, ℕ, List, [], map, Option, Some, None, nat_lt, if◌then◌else◌, slice_index_or, unwrap_or}
 use Rattle.std.specs.BTreeMap.{is_at}
 use Rattle.std.specs.List.{filter}
@@ -13,7 +13,7 @@ use Rattle.fb_system.specs.Wirings.{same_end, targets_in}
 abbrev pub ends_in : List (List WireEnd) → ℕ → List WireEnd
 ends_in first port = slice_index_or first port []
 
--- the ends at a port, of those at ports behind the first ones that have any
+-- the ends at a port, of those of the later ports that have any
 abbrev pub ends_behind : List (ℕ × List WireEnd) → ℕ → List WireEnd
 ends_behind behind port = unwrap_or (lookup (is_at (nat_cmp port)) behind) []
 
@@ -29,7 +29,7 @@ abbrev pub row_at : WiringTable → Option ℕ → List (List WireEnd) × List (
 row_at t None = t.boundary
 row_at t (Some component) = row_of t.components.items component
 
--- the ends at an end
+-- the ends that are connected to an end
 abbrev pub ends_at : WiringTable → WireEnd → List WireEnd
 ends_at t e = ends_of (row_at t e.component) e.port
 

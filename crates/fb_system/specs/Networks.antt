@@ -1,4 +1,4 @@
--- The networks of an application by numbers, and what the ends of their connections stand for (IEC 61499-1, 5.3).
+-- The networks of an application by number, and what the ends of their connections stand for (IEC 61499-1, 5.3).
 use Rattle.std.specs.Prelude.{⊤, ◌≡◌, ◌≤◌, ◌<◌, ◌^◌, ℕ, List, [], ◌∷◌, map, length, Option, Some, None, All, slice_get}
 use Rattle.std.specs.List.{filter}
 use Rattle.fb_types.specs.Names.{Name, Path, Port, same_port}
@@ -23,7 +23,7 @@ use Rattle.fb_system.specs.declared.tables.Tables.{Tables}
 
 -- ---- What the tables are
 
--- the places of a type's ports are numbers of 32 bits
+-- the indices of a type's ports fit in 32 bits
 pub record IsNarrow (p : Ports) : Type 0 where
   pub event_inputs : length p.event_inputs < 2 ^ 32
   pub event_outputs : length p.event_outputs < 2 ^ 32
@@ -33,7 +33,7 @@ pub record IsNarrow (p : Ports) : Type 0 where
 abbrev pub AreNarrow : List BlockType → Type 0
 AreNarrow ts = All (λ t. IsNarrow (ports_of (kind_of t))) ts
 
--- The instances of a declaration and its networks, by numbers.
+-- The instances of a declaration and its networks, by number.
 pub record AreTables (lib : Library) (layout : Layout) (application : NetworkNumbers) (blocks : List (Option NetworkNumbers)) : Type 0 where
   pub plan : Plan
   pub once : ¬ (NameTwice lib plan)
@@ -70,13 +70,13 @@ pub record IsWired (lib : Library) (p : Path) (x : NetworkNumbers) : Type 0 wher
 
 -- ---- Ends of connections
 
--- the path of a component by its place, or at the boundary that of the composite itself
+-- the path of a component by its index, or at the boundary that of the composite itself
 abbrev pub IsThere : Library → Path → Option ℕ → Path → Type 0
 IsThere lib p None a = a ≡ p
 IsThere lib p (Some j) a =
     (net : Network) × (i : Instance) × (network_at lib p ≡ Some net) × (slice_get net.instances j ≡ Some i) × (a ≡ i.name ∷ p)
 
--- the names of the one sort at a component, or of the other at the boundary
+-- the names of the one kind at a component, or of the other at the boundary
 abbrev pub side : Option ℕ → (component boundary : Ports → List Name) → Ports → List Name
 side None component boundary = boundary
 side (Some j) component boundary = component

@@ -13,7 +13,7 @@ use Rattle.fb_types.specs.declared.run.Place.{Place}
 
 -- ---- Ports
 
--- the events among which a port has its place
+-- the events among which a port has its index
 abbrev pub events_at : System → Target → List EventPort
 events_at sys t =
     let its = ports_at sys (path_at sys t.instance) in if t.is_output then its.event_outputs else its.event_inputs
@@ -25,7 +25,7 @@ pub record IsPort (sys : System) (t : Target) : Type 0 where
 
 -- ---- Variables
 
--- the variables among which one has its place
+-- the variables among which one has its index
 abbrev pub variables_at : System → Place → List Variable
 variables_at sys x = let its = ports_at sys (path_at sys x.instance) in if x.is_output then its.outputs else its.inputs
 

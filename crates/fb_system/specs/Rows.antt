@@ -13,11 +13,11 @@ use Rattle.fb_system.specs.declared.rows.StimulusRow.{StimulusRow}
 
 -- ---- Settings
 
--- what a stimulus says that it sets
+-- what a stimulus sets
 abbrev pub bound_of : Setting → Bound
 bound_of s = record { variable = s.variable; value = s.value }
 
--- what the slot of the input at a place is set to
+-- what the slot of the input at an index is set to
 abbrev pub set_at : List Variable → SlotValue → Bound
 set_at vs x = record { variable = unwrap_or (slice_get (variable_names vs) x.place) []; value = x.value }
 

@@ -1,4 +1,5 @@
--- Places that stand for variables, and those of the variables WITH each event (IEC 61499-1, 5.1; places from 0 are this project's profile).
+-- Indices that stand for variables, and those of the variables WITH each event (IEC 61499-1, 5.1; indices from 0 are this
+-- project's profile).
 use Rattle.std.specs.Prelude.{◌≡◌, ◌<◌, ℕ, List, [], map, length, All, Some, slice_get, unwrap_or}
 use Rattle.fb_types.specs.Names.{Name}
 use Rattle.fb_types.specs.Blocks.{variable_names, variables_with, inputs_with, outputs_with}
@@ -8,16 +9,16 @@ use Rattle.fb_types.specs.declared.library.Ports.{Ports}
 use Rattle.fb_types.specs.declared.library.Variable.{Variable}
 use Rattle.fb_system.specs.declared.with_places.WithPlaces.{WithPlaces}
 
--- the variable at a place
+-- the variable at an index
 abbrev pub variable_at : List Variable → ℕ → Name
 variable_at vs k = unwrap_or (slice_get (variable_names vs) k) []
 
--- places that stand for these names
+-- indices that stand for these names
 pub record ArePlaces (vs : List Variable) (names : List Name) (places : List ℕ) : Type 0 where
   pub named : map (variable_at vs) places ≡ names
   pub within : All (λ k. k < length vs) places
 
--- the places of the variables WITH each of the first n events
+-- the indices of the variables WITH each of the first n events
 pub record ArePlacesUpTo (n : ℕ) (events : List EventPort) (variables : List Variable) (all : List (List ℕ)) : Type 0 where
   pub counted : length all ≡ n
   pub each : (e : ℕ) (ks : List ℕ) → slice_get all e ≡ Some ks → ArePlaces variables (variables_with events variables (event_at events e)) ks
@@ -25,7 +26,7 @@ pub record ArePlacesUpTo (n : ℕ) (events : List EventPort) (variables : List V
 abbrev pub ArePlacesOfEach : List EventPort → List Variable → List (List ℕ) → Type 0
 ArePlacesOfEach events variables all = ArePlacesUpTo (length events) events variables all
 
--- for each event of an interface, the places of the variables WITH it, in the order in which they are declared
+-- for each event of an interface, the indices of the variables WITH it, in the order in which they are declared
 pub record AreWithPlaces (its : Ports) (x : WithPlaces) : Type 0 where
   pub inputs_counted : length x.inputs ≡ length its.event_inputs
   pub inputs : (e : ℕ) (ks : List ℕ) → slice_get x.inputs e ≡ Some ks → ArePlaces its.inputs (inputs_with its (event_at its.event_inputs e)) ks

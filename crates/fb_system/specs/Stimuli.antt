@@ -1,4 +1,4 @@
--- The stimuli of a system by number, and what variables begin with (this project's profile).
+-- The stimuli of a system by number, and initial values of variables (this project's profile).
 use Rattle.std.specs.Prelude.{◌≡◌, ◌<◌, ℕ, List, false, map, length, All, Some, slice_get}
 use Rattle.fb_types.specs.Names.{Path}
 use Rattle.fb_types.specs.Blocks.{Bound, variable_names}
@@ -26,7 +26,7 @@ pub record IsStimulusAt (i : Inputs) (row : ℕ) (x : StimulusAt) : Type 0 where
   pub sets : map (set_of (system_of i) x.target.instance) x.sets.now ≡ stimulus.sets
   pub within : All (λ s. s.place < length (ports_at (system_of i) (path_at (system_of i) x.target.instance)).inputs) x.sets.now
 
--- what each data input of an instance begins with, and each data output
+-- the initial value of each data input of an instance, and of each data output
 abbrev pub initial_inputs : System → Path → List Value
 initial_inputs sys p = map (λ n. sys.initial (record { at = p; name = n })) (variable_names (ports_at sys p).inputs)
 

@@ -12,7 +12,7 @@ use Rattle.fb_system.specs.declared.given.Given.{Given}
 use Rattle.fb_system.specs.declared.kept.Kept.{Kept}
 use Rattle.fb_system.specs.declared.whole.Whole.{Whole}
 
--- what is known of inputs by number
+-- what the check makes of accepted inputs
 pub record IsGiven (i : Inputs) (x : Given) : Type 0 where
   pub numbers : IsResolved i.library i.plan x.numbers
   pub holders : x.holders ≡ holders_of i.library i.plan
@@ -23,7 +23,7 @@ pub record IsGiven (i : Inputs) (x : Given) : Type 0 where
 abbrev pub inputs_of : Whole → Inputs
 inputs_of w = record { library = w.netlist; plan = w.deploy; stimuli = w.stimuli }
 
--- Accepted inputs, with the tables by which their numbers are looked up.
+-- Accepted inputs, with the tables in which their numbers are looked up.
 pub record StandFor (w : Whole) : Type 0 where
   pub accepted : AreAccepted (inputs_of w)
   pub links : IsLinked w.netlist w.deploy w.links

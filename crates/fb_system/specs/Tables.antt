@@ -1,4 +1,5 @@
--- The types of a declaration and the event blocks, each with the places of the variables WITH its events (this project's profile).
+-- The types of a declaration and the event blocks, each with the indices of the variables WITH its events (this project's
+-- profile).
 use Rattle.std.specs.Prelude.{◌≡◌, ℕ, List, length, Some, slice_get}
 use Rattle.fb_types.specs.Blocks.{ports_of, ports_of_event_block}
 use Rattle.fb_types.specs.EventPorts.{kind_place}
@@ -12,7 +13,7 @@ use Rattle.fb_system.specs.declared.interfaces.Interfaces.{Interfaces}
 use Rattle.fb_system.specs.Stands.{AreWithPlaces}
 use Rattle.fb_system.specs.Lookups.{IsPlaced}
 
--- each event block's entry at its place
+-- each event block's entry at its index
 abbrev pub AreOfEventBlocks : List WithPlaces → Type 0
 AreOfEventBlocks xs = (k : EventKind) → (x : WithPlaces) × (slice_get xs (kind_place k) ≡ Some x) × AreWithPlaces (ports_of_event_block k) x
 
@@ -24,7 +25,7 @@ pub record AreOfBlocksUpTo (n : ℕ) (ts : List BlockType) (xs : List WithPlaces
 abbrev pub AreOfBlocks : List BlockType → List WithPlaces → Type 0
 AreOfBlocks ts xs = AreOfBlocksUpTo (length ts) ts xs
 
--- Block types, and the places of the names of each.
+-- Block types, and the indices of the names of each.
 pub record AreBlocks (ts : List BlockType) (xs : List BlockPlaces) : Type 0 where
   pub counted : length xs ≡ length ts
   pub each : (k : ℕ) (t : BlockType) (x : BlockPlaces) → slice_get ts k ≡ Some t → slice_get xs k ≡ Some x → IsPlaced (ports_of (kind_of t)) x.ports

@@ -1,4 +1,4 @@
--- Where the connections of a network lead, by the places of components and ports (IEC 61499-1, 5.3).
+-- Where the connections of a network lead, by the indices of components and ports (IEC 61499-1, 5.3).
 use Rattle.std.specs.Prelude.{ℕ, List, map, Bool, true, false, ◌&&◌, nat_eq, Option, Some, None}
 use Rattle.std.specs.List.{filter}
 use Rattle.fb_types.specs.Flat.{first_of}
@@ -11,7 +11,7 @@ same_component None (Some n) = false
 same_component (Some m) None = false
 same_component (Some m) (Some n) = nat_eq m n
 
--- whether two ends are one
+-- whether two ends are the same
 abbrev pub same_end : WireEnd → WireEnd → Bool
 same_end a b = same_component a.component b.component && nat_eq a.port b.port
 

@@ -1,13 +1,13 @@
-//! Owned values beside calls that may fail.
+//! Owned values around calls that may fail.
 
 ghost use Rattle.std.specs.Prelude.{◌≡◌, Ok, IfOk};
 
 use std::alloc::AllocError;
 
-/// What is given, beside what was made, where each of the three was.
+/// Returns `given` with the values of the three results, if all of them are `Ok`.
 ///
-/// A value of a type parameter is dropped by one call. Where `?` stands beside owned values of other types, the drop of
-/// each is written out at each exit, and proved there.
+/// `?` writes out the drop of every owned value in scope at each exit, and each drop is proved there. A value of a type
+/// parameter is dropped by one call. So owned values of several types pass through this function.
 pub fn beside<G: Drop, A: Drop, B: Drop, C: Drop>(
     given: G,
     first: Result<A, AllocError>,

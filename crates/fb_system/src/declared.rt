@@ -37,7 +37,7 @@ fn network_in(tables: &Tables, around: Option<u32>) -> Option<&Network>
     }
 }
 
-/// An instance as it is declared.
+/// The declaration of an instance.
 pub(crate) fn declared_at(tables: &Tables, instance: u32) -> &Instance
     requires netlist { IsNetlist tables.now }
     requires within { instance < length (paths_of tables.now.library) }
@@ -56,7 +56,7 @@ pub(crate) fn declared_at(tables: &Tables, instance: u32) -> &Instance
     declared
 }
 
-/// The places of the data inputs that the parameters of an instance set.
+/// The indices of the data inputs that the parameters of an instance set.
 pub(crate) fn parameters_at(tables: &Tables, instance: u32) -> &[usize]
     requires netlist { IsNetlist tables.now }
     requires within { instance < length (paths_of tables.now.library) }

@@ -1,4 +1,4 @@
-//! Where connections lead to and come from, as rows that are found by the places of their ports.
+//! Where connections lead to and come from, in rows that are found by the indices of ports.
 
 ghost use Rattle.std.specs.Prelude.{◌≡◌, [], IfSome};
 ghost use Rattle.fb_types.specs.Systems.{System};
@@ -8,22 +8,24 @@ use crate::reached::Reached;
 use fb_types::{Items, Place, Target};
 use std::alloc::Global;
 
-/// No more rows of a sort than these are kept: they take 1 MB.
+/// The most rows that are kept of each kind. They take 1 MB.
 pub(crate) const MOST_ENDS: usize = 16384;
 
-/// Where the first of the event connections leads that leave a port.
+/// Where the first event connection from a port leads.
 #[derive(Clone, Copy)]
 pub(crate) struct TargetRow {
+    /// The port from which the connections lead.
     pub from: Target,
-    /// None where the port has no connection.
+    /// `None` if the port has no connection.
     pub first: Option<Reached>,
 }
 
 /// What a variable is connected to.
 #[derive(Clone, Copy)]
 pub(crate) struct SourceRow {
+    /// The variable at the end of the connection.
     pub to: Place,
-    /// None where the variable has no connection.
+    /// `None` if the variable has no connection.
     pub source: Option<Place>,
 }
 
@@ -43,14 +45,16 @@ pub(crate) struct FirstRows {
 /// The ends of the connections of a system.
 #[derive(Drop)]
 pub(crate) struct Ends {
+    /// The rows of event connections.
     pub targets: Items<TargetRow>,
+    /// The rows of data connections.
     pub sources: Items<SourceRow>,
-    /// For each instance, where its rows begin.
+    /// For each instance, the first of its rows.
     pub firsts: Items<FirstRows>,
 }
 
 impl Ends {
-    /// No rows.
+    /// A table without rows.
     pub(crate) fn new(alloc: Global) -> Ends
         ensures targets { result.targets ≡ [] }
         ensures sources { result.sources ≡ [] }
@@ -62,7 +66,7 @@ impl Ends {
         }
     }
 
-    /// Where the first connection from a port leads, if a row of it is kept.
+    /// Where the first connection from a port leads, if its row is kept.
     #[inline(always)]
     pub(crate) fn target(&self, from: Target) -> Option<&TargetRow>
         ensures { (sys : System) → AreTargets sys self.now.targets → IfSome result (λ r. LeadsTo sys from 0 r.now.first) }
@@ -77,7 +81,7 @@ impl Ends {
         if row.from == from { Some(row) } else { None }
     }
 
-    /// What a variable is connected to, if a row of it is kept.
+    /// What a variable is connected to, if its row is kept.
     #[inline(always)]
     pub(crate) fn source(&self, to: Place) -> Option<&SourceRow>
         ensures { (sys : System) → AreSources sys self.now.sources → IfSome result (λ r. ComesFrom sys to r.now.source) }

@@ -1,4 +1,4 @@
-//! The ends of the connections of a system.
+//! Makes the ends of the connections of a system.
 
 ghost use Rattle.std.specs.Prelude.{◌<◌, ◌≤◌, length, if◌then◌else◌, IfOk, OnOk};
 ghost use Rattle.fb_types.specs.Headline.{system_of};
@@ -11,8 +11,8 @@ use crate::system::System;
 use fb_types::{Items, Place, Target};
 use std::alloc::{AllocError, Global};
 
-/// How many of the event outputs, or of the event inputs, of an instance have rows. Its event inputs are connected to what
-/// is inside, so only those of a composite have any.
+/// The number of event outputs, or of event inputs, of an instance that have rows. Event inputs connect to what is
+/// inside, so only those of a composite have rows.
 fn count_events(system: &System, instance: u32, are_outputs: bool) -> usize
     requires { instance < length (system_of system.now).paths }
     ensures { let its = ports_at (system_of system.now) (path_at (system_of system.now) instance) in
@@ -28,8 +28,8 @@ fn count_events(system: &System, instance: u32, are_outputs: bool) -> usize
     }
 }
 
-/// How many of the data outputs, or of the data inputs, of an instance have rows. Its data outputs are connected to what
-/// is inside, so only those of a composite have any.
+/// The number of data outputs, or of data inputs, of an instance that have rows. Data outputs connect to what is inside,
+/// so only those of a composite have rows.
 fn count_variables(system: &System, instance: u32, are_outputs: bool) -> usize
     requires { instance < length (system_of system.now).paths }
     ensures { let its = ports_at (system_of system.now) (path_at (system_of system.now) instance) in
@@ -45,7 +45,7 @@ fn count_variables(system: &System, instance: u32, are_outputs: bool) -> usize
     }
 }
 
-/// Adds the rows of the event outputs, or of the event inputs, of an instance, as far as there is room for them.
+/// Adds the rows of the event outputs, or of the event inputs, of an instance, as long as there is room.
 fn add_targets(
     rows: &mut Items<TargetRow>,
     system: &System,
@@ -71,7 +71,7 @@ fn add_targets(
     Ok(())
 }
 
-/// Adds the rows of the data outputs, or of the data inputs, of an instance, as far as there is room for them.
+/// Adds the rows of the data outputs, or of the data inputs, of an instance, as long as there is room.
 fn add_sources(
     rows: &mut Items<SourceRow>,
     system: &System,
@@ -97,7 +97,7 @@ fn add_sources(
     Ok(())
 }
 
-/// Adds the ends of an instance.
+/// Adds the rows of an instance.
 fn add_instance(ends: &mut Ends, system: &System, instance: u32) -> Result<(), AllocError>
     requires instance { instance < length (system_of system.now).paths }
     requires targets { AreTargets (system_of system.now) ends.old.targets }

@@ -1,11 +1,11 @@
-//! What the check of inputs makes of them on the way.
+//! What the check makes of accepted inputs.
 
 use crate::interfaces::Interfaces;
 use crate::rows::StimulusRow;
 use fb_check_names::Resolved;
 use fb_types::Items;
 
-/// What is known of accepted inputs by number.
+/// Accepted inputs by number.
 #[derive(Drop)]
 pub struct Given {
     /// What the names stand for.

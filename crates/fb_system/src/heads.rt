@@ -1,4 +1,4 @@
-//! The heads of lines, each as it stands behind the tick: they are made once, so that a line copies a row whole.
+//! The heads of lines: what follows the tick. They are made once, so that writing a line copies a whole row.
 
 ghost use Rattle.std.specs.Prelude.{◌≡◌, ◌<◌, ◌≤◌, [], take, IfSome};
 ghost use Rattle.fb_types.specs.Systems.{System};
@@ -7,29 +7,33 @@ ghost use Rattle.fb_system.specs.Heads.{AreHeads, IsHead};
 use fb_types::Items;
 use std::alloc::Global;
 
-/// How many bytes a row has. A longer head is not kept.
+/// The bytes of a row. A longer head is not kept.
 pub const ROW: usize = 48;
 
-/// No more rows than these are kept: they take 4 MB.
+/// The most rows that are kept. They take 4 MB.
 pub(crate) const MOST_ROWS: usize = 65536;
 
-/// What a head is of: an event that an instance takes, or else emits, with the resource that the line names.
+/// What a head belongs to: an event that an instance takes or emits, with the resource that the line names.
 #[derive(Clone, Copy, PartialEq, Eq)]
 pub struct HeadOf {
+    /// The number of the resource.
     pub resource: u32,
+    /// The number of the instance.
     pub instance: u32,
-    /// The place among the event inputs of the instance's type, or among its event outputs.
+    /// The index among the event inputs of the instance's type, or among its event outputs.
     pub event: u32,
-    /// Set where the event is taken, and not where it is emitted.
+    /// Set if the event is taken, not emitted.
     pub taken: bool,
 }
 
 /// The text of a head in a row of fixed size.
 #[derive(Clone, Copy)]
 pub struct Head {
+    /// What the head belongs to.
     pub of: HeadOf,
-    /// How many bytes of the row the text takes, or 0 where it does not fit.
+    /// The number of bytes that the text takes in the row, or 0 if it does not fit.
     pub width: u8,
+    /// The bytes of the row, of which the first `width` are the text.
     pub text: [u8; ROW],
 }
 
@@ -45,8 +49,9 @@ pub(crate) struct Firsts {
 /// The heads of a system.
 #[derive(Drop)]
 pub(crate) struct Heads {
+    /// The heads of all instances, one after another.
     pub rows: Items<Head>,
-    /// For each instance, where its rows begin.
+    /// For each instance, the first of its rows.
     pub firsts: Items<Firsts>,
 }
 
@@ -63,7 +68,7 @@ impl Head {
         }
     }
 
-    /// The row with the text of a head, or an empty one where the text is too long.
+    /// The row with the text of a head, or an empty row if the text is too long.
     pub(crate) fn with_text(of: HeadOf, text: &[u8]) -> Head
         ensures same { result.of ≡ of }
         ensures within { result.width ≤ ROW }
@@ -83,7 +88,7 @@ impl Head {
 }
 
 impl Heads {
-    /// No heads.
+    /// A table without rows.
     pub(crate) fn new(alloc: Global) -> Heads
         ensures { result.rows ≡ [] }
     {
@@ -93,7 +98,7 @@ impl Heads {
         }
     }
 
-    /// The row with the text of a head, where one is kept.
+    /// The row with the text of a head, if it is kept.
     #[inline(always)]
     pub(crate) fn find(&self, of: HeadOf) -> Option<&Head>
         ensures { (sys : System) → AreHeads sys self.now.rows → IfSome result (λ h. IsHead sys of h.now) }

@@ -1,4 +1,4 @@
-//! The heads of the lines of a system.
+//! Makes the heads of the lines of a system.
 
 ghost use Rattle.std.specs.Prelude.{◌≡◌, ◌<◌, List, [], ◌++◌, codes, length, if◌then◌else◌, IfNone, IfOk, IfSome, OnOk};
 ghost use Rattle.fb_types.specs.Headline.{system_of};
@@ -26,7 +26,7 @@ fn event_name(system: &System, of: HeadOf) -> &[u8]
     }
 }
 
-/// The name of the variable at the first of these places, if there is one.
+/// The name of the variable at the first of these indices, if there is one.
 fn name_at_first<'a>(variables: &'a [Variable], places: &[u32]) -> Option<&'a [u8]>
     requires { (names : List Name) × ArePlaces variables.now names places.now }
     ensures none { (names : List Name) → ArePlaces variables.now names places.now → IfNone result (first_text names ≡ []) }
@@ -61,7 +61,7 @@ fn sign(taken: bool) -> &'static [u8]
     if taken { b" > " } else { b" < " }
 }
 
-/// What a head is put together from.
+/// The parts of a head.
 #[derive(Clone, Copy)]
 struct Parts<'a> {
     resource: &'a [u8],
@@ -72,7 +72,7 @@ struct Parts<'a> {
     first: Option<&'a [u8]>,
 }
 
-/// Whether each part by itself fits in a row. Then they are soon put together, also where the whole is too long.
+/// Whether each part fits in a row. Then joining them is fast, even if the whole is too long.
 fn are_short(parts: Parts) -> bool {
     let first = match parts.first {
         Some(name) => name.len(),
@@ -84,7 +84,7 @@ fn are_short(parts: Parts) -> bool {
         && first <= ROW
 }
 
-/// Puts the text of a head together, up to the name of its event.
+/// Joins the parts of a head, up to the name of its event.
 fn join(text: &mut Vec<u8>, parts: Parts) -> Result<(), AllocError>
     ensures { OnOk result (text.new.items ≡ parts.entry.resource.now ++ (if parts.entry.taken then codes " > " else codes " < ")
         ++ parts.entry.path.now ++ codes "." ++ parts.entry.event.now) }
@@ -97,7 +97,7 @@ fn join(text: &mut Vec<u8>, parts: Parts) -> Result<(), AllocError>
     text.extend_from_slice(parts.event)
 }
 
-/// Puts the name of the first variable behind a head.
+/// Appends the name of the first variable to a head.
 fn add_first(text: &mut Vec<u8>, first: Option<&[u8]>) -> Result<(), AllocError>
     ensures none { IfNone first.entry (OnOk result (text.new.items ≡ text.old.items)) }
     ensures some { IfSome first.entry (λ n. OnOk result (text.new.items ≡ text.old.items ++ codes " " ++ n.now ++ codes "=")) }
@@ -110,7 +110,7 @@ fn add_first(text: &mut Vec<u8>, first: Option<&[u8]>) -> Result<(), AllocError>
     text.extend_from_slice(b"=")
 }
 
-/// The row of a head. The text is put together in the buffer.
+/// The row of a head. The text is joined in the buffer.
 fn row_of(system: &System, text: &mut Vec<u8>, of: HeadOf) -> Result<Head, AllocError>
     requires { IsOfHead (system_of system.now) of }
     ensures { IfOk result (IsRowOfHead (system_of system.now)) }
@@ -130,7 +130,7 @@ fn row_of(system: &System, text: &mut Vec<u8>, of: HeadOf) -> Result<Head, Alloc
     Ok(Head::with_text(of, text.as_slice()))
 }
 
-/// How many events a type's instances take, or emit.
+/// The number of events that instances of a type take, or emit.
 fn events_of(ports: &Ports, taken: bool) -> usize
     ensures { result ≡ length (if taken then ports.now.event_inputs else ports.now.event_outputs) }
 {
@@ -141,7 +141,7 @@ fn events_of(ports: &Ports, taken: bool) -> usize
     }
 }
 
-/// Adds the rows of the events that an instance takes, or emits, as far as there is room for them.
+/// Adds the rows of the events that an instance takes, or emits, as long as there is room.
 fn add_rows(
     rows: &mut Items<Head>,
     system: &System,

@@ -1,4 +1,4 @@
-//! The resources of all instances.
+//! Finds the resources of all instances.
 
 ghost use Rattle.std.specs.Prelude.{◌≡◌, ◌<◌, length, IfOk, OnOk};
 ghost use Rattle.fb_types.specs.Flat.{paths_of, resource_of};
@@ -12,7 +12,7 @@ use crate::whole::Whole;
 use fb_types::Items;
 use std::alloc::{AllocError, Global};
 
-/// The resource that holds an instance: that of the instance of the application which it is, or is inside of.
+/// The resource that holds an instance: that of the application's instance which it is, or is inside of.
 fn home_of(netlist: &Netlist, links: &Links, instance: u32) -> usize
     requires { instance < length (paths_of netlist.now) }
     ensures { (plan : Plan) → IsLinked netlist.now plan links.now → result ≡ resource_of plan (path_of netlist.now instance) }
@@ -35,7 +35,7 @@ fn homes_of(alloc: Global, netlist: &Netlist, links: &Links) -> Result<Items<usi
     Ok(homes)
 }
 
-/// Gives tables the resources of all instances.
+/// Fills the resources of all instances into the tables.
 pub(crate) fn add_homes(alloc: Global, tables: &mut Whole) -> Result<(), AllocError>
     ensures same { OnOk result (tables.new ≡ record tables.old { homes = tables.new.homes }) }
     ensures homes { OnOk result (IsLinked tables.old.netlist tables.old.deploy tables.old.links → AreHomes tables.old.netlist tables.old.deploy tables.new.homes) }

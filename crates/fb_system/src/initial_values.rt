@@ -1,4 +1,4 @@
-//! The values with which the data inputs and the data outputs of an instance begin.
+//! Initial values of the data inputs and the data outputs of an instance.
 
 ghost use Rattle.std.specs.Prelude.{◌≡◌, IfOk, Some, map};
 ghost use Rattle.fb_types.specs.Blocks.{initial_of, variable_names};
@@ -10,7 +10,7 @@ ghost use Rattle.fb_system.specs.Begins.{begins_with, parameter_names};
 use fb_types::{Items, Parameter, Ports, Value, Variable};
 use std::alloc::{AllocError, Global};
 
-/// What variables begin with.
+/// The initial values of variables.
 fn first_values(alloc: Global, variables: &[Variable]) -> Result<Vec<Value>, AllocError>
     ensures { IfOk result (λ vs. vs.items ≡ map initial_of variables.now) }
 {
@@ -21,12 +21,12 @@ fn first_values(alloc: Global, variables: &[Variable]) -> Result<Vec<Value>, All
     Ok(values)
 }
 
-/// What the data inputs of an instance begin with: the instance's parameter, else the declared initial value, else
-/// 0 or FALSE. The places are those of the inputs that the parameters set.
+/// The initial values of the data inputs of an instance: the instance's parameter, else the declared initial value, else
+/// 0 or FALSE. `places` has the indices of the inputs that the parameters set.
 ///
 /// # Errors
 ///
-/// Want of memory.
+/// When memory runs out.
 pub(crate) fn input_values(
     alloc: Global,
     ports: &Ports,
@@ -45,11 +45,11 @@ pub(crate) fn input_values(
     Ok(Items::from_vec(values))
 }
 
-/// What the data outputs of an instance begin with: the declared initial value, else 0 or FALSE.
+/// The initial values of the data outputs of an instance: the declared initial value, else 0 or FALSE.
 ///
 /// # Errors
 ///
-/// Want of memory.
+/// When memory runs out.
 pub(crate) fn output_values(alloc: Global, ports: &Ports) -> Result<Items<Value>, AllocError>
     ensures { IfOk result (λ vs. vs ≡ map initial_of ports.now.outputs) }
 {

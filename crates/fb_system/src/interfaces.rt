@@ -1,4 +1,4 @@
-//! The types of a declaration and the event blocks, with the places of the variables WITH each event.
+//! The types of a declaration and the event blocks, with the indices of the variables WITH each event.
 
 ghost use Rattle.std.specs.Prelude.{◌≡◌, ◌<◌, ℕ, IfOk, Some, length, slice_get};
 ghost use Rattle.fb_types.specs.Blocks.{ports_of, ports_of_event_block};
@@ -17,7 +17,7 @@ use fb_check_names::{BlockPlaces, Catalog};
 use fb_types::{BlockType, EventKind, Items, Library};
 use std::alloc::{AllocError, Global};
 
-/// The types of a declaration and the event blocks: for each event the places of the variables WITH it.
+/// The types of a declaration and the event blocks: for each event the indices of the variables WITH it.
 pub struct Interfaces {
     blocks: Items<WithPlaces>,
     event_blocks: Items<WithPlaces>,
@@ -34,7 +34,7 @@ impl Drop for Interfaces {
 }
 
 impl Interfaces {
-    /// What the events of the block type at a place of the declaration go WITH.
+    /// The variables WITH each event of the block type at an index of the declaration.
     pub(crate) fn of_block(&self, block: usize) -> &WithPlaces
         requires { (library : Declaration) × AreInterfaces library self.now × (block < length library.blocks) }
         ensures { (library : Declaration) (t : Declared) → AreInterfaces library self.now → slice_get library.blocks block ≡ Some t → AreWithPlaces (ports_of (kind_of t)) result.now }
@@ -42,7 +42,7 @@ impl Interfaces {
         &self.blocks.as_slice()[block]
     }
 
-    /// What the events of an event block go WITH.
+    /// The variables WITH each event of an event block.
     pub(crate) fn of_event_block(&self, kind: EventKind) -> &WithPlaces
         requires { (library : Declaration) × AreInterfaces library self.now }
         ensures { AreWithPlaces (ports_of_event_block kind) result.now }
@@ -66,12 +66,12 @@ fn of_blocks(
     Ok(all)
 }
 
-/// The places of the variables WITH each event of each type of a declaration, and of each event block, in near
-/// linear time. In the declaration no name is given twice, and each stands for something.
+/// The indices of the variables WITH each event of each type of a declaration, and of each event block, in near linear
+/// time. In the declaration no name is given twice, and each stands for something.
 ///
 /// # Errors
 ///
-/// Want of memory. A type with 2^32 variables or more counts as that.
+/// When memory runs out. A type with 2^32 variables or more counts as out of memory.
 pub fn interfaces_of(
     alloc: Global,
     library: &Library,

@@ -1,4 +1,4 @@
-//! What a system keeps in rows beside its tables.
+//! Rows that a system keeps in addition to its tables.
 
 ghost use Rattle.std.specs.Prelude.{◌≡◌, [], IfOk};
 ghost use Rattle.fb_system.specs.Systems.{IsKept};
@@ -10,7 +10,7 @@ use crate::heads_of::heads_of;
 use crate::system::System;
 use std::alloc::{AllocError, Global};
 
-/// The rows of a system. They are made once, so that what an event asks for most is found at once.
+/// Rows that are made once, so that the most frequent lookups of an event take one step.
 pub(crate) struct Kept {
     /// The heads of its lines.
     pub heads: Heads,

@@ -1,4 +1,4 @@
-//! The instances by their numbers, a composite before its components, and these before its next sibling.
+//! The instances by number: a composite before its components, and these before its next sibling.
 
 ghost use Rattle.std.specs.Prelude.{◌≡◌, ◌++◌, ◌∷◌, [], ◌+◌, ◌≤◌, length, IfOk, OnOk, None, ℕ, option_map};
 ghost use Rattle.fb_types.specs.Flat.{paths_of};
@@ -13,7 +13,7 @@ use fb_check_names::{NetworkNumbers, Resolved, TypeNumber};
 use fb_types::{BlockType, Instance, Items, Library, Network};
 use std::alloc::{AllocError, Global};
 
-/// How deep an instance stands at most: the components of the highest composite's lowest one.
+/// The greatest depth of an instance: in composites of the greatest height, the components of the innermost one.
 const DEPTH: usize = 17;
 
 /// One instance.
@@ -21,10 +21,11 @@ const DEPTH: usize = 17;
 pub struct InstanceRow {
     /// The instance names from the outermost, joined by full stops.
     pub path: Items<u8>,
+    /// Its type.
     pub kind: TypeNumber,
-    /// The number of the composite that it is in, or none where it is one of the application.
+    /// The number of the composite that contains it, or none for an instance of the application.
     pub parent: Option<u32>,
-    /// The places of the components on the way to it, from the outermost.
+    /// The indices of the components on the path to it, from the outermost.
     pub route: Items<u32>,
     /// The numbers of its components, in the order of the text.
     pub components: Items<u32>,
@@ -33,7 +34,7 @@ pub struct InstanceRow {
 /// All instances of an application.
 #[derive(Drop)]
 pub struct Layout {
-    /// A row for each instance, at the place of its number.
+    /// The row of each instance, indexed by its number.
     pub rows: Items<InstanceRow>,
     /// The numbers of the instances of the application itself, in the order of the text.
     pub top: Items<u32>,
@@ -46,7 +47,7 @@ struct Outside<'a> {
     row: &'a InstanceRow,
 }
 
-/// A network, and what it is inside of, or none for the application's.
+/// A network with the composite that it is inside of, or none for the application's.
 #[derive(Clone, Copy)]
 struct Enclosed<'a, 'b, 'c> {
     network: &'a Network,
@@ -54,7 +55,7 @@ struct Enclosed<'a, 'b, 'c> {
     outside: Option<Outside<'c>>,
 }
 
-/// The instances of a network with all that is inside them.
+/// The instances of a network, including all that are inside them.
 #[derive(Drop)]
 struct Layer {
     rows: Vec<InstanceRow>,
@@ -73,7 +74,7 @@ impl Layer {
         }
     }
 
-    /// Adds an instance and what is inside it.
+    /// Adds an instance and the instances inside it.
     fn add(&mut self, number: u32, mut row: InstanceRow, inside: Layer) -> Result<(), AllocError>
         ensures rows { OnOk result (self.new.rows.items ≡ self.old.rows.items ++ spec.with_components row inside.numbers ∷ inside.rows.items) }
         ensures numbers { OnOk result (self.new.numbers ≡ self.old.numbers ++ number ∷ []) }
@@ -126,7 +127,7 @@ fn path_under(
     }
 }
 
-/// The places of the components on the way to an instance.
+/// The indices of the components on the path to an instance.
 fn route_under(
     alloc: Global,
     outside: Option<Outside>,
@@ -142,7 +143,7 @@ fn route_under(
     Ok(route)
 }
 
-/// The row of an instance, without its components.
+/// The row of an instance, before its components are known.
 fn row_under(
     alloc: Global,
     outside: Option<Outside>,
@@ -161,7 +162,7 @@ fn row_under(
     })
 }
 
-/// Lays out a network at most so many names deep. Its first instance has the number `first`.
+/// Lays out a network up to this depth of names. Its first instance gets the number `first`.
 fn lay_out(
     alloc: Global,
     depth: usize,
@@ -201,8 +202,8 @@ fn lay_out(
     Ok(layer)
 }
 
-/// The instances of an application, at most 4,096 of them, by their numbers. A row is moved once for each composite
-/// round its instance, and its route is as long, so the time is linear in the paths and routes together.
+/// The instances of an application, at most 4,096, by number. A row is moved once for each composite around its instance,
+/// and its route has that length, so the time is linear in the paths and routes together.
 pub(crate) fn layout_of(
     alloc: Global,
     library: &Library,

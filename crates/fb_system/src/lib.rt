@@ -1,17 +1,17 @@
-//! An accepted declaration with its deployment and stimuli, and what is looked up of it by number.
+//! An accepted declaration with its deployment and stimuli, looked up by number.
 //!
-//! Guarantees to callers: a `System` keeps in its type that its inputs are accepted, and each of its accessors answers what
-//! the flat system of the definitions has. Contracts see the inputs alone. A share of a system is the same one. A lookup
-//! does not grow with the number of instances; tables of connections are kept by type and not by instance.
+//! Guarantees to callers: a `System` keeps in its type that its inputs are accepted. Each accessor returns what the flat
+//! system of the definitions has. Contracts see the inputs alone. A share of a system is the same system. The time of a
+//! lookup does not grow with the number of instances, and tables of connections are kept by type, not by instance.
 //!
-//! Read in this order: `system`, what is asked; `stimulus`; `whole`, what is kept; `types`. Then the tables. Instances and
-//! connections: `layout`, the tree of composites as a list; `wiring`, where the connections of a network lead, and
-//! `wiring_table`, how that is kept; `netlist`, what is asked of both, and `reached`, what it answers of an event; `tables`
-//! and `declared`, how it is found; `making`. Then `links`, resources and links; `homes`, the resources of all instances;
-//! `interfaces` with `with_places` and `event_block_with_places`, the variables WITH each event; `kept`, what is found in one
-//! step: `heads` with `heads_of`, the heads of lines, and `ends` with `ends_of`, where connections lead to and come from;
-//! `initial_values`, what variables begin with; `rows`, the stimuli by number. The check above fills them: `given`.
-//! `beside` hands owned values on beside calls that may fail, so that each is dropped at one place.
+//! Read in this order: `system`, the accessors; `stimulus`; `whole`, the tables; `types`. Then the tables. Instances and
+//! connections: `layout`, the tree of composites as a list; `wiring`, where the connections of a network lead, with
+//! `wiring_table`; `netlist`, the lookups in both, and `reached`, where a connection leads; `tables` and `declared`, how
+//! a lookup works; `making`. Then `links`, resources and links; `homes`, the resources of all instances; `interfaces`
+//! with `with_places` and `event_block_with_places`, the variables WITH each event; `kept`, rows for lookups in one step:
+//! `heads` with `heads_of`, the heads of lines, and `ends` with `ends_of`, where connections lead to and come from;
+//! `initial_values`; `rows`, the stimuli by number. The check fills them: `given`. `beside` passes owned values around
+//! calls that may fail, so that each is dropped at one point.
 #![tactic(auto)]
 
 pub mod beside;

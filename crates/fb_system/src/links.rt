@@ -13,8 +13,8 @@ use fb_types::Items;
 use std::alloc::{AllocError, Global};
 use std::marker::Model;
 
-/// For each resource that sends, by the number of the resource that receives, the first link from the one to the other. At
-/// most 256 resources have at most 65,536 such places.
+/// For each sending resource, by the number of the receiving resource, the first link from the one to the other. At most
+/// 256 resources have at most 65,536 such entries.
 type Ways = Vec<Items<Option<usize>>>;
 
 /// The resources of instances and of links, by number. Contracts see the resource that holds each instance, and the
@@ -48,7 +48,7 @@ impl Model for Links {
     ghost invariant = { λ l. AreWays l.ends l.ways.items };
 }
 
-/// The link to a resource, of those from another.
+/// The link to a resource, among those from one other.
 fn way_in(row: &[Option<usize>], to: usize) -> Option<usize>
     ensures { result ≡ way_to row.now to }
 {
@@ -68,7 +68,7 @@ fn way(ways: &[Items<Option<usize>>], from: usize, to: usize) -> Option<usize>
     }
 }
 
-/// Notes a link to a resource, where none was noted before.
+/// Sets the link to a resource, unless one is set already.
 fn note_to(row: &mut Items<Option<usize>>, to: usize, link: usize) -> Result<(), AllocError>
     ensures { OnOk result ((t : ℕ) → way_to row.new t ≡ or_else (way_to row.old t) (cond (nat_eq to t) (Some link) None)) }
 {
@@ -82,7 +82,7 @@ fn note_to(row: &mut Items<Option<usize>>, to: usize, link: usize) -> Result<(),
     Ok(())
 }
 
-/// Notes a link, where none between its resources was noted before.
+/// Sets a link, unless one between its resources is set already.
 fn note(ways: &mut Ways, alloc: Global, ends: LinkEnds, link: usize) -> Result<(), AllocError>
     ensures { OnOk result ((f t : ℕ) → way_between ways.new.items f t ≡ or_else (way_between ways.old.items f t) (cond (joins f t ends) (Some link) None)) }
 {
@@ -94,7 +94,7 @@ fn note(ways: &mut Ways, alloc: Global, ends: LinkEnds, link: usize) -> Result<(
     Ok(())
 }
 
-/// The first link from any resource to any other.
+/// The first link from each resource to each other.
 fn ways_of(alloc: Global, links: &[LinkEnds]) -> Result<Ways, AllocError>
     ensures { IfOk result (λ ways. AreWays links.now ways.items) }
 {
@@ -106,7 +106,7 @@ fn ways_of(alloc: Global, links: &[LinkEnds]) -> Result<Ways, AllocError>
 }
 
 impl Links {
-    /// The resources and links of a deployment, from the holders of the application's instances.
+    /// The resources and links of a deployment, from the resources that hold the application's instances.
     pub fn of(alloc: Global, holders: Items<usize>, numbers: &Resolved) -> Result<Links, AllocError>
         ensures { (library : Library) (plan : Plan) → IsResolved library plan numbers.now → ¬ (NameTwice library plan) → holders ≡ holders_of library plan → IfOk result (IsLinked library plan) }
     {
@@ -119,14 +119,15 @@ impl Links {
         })
     }
 
-    /// The resource that holds an instance of the application, by the places of both from 0. A place that no instance has gives 0.
+    /// The index of the resource that holds an instance of the application, by the instance's index. An index that no
+    /// instance has gives 0.
     pub fn holder(&self, instance: usize) -> usize
         ensures { result ≡ holder_at self.now instance }
     {
         self.holders.get(instance).copied().unwrap_or(0)
     }
 
-    /// The link that leads from one resource to another, by their places from 0, or `None` where there is none.
+    /// The link from one resource to another, by their indices, or `None` if there is none.
     pub fn between(&self, from: usize, to: usize) -> Option<usize>
         ensures { result ≡ link_at self.now from to }
     {

@@ -1,4 +1,4 @@
-//! How the tables of a netlist are made.
+//! Makes the tables of a netlist.
 
 ghost use Rattle.std.specs.Prelude.{◌≡◌, ◌↔◌, ◌≤◌, length, IsTrue, IfOk};
 ghost use Rattle.fb_types.specs.Blocks.{ports_of};
@@ -16,7 +16,7 @@ use fb_check_names::{NetworkNumbers, Resolved};
 use fb_types::{BlockType, Items, Library, Ports};
 use std::alloc::{AllocError, Global};
 
-/// Whether each port's place is a number of 32 bits.
+/// Whether the index of each port fits in 32 bits.
 fn is_narrow(ports: &Ports) -> bool
     ensures { IsTrue result ↔ IsNarrow ports.now }
 {
@@ -36,7 +36,7 @@ fn is_narrow_block(block: &BlockType) -> bool
     }
 }
 
-/// Whether the places of the ports of all types are numbers of 32 bits.
+/// Whether the indices of the ports of all types fit in 32 bits.
 fn are_narrow(blocks: &[BlockType]) -> bool
     ensures { IsTrue result ↔ AreNarrow blocks.now }
 {
@@ -48,8 +48,7 @@ fn are_narrow(blocks: &[BlockType]) -> bool
     true
 }
 
-/// The layout of a declaration, where the places of its ports are numbers of 32 bits. Else the error is that memory
-/// runs out.
+/// The layout of a declaration, if the indices of its ports fit in 32 bits. Otherwise the error is out of memory.
 pub(crate) fn narrow_layout(
     alloc: Global,
     library: &Library,

@@ -1,4 +1,4 @@
-//! The connections of a system by numbers.
+//! The connections of a system by number.
 
 ghost use Rattle.std.specs.Prelude.{◌≡◌, ◌<◌, ◌+◌, ◌↔◌, IsTrue, ◌≤◌, [], length, option_map, slice_get, IfOk, IfSome, Some, ℕ};
 ghost use Rattle.fb_types.specs.Blocks.{Kind};
@@ -54,9 +54,12 @@ impl Model for Netlist {
 }
 
 impl Netlist {
-    /// The netlist of a declaration, whose numbers are taken apart. It costs time in proportion to the instances and
-    /// the connections of the declaration. The error is that memory runs out, also where a type has more ports of a
-    /// sort than 32 bits can number.
+    /// The netlist of a declaration, made from its numbers. The time is proportional to the instances and the connections
+    /// of the declaration.
+    ///
+    /// # Errors
+    ///
+    /// When memory runs out. A type with more ports of one kind than 32 bits can number counts as out of memory.
     pub fn of(alloc: Global, library: Library, numbers: Resolved) -> Result<Netlist, AllocError>
         requires resolved { (plan : Plan) × (¬ (NameTwice library plan)) × IsResolved library plan numbers }
         requires height { ¬ (TooHigh library) }
@@ -84,7 +87,7 @@ impl Netlist {
         &self.tables.library
     }
 
-    /// What every netlist keeps: there are at most 4,096 instances, and no two have one path.
+    /// Facts of every netlist for proofs: there are at most 4,096 instances, and no two have the same path.
     pub fn facts(&self)
         ensures few { length (paths_of self.now) ≤ 4096 }
         ensures numbers { (k : ℕ) → k < length (paths_of self.now) → number_of (paths_of self.now) (path_of self.now k) ≡ k }
@@ -92,7 +95,7 @@ impl Netlist {
         let _tables = &self.tables;
     }
 
-    /// How many instances there are, at most 4,096. Their numbers are less than that.
+    /// The number of instances, at most 4,096. Their numbers are less than that.
     pub fn count(&self) -> usize
         ensures { result ≡ length (paths_of self.now) }
     {
@@ -108,7 +111,7 @@ impl Netlist {
         row_at(&self.tables, instance).kind
     }
 
-    /// An instance as it is declared.
+    /// The declaration of an instance.
     pub fn declared(&self, instance: u32) -> &Instance
         requires { instance < length (paths_of self.now) }
         ensures { instance_at self.now (path_of self.now instance) ≡ Some result.now }
@@ -116,7 +119,7 @@ impl Netlist {
         declared_at(&self.tables, instance)
     }
 
-    /// For each parameter of an instance, the place of the data input that it sets.
+    /// For each parameter of an instance, the index of the data input that it sets.
     pub fn parameters(&self, instance: u32) -> &[usize]
         requires { instance < length (paths_of self.now) }
         ensures { (i : Declared) → instance_at self.now (path_of self.now instance) ≡ Some i → parameter_numbers self.now i ≡ Some result.now }
@@ -124,7 +127,7 @@ impl Netlist {
         parameters_at(&self.tables, instance)
     }
 
-    /// The names of the instances on the way to an instance, from the outermost, joined by full stops.
+    /// The names of the instances on the path to an instance, from the outermost, joined by full stops.
     pub fn path(&self, instance: u32) -> &[u8]
         requires { instance < length (paths_of self.now) }
         ensures { result.now ≡ path_text (path_of self.now instance) }
@@ -132,7 +135,8 @@ impl Netlist {
         row_at(&self.tables, instance).path.as_slice()
     }
 
-    /// The number of the composite that an instance is in, less than its own, or none where it is one of the application.
+    /// The number of the composite that contains an instance, less than its own, or none for an instance of the
+    /// application.
     pub fn parent(&self, instance: u32) -> Option<u32>
         requires { instance < length (paths_of self.now) }
         ensures { IsParent self.now instance result }
@@ -140,7 +144,7 @@ impl Netlist {
         row_at(&self.tables, instance).parent
     }
 
-    /// The places on the way to an instance, each in its network, from the outermost.
+    /// The indices of the instances on the path to an instance, each in its network, from the outermost.
     pub fn route(&self, instance: u32) -> &[u32]
         requires { instance < length (paths_of self.now) }
         ensures { result.now ≡ route_to self.now (path_of self.now instance) }
@@ -148,7 +152,7 @@ impl Netlist {
         row_at(&self.tables, instance).route.as_slice()
     }
 
-    /// The numbers of the instances inside a composite, in the order of the text. There are none in any other instance.
+    /// The numbers of the instances inside a composite, in the order of the text. Any other instance has none.
     pub fn components(&self, instance: u32) -> &[u32]
         requires { instance < length (paths_of self.now) }
         ensures { AreComponents self.now (path_of self.now instance) result.now }
@@ -163,9 +167,9 @@ impl Netlist {
         self.tables.layout.top.as_slice()
     }
 
-    /// Where the event connection leads that stands at a place among those that leave an event, in the order of the
-    /// text: from an event output to what is around the instance, from an event input of a composite to what is inside.
-    /// It tells too whether another one follows, so nobody has to look for one behind the last.
+    /// Where the event connection leads that has this index among those from an event, in the order of the text. An event
+    /// output connects to what is around the instance, an event input of a composite to what is inside. The answer also
+    /// says whether another connection follows, so that no caller searches for one after the last.
     pub fn reached(&self, from: Target, place: usize) -> Option<Reached>
         requires { IsPort self.now from }
         ensures leads { option_map (λ r. port_of self.now r.target) result ≡ slice_get (targets_of self.now (port_of self.now from)) place }

@@ -2,9 +2,11 @@
 
 use fb_types::Target;
 
-/// Where one of the connections of an event leads, and whether another one follows it.
+/// Where one of the connections from an event leads, and whether another one follows.
 #[derive(Clone, Copy)]
 pub struct Reached {
+    /// The event to which the connection leads.
     pub target: Target,
+    /// Set if another connection from the same event follows.
     pub more: bool,
 }

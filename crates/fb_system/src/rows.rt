@@ -5,10 +5,12 @@ ghost use Rattle.std.specs.Prelude.{◌≡◌, IfOk};
 use fb_types::{Items, Value};
 use std::alloc::AllocError;
 
-/// A value for the slot of the data input at a place.
+/// A value for the slot of the data input at an index.
 #[derive(Clone, Copy)]
 pub struct SlotValue {
+    /// The index among the data inputs of the type.
     pub place: u32,
+    /// The value, which is one of the input's type.
     pub value: Value,
 }
 
@@ -17,20 +19,19 @@ pub struct SlotValue {
 pub struct StimulusRow {
     /// In milliseconds.
     pub tick: u64,
-    /// The place among the instances of the application's network.
+    /// The index among the instances of the application's network.
     pub instance: u32,
-    /// The place among the event inputs of the instance's type.
+    /// The index among the event inputs of the instance's type.
     pub event: u32,
-    /// The slots that it sets, in the order of the stimulus. The places are among the data inputs of the type.
+    /// The slots that it sets, in the order of the stimulus. The indices are among the data inputs of the type.
     pub sets: Items<SlotValue>,
 }
 
-/// A place as a number of a table. One beyond all numbers would be that of one of more elements than memory holds,
-/// so it counts as want of memory.
+/// An index as a number of 32 bits.
 ///
 /// # Errors
 ///
-/// Want of memory.
+/// When memory runs out. A greater index counts as out of memory: it would belong to a list that fits in no memory.
 pub fn number_of(place: usize) -> Result<u32, AllocError>
     ensures { IfOk result (λ n. n ≡ place) }
 {

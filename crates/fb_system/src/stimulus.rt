@@ -1,12 +1,15 @@
-//! Stimuli by number.
+//! The view of a stimulus.
 
 pub use crate::rows::SlotValue;
 use fb_types::Target;
 
-/// A stimulus of a system: its tick in milliseconds, the event input at which it comes, and the slots that it sets.
+/// A stimulus of a system: its tick in milliseconds, the event input that it triggers, and the slots that it sets.
 #[derive(Clone, Copy)]
 pub struct StimulusAt<'a> {
+    /// In milliseconds.
     pub tick: u64,
+    /// The event input.
     pub target: Target,
+    /// The slots that it sets before the event is taken.
     pub sets: &'a [SlotValue],
 }

@@ -1,4 +1,4 @@
-//! The system that stands for accepted inputs.
+//! The system of accepted inputs.
 
 ghost use Rattle.std.specs.Prelude.{◌≡◌, ◌+◌, ◌<◌, ◌≤◌, [], List, ℕ, length, option_map, slice_get, slice_index_or, ◌↔◌, IfOk, IfSome, IsTrue};
 ghost use Rattle.std.specs.Arc.{arc_value};
@@ -39,7 +39,7 @@ use std::alloc::{AllocError, Global};
 use std::marker::Model;
 use std::sync::Arc;
 
-/// An accepted system. Contracts see the inputs that it stands for, and by them the flat system of the definitions.
+/// An accepted system. Contracts see the inputs that it stands for, and through them the flat system of the definitions.
 /// Instances, events, variables, resources and links are numbers here, each from 0.
 pub struct System {
     whole: Arc<Whole, Global>,
@@ -72,7 +72,11 @@ impl Model for System {
 }
 
 impl System {
-    /// The system of accepted inputs, with what is known of them by number, which is taken apart.
+    /// The system of accepted inputs, made from their numbers.
+    ///
+    /// # Errors
+    ///
+    /// When memory runs out.
     pub fn of(
         alloc: Global,
         library: Library,
@@ -109,7 +113,7 @@ impl System {
         System::of_tables(alloc, tables)
     }
 
-    /// The system of tables that stand for accepted inputs once they have the resources of all instances.
+    /// The system of tables of accepted inputs. It fills in the resources of all instances.
     fn of_tables(alloc: Global, mut tables: Whole) -> Result<System, AllocError>
         requires stands { (homes : List ℕ) → (IsLinked tables.netlist tables.deploy tables.links → AreHomes tables.netlist tables.deploy homes) → StandFor (record tables { homes = homes }) }
         requires bare { IsBare tables.kept }
@@ -122,7 +126,7 @@ impl System {
         bare.with_rows(alloc, rows)
     }
 
-    /// The same system with these heads of its lines and ends of its connections.
+    /// The same system with these heads of lines and ends of connections.
     fn with_rows(self, alloc: Global, rows: Kept) -> Result<System, AllocError>
         requires { IsKept self rows }
         ensures { IfOk result (λ s. s ≡ self) }
@@ -133,12 +137,13 @@ impl System {
                 let whole = Arc::new(alloc, tables.with_kept(rows))?;
                 Ok(System { whole })
             }
-            // The tables have one owner here. With another one they would stay as they are, and be looked up.
+            // The tables have one owner here. If they had another, they would stay without rows, and lookups would use
+            // the tables.
             Err(whole) => Ok(System { whole }),
         }
     }
 
-    /// The same system. No table is copied.
+    /// The same system, shared: no table is copied.
     ///
     /// # Errors
     ///
@@ -150,7 +155,7 @@ impl System {
         Ok(System { whole })
     }
 
-    /// What was accepted, and what every system keeps.
+    /// For proofs: the inputs are accepted, and the facts of every system.
     pub fn facts(&self)
         ensures accepted { AreAccepted self.now }
         ensures limits { IsWithinLimits self.now.plan }
@@ -183,7 +188,7 @@ impl System {
         self.whole.stimuli.as_slice()
     }
 
-    /// How many instances there are, at most 4,096.
+    /// The number of instances, at most 4,096.
     pub fn count(&self) -> usize
         ensures { result ≡ length (system_of self.now).paths }
     {
@@ -206,7 +211,8 @@ impl System {
         self.whole.netlist.path(instance)
     }
 
-    /// The number of the composite that an instance is in, less than its own, or none where it is one of the application.
+    /// The number of the composite that contains an instance, less than its own, or none for an instance of the
+    /// application.
     pub fn parent(&self, instance: u32) -> Option<u32>
         requires { instance < length (system_of self.now).paths }
         ensures { IsParent self.now.library instance result }
@@ -214,7 +220,7 @@ impl System {
         self.whole.netlist.parent(instance)
     }
 
-    /// The places on the way to an instance, each in its network, from the outermost.
+    /// The indices of the instances on the path to an instance, each in its network, from the outermost.
     pub fn route(&self, instance: u32) -> &[u32]
         requires { instance < length (system_of self.now).paths }
         ensures { result.now ≡ route_to self.now.library (path_at (system_of self.now) instance) }
@@ -222,7 +228,7 @@ impl System {
         self.whole.netlist.route(instance)
     }
 
-    /// The numbers of the instances inside a composite, in the order of the text. There are none in any other instance.
+    /// The numbers of the instances inside a composite, in the order of the text. Any other instance has none.
     pub fn components(&self, instance: u32) -> &[u32]
         requires { instance < length (system_of self.now).paths }
         ensures { AreComponents self.now.library (path_at (system_of self.now) instance) result.now }
@@ -237,9 +243,9 @@ impl System {
         self.whole.netlist.top()
     }
 
-    /// Where the event connection leads that stands at a place among those that leave a port, in the order of the text:
-    /// from an event output to what is around the instance, from an event input of a composite to what is inside. It tells
-    /// too whether another one follows, so nobody has to look for one behind the last.
+    /// Where the event connection leads that has this index among those from a port, in the order of the text. An event
+    /// output connects to what is around the instance, an event input of a composite to what is inside. The answer also
+    /// says whether another connection follows, so that no caller searches for one after the last.
     #[inline(always)]
     pub fn reached(&self, from: Target, place: usize) -> Option<Reached>
         requires { IsPort (system_of self.now) from }
@@ -247,7 +253,7 @@ impl System {
         ensures within { IfSome result (λ r. IsTarget (system_of self.now) r.target) }
         ensures more { IfSome result (λ r. IsTrue r.more ↔ (place + 1 < length ((system_of self.now).targets (port_of (system_of self.now) from)))) }
     {
-        // Mostly a port has one connection, and its row is kept.
+        // Usually a port has one connection, and its row is kept.
         if place == 0 {
             if let Some(row) = self.whole.kept.ends.target(from) {
                 return row.first;
@@ -256,7 +262,7 @@ impl System {
         self.reached_by_tables(from, place)
     }
 
-    /// Where a connection leads, by the network in which it stands.
+    /// Where a connection leads, by its network.
     #[inline(never)]
     fn reached_by_tables(&self, from: Target, place: usize) -> Option<Reached>
         requires { IsPort (system_of self.now) from }
@@ -279,7 +285,7 @@ impl System {
         }
     }
 
-    /// What a variable is connected to, by the network in which its connection stands.
+    /// What a variable is connected to, by the network of its connection.
     #[inline(never)]
     fn source_by_tables(&self, to: Place) -> Option<Place>
         requires { IsVariable (system_of self.now) to }
@@ -297,7 +303,7 @@ impl System {
         self.whole.homes.as_slice()[instance as usize]
     }
 
-    /// How many resources there are, at most 256.
+    /// The number of resources, at most 256.
     pub fn resources(&self) -> usize
         ensures { result ≡ length (system_of self.now).resource_names }
     {
@@ -314,14 +320,14 @@ impl System {
             .as_bytes()
     }
 
-    /// How many links there are, at most 1,024.
+    /// The number of links, at most 1,024.
     pub fn links(&self) -> usize
         ensures { result ≡ (system_of self.now).links }
     {
         self.whole.deploy.plan().links.len()
     }
 
-    /// The link from one resource to another, or 0 where there is none.
+    /// The link from one resource to another, or 0 if there is none.
     pub fn link(&self, from: usize, to: usize) -> usize
         requires from { from < length (system_of self.now).resource_names }
         requires to { to < length (system_of self.now).resource_names }
@@ -362,7 +368,7 @@ impl System {
         ports_of_type(whole, whole.netlist.kind(instance))
     }
 
-    /// For each event of an instance's type, the places of the variables WITH it.
+    /// For each event of an instance's type, the indices of the variables WITH it.
     #[inline(always)]
     fn with_places(&self, instance: u32) -> &WithPlaces
         requires { instance < length (system_of self.now).paths }
@@ -372,7 +378,7 @@ impl System {
         with_places_of_type(whole, whole.netlist.kind(instance))
     }
 
-    /// The row with the text of a head, where one is kept: those of the first 65,536 events are, as far as they fit.
+    /// The row with the text of a head, if it is kept. The heads of the first 65,536 events are, if they fit.
     #[inline(always)]
     pub fn head(&self, of: HeadOf) -> Option<&Head>
         ensures { IfSome result (λ h. IsHead (system_of self.now) of h.now) }
@@ -380,7 +386,7 @@ impl System {
         self.whole.kept.heads.find(of)
     }
 
-    /// The places of the data inputs WITH an event input of an instance, in the order in which the inputs are declared.
+    /// The indices of the data inputs WITH an event input of an instance, in the order in which the inputs are declared.
     pub fn inputs_with(&self, instance: u32, event: u32) -> &[u32]
         requires instance { instance < length (system_of self.now).paths }
         requires event { event < length (ports_at (system_of self.now) (path_at (system_of self.now) instance)).event_inputs }
@@ -389,7 +395,8 @@ impl System {
         self.with_places(instance).inputs.as_slice()[event as usize].as_slice()
     }
 
-    /// The places of the data outputs WITH an event output of an instance, in the order in which the outputs are declared.
+    /// The indices of the data outputs WITH an event output of an instance, in the order in which the outputs are
+    /// declared.
     pub fn outputs_with(&self, instance: u32, event: u32) -> &[u32]
         requires instance { instance < length (system_of self.now).paths }
         requires event { event < length (ports_at (system_of self.now) (path_at (system_of self.now) instance)).event_outputs }
@@ -398,11 +405,12 @@ impl System {
         self.with_places(instance).outputs.as_slice()[event as usize].as_slice()
     }
 
-    /// What each data input of an instance begins with: the parameter, else the declared initial value, else 0 or FALSE.
+    /// The initial value of each data input of an instance: the parameter, else the declared initial value, else 0 or
+    /// FALSE.
     ///
     /// # Errors
     ///
-    /// Want of memory.
+    /// When memory runs out.
     pub fn initial_inputs(&self, alloc: Global, instance: u32) -> Result<Items<Value>, AllocError>
         requires { instance < length (system_of self.now).paths }
         ensures { IfOk result (λ vs. vs ≡ initial_inputs (system_of self.now) (path_at (system_of self.now) instance)) }
@@ -417,11 +425,11 @@ impl System {
         )
     }
 
-    /// What each data output of an instance begins with: the declared initial value, else 0 or FALSE.
+    /// The initial value of each data output of an instance: the declared initial value, else 0 or FALSE.
     ///
     /// # Errors
     ///
-    /// Want of memory.
+    /// When memory runs out.
     pub fn initial_outputs(&self, alloc: Global, instance: u32) -> Result<Items<Value>, AllocError>
         requires { instance < length (system_of self.now).paths }
         ensures { IfOk result (λ vs. vs ≡ initial_outputs (system_of self.now) (path_at (system_of self.now) instance)) }

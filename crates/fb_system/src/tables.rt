@@ -1,4 +1,4 @@
-//! What a netlist keeps, and how the ends of its connections are looked up.
+//! The tables of a netlist, and how the ends of its connections are looked up.
 
 ghost use Rattle.std.specs.Prelude.{◌≡◌, ◌<◌, ◌+◌, ◌↔◌, IsTrue, length, slice_get, [], option_map, IfSome, MatchOption, None, Some};
 ghost use Rattle.fb_types.specs.Blocks.{ports_of};
@@ -18,18 +18,22 @@ use fb_types::{Items, Library, Place, Target};
 /// The instances of a declaration and its networks.
 #[derive(Drop)]
 pub(crate) struct Tables {
+    /// The declaration.
     pub library: Library,
+    /// Its instances by number.
     pub layout: Layout,
     /// The network of the application.
     pub application: Wiring,
-    /// For each block type of the declaration its network, none for a basic type.
+    /// For each block type of the declaration its network, or none for a basic type.
     pub blocks: Items<Option<Wiring>>,
 }
 
-/// An end of connections, and the composite in whose network it lies, or none for the application's.
+/// An end of connections, with the composite whose network has it, or none for the application's.
 #[derive(Clone, Copy)]
 pub(crate) struct EndIn {
+    /// The number of the composite, or none for the application's network.
     pub around: Option<u32>,
+    /// The end itself.
     pub end: WireEnd,
 }
 
@@ -42,7 +46,7 @@ pub(crate) fn row_at(tables: &Tables, instance: u32) -> &InstanceRow
     &tables.layout.rows.as_slice()[instance as usize]
 }
 
-/// The network of the application, or the one inside an instance, if its type has one.
+/// The network of the application, or the network inside an instance, if its type has one.
 #[inline(always)]
 pub(crate) fn wiring_in(tables: &Tables, around: Option<u32>) -> Option<&Wiring>
     requires netlist { IsNetlist tables.now }
@@ -58,7 +62,7 @@ pub(crate) fn wiring_in(tables: &Tables, around: Option<u32>) -> Option<&Wiring>
     }
 }
 
-/// The numbers of the instances in the network of the application, or of those inside an instance.
+/// The numbers of the instances in the network of the application, or inside an instance.
 #[inline(always)]
 fn components_in(tables: &Tables, around: Option<u32>) -> &[u32]
     requires netlist { IsNetlist tables.now }
@@ -71,7 +75,7 @@ fn components_in(tables: &Tables, around: Option<u32>) -> &[u32]
     }
 }
 
-/// The instance at an end of a connection: a component, or at the boundary the composite itself.
+/// The instance at an end of a connection: a component, or the composite itself at its boundary.
 #[inline(always)]
 fn instance_at(tables: &Tables, around: Option<u32>, component: Option<usize>) -> u32
     requires netlist { IsNetlist tables.now }
@@ -119,7 +123,7 @@ fn place_at(tables: &Tables, around: Option<u32>, end: WireEnd) -> Place
     }
 }
 
-/// Where the event connections from an end of a network lead: the one at a place.
+/// Where the event connection leads that has this index among those from an end of a network.
 pub(crate) fn target_in(
     tables: &Tables,
     around: Option<u32>,
@@ -155,7 +159,7 @@ pub(crate) fn source_in(tables: &Tables, around: Option<u32>, end: WireEnd) -> O
     Some(place_at(tables, around, from))
 }
 
-/// The last place of a route, at which an instance stands in its network.
+/// The last index of a route: that of the instance in its own network.
 pub(crate) fn last_place(route: &[u32]) -> Option<usize>
     ensures { result ≡ last_of route.now }
 {
@@ -163,7 +167,7 @@ pub(crate) fn last_place(route: &[u32]) -> Option<usize>
     Some(*place as usize)
 }
 
-/// The end from which the connections of an event lead: of an event output in the network around the instance, of an
+/// The end from which the connections of an event lead: for an event output in the network around the instance, for an
 /// event input of a composite in the network inside it.
 pub(crate) fn leaving(tables: &Tables, from: Target) -> EndIn
     requires netlist { IsNetlist tables.now }
@@ -189,7 +193,7 @@ pub(crate) fn leaving(tables: &Tables, from: Target) -> EndIn
     }
 }
 
-/// The end to which the connection of a variable leads: of a data input in the network around the instance, of a data
+/// The end to which the connection of a variable leads: for a data input in the network around the instance, for a data
 /// output of a composite in the network inside it.
 pub(crate) fn entering(tables: &Tables, to: Place) -> EndIn
     requires netlist { IsNetlist tables.now }

@@ -1,4 +1,4 @@
-//! What a system keeps.
+//! The tables of a system.
 
 ghost use Rattle.std.specs.Prelude.{◌≡◌, ◌<◌, Some, length, slice_get};
 
@@ -9,9 +9,11 @@ use crate::netlist::Netlist;
 use crate::rows::StimulusRow;
 use fb_types::{Deploy, Items, Ports, Stimulus};
 
-/// Accepted inputs, with the tables by which their numbers are looked up.
+/// Accepted inputs, with the tables in which their numbers are looked up.
 pub(crate) struct Whole {
+    /// The deployment.
     pub deploy: Deploy,
+    /// The stimuli, as they were read.
     pub stimuli: Items<Stimulus>,
     /// The declaration, its instances, and what their ports are connected to.
     pub netlist: Netlist,
@@ -25,7 +27,7 @@ pub(crate) struct Whole {
     pub rows: Items<StimulusRow>,
     /// For each instance, the resource that holds it.
     pub homes: Items<usize>,
-    /// What an event asks for most, found in one step.
+    /// Rows for the most frequent lookups of an event.
     pub kept: Kept,
 }
 

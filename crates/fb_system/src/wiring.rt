@@ -11,9 +11,9 @@ use fb_check_names::{NetworkNumbers, Wire, WireEnd};
 use std::alloc::{AllocError, Global};
 use std::marker::Model;
 
-/// A network by numbers whose connections are found by their ends: a component and each of its first 16 ports in constant
-/// time, a port behind them in time that grows with the logarithm of the number of those that are connected. The memory is
-/// linear in the numbers of components and connections, however many ports the components have. Contracts see the network.
+/// A network by numbers whose connections are found by their ends. A component, and each of its first 16 ports, is found
+/// in constant time. A later port is found in time logarithmic in the number of connected ports. Memory is linear in the
+/// components and connections, regardless of the number of ports. Contracts see the network.
 #[derive(Drop)]
 pub struct Wiring {
     numbers: NetworkNumbers,
@@ -85,7 +85,7 @@ impl Wiring {
         self.targets.get(end)
     }
 
-    /// The end from which the data connection to an end comes, or none where the end is not connected.
+    /// The end from which the data connection to an end comes, or `None` if the end is not connected.
     pub fn source(&self, end: WireEnd) -> Option<WireEnd>
         ensures { result ≡ source_in self.now end }
     {

@@ -1,4 +1,4 @@
-//! Lists of ends of connections that are looked up by an end.
+//! Lists of ends of connections, looked up by an end.
 
 ghost use Rattle.std.specs.Prelude.{◌≡◌, ℕ, [], ◌∷◌, ◌++◌, ◌&&◌, cond, nat_eq, IfOk, OnOk};
 ghost use Rattle.fb_check_names.specs.declared.numbers.WireEnd.{WireEnd};
@@ -11,17 +11,17 @@ use std::alloc::{AllocError, Global};
 use std::collections::BTreeMap;
 use std::marker::Model;
 
-/// How many ports of a component have their ends at the place of their number, so that none is searched for. As many
-/// lists take no more memory than one node of the map.
+/// The number of ports of a component whose lists are indexed by port number, so that no search is needed. 16 lists take
+/// no more memory than one node of the map.
 const FIRST_PORTS: usize = 16;
 
-/// For each port of one component, or of the boundary, a list of ends. A port that was not reached yet has no ends,
-/// and behind the first ports takes no memory, since a component may have many ports of which few are connected.
+/// For each port of one component, or of the boundary, a list of ends. An unconnected port has no ends. After the first
+/// ports it takes no memory, since a component may have many ports of which few are connected.
 #[derive(Drop)]
 pub(crate) struct PortEnds {
-    /// The ends of each of the first ports, as far as one was reached.
+    /// The ends of each of the first ports, up to the last connected one.
     first: Vec<Items<WireEnd>>,
-    /// Those of the ports behind them that were reached.
+    /// The ends of the later ports that are connected.
     behind: PortMap,
 }
 
@@ -36,7 +36,7 @@ impl Model for PortEnds {
     ghost view = { λ r. (r.first.items, r.behind.entries) };
 }
 
-/// One more end at one of the first ports.
+/// Adds an end to one of the first ports.
 fn push_first(
     first: &mut Vec<Items<WireEnd>>,
     alloc: Global,
@@ -53,7 +53,7 @@ fn push_first(
     Ok(())
 }
 
-/// One more end at a port behind the first ones.
+/// Adds an end to a later port.
 fn push_behind(
     behind: &mut PortMap,
     alloc: Global,
@@ -97,7 +97,7 @@ impl PortEnds {
         }
     }
 
-    /// The ends at a port behind the first ones.
+    /// The ends at a later port.
     #[inline(never)]
     fn get_behind(&self, port: usize) -> &[WireEnd]
         ensures { result.now ≡ ends_behind self.now.1 port }
@@ -108,7 +108,7 @@ impl PortEnds {
         }
     }
 
-    /// One more end at a port.
+    /// Adds an end to a port.
     fn push(&mut self, alloc: Global, port: usize, end: WireEnd) -> Result<(), AllocError>
         ensures { OnOk result ((p : ℕ) → ends_of self.new p ≡ cond (nat_eq port p) (ends_of self.old p ++ end ∷ []) (ends_of self.old p)) }
     {
@@ -120,7 +120,7 @@ impl PortEnds {
     }
 }
 
-/// One more end at a port of a component.
+/// Adds an end to a port of a component.
 fn push_at(
     rows: &mut Vec<PortEnds>,
     alloc: Global,
@@ -138,7 +138,7 @@ fn push_at(
     Ok(())
 }
 
-/// For each end, a list of ends. An end that was not reached yet has none.
+/// For each end, a list of ends. An unconnected end has none.
 #[derive(Drop)]
 pub(crate) struct WiringTable {
     boundary: PortEnds,
@@ -147,7 +147,7 @@ pub(crate) struct WiringTable {
 }
 
 impl WiringTable {
-    /// The table in which no end has ends.
+    /// A table without connections.
     pub(crate) fn new(alloc: Global) -> WiringTable
         ensures { (e : WireEnd) → ends_at result e ≡ [] }
     {
@@ -157,7 +157,7 @@ impl WiringTable {
         }
     }
 
-    /// The ends at an end.
+    /// The ends that are connected to an end.
     #[inline(always)]
     pub(crate) fn get(&self, at: WireEnd) -> &[WireEnd]
         ensures { result.now ≡ ends_at self.now at }
@@ -171,7 +171,7 @@ impl WiringTable {
         }
     }
 
-    /// One more end at an end.
+    /// Connects an end to an end.
     pub(crate) fn push(
         &mut self,
         alloc: Global,

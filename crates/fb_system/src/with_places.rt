@@ -1,4 +1,4 @@
-//! The places of the variables WITH each event of a type of the declaration.
+//! The indices of the variables WITH each event of a type of the declaration.
 
 ghost use Rattle.std.specs.Prelude.{◌≡◌, ◌<◌, ℕ, IfOk, length};
 ghost use Rattle.std.specs.List.{filter};
@@ -11,17 +11,17 @@ use fb_check_names::{Places, place_of};
 use fb_types::{EventPort, Items, Name, Ports, Variable};
 use std::alloc::{AllocError, Global};
 
-/// For each event of a type the places of the variables WITH it, from 0, in the order in which the variables
-/// are declared.
+/// For each event of a type the indices of the variables WITH it, from 0, in the order in which the variables are
+/// declared.
 #[derive(Drop)]
 pub struct WithPlaces {
-    /// For each event input, places among the inputs.
+    /// For each event input, indices among the inputs.
     pub inputs: Items<Items<u32>>,
-    /// For each event output, places among the outputs.
+    /// For each event output, indices among the outputs.
     pub outputs: Items<Items<u32>>,
 }
 
-/// The place of the first of some variables among all names of their type. Of no variables it is 0.
+/// The index of the first of some variables among all names of their type, or 0 if there are no variables.
 fn first_place(variables: &[Variable], places: &Places) -> usize
     ensures { (first : ℕ) → StandFrom first variables.now places.now → 0 < length variables.now → result ≡ first }
 {
@@ -31,7 +31,7 @@ fn first_place(variables: &[Variable], places: &Places) -> usize
     }
 }
 
-/// The places of the variables that a WITH list names. The list has them in any order.
+/// The indices of the variables that a WITH list names, in any order.
 fn places_of_list(
     alloc: Global,
     variables: &[Variable],
@@ -54,7 +54,7 @@ fn places_of_list(
     Ok(Items::from_vec(numbers))
 }
 
-/// For each event, the places of the variables WITH it.
+/// For each event, the indices of the variables WITH it.
 fn places_of_lists(
     alloc: Global,
     events: &[EventPort],
@@ -72,7 +72,7 @@ fn places_of_lists(
     Ok(all)
 }
 
-/// The places of the variables WITH each event of an interface, from the places of all names of the type.
+/// The indices of the variables WITH each event of an interface, from the indices of all names of the type.
 pub(crate) fn with_places(
     alloc: Global,
     ports: &Ports,

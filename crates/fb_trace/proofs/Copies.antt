@@ -1,4 +1,4 @@
--- Four bytes of a text in the place of those of another, and eight by twice four.
+-- Four bytes of a text replace those of another, and eight by twice four.
 use Rattle.std.proofs.Common.{◌≡◌, ℕ, suc, ◌+◌, ◌≤◌, List, [], ◌∷◌, ◌++◌, length, take, drop, get_or, set, refl, sym, ap, ◌∙◌, arith, append-nil, length-append, length-drop, take-append-drop}
 use Rattle.std.proofs.lemmas.List.{drop_all, drop_more, length-take-le, take_all, take-take}
 use lib.Seq.{sets, sets-eq, take-append-le}

@@ -4,7 +4,7 @@ use Rattle.std.proofs.lemmas.Fmt.{decimal_digit, decimal_step, decimal_step_wide
 use Rattle.std.proofs.lemmas.List.{drop-set, drop_all, take_all, take_at, take_more_set}
 use Rattle.std.proofs.lemmas.Bool.{cases_lt}
 
--- The digits from a place on, with those of the rest before them, are the digits of the number.
+-- The digits from an index on, with those of the rest before them, are the digits of the number.
 pub record Follow (number rest start : ℕ) (digits : List ℕ) : Type 0 where
   pub within : start ≤ 39
   pub sized : length digits ≡ 39

@@ -24,7 +24,7 @@ after_event l = values_text l.values ∷ after_values
 abbrev pub after_key : System → Line → List (List ℕ)
 after_key sys l = place_text sys l.key.tick l.key.resource ∷ sign_text l ∷ path_text l.at ∷ codes "." ∷ l.event ∷ after_event l
 
--- a head behind what stands before it
+-- a head after what is before it
 pub behind : (k place sign path dot event : List ℕ) → k ++ (place ++ sign ++ path ++ dot ++ event) ≡ k ++ place ++ sign ++ path ++ dot ++ event
 behind k place sign path dot event =
     rw (append_assoc k place sign, append_assoc k (place ++ sign) path, append_assoc k (place ++ sign ++ path) dot, append_assoc k (place ++ sign ++ path ++ dot) event) refl

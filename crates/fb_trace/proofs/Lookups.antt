@@ -1,4 +1,4 @@
--- What was read at a place of an interface.
+-- What was read at an index of an interface.
 use Rattle.std.proofs.Common.{◌≡◌, ℕ, ◌<◌, List, length, get_or, refl}
 use Rattle.std.proofs.lemmas.Option.{slice_get-map, slice_get_read}
 use Rattle.fb_types.specs.Numbers.{event_at}

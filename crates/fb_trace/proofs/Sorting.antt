@@ -77,7 +77,7 @@ module _ {X : Type 0} (n : X → ℕ) where
   later_of x [] h = tt
   later_of x (y ∷ ys) h = (h 0 (omega arith), later_of x ys (λ k b. h (suc k) (omega arith)))
 
-  -- from the form by places
+  -- from the form by indices
   pub rises_of : (xs : List X) → IsNonDecreasingBy n xs → Rises n xs
   rises_of [] h = tt
   rises_of (x ∷ xs) h =
@@ -106,7 +106,7 @@ module _ {X : Type 0} (n : X → ℕ) where
   none_tie : (x y : X) (ys : List X) → n x < n y → Each (λ z. n y ≤ n z) ys → filter (tie x) (y ∷ ys) ≡ []
   none_tie x y ys l h = filter_nothing (tie x) (y ∷ ys) (tie_less x y l, each_map (λ z. n y ≤ n z) (λ z. tie x z ≡ false) ys (λ z (m : n y ≤ n z). tie_less x z (omega arith)) h)
 
-  -- two lists that rise are the same where their parts that tie are
+  -- two lists that rise are the same if their parts that tie are
   pub same_of : (us vs : List X) → Rises n us → Rises n vs → ((x : X) → filter (tie x) us ≡ filter (tie x) vs) → us ≡ vs
   same_of [] [] a b h = refl
   same_of [] (v ∷ vs) a b h = absurd (nil_cons _ _ (h v ∙ filter_in (tie v) v vs (tie_same v v refl)))

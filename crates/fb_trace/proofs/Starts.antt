@@ -29,7 +29,7 @@ with_key form sys l =
     sym (append_assoc k (head ++ values) (10 ∷ []))
     ∙ ap (λ (t : List ℕ). t ++ 10 ∷ []) (sym (append_assoc k head values) ∙ ap (λ (t : List ℕ). t ++ values) (behind k place (sign_text l) (path_text l.at) (codes ".") l.event))
 
--- the values behind the first
+-- the values after the first
 others : (f : ℕ → Name) (ks : List ℕ) (vs : List Value) → pair_up (map f (drop 1 ks)) (drop 1 vs) ≡ drop 1 (pair_up (map f ks) vs)
 others f [] vs = refl
 others f (k ∷ ks) [] = pair_up-none (map f ks)
@@ -64,7 +64,7 @@ values_parts [] (v ∷ vs) h = absurd (omega (arith, h))
 values_parts (n ∷ ns) [] h = absurd (omega (arith, h))
 values_parts (n ∷ ns) (v ∷ vs) h = refl
 
--- no value behind the first
+-- no value after the first
 pub no_others : (ns : List Name) (vs : List Value) → length vs ≤ 1 → values_text (drop 1 (pair_up ns vs)) ≡ []
 no_others [] vs h = refl
 no_others (n ∷ ns) [] h = refl
@@ -72,11 +72,11 @@ no_others (n ∷ []) (v ∷ []) h = refl
 no_others (n ∷ m ∷ ns) (v ∷ []) h = refl
 no_others (n ∷ ns) (v ∷ w ∷ vs) h = absurd (omega (arith, h))
 
--- three texts behind what stands before them
+-- three texts after what is before them
 inward : (a b c d : List ℕ) → a ++ (b ++ c ++ d) ≡ a ++ b ++ c ++ d
 inward a b c d = rw (append_assoc a b c, append_assoc a (b ++ c) d) refl
 
--- a line of form one, as it is put where its head is kept
+-- a line of form one, as it is put if its head is kept
 pub by_head :
     (sys : System) (l : run.Line) → BelongsTo sys l
     → decimal l.key.tick ++ codes " " ++ head_text sys (head_of_line l) ++ first_value l.values ++ values_text (drop 1 (line_of sys l).values) ++ 10 ∷ []
@@ -98,7 +98,7 @@ by_head sys l belongs =
     ∙ sym (inward until (first_text ns) (first_value l.values) others)
     ∙ ap (λ (t : List ℕ). until ++ t) (sym (values_parts ns l.values belongs.values)))
 
--- .. and one that has no value behind the first
+-- .. and one that has no value after the first
 pub by_head_alone :
     (sys : System) (l : run.Line) → BelongsTo sys l → length l.values ≤ 1
     → decimal l.key.tick ++ codes " " ++ head_text sys (head_of_line l) ++ first_value l.values ++ 10 ∷ [] ≡ line_text One sys (line_of sys l)

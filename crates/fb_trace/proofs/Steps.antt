@@ -7,7 +7,7 @@ use Rattle.fb_trace.specs.declared.fault.WriteFault.{WriteFault}
 use Rattle.fb_trace.specs.Page.{Page}
 use Rattle.fb_trace.specs.Progress.{Puts, Fails, Gathers, bounded}
 
--- bytes that were taken in part, and by no page
+-- bytes that were taken in part, without a page
 pub Fails-direct : {a b : Option (List ℕ)} (bs : List ℕ) (n before w : ℕ) → n < length bs → Appends a b (take n bs) → w ≡ bounded (before + n) → Fails a b (record { waiting = []; written = before }) bs w
 Fails-direct bs n before w h got counted =
     record {
@@ -61,11 +61,11 @@ Puts-none a p = record { sent = []; got = Appends-nil a; parts = append-nil _; c
 pub Puts-appended : (a : Option (List ℕ)) {p q : Page} {x : List ℕ} → q ≡ record p { waiting = p.waiting ++ x } → Puts a a p q x
 Puts-appended a e = rw e (record { sent = []; got = Appends-nil a; parts = refl; counted = omega arith })
 
--- .. and one more behind it
+-- .. and one more after it
 pub appended-more : (p q r : Page) (x y : List ℕ) → q ≡ record p { waiting = p.waiting ++ x } → r ≡ record q { waiting = q.waiting ++ y } → r ≡ record p { waiting = p.waiting ++ (x ++ y) }
 appended-more p q r x y e f = rw (f, e, append_assoc p.waiting x y) refl
 
--- the answer of the last piece
+-- the result of the last piece
 pub Gathers-after : {a b c : Option (List ℕ)} {p q r : Page} {x y : List ℕ} (result : Result (Unit {0}) WriteFault) → Puts a b p q x → Gathers b c q r y result → Gathers a c p r (x ++ y) result
 Gathers-after (Ok u) s t = record { whole = Puts-more s t.whole; part = tt }
 Gathers-after (Err f) s t = record { whole = tt; part = Fails-after s t.part }
@@ -76,7 +76,7 @@ Gathers-passed (Ok u) h t = absurd h
 Gathers-passed {a} {b} {p} {q} {x} (Err g) h t =
     record { whole = tt; part = subst (λ (y : WriteFault). Fails a b p x y.written) (sym h) t }
 
--- bytes that go past an empty page
+-- bytes that are written past an empty page
 pub Puts-direct : {a b : Option (List ℕ)} (p q : Page) (x : List ℕ) → p.waiting ≡ [] → q.waiting ≡ [] → Appends a b x → q.written ≡ bounded (p.written + length x) → Puts a b p q x
 Puts-direct p q x none none' got counted =
     record { sent = x; got = got; parts = rw (none, none', append-nil); counted = omega arith }

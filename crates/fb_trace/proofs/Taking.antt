@@ -13,7 +13,7 @@ use Rattle.fb_trace.specs.Fronts.{lesser, tick_at, early, late, before, present,
 use Rattle.fb_trace.proofs.Sorting.{filter_nothing, filter_joined, rises_append, tie, tie_less, tie_apart}
 use Rattle.fb_trace.proofs.Together.{merged}
 
--- all lines, one list behind the other
+-- all lines, one list after another
 abbrev pub joint : List (List Line) → List Line
 joint [] = []
 joint (xs ∷ rest) = xs ++ joint rest
@@ -149,7 +149,7 @@ module _ (t : ℕ) where
       (subst (λ z. IsPermutation (e ++ (l ++ (ee ++ ll))) z) to (subst (λ z. IsPermutation z (e ++ ((ee ++ l) ++ ll))) (sym mid) two))
 
   module _ (p : Line → Bool) where
-    -- where no line that is left passes a test, those that were taken are all that do
+    -- if no line that is left passes a test, those that were taken are all that do
     only_early : (xss : List (List Line)) → Each (λ x. p x ≡ false) (joint (all_late t xss)) → filter p (all_early t xss) ≡ filter p (joint xss)
     only_early [] h = refl
     only_early (xs ∷ rest) h =
@@ -160,7 +160,7 @@ module _ (t : ℕ) where
         filter_joined p (early t xs) (all_early t rest) ∙ ap (λ z. z ++ filter p (all_early t rest)) here
         ∙ ap (λ z. filter p xs ++ z) (only_early rest (each_right (λ x. p x ≡ false) (late t xs) (joint (all_late t rest)) g)) ∙ sym (filter_joined p xs (joint rest))
 
-    -- where no line that was taken passes it, those that are left are all that do
+    -- if no line that was taken passes it, those that are left are all that do
     only_late : (xss : List (List Line)) → Each (λ x. p x ≡ false) (all_early t xss) → filter p (joint (all_late t xss)) ≡ filter p (joint xss)
     only_late [] h = refl
     only_late (xs ∷ rest) h =
@@ -170,7 +170,7 @@ module _ (t : ℕ) where
         ap (filter p) (joint_before (late t xs) (all_late t rest)) ∙ filter_joined p (late t xs) (joint (all_late t rest)) ∙ ap (λ z. z ++ filter p (joint (all_late t rest))) here
         ∙ ap (λ z. filter p xs ++ z) (only_late rest (each_right (λ x. p x ≡ false) (early t xs) (all_early t rest) h)) ∙ sym (filter_joined p xs (joint rest))
 
-  -- where no line is before the tick, lines that tie keep their order
+  -- if no line is before the tick, lines that tie keep their order
   stay : (xss : List (List Line)) → AllRise xss → Each (BeginsFrom t) xss → (x : Line) → filter (tie tick_of x) (all_early t xss ++ joint (all_late t xss)) ≡ filter (tie tick_of x) (joint xss)
   stay xss up from x =
       let p = tie tick_of x in
@@ -292,7 +292,7 @@ nil_right : (xs ys : List Line) → xs ++ ys ≡ [] → ys ≡ []
 nil_right [] ys e = e
 nil_right (x ∷ xs) ys e = absurd cc
 
--- where nothing is taken of a tick, all begin past it
+-- if nothing is taken of a tick, all begin past it
 past : (t : ℕ) (xs : List Line) → early t xs ≡ [] → BeginsFrom (suc t) xs
 past t [] e = tt
 past t (x ∷ xs) e =
@@ -318,7 +318,7 @@ fewer t xss it = step (all_early t xss) refl
         let sum : length ((x ∷ es) ++ joint (all_late t xss)) ≡ suc (length es) + length (joint (all_late t xss)) = length-append (x ∷ es) (joint (all_late t xss)) in
         omega arith
 
--- where no least tick is, no list has a line
+-- if there is no least tick, no list has a line
 pub none_left : (xss : List (List Line)) (least : Option ℕ) → IsLeast xss least → ((t : ℕ) → least ≡ Some t → ⊥) → Each IsEmpty xss
 none_left xss None it d = it.none
 none_left xss (Some t) it d = absurd (d t refl)
@@ -338,13 +338,13 @@ one_late t xs first e b x rest s =
     let f = some_first xs first e x rest s in
     ap (late t) s ∙ cond-false (nat_lt t (tick_of x)) (x ∷ rest) (late t rest) (le-ltb t (tick_of x) (omega arith))
 
--- where the first line is past the tick, or there is none
+-- if the first line is past the tick, or there is none
 pub none_early : (t : ℕ) (xs : List Line) → IfSome (tick_at xs) (λ first. t < first) → (early t xs ≡ []) × (late t xs ≡ xs)
 none_early t [] h = (refl, refl)
 none_early t (x ∷ xs) h =
     (cond-true (nat_lt t (tick_of x)) [] (x ∷ early t xs) (lt-ltb t (tick_of x) h), cond-true (nat_lt t (tick_of x)) (x ∷ xs) (late t xs) (lt-ltb t (tick_of x) h))
 
--- How lines that were taken off lists stand, where these rise.
+-- The order of lines that were taken off lists, if these rise.
 pub record IsSorted (lists : List (List Line)) (all : List Line) (left : List (List Line)) : Type 0 where
   pub up : AllRise left
   pub risen : Rises tick_of all
@@ -406,7 +406,7 @@ all_rise (v ∷ vs) h = ((h 0 v refl).rise, rise_on vs (λ r w e. (h (suc r) w e
     rise_on [] g = tt
     rise_on (u ∷ us) g = (g 0 u refl, rise_on us (λ r w e. g (suc r) w e))
 
--- all that is left stands behind what was taken, as it is
+-- all that is left follows what was taken, unchanged
 whole_merged : (vs : Lists) (all : List Line) (left : List (List Line)) → IsTaken (map (λ v. v.items) vs) all left → (AllRise (map (λ v. v.items) vs) → Rises tick_of (all ++ joint left)) → AreRising vs
     → AreMerged vs (all ++ joint left)
 whole_merged vs all left it up are =

@@ -1,4 +1,4 @@
--- The lists one behind the other, and what a stable sort by tick makes of them.
+-- The lists one after another, and what a stable sort by tick makes of them.
 use Rattle.std.proofs.Common.{◌≡◌, ℕ, zero, suc, ◌+◌, ◌<◌, ◌≤◌, ◌==◌, Bool, List, [], ◌∷◌, ◌++◌, length, filter, refl, sym, ap, ◌∙◌, subst, ⊎_elim, arith, All, IsPermutation, Vec, Some, append-nil, append_assoc, eq-eqb, ne_eqb}
 use Rattle.std.proofs.lemmas.Bool.{cases_eq, cond-true, cond-false}
 use Rattle.std.specs.Prelude.{slice_get, if◌then◌else◌}
@@ -96,7 +96,7 @@ parts_rise n (v ∷ vs) r h =
     (λ (d : r ≡ n → ⊥). subst (Rises tick_of) (sym (cond-false (r == n) v.items (lines_from (suc n) vs r) (ne_eqb r n d))) (parts_rise (suc n) vs r h.1))
     (cases_eq r n)
 
--- What is sorted by tick, stably, where it lay by resources, is merged.
+-- What is sorted by tick, stably, from an order by resources, is merged.
 pub merged : (vs : Lists) (ys : List Line) → Rises tick_of ys → ((x : Line) → filter (tie tick_of x) ys ≡ filter (tie tick_of x) (flat vs))
     → IsPermutation (flat vs) ys → AreRising vs → AreMerged vs ys
 merged vs ys up stable moved are = record {

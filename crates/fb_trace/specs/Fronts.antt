@@ -24,7 +24,7 @@ abbrev pub late : (tick : ℕ) → List Line → List Line
 late t [] = []
 late t (x ∷ xs) = if nat_lt t (tick_of x) then x ∷ xs else late t xs
 
--- a list before others, but for one with no line
+-- a list in front of others, left out if it has no line
 abbrev pub before : List Line → List (List Line) → List (List Line)
 before [] rest = rest
 before (x ∷ xs) rest = (x ∷ xs) ∷ rest
@@ -34,7 +34,7 @@ abbrev pub present : List (List Line) → List (List Line)
 present [] = []
 present (xs ∷ rest) = before xs (present rest)
 
--- the early lines of all lists, one list behind the other
+-- the early lines of all lists, one list after another
 abbrev pub all_early : (tick : ℕ) → List (List Line) → List Line
 all_early t [] = []
 all_early t (xs ∷ rest) = early t xs ++ all_early t rest
@@ -52,7 +52,7 @@ abbrev pub IsEmpty : List Line → Type 0
 IsEmpty [] = Unit {0}
 IsEmpty (x ∷ xs) = ⊥
 
--- the least tick of all first lines, or none where no list has a line
+-- the least tick of all first lines, or none if no list has a line
 pub record IsLeast (lists : List (List Line)) (least : Option ℕ) : Type 0 where
   pub low : IfSome least (λ t. Each (BeginsFrom t) lists)
   pub greatest : (m : ℕ) → Each (BeginsFrom m) lists → IfSome least (λ t. m ≤ t)

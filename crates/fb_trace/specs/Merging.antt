@@ -24,11 +24,11 @@ pub record IsRising (r : ℕ) (xs : List Line) : Type 0 where
   pub mine : Each (λ x. resource_of x ≡ r) xs
   pub rise : Rises tick_of xs
 
--- The list at each place has lines of that resource.
+-- The list at each index has lines of that resource.
 abbrev pub AreRising : Lists → Type 0
 AreRising lists = (r : ℕ) (list : Vec Line Global) → slice_get lists r ≡ Some list → IsRising r list.items
 
--- all lines, one list behind the other
+-- all lines, one list after another
 abbrev pub flat : Lists → List Line
 flat [] = []
 flat (v ∷ vs) = v.items ++ flat vs

@@ -1,4 +1,4 @@
--- How text comes to a writer, whole or in part (this project's profile).
+-- How text gets to a writer, whole or in part (this project's profile).
 use Rattle.std.specs.Prelude.{◌≡◌, ℕ, ◌+◌, ◌-◌, ◌^◌, ◌<◌, min, List, ◌++◌, length, take, Option, Result, OnOk, IfErr}
 use Rattle.std.specs.Io.KnownBytes.{Appends}
 use Rattle.fb_trace.specs.declared.fault.WriteFault.{WriteFault}
@@ -15,9 +15,9 @@ pub record IsPartWritten (old new : Option (List ℕ)) (text : List ℕ) (writte
   pub got : Appends old new (take count text)
   pub counted : written ≡ bounded count
 
--- ---- By way of a page
+-- ---- Through a page
 
--- The text was put behind what waited. A front of both was sent to the writer, and the rest waits now.
+-- The text was appended to what waited. A beginning of both was written, and the rest waits now.
 pub record Puts (old new : Option (List ℕ)) (before after : Page) (text : List ℕ) : Type 0 where
   pub sent : List ℕ
   pub got : Appends old new sent
@@ -33,7 +33,7 @@ pub record Fails (old new : Option (List ℕ)) (before : Page) (text : List ℕ)
   pub short : 0 < length missing
   pub counted : written ≡ bounded (before.written + length sent)
 
--- what comes of putting a text: it is put whole, or the writer has failed
+-- the result of putting a text: it is put whole, or the writer has failed
 pub record Gathers (old new : Option (List ℕ)) (before after : Page) (text : List ℕ) (r : Result (Unit {0}) WriteFault) : Type 0 where
   pub whole : OnOk r (Puts old new before after text)
   pub part : IfErr r (λ fault. Fails old new before text fault.written)

@@ -5,7 +5,7 @@ use Rattle.fb_types.specs.declared.run.Line.{Line}
 use Rattle.fb_types.specs.declared.value.Value.{Value}
 use Rattle.fb_system.specs.declared.heads.HeadOf.{HeadOf}
 
--- what the head of a line is of
+-- what the head of a line belongs to
 abbrev pub head_of_line : Line → HeadOf
 head_of_line l = record { resource = l.key.resource; instance = l.instance; event = l.event; taken = l.taken }
 

@@ -2,8 +2,8 @@
 
 ghost use Rattle.std.specs.Prelude.{◌≡◌, ◌+◌, ◌≤◌, ◌++◌, drop, length, take};
 
-/// Copies a text by its first and its last bytes, which may have some in common. Where it is known by how many, each
-/// copy is an instruction or two.
+/// Copies a text by its first and its last bytes, which may overlap. If their number is a constant, each copy is one or
+/// two instructions.
 #[inline(always)]
 fn copy_ends(to: &mut [u8], from: &[u8], part: usize)
     requires same { length to.old ≡ length from.now }
@@ -31,8 +31,8 @@ fn copy_three(to: &mut [u8], from: &[u8])
     to[last] = from[last];
 }
 
-/// Copies four bytes from a place on. All are read before one is written: so nobody looks whether the two texts overlap, as
-/// `copy_from_slice` does, and it is an instruction to read them and one to write them.
+/// Copies four bytes from an index on. All are read before one is written, so no overlap check is needed, which
+/// `copy_from_slice` would make: one instruction reads them and one writes them.
 #[inline(always)]
 fn copy_four(to: &mut [u8], from: &[u8], place: usize)
     requires same { length to.old ≡ length from.now }
@@ -62,7 +62,7 @@ fn copy_eight(to: &mut [u8], from: &[u8])
     copy_four(to, from, last);
 }
 
-/// Copies a text. Most names are short, and need no call for it.
+/// Copies a text. Most names are short, and are copied without a call.
 #[inline(always)]
 pub(crate) fn copy_text(to: &mut [u8], from: &[u8])
     requires { length to.old ≡ length from.now }
@@ -78,7 +78,7 @@ pub(crate) fn copy_text(to: &mut [u8], from: &[u8])
     }
 }
 
-/// Copies a row of bytes. Its length is known, so it is a move or a few, and nobody looks whether the two overlap.
+/// Copies a row of bytes. Its length is a constant, so this is a few moves without an overlap check.
 #[inline(always)]
 pub(crate) fn copy_row<const N: usize>(to: &mut [u8], from: &[u8; N])
     requires { length to.old ≡ N }

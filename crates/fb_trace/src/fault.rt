@@ -1,8 +1,8 @@
-//! What is told of a writer that fails.
+//! The fault of a writer.
 
-/// The writer gave an error, or took no byte.
+/// The writer returned an error, or took no byte.
 #[derive(Clone, Copy, Debug)]
 pub struct WriteFault {
-    /// How many bytes of the text the writer took in this call, up to the greatest `u128`.
+    /// The number of bytes that the writer took in this call, up to the greatest `u128`.
     pub written: u128,
 }

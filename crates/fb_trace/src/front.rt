@@ -1,11 +1,11 @@
-//! Bytes that are written as far as the writer takes them.
+//! Writes bytes until the writer fails.
 
 ghost use Rattle.std.specs.Prelude.{◌≤◌, length, take};
 ghost use Rattle.std.specs.Io.KnownBytes.{Appends};
 
 use std::io::Write;
 
-/// Writes as many of the bytes as the writer takes before it fails, and tells how many.
+/// Writes as many of the bytes as the writer takes before it fails, and returns their number.
 pub fn write_front<W: Write>(out: &mut W, bytes: &[u8]) -> usize
     ensures within { result ≤ length bytes.now }
     ensures got { Appends (W.contents out.old) (W.contents out.new) (take result bytes.now) }

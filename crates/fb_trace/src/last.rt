@@ -18,9 +18,9 @@ use std::io::Write;
 /// How a run ends.
 #[derive(Clone, Copy)]
 pub enum RunEnd {
-    /// It came to its horizon, the tick at which it was to end.
+    /// It reached its horizon, the tick in milliseconds at which it had to end.
     Horizon(u64),
-    /// A resource stopped before.
+    /// A resource stopped before its horizon.
     Stop(StopMark),
 }
 
@@ -80,8 +80,8 @@ fn put_last<W: Write>(
 /// Writes the last line of a trace of the system. It takes no memory.
 ///
 /// # Errors
-/// The writer gave an error or took no byte. It has then got the first bytes of the line, but not all, and
-/// the fault says how many.
+/// If the writer returns an error or takes no byte. It then has a beginning of the line, but not all of it. The fault
+/// says how many bytes.
 pub fn write_last<W: Write>(out: &mut W, system: &System, end: RunEnd) -> Result<(), WriteFault>
     requires { EndsIn (system_of system.now) end }
     ensures whole { OnOk result

@@ -1,10 +1,10 @@
-//! The text of a trace, written line by line.
+//! Writes the text of a trace, line by line.
 //!
-//! What this crate guarantees to its callers: the lines of several resources become one list in the order of the trace;
-//! the writer gets exactly their text, or, where it fails, a beginning of it, and the fault says how many bytes.
+//! Guarantees to callers: the lines of several resources become one list in the order of the trace. The writer gets
+//! exactly their text, or, if it fails, a beginning of it, and the fault says how many bytes.
 //!
-//! Read in this order: `merging`; `lines` and `last`, what is written; `pieces`, `start`, `names` and `number`;
-//! `page`, `copy`, `front` and `fault`.
+//! Read in this order: `merging`; `lines` and `last`, what is written; `pieces`, `start`, `names` and `number`; `page`,
+//! `copy`, `front` and `fault`.
 #![tactic(auto)]
 
 mod copy;

@@ -21,7 +21,7 @@ use fb_system::{Head, System};
 use fb_types::{Form, Line, Ports};
 use std::io::Write;
 
-/// Puts the values of a line behind the first, each with the name of its variable.
+/// Puts the values of a line after the first, each with the name of its variable.
 #[inline(never)]
 fn put_more<W: Write>(
     page: &mut Page,
@@ -42,7 +42,7 @@ fn put_more<W: Write>(
     page.make_room(out, 1)
 }
 
-/// Puts the values of a line behind the first, if there are any, and leaves room for the end of the line.
+/// Puts the values of a line after the first, if there are any, and leaves room for the end of the line.
 #[inline(always)]
 fn put_others<W: Write>(
     page: &mut Page,
@@ -88,7 +88,7 @@ fn put_bindings<W: Write>(
     )
 }
 
-/// Puts a line of form one by the names of what it tells of. The tick is noted with its digits.
+/// Puts a line of form one with the names that its numbers stand for. The tick is kept as digits.
 #[inline(never)]
 fn put_by_names<W: Write>(
     page: &mut Page,
@@ -118,8 +118,8 @@ fn put_by_names<W: Write>(
     Ok(())
 }
 
-/// Puts a line of form one whose head is kept. The tick is noted with its digits. There is room on the page for all but the
-/// values behind the first, so that no other piece has to ask for it.
+/// Puts a line of form one whose head is kept. The tick is kept as digits. The page has room for all but the values after
+/// the first, so no other piece checks for room.
 #[inline(always)]
 fn put_by_head<W: Write>(
     page: &mut Page,
@@ -142,7 +142,7 @@ fn put_by_head<W: Write>(
     Ok(())
 }
 
-/// Puts the text of a line, of whatever form and length. The tick is noted with its digits.
+/// Puts the text of a line, of either form and any length. The tick is kept as digits.
 #[inline(never)]
 fn put_any<W: Write>(
     page: &mut Page,
@@ -164,8 +164,8 @@ fn put_any<W: Write>(
     }
 }
 
-/// Puts a line at once: one of form one, whose head is kept, with one value at most, where there is room on the page for any
-/// such line. Else it tells that it has put nothing.
+/// Puts a line in one step if it can: a line of form one, whose head is kept, with at most one value, if the page has
+/// room for any such line. Otherwise it returns that it has put nothing.
 #[inline(always)]
 fn append_line(page: &mut Page, system: &System, form: Form, tick: &Noted, line: &Line) -> bool
     requires belongs { BelongsTo (system_of system.now) line.now }
@@ -190,8 +190,8 @@ fn append_line(page: &mut Page, system: &System, form: Form, tick: &Noted, line:
     true
 }
 
-/// Puts the text of a line. Most lines are put at once: what the others need stands in a function of its own, so that these
-/// do not pay for it.
+/// Puts the text of a line. Most lines are put in one step. The other lines have a function of their own, so that this
+/// one stays small.
 #[inline(always)]
 fn put_line<W: Write>(
     page: &mut Page,
@@ -231,12 +231,12 @@ fn put_lines<W: Write>(
     Ok(())
 }
 
-/// Writes the text of lines that belong to the system, and tells how many bytes it has, up to the greatest `u128`. It
+/// Writes the text of lines that belong to the system, and returns how many bytes it has, up to the greatest `u128`. It
 /// takes no memory.
 ///
 /// # Errors
-/// The writer gave an error or took no byte. It has then got the first bytes of the text, but not all, and
-/// the fault says how many.
+/// If the writer returns an error or takes no byte. It then has a beginning of the text, but not all of it. The fault
+/// says how many bytes.
 pub fn write_counted<W: Write>(
     out: &mut W,
     system: &System,
@@ -259,8 +259,8 @@ pub fn write_counted<W: Write>(
 /// Writes the text of lines that belong to the system. It takes no memory.
 ///
 /// # Errors
-/// The writer gave an error or took no byte. It has then got the first bytes of the text, but not all, and
-/// the fault says how many.
+/// If the writer returns an error or takes no byte. It then has a beginning of the text, but not all of it. The fault
+/// says how many bytes.
 pub fn write_lines<W: Write>(
     out: &mut W,
     system: &System,

@@ -1,4 +1,4 @@
-//! Lines of several resources as one list.
+//! Merges the lines of several resources into one list.
 
 ghost use Rattle.std.specs.Prelude.{◌≡◌, ◌++◌, [], ◌∷◌, IfNone, IfOk, IfSome, OnOk, map};
 ghost use Rattle.std.specs.List.Sorted.{IsPermutation};
@@ -10,10 +10,10 @@ use fb_types::Line;
 use std::alloc::{AllocError, Global};
 use std::collections::VecDeque;
 
-/// With fewer lines than these a sort is soonest, since tick by tick each list is looked at in each tick.
+/// With fewer lines than this a sort is faster, since the merge looks at each list in each tick.
 const FEW: usize = 4096;
 
-/// All lines, one list behind the other. The first lines stay in their own list.
+/// All lines, one list after another. The first lines stay in their own list.
 #[tactic(auto, using(crate::proofs::Together::flat_snoc))]
 fn joined(alloc: Global, lists: Vec<Vec<Line>>) -> Result<Vec<Line>, AllocError>
     ensures { IfOk result (λ v. v.items ≡ flat lists.items) }
@@ -29,7 +29,7 @@ fn joined(alloc: Global, lists: Vec<Vec<Line>>) -> Result<Vec<Line>, AllocError>
     Ok(all)
 }
 
-/// The lines by a stable sort.
+/// Merges by a stable sort.
 fn sorted(alloc: Global, lists: Vec<Vec<Line>>) -> Result<Vec<Line>, AllocError>
     ensures merged { IfOk result (λ all. AreRising lists.items → AreMerged lists.items all.items) }
     ensures kept { IfOk result (λ all. IsPermutation (flat lists.items) all.items) }
@@ -49,7 +49,7 @@ fn first_tick(list: &VecDeque<Line>) -> Option<u64>
     }
 }
 
-/// The lesser of two ticks, as far as they are there.
+/// The lesser of two ticks, or the one that is there.
 fn lesser(one: Option<u64>, other: Option<u64>) -> Option<u64>
     ensures { result ≡ fronts.lesser one other }
 {
@@ -71,7 +71,7 @@ fn least_tick(lists: &[VecDeque<Line>]) -> Option<u64>
     least
 }
 
-/// The lists that have a line, in their order.
+/// The lists that have lines, in their order.
 fn queues(alloc: Global, lists: Vec<Vec<Line>>) -> Result<Vec<VecDeque<Line>>, AllocError>
     ensures { IfOk result (λ v. map (λ q. q.items) v.items ≡ present (map (λ q. q.items) lists.items)) }
 {
@@ -84,7 +84,7 @@ fn queues(alloc: Global, lists: Vec<Vec<Line>>) -> Result<Vec<VecDeque<Line>>, A
     Ok(queues)
 }
 
-/// Moves the lines up to a tick, that is those before the first line past it, to the end of a list.
+/// Moves the lines before the first one past a tick to the end of a list.
 fn take_early(list: &mut VecDeque<Line>, tick: u64, all: &mut Vec<Line>) -> Result<(), AllocError>
     ensures taken { OnOk result (all.new.items ≡ all.old.items ++ early tick list.old.items) }
     ensures left { OnOk result (list.new.items ≡ late tick list.old.items) }
@@ -101,7 +101,8 @@ fn take_early(list: &mut VecDeque<Line>, tick: u64, all: &mut Vec<Line>) -> Resu
     Ok(())
 }
 
-/// Moves the lines up to a tick off each list in turn to the end of one, and gives the lists of which anything is left.
+/// Moves the lines up to a tick from each list in turn to the end of one list, and returns the lists that have lines
+/// left.
 fn take_all_early(
     alloc: Global,
     lists: Vec<VecDeque<Line>>,
@@ -121,7 +122,7 @@ fn take_all_early(
     Ok(left)
 }
 
-/// The lines of the one list, where there is no other.
+/// The lines of the only list, if there is no other.
 fn lone(lists: &mut Vec<VecDeque<Line>>) -> Option<Vec<Line>>
     ensures one { IfSome result (λ v. map (λ q. q.items) lists.old.items ≡ v.items ∷ []) }
     ensures more { IfNone result (lists.new.items ≡ lists.old.items) }
@@ -135,7 +136,7 @@ fn lone(lists: &mut Vec<VecDeque<Line>>) -> Option<Vec<Line>>
     }
 }
 
-/// The lines tick by tick: each is moved once, and none where one list alone has lines.
+/// Merges tick by tick: each line is moved once, and none if only one list has lines.
 fn gathered(alloc: Global, lists: Vec<Vec<Line>>, count: usize) -> Result<Vec<Line>, AllocError>
     ensures merged { IfOk result (λ all. AreRising lists.items → AreMerged lists.items all.items) }
     ensures kept { IfOk result (λ all. IsPermutation (flat lists.items) all.items) }
@@ -153,7 +154,7 @@ fn gathered(alloc: Global, lists: Vec<Vec<Line>>, count: usize) -> Result<Vec<Li
     Ok(all)
 }
 
-/// How many lines there are.
+/// The number of lines.
 fn count_in(lists: &[Vec<Line>]) -> usize {
     let mut count: usize = 0;
     for list in lists {
@@ -162,8 +163,9 @@ fn count_in(lists: &[Vec<Line>]) -> usize {
     count
 }
 
-/// The lines of several resources by tick, then resource, those of one resource in their own order. So it is where the
-/// list at a place has the lines of that resource alone, whose ticks do not fall. In any case all lines are there.
+/// The lines of several resources by tick, then resource, those of one resource in their own order. This order holds if
+/// the list at each index has only lines of that resource, with ticks that do not fall. In any case all lines are in the
+/// result.
 ///
 /// # Errors
 /// When memory runs out.

@@ -1,4 +1,4 @@
-//! What the numbers of a line stand for.
+//! Finds the names for the numbers of a line.
 
 ghost use Rattle.std.specs.Prelude.{◌≡◌, ◌<◌, length, if◌then◌else◌};
 ghost use Rattle.fb_types.specs.Headline.{system_of};
@@ -10,7 +10,7 @@ ghost use Rattle.fb_trace.specs.Starts.{head_of_line};
 use fb_system::{HeadOf, System};
 use fb_types::{Line, Ports, Variable};
 
-/// What the head of a line is of.
+/// What the head of a line belongs to.
 #[inline(always)]
 pub(crate) fn head_of(line: &Line) -> HeadOf
     ensures { result ≡ head_of_line line.now }
@@ -37,7 +37,7 @@ pub(crate) fn event_name<'a>(ports: &'a Ports, line: &Line) -> &'a [u8]
     }
 }
 
-/// Where the variables WITH a line's event stand among all inputs or outputs.
+/// The indices of the variables WITH a line's event, and whether they are inputs or outputs.
 #[derive(Clone, Copy)]
 pub(crate) struct Shown<'a> {
     pub(crate) variables: &'a [Variable],

@@ -5,10 +5,10 @@ ghost use Rattle.std.specs.Prelude.{◌≡◌, ◌≤◌, ◌++◌, codes, drop,
 use crate::copy::copy_text;
 use std::marker::Model;
 
-/// No `u128` has more digits.
+/// The most digits that a `u128` has.
 pub(crate) const MOST_DIGITS: usize = 39;
 
-/// Writes the digits of a number at the end of the buffer, and tells where they begin.
+/// Writes the digits of a number at the end of the buffer, and returns the index at which they begin.
 pub(crate) fn write_digits(number: u128, digits: &mut [u8; MOST_DIGITS]) -> usize
     ensures within { result ≤ MOST_DIGITS }
     ensures length { length digits.new ≡ MOST_DIGITS }
@@ -32,10 +32,10 @@ pub(crate) fn write_digits(number: u128, digits: &mut [u8; MOST_DIGITS]) -> usiz
     start
 }
 
-/// How many bytes the row of a noted number has: the digits of a `u64` and a blank take no more.
+/// The size in bytes of a kept number. The digits of a `u64` and a blank take no more.
 pub(crate) const NOTED: usize = 24;
 
-/// The number that was noted last, as its digits and a blank: mostly a line has the tick of the line before.
+/// The last number as digits and a blank. Usually a line has the tick of the line before.
 #[derive(Drop)]
 pub(crate) struct Noted {
     number: u64,
@@ -75,7 +75,7 @@ impl Noted {
         }
     }
 
-    /// Notes a number of another ten in the place of the one before.
+    /// Replaces the number by one that differs in more than the last digit.
     #[inline(never)]
     fn renew(&mut self, number: u64)
         ensures { self.new ≡ number }
@@ -83,7 +83,7 @@ impl Noted {
         *self = Noted::of(number);
     }
 
-    /// Notes a number in the place of the one before. Of one of the same ten only the last digit is another.
+    /// Replaces the number. If only the last digit differs, only this digit is written.
     #[inline(always)]
     pub(crate) fn note(&mut self, number: u64)
         ensures { self.new ≡ number }
@@ -99,7 +99,7 @@ impl Noted {
         }
     }
 
-    /// The bytes that begin with the digits of the number and a blank, and how many these are.
+    /// The bytes that begin with the digits of the number and a blank, and the number of these.
     #[inline(always)]
     pub(crate) fn text(&self) -> (&[u8; NOTED], usize)
         ensures within { result.1 ≤ NOTED }

@@ -1,4 +1,4 @@
-//! A page that gathers text, so that a long trace is not a write a line.
+//! A buffer for text, so that a long trace does not call the writer for each line.
 
 ghost use Rattle.std.specs.Prelude.{◌≡◌, ◌+◌, ◌-◌, ◌^◌, ◌<◌, ◌≤◌, ◌↔◌, [], ◌∷◌, ◌++◌, length, min, take, decimal, IfOk, IfErr, IsTrue, OnOk};
 ghost use Rattle.std.specs.Io.KnownBytes.{Appends};
@@ -11,13 +11,13 @@ use crate::number::{MOST_DIGITS, write_digits};
 use std::io::Write;
 use std::marker::Model;
 
-/// How many bytes wait at most.
+/// The most bytes that wait.
 pub(crate) const SIZE: usize = 8192;
 
-/// A text of no more bytes is short: an empty page has room for three of them, with all that stands between.
+/// A text of at most this many bytes is short: an empty page has room for three short texts and all that is between them.
 pub(crate) const SHORT: usize = 2048;
 
-/// Text that waits to be written, and how many bytes were written before it.
+/// Text that waits to be written, and the number of bytes that were written before it.
 #[derive(Drop)]
 pub(crate) struct Page {
     bytes: [u8; SIZE],
@@ -38,7 +38,7 @@ impl Model for Page {
     ghost invariant = { λ p. p.used ≤ SIZE };
 }
 
-/// Writes all the bytes. `written` counts those that went before, and the answer those together.
+/// Writes all the bytes. `written` counts earlier bytes, and the result counts both.
 fn write_all<W: Write>(out: &mut W, bytes: &[u8], written: u128) -> Result<u128, WriteFault>
     ensures got { OnOk result (Appends (W.contents out.old) (W.contents out.new) bytes.now) }
     ensures counted { IfOk result (λ n. n ≡ bounded (written + length bytes.now)) }
@@ -54,7 +54,7 @@ fn write_all<W: Write>(out: &mut W, bytes: &[u8], written: u128) -> Result<u128,
 }
 
 impl Page {
-    /// An empty page, before which nothing was written.
+    /// An empty page, with nothing written before.
     pub(crate) fn new() -> Page
         ensures { result ≡ record { waiting = []; written = 0 } }
     {
@@ -65,7 +65,7 @@ impl Page {
         }
     }
 
-    /// How many bytes were written, up to the greatest `u128`.
+    /// The number of bytes that were written, up to the greatest `u128`.
     pub(crate) fn written(&self) -> u128
         ensures { result ≡ self.now.written }
     {
@@ -82,7 +82,7 @@ impl Page {
         Ok(())
     }
 
-    /// Puts bytes behind those that wait. Where they do not fit, all that waits is written first.
+    /// Appends bytes. If they do not fit, all that waits is written first.
     pub(crate) fn put<W: Write>(&mut self, out: &mut W, bytes: &[u8]) -> Result<(), WriteFault>
         ensures { Gathers (W.contents out.old) (W.contents out.new) self.old self.new bytes.now result }
     {
@@ -97,7 +97,7 @@ impl Page {
         Ok(())
     }
 
-    /// Makes room for so many bytes: where they do not fit, all that waits is written first.
+    /// Makes room for this number of bytes: if they do not fit, all that waits is written first.
     #[inline(always)]
     pub(crate) fn make_room<W: Write>(
         &mut self,
@@ -114,7 +114,7 @@ impl Page {
         Ok(())
     }
 
-    /// Puts bytes behind those that wait, where there is room for them.
+    /// Appends bytes that fit.
     #[inline(always)]
     pub(crate) fn append(&mut self, bytes: &[u8])
         requires { length self.old.waiting + length bytes.now ≤ SIZE }
@@ -126,7 +126,7 @@ impl Page {
         self.used = end;
     }
 
-    /// Whether so many bytes fit behind those that wait.
+    /// Whether this number of bytes fits.
     #[inline(always)]
     pub(crate) fn has_room(&self, count: usize) -> bool
         requires { count ≤ SIZE }
@@ -135,8 +135,8 @@ impl Page {
         count <= SIZE - self.used
     }
 
-    /// Puts the first of a row of bytes behind those that wait, where there is room for the row. As many bytes are
-    /// copied for each row, which is sooner than to copy as many as are wanted.
+    /// Appends the first bytes of a row. The whole row fits, and is copied: a copy of constant length is faster than one
+    /// of the length that is needed.
     #[inline(always)]
     pub(crate) fn append_front<const N: usize>(&mut self, row: &[u8; N], count: usize)
         requires count { count ≤ N }
@@ -149,7 +149,7 @@ impl Page {
         self.used = used + count;
     }
 
-    /// Puts a byte behind those that wait, where there is room for it.
+    /// Appends a byte that fits.
     #[inline(always)]
     pub(crate) fn append_byte(&mut self, byte: u8)
         requires { length self.old.waiting + 1 ≤ SIZE }
@@ -161,7 +161,7 @@ impl Page {
         self.used = used + 1;
     }
 
-    /// Puts a digit behind what waits, where there is room for it.
+    /// Appends a digit that fits.
     #[inline(always)]
     fn append_digit(&mut self, digit: u32)
         requires digit { digit < 10 }
@@ -172,7 +172,7 @@ impl Page {
         self.append_byte(b'0' + digit as u8);
     }
 
-    /// Puts the digits of a number that has two at most.
+    /// Appends the digits of a number below 100.
     #[inline(always)]
     fn append_two(&mut self, number: u32)
         requires number { number < 100 }
@@ -186,7 +186,7 @@ impl Page {
         self.append_digit(number % 10);
     }
 
-    /// Puts the digits of a number that has four at most, one by one where they belong.
+    /// Appends the digits of a number below 10,000, one by one.
     #[inline(always)]
     pub(crate) fn append_four(&mut self, number: u32)
         requires number { number < 10000 }
@@ -202,7 +202,7 @@ impl Page {
         self.append_digit(number % 10);
     }
 
-    /// Puts the decimal digits of a number behind what waits, where there is room for as many as a number may have.
+    /// Appends the decimal digits of a number. There is room for the longest number.
     #[inline(never)]
     pub(crate) fn append_number(&mut self, number: u128)
         requires { length self.old.waiting + MOST_DIGITS ≤ SIZE }
@@ -214,7 +214,7 @@ impl Page {
         self.append(&digits[start..]);
     }
 
-    /// Puts the decimal digits of a number.
+    /// Appends the decimal digits of a number.
     pub(crate) fn put_number<W: Write>(
         &mut self,
         out: &mut W,

@@ -14,7 +14,7 @@ use fb_system::System;
 use fb_types::{Form, Key, Value, Variable};
 use std::io::Write;
 
-/// A part of a key, and a blank.
+/// Puts a part of a key, and a blank.
 fn put_part<W: Write>(page: &mut Page, out: &mut W, part: u128) -> Result<(), WriteFault>
     ensures { Gathers (W.contents out.old) (W.contents out.new) page.old page.new (decimal part ++ codes " ") result }
 {
@@ -22,7 +22,7 @@ fn put_part<W: Write>(page: &mut Page, out: &mut W, part: u128) -> Result<(), Wr
     page.put(out, b" ")
 }
 
-/// What a line begins with in a form.
+/// Puts what a line of a form begins with.
 pub(crate) fn put_key<W: Write>(
     page: &mut Page,
     out: &mut W,
@@ -41,7 +41,7 @@ pub(crate) fn put_key<W: Write>(
     }
 }
 
-/// A tick and the name of a resource.
+/// Puts a tick and the name of a resource.
 pub(crate) fn put_place<W: Write>(
     page: &mut Page,
     out: &mut W,
@@ -57,20 +57,19 @@ pub(crate) fn put_place<W: Write>(
     page.put(out, system.resource_name(resource as usize))
 }
 
-/// The row with the tick, and what stands between the texts of a head, take no more bytes.
+/// The most bytes of the row with the tick and of what is between the texts of a head.
 const HEAD: usize = NOTED + SIGN + 1;
 
-/// How long the sign of an event is.
+/// The length of the sign of an event.
 const SIGN: usize = 3;
 
-/// A number with its sign takes no more bytes.
+/// The most bytes of a number with its sign.
 pub(crate) const VALUE: usize = 40;
 
-/// What stands before and behind the name of a value, and the value, take no more bytes.
+/// The most bytes of a value with what is before and after its name.
 const BINDING: usize = VALUE + 2;
 
-/// Puts what stands before the path, where there is room for it: the sign of an event that was taken, or of one that was
-/// emitted.
+/// Puts what is before the path: the sign of an event that was taken, or of one that was emitted. It fits.
 #[inline(always)]
 fn append_sign(page: &mut Page, taken: bool)
     requires { length page.old.waiting + SIGN ≤ SIZE }
@@ -84,7 +83,7 @@ fn append_sign(page: &mut Page, taken: bool)
     }
 }
 
-/// Puts a head of short texts, where there is room for it.
+/// Puts a head of short texts. It fits.
 #[inline(always)]
 fn append_head(
     page: &mut Page,
@@ -107,7 +106,7 @@ fn append_head(
     page.append(event);
 }
 
-/// Puts a head piece by piece, however long they are.
+/// Puts a head piece by piece, of any length.
 #[inline(never)]
 fn put_long_head<W: Write>(
     page: &mut Page,
@@ -131,8 +130,8 @@ fn put_long_head<W: Write>(
     page.put(out, event)
 }
 
-/// Puts the head of a line: its tick, the name of a resource, a sign, a path, and the name of an event. Where all are short
-/// there is room on the page for the whole, and no piece has to ask for it.
+/// Puts the head of a line: its tick, the name of a resource, a sign, a path, and the name of an event. If all are short,
+/// the page has room for the whole, and no piece checks for room.
 #[inline(always)]
 pub(crate) fn put_head<W: Write>(
     page: &mut Page,
@@ -154,7 +153,7 @@ pub(crate) fn put_head<W: Write>(
     Ok(())
 }
 
-/// Puts a whole number, where there is room for it. Most have few digits and no sign.
+/// Puts a whole number that fits. Most have few digits and no sign.
 #[inline(always)]
 fn append_whole(page: &mut Page, number: i128)
     requires { length page.old.waiting + VALUE ≤ SIZE }
@@ -170,7 +169,7 @@ fn append_whole(page: &mut Page, number: i128)
     page.append_number(number.unsigned_abs());
 }
 
-/// Puts a value, where there is room for it.
+/// Puts a value that fits.
 #[inline(always)]
 pub(crate) fn append_value(page: &mut Page, value: Value)
     requires { length page.old.waiting + VALUE ≤ SIZE }
@@ -184,7 +183,7 @@ pub(crate) fn append_value(page: &mut Page, value: Value)
     }
 }
 
-/// Puts a variable with a short name and its value, where there is room for them.
+/// Puts a variable with a short name and its value. They fit.
 #[inline(always)]
 fn append_binding(page: &mut Page, name: &[u8], value: Value)
     requires { length page.old.waiting + (BINDING + length name.now) ≤ SIZE }
@@ -196,7 +195,7 @@ fn append_binding(page: &mut Page, name: &[u8], value: Value)
     append_value(page, value);
 }
 
-/// Puts a variable and its value, however long its name is.
+/// Puts a variable and its value. The name may have any length.
 #[inline(never)]
 fn put_long_binding<W: Write>(
     page: &mut Page,
@@ -215,7 +214,7 @@ fn put_long_binding<W: Write>(
     Ok(())
 }
 
-/// A variable and its value.
+/// Puts a variable and its value.
 #[inline(always)]
 fn put_binding<W: Write>(
     page: &mut Page,
@@ -234,7 +233,7 @@ fn put_binding<W: Write>(
     Ok(())
 }
 
-/// Values, each with the name of the variable at its place.
+/// Puts values, each with the name of the variable at its index.
 pub(crate) fn put_values<W: Write>(
     page: &mut Page,
     out: &mut W,

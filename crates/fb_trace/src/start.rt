@@ -9,10 +9,10 @@ use crate::pieces::{VALUE, append_value};
 use fb_system::{Head, ROW};
 use fb_types::Value;
 
-/// The rows of a tick and of a head, and a value, take no more bytes.
+/// The most bytes of the rows of a tick and of a head, and a value.
 pub(crate) const START: usize = NOTED + ROW + VALUE;
 
-/// Puts the first value, if there is one, where there is room for it.
+/// Puts the first value, if there is one. It fits.
 #[inline(always)]
 fn append_first(page: &mut Page, values: &[Value])
     requires { length page.old.waiting + VALUE ≤ SIZE }
@@ -25,7 +25,7 @@ fn append_first(page: &mut Page, values: &[Value])
     }
 }
 
-/// Puts the start of a line with these values, where there is room for it.
+/// Puts the start of a line with these values. It fits.
 #[inline(always)]
 pub(crate) fn append_start(page: &mut Page, tick: &Noted, head: &Head, values: &[Value])
     requires within { head.now.width ≤ ROW }

@@ -1,4 +1,4 @@
--- Tests by which an example without composites and algorithms is seen to be accepted.
+-- Tests that show that an example without composites and algorithms is accepted.
 use Rattle.std.proofs.Common.{◌≡◌, inl, inr, refl, sym, ap, subst, ◌∙◌, List, [], ◌∷◌, ◌++◌, map, length, Bool, true, false, not, ◌&&◌, ◌||◌, ◌==◌, Option, Some, None, nat_le, arith, true≢false}
 use Rattle.std.specs.Prelude.{Contains, is_some}
 use Rattle.std.specs.List.{list_all, list_any}
@@ -132,7 +132,7 @@ kinds-right lib h (inr (inr r)) =
     )
     r.4
 
--- E23, where data connections join BOOL with BOOL
+-- E23, if data connections join BOOL with BOOL
 abbrev pub is_boolean : Option Ty → Bool
 is_boolean (Some Boolean) = true
 is_boolean _ = false
@@ -166,7 +166,7 @@ one-source lib h r =
     once same_port port_itself (map (λ c. c.1) (pairs_in [] r.0.1.data_connections))
     (passes_at (λ (n : Placed). apart same_port (map (λ c. c.1) (pairs_in [] n.1.data_connections))) (networks lib) r.0 h r.1) r.2
 
--- E25, where no type is a composite
+-- E25, if no type is a composite
 abbrev pub is_basic : BlockType → Bool
 is_basic (block.Basic t) = true
 is_basic (block.Composite t) = false
@@ -249,7 +249,7 @@ are-served lib plan h r =
         let x = passes_somewhere (serves lib plan r.0) (event_pairs_of lib) g in
         r.3 (served lib plan r.0 x.0 (kind_at lib r.0.0.at) refl x.1 x.2)
 
--- E29, where stimuli set nothing
+-- E29, if stimuli set nothing
 abbrev pub sets_nothing : Stimulus → Bool
 sets_nothing s = elim s.settings [ [] ↦ true | x ∷ xs ↦ false ]
 

@@ -1,4 +1,4 @@
--- All kinds of event blocks, and their interfaces one after the other.
+-- All kinds of event blocks, and their interfaces one after another.
 use Rattle.std.proofs.Common.{◌≡◌, ℕ, ◌<◌, ◌+◌, List, [], ◌∷◌, ◌++◌, map, take, get_or, refl, sym, ◌∙◌, ap}
 use Rattle.std.specs.Prelude.{slice_get, Some, option_map}
 use Rattle.std.proofs.lemmas.List.{take_more, map-append}
@@ -13,7 +13,7 @@ abbrev pub kinds : List EventKind
 kinds =
     Restart ∷ Split ∷ Merge ∷ Rendezvous ∷ Permit ∷ Select ∷ Switch ∷ Delay ∷ Cycle ∷ SetReset ∷ DataLatch ∷ RisingEdge ∷ FallingEdge ∷ CountUp ∷ []
 
--- each kind stands at its place
+-- each kind is at its index
 pub kind_stands : (k : EventKind) → slice_get kinds (kind_place k) ≡ Some k
 kind_stands Restart = refl
 kind_stands Split = refl

@@ -8,7 +8,7 @@ use Rattle.fb_types.specs.declared.value.Value.{Value}
 use Rattle.fb_types.specs.declared.value.Value.TheVariants as value
 use Rattle.fb_types.specs.declared.value.Reason.{Reason}
 
--- Two runs from a point end alike.
+-- Two runs from a point end the same way.
 abbrev pub OneEnd : Running → Point → Type 0
 OneEnd R p = (e f : End) (q s : Point) → R p e q → R p f s → (e ≡ f) × (q ≡ s)
 
@@ -51,7 +51,7 @@ assigns-one types n v p = with-one (assigned (types n) v) _ p (λ w e f q s h i.
 
 -- ---- Loops
 
--- Two runs from a point end alike, one of each sort.
+-- Two runs from a point end the same way, one of each kind.
 abbrev OneEndOf : Running → Running → Type 0
 OneEndOf R S = (p : Point) (e f : End) (q s : Point) → R p e q → S p f s → (e ≡ f) × (q ≡ s)
 
@@ -68,7 +68,7 @@ no_more-one : (vars : Values) (a : Result Bool Reason) (p : Point) → OneEnd (n
 no_more-one vars a p =
     with-one a _ p (λ more. either-one more (λ _ _ _. ⊥) (λ p e q. Ends p Went e q) p (λ e f q s h i. absurd h) (ends-one Went p))
 
--- where there is another turn, the loop does not end before it
+-- if there is another turn, the loop does not end before it
 more-goes-on : (vars : Values) (a : Result Bool Reason) (p : Point) (e : End) (q : Point) → a ≡ Ok true → no_more vars a p e q → ⊥
 more-goes-on vars a p e q t h = subst (λ b. no_more vars b p e q) t h
 

@@ -1,4 +1,4 @@
--- The elements of a list by their places.
+-- The elements of a list by their indices.
 use Rattle.std.proofs.Common.{◌≡◌, ℕ, zero, suc, ◌<◌, ◌+◌, List, [], ◌∷◌, ◌++◌, length, Some, Contains, refl, ◌∙◌, ap, subst, inl, inr, arith}
 use Rattle.std.specs.Prelude.{slice_get, All}
 use Rattle.std.proofs.lemmas.Option.{slice_get_within, get_or_from_slice_get}
@@ -9,7 +9,7 @@ element_at [] k h = absurd (omega (arith, h))
 element_at (x ∷ xs) zero h = (x, refl)
 element_at (x ∷ xs) (suc k) h = element_at xs k (omega (arith, h))
 
--- an element has a place
+-- an element has an index
 pub place_of_element : {A : Type 0} (xs : List A) (x : A) → Contains xs x → (k : ℕ) × (slice_get xs k ≡ Some x)
 place_of_element [] x c = absurd (Contains-nil x c)
 place_of_element (y ∷ ys) x c =
@@ -44,7 +44,7 @@ slice_get-after (x ∷ xs) ys k =
     let e : length (x ∷ xs) + k ≡ suc (length xs + k) = omega arith in
     ap (slice_get (x ∷ (xs ++ ys))) e ∙ slice_get-after xs ys k
 
--- what holds at each place holds after one more element
+-- what holds at each index holds after one more element
 pub slice_get-push :
     {A : Type 0} (P : ℕ → A → Type 0) (xs : List A) (y : A) → ((k : ℕ) (x : A) → slice_get xs k ≡ Some x → P k x) → P (length xs) y
     → (k : ℕ) (x : A) → slice_get (xs ++ y ∷ []) k ≡ Some x → P k x

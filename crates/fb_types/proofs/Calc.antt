@@ -22,7 +22,7 @@ use Rattle.fb_types.proofs.Derivations.{Step, takings, simulates}
 use Rattle.fb_types.proofs.ReadBodies.{as_read, says_counting, says_sum}
 use Rattle.fb_types.proofs.Runs.{five}
 
--- GO is taken, with what the chart comes to.
+-- GO is taken, with the result of the chart.
 abbrev goes : (Place → Option Reason × Place) → List Step
 goes chart =
     record { key = stimulus_key 0 0 0; event = Stimulated (record { at = codes "B" ∷ []; name = codes "GO" }) []; chart = chart } ∷ []
@@ -39,7 +39,7 @@ finished = record { event = codes "DONE"; values = record { variable = codes "X"
 abbrev counts : Place → Option Reason × Place
 counts p = (None, record { state = codes "IDLE"; vars = counted p.vars; left = 0; emitted = finished ∷ [] })
 
--- back in IDLE, where the step for the trial is missing
+-- back in IDLE, without the step for the trial
 abbrev counts_short : Place → Option Reason × Place
 counts_short p = (Some reason.Steps, record { state = codes "IDLE"; vars = counted p.vars; left = 0; emitted = finished ∷ [] })
 
@@ -71,7 +71,7 @@ counting-stops = record { takings = taken counting 9 counts_short; simulation = 
 
 -- ---- Faults
 
--- in RUN, where the algorithm is not done
+-- in RUN, and the algorithm is not done
 abbrev faults : Reason → Place → Option Reason × Place
 faults r p = (Some r, record { state = codes "RUN"; vars = p.vars; left = p.left - 3; emitted = [] })
 

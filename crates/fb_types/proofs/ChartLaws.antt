@@ -10,7 +10,7 @@ use Rattle.fb_types.specs.declared.library.BasicType.{BasicType}
 use Rattle.fb_types.specs.declared.value.Reason.{Reason}
 use Rattle.fb_types.specs.declared.value.Reason.TheVariants.{Steps}
 
--- Two movements from a place end alike, one of each sort.
+-- Two movements from a position end the same way, one of each kind.
 abbrev OneOf : Moving → Moving → Type 0
 OneOf R S = (p : Place) (s t : Option Reason) (q u : Place) → R p s q → S p t u → (s ≡ t) × (q ≡ u)
 

@@ -1,4 +1,4 @@
--- How the trace of an application is derived step by step, where the keys that wait are told at each step.
+-- How the trace of an application is derived step by step, with the keys that wait given at each step.
 use Rattle.std.proofs.Common.{◌≡◌, ◌≤◌, true≢false, arith, ℕ, suc, ◌-◌, ◌<◌, refl, sym, ap, subst, ◌∙◌, List, [], ◌∷◌, ◌++◌, map, Bool, true, false, not, ◌||◌, if◌then◌else◌, Option, Some, None, nat_le, nat_lt}
 use Rattle.std.specs.List.{All, list_all, filter}
 use Rattle.std.specs.Ordering.{is_lt}
@@ -26,7 +26,7 @@ abbrev pub is_among : List Key → Key → Bool
 is_among [] j = false
 is_among (k ∷ ks) j = same_key k j || is_among ks j
 
--- Nothing waits but under these keys.
+-- Nothing waits except under these keys.
 abbrev pub WaitsWithin : Agenda → List Key → Type 0
 WaitsWithin m ks = (j : Key) → is_among ks j ≡ false → m j ≡ None
 
@@ -77,7 +77,7 @@ timer_keys sys k e Keep = []
 timer_keys sys k e Clear = []
 timer_keys sys k e (At t) = timer_key t k.resource (sys.number (path_of e)) ∷ []
 
--- the keys but those of a timer that is cleared
+-- the keys without those of a timer that is cleared
 abbrev pub keys_kept : System → Key → AnEvent → TimerAsk → List Key → List Key
 keys_kept sys k e Keep ks = ks
 keys_kept sys k e Clear ks = filter (λ i. not (is_timer_of k.resource (sys.number (path_of e)) i)) ks
@@ -129,9 +129,9 @@ after-within sys k e m s o a ks within j h =
     rw (found-outside x.messages j first.0, found-outside x.raised j second.0)
     (timer-leaves sys k e o.timer a ks within j third.0 third.1)
 
--- ---- Reactions that are told
+-- ---- Reactions that are given
 
--- An event to be taken, with what the chart comes to where it is one of a basic block.
+-- An event to be taken, with the result of the chart if it is one of a basic block.
 pub record Step : Type 0 where
   pub key : Key
   pub event : AnEvent
@@ -151,7 +151,7 @@ outcome_at sys k w q left chart (Some (Composite t)) =
     if is_event_input t.ports q.name then crossing_in sys k q (taking sys k w q t.ports left)
     else crossing_out sys k w q t.ports left
 
--- what is left to show: that the chart of a basic block comes to that
+-- what is left to show: that the chart of a basic block has this result
 abbrev pub Shown_at : System → Key → World → Port → ℕ → (Place → Option Reason × Place) → Option Kind → Type 0
 Shown_at sys k w q left chart (Some (Basic t)) =
     let p = start_of (taking sys k w q t.ports left) q.at in let x = chart p in ChartReacts t q.name p x.0 x.1
@@ -216,7 +216,7 @@ pub record IsTakenFirst (sys : System) (limit horizon : ℕ) (c : Config) (ks : 
   pub begins : (meter_of limit c x.key).left ≡ suc (left_of limit c x.key)
   pub shown : Shown sys x.key (world_of c.state x.key.resource) x.event (left_of limit c x.key) x.chart
 
--- what follows a step: nothing, where it stops
+-- what follows a step: nothing, if it stops
 abbrev pub Follows : Option Reason → List Step → Type 0 → Type 0
 Follows None xs rest = rest
 Follows (Some r) [] rest = Unit {0}

@@ -21,7 +21,7 @@ Contains-here x xs = Contains-append_left (x ∷ []) xs x (Contains-push [] x)
 pub Contains-there : {A : Type 0} (x : A) (xs : List A) (y : A) → Contains xs y → Contains (x ∷ xs) y
 Contains-there x xs y h = Contains-append_right (x ∷ []) xs y h
 
--- ---- What a function makes of each
+-- ---- The results of a function for each
 
 pub Contains-map : {A B : Type 0} (f : A → B) (xs : List A) (x : A) → Contains xs x → Contains (map f xs) (f x)
 Contains-map f [] x h = absurd (Contains-nil x h)

@@ -47,7 +47,7 @@ equal_is Less h = absurd cc
 equal_is Equal h = refl
 equal_is Greater h = absurd cc
 
--- keys that the test does not tell apart are one
+-- keys that the test does not distinguish are the same
 pub same_key_is : (j k : Key) → same_key j k ≡ true → j ≡ k
 same_key_is j k h =
     let a = both_equal _ _ (equal_is (key_cmp j k) h) in

@@ -8,7 +8,7 @@ use Rattle.fb_types.proofs.Elements.{Contains-nil, Contains-cons_cases, Contains
 
 -- ---- Where it fails
 
--- what fails of a list fails at an element
+-- what fails for a list fails for an element
 pub fails_at : {A : Type 0} (p : A → Bool) (xs : List A) → list_all p xs ≡ false → (x : A) × Contains xs x × (p x ≡ false)
 fails_at p [] h = absurd (true≢false h)
 fails_at {A} p (x ∷ xs) h =

@@ -1,4 +1,4 @@
--- Keys and look-ups.
+-- Keys and lookups.
 use Rattle.std.proofs.Common.{◌≡◌, ℕ, ◌<◌, ◌≤◌, ◌⊎◌, false, Option, Some, None, List, [], ◌∷◌, ◌++◌, refl, sym, ap, ◌∙◌, subst, inl, inr, ⊎_elim, arith}
 use Rattle.std.specs.Prelude.{if◌then◌else◌}
 use Rattle.std.specs.Cmp.{nat_cmp_total}
@@ -83,7 +83,7 @@ option_cases (Some v) = inr (v, refl)
 pub none_some : {V : Type 0} (o : Option V) (v : V) → o ≡ None → o ≡ Some v → ⊥
 none_some o v p q = cc
 
--- there is none where something would be absurd
+-- there is none if something would be absurd
 pub none_since : {V : Type 0} (o : Option V) → ((v : V) → o ≡ Some v → ⊥) → o ≡ None
 none_since None h = refl
 none_since (Some v) h = absurd (h v refl)

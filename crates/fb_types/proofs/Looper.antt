@@ -1,4 +1,4 @@
--- The derivation of the chart without rest.
+-- The derivation of the chart without a resting state.
 use Rattle.std.proofs.Common.{◌≡◌, refl, List, [], ◌∷◌, Option, Some, None}
 use Rattle.std.specs.Prelude.{codes}
 use Rattle.std.specs.Fmt.{digits}

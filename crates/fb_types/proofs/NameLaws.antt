@@ -74,7 +74,7 @@ is_some-named f n (x ∷ xs) =
       | false ↦ is_some-named f n xs
     ]
 
--- a name is among the names where an element has it
+-- a name is among the names if an element has it
 pub any-named : {A : Type 0} (f : A → Name) (n : Name) (xs : List A) → list_any (same_name n) (map f xs) ≡ is_some (named f n xs)
 any-named f n xs = any-flip f n xs ∙ is_some-named f n xs
 

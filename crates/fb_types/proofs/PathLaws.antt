@@ -1,4 +1,4 @@
--- Names and paths that the tests do not tell apart are one.
+-- Names and paths that the tests do not distinguish are the same.
 use Rattle.std.proofs.Common.{◌≡◌, Bool, true, List, [], ◌∷◌, refl}
 use Rattle.std.specs.Cmp.{first_so, second_so}
 use Rattle.fb_types.specs.Names.{Path, Port, alike, same_name, same_path, same_port}

@@ -1,4 +1,4 @@
--- The first place at which a test passes, and the element that stands there.
+-- The first index at which a test passes, and the element there.
 use Rattle.std.proofs.Common.{◌≡◌, ℕ, zero, suc, ◌+◌, Bool, true, false, cond, not, ◌||◌, List, [], ◌∷◌, ◌++◌, length, map, Some, None, Contains, refl, sym, ◌∙◌, ap, subst, inl, inr, arith}
 use Rattle.std.specs.Prelude.{position, slice_get, option_map, option_and_then, nat_lt, is_some}
 use Rattle.std.specs.List.{list_any, prefix_len}
@@ -34,7 +34,7 @@ position-cons p x xs =
           ])
     ]
 
--- the same, where the test of the first element is known
+-- the same, if the test of the first element is known
 pub position-first : {X : Type 0} (p : X → Bool) (x : X) (xs : List X) → p x ≡ true → position p (x ∷ xs) ≡ Some 0
 position-first p x xs h =
     position-cons p x xs ∙ ap (λ b. cond b (Some 0) (option_map (λ i. i + 1) (position p xs))) h
@@ -43,7 +43,7 @@ pub position-later : {X : Type 0} (p : X → Bool) (x : X) (xs : List X) → p x
 position-later p x xs h =
     position-cons p x xs ∙ ap (λ b. cond b (Some 0) (option_map (λ i. i + 1) (position p xs))) h
 
--- ---- Where it stands
+-- ---- Where it is
 
 pub is_some-position : {X : Type 0} (p : X → Bool) (xs : List X) → is_some (position p xs) ≡ list_any p xs
 is_some-position p [] = refl
@@ -83,7 +83,7 @@ position-push_new p (x ∷ xs) y h =
 
 -- ---- An element by its name
 
--- the element with a name stands at the place of the name
+-- the element with a name is at the index of the name
 pub named-position :
     {A : Type 0} (f : A → Name) (n : Name) (xs : List A) → named f n xs ≡ option_and_then (slice_get xs) (position (same_name n) (map f xs))
 named-position f n [] = refl
@@ -113,7 +113,7 @@ slice_get-Contains {A} f (y ∷ ys) zero x h =
     let e : y ≡ x = cc in subst (λ (z : A). Contains (f y ∷ map f ys) (f z)) e (Contains-here (f y) (map f ys))
 slice_get-Contains f (y ∷ ys) (suc i) x h = Contains-there (f y) (map f ys) (f x) (slice_get-Contains f ys i x h)
 
--- each name stands first at its own place
+-- each name is first at its own index
 pub position_of_once :
     {A : Type 0} (f : A → Name) (xs : List A) (i : ℕ) (x : A) → ¬ (Twice (map f xs)) → slice_get xs i ≡ Some x
     → position (same_name (f x)) (map f xs) ≡ Some i
@@ -134,7 +134,7 @@ pub named_of_once :
 named_of_once f xs i x once h =
     named-position f (f x) xs ∙ ap (option_and_then (slice_get xs)) (position_of_once f xs i x once h) ∙ h
 
--- what stands at the place of a name has the name
+-- the element at the index of a name has the name
 pub position_is :
     {A : Type 0} (f : A → Name) (n : Name) (xs : List A) (i : ℕ) → position (same_name n) (map f xs) ≡ Some i
     → (x : A) × (slice_get xs i ≡ Some x) × (f x ≡ n)

@@ -13,7 +13,7 @@ use Rattle.fb_types.specs.declared.key.Key.{Key}
 use Rattle.fb_types.specs.declared.value.Value.{Value}
 use Rattle.fb_types.proofs.PathLaws.{same_path_is}
 
--- ---- A world in which no more than outputs are published
+-- ---- A world in which only outputs are published
 
 pub record OnlyPublishes (v w : World) : Type 0 where
   pub memory : (q : Path) → (w.blocks q).memory ≡ (v.blocks q).memory

@@ -1,4 +1,4 @@
--- What the algorithms of the worked examples say.
+-- What the algorithms of the worked examples mean.
 use Rattle.std.proofs.Common.{◌≡◌, sym, ap, subst, ◌∙◌, [], ◌∷◌, None, ℤ, pos}
 use Rattle.std.specs.Prelude.{codes}
 use Rattle.fb_types.specs.Names.{Name}
@@ -37,7 +37,7 @@ says_counting =
     (Stmt-F.For (codes "X") (whole_read (pos 32766)) (whole_read (pos 32767)) None (roll-Stmt Stmt-F.Empty ∷ []))
     ∙ (λ i. For (codes "X") (says_whole (pos 32766) i) (says_whole (pos 32767) i) (Whole (pos 1)) (then_stmts (says_empty i) no_stmt))
 
--- a run of what the statements say is one of the body
+-- a run of what the statements mean is one of the body
 pub as_read : (types : Types) (s : read_stmt.Stmt) (said : Stmt) → stmt_of s ≡ said → (p : Point) (e : End) (q : Point)
     → RunsBody types (then_stmts said no_stmt) p e q → RunsBody types (body_of (record { statements = s ∷ [] })) p e q
 as_read types s said says p e q h = subst (λ t. RunsBody types (then_stmts t no_stmt) p e q) (sym says) h

@@ -1,4 +1,4 @@
--- The runs of the worked loop and of the chart without rest.
+-- The runs of the worked loop and of the chart without a resting state.
 use Rattle.std.proofs.Common.{◌≡◌, ℕ, suc, ◌+◌, arith, refl, sym, subst, [], ◌∷◌, Some, None}
 use Rattle.std.specs.Prelude.{codes, pos}
 use Rattle.fb_types.specs.Names.{with_value}

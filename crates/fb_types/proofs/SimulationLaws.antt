@@ -81,7 +81,7 @@ takes_least-one sys limit c t u h i =
 
 -- ---- The chain
 
--- where nothing waits below the horizon, nothing below it is taken
+-- if nothing waits below the horizon, nothing below it is taken
 none-taken : {B : Type 0} (sys : System) (limit horizon : ℕ) (c : Config) (t : Taken)
     → NoneBelow c.agenda horizon → TakesLeast sys limit c t → t.key.tick < horizon → B
 none-taken sys limit horizon c t none h below = not-both (c.agenda t.key) t.event (none t.key below) h.waits
@@ -93,7 +93,7 @@ module _ (sys : System) (limit horizon : ℕ) where
   abbrev Rests : Config → List Taken → Type 0
   Rests c ts = RestsAt horizon (ending_of horizon ts) (last c ts).agenda
 
-  -- what is left behind an event that stops nothing
+  -- what is left after an event that stops nothing
   rests-on : (c : Config) (t : Taken) (ts : List Taken) → t.effect.stop ≡ None → Rests c (t ∷ ts) → Rests (after c t) ts
   rests-on c t ts e h = subst (λ s. RestsAt horizon (ending_by s t.key (ending_of horizon ts)) (last (after c t) ts).agenda) e h
 

@@ -1,4 +1,4 @@
--- The derivation of the chart that goes one state further at each event.
+-- The derivation of the chart that moves one state further at each event.
 use Rattle.std.proofs.Common.{◌≡◌, ℕ, ◌-◌, refl, List, [], ◌∷◌, Option, None}
 use Rattle.std.specs.Prelude.{codes}
 use Rattle.std.specs.Fmt.{digits}
@@ -21,7 +21,7 @@ sys = system_of stepper
 abbrev event : Name → Name → Port
 event i e = record { at = i ∷ []; name = e }
 
--- a transition and an action, and where the target has a transition, one that is tried in vain
+-- a transition and an action, and, if the target has a transition, one that is tried in vain
 abbrev to_state : (cost : ℕ) → Name → Name → Place → Option Reason × Place
 to_state cost s e p = (None, record { state = s; vars = p.vars; left = p.left - cost; emitted = record { event = e; values = [] } ∷ [] })
 

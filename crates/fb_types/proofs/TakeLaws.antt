@@ -1,4 +1,4 @@
--- What local events come to on the agenda.
+-- The keys of local events on the agenda.
 use Rattle.std.proofs.Common.{◌≡◌, ℕ, suc, ◌+◌, Bool, true, false, cond, List, [], ◌∷◌, ◌++◌, length, map, refl, sym, ap, ◌∙◌, append_assoc, Some, None, arith}
 use Rattle.std.proofs.lemmas.List.{append-nil}
 use Rattle.fb_types.specs.Names.{Port}

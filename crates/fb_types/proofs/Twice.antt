@@ -1,4 +1,4 @@
--- The derivation of the composite round a type that doubles a number.
+-- The derivation of the composite around a type that doubles a number.
 use Rattle.std.proofs.Common.{◌≡◌, ◌-◌, refl, List, [], ◌∷◌, Option, None, pos}
 use Rattle.std.specs.Prelude.{codes}
 use Rattle.std.specs.Fmt.{digits}

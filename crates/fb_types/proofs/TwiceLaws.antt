@@ -1,4 +1,4 @@
--- Lists in which something stands twice.
+-- Lists in which something is twice.
 use Rattle.std.proofs.Common.{ℕ, List, [], ◌∷◌, ◌++◌, take, drop, Contains, sym, subst, inl, inr}
 use Rattle.std.proofs.lemmas.List.{take-append-drop}
 use Rattle.std.proofs.lemmas.List.Elements.{Contains-append_left, Contains-append_right, Contains-push, Contains-push_cases}
@@ -34,7 +34,7 @@ pub Twice-take : {A : Type 0} (i : ℕ) (xs : List A) → Twice (take i xs) → 
 Twice-take {A} i xs h =
     let P : List A → Type 0 = λ ys. Twice ys in subst P (take-append-drop i xs) (Twice-append_left (take i xs) (drop i xs) h)
 
--- ---- Lists in which nothing stands twice
+-- ---- Lists in which nothing is twice
 
 pub once_push : {A : Type 0} (xs : List A) (x : A) → ¬ (Twice xs) → ¬ (Contains xs x) → ¬ (Twice (xs ++ x ∷ []))
 once_push [] x once new t = elim t [ inl c ↦ Contains-nil x c | inr n ↦ n ]

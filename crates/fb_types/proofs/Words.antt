@@ -1,4 +1,4 @@
--- The number that stands for a name: how great it is, and that no other name has it.
+-- The number of a name: how great it is, and that no other name has it.
 use Rattle.std.proofs.Common.{◌≡◌, ◌≤◌, ◌<◌, ◌+◌, ◌*◌, ◌^◌, ℕ, zero, suc, true, false, cond, List, [], ◌∷◌, length, refl, sym, ◌∙◌, arith}
 use Rattle.std.specs.Prelude.{nat_le}
 use Rattle.std.proofs.lemmas.Bool.Decides.{nat_tests}
@@ -14,11 +14,11 @@ digit-once b c apart same = grind (arith, nat_tests, apart, same)
 
 -- ---- Numbers
 
--- the number of a name with one letter more, where all its bytes have digits
+-- the number of a name with one letter more, if all its bytes have digits
 cons-is : (b : ℕ) (bs : List ℕ) → ¬ (packed (b ∷ bs) ≡ 0) → (¬ (digit b ≡ 0)) × (¬ (packed bs ≡ 0)) × (packed (b ∷ bs) ≡ digit b + 38 * packed bs)
 cons-is b bs apart = grind (arith, nat_tests, apart)
 
--- the numbers of so many letters are below
+-- the numbers of this many letters are below
 abbrev room : ℕ → ℕ
 room zero = 2
 room (suc n) = 38 * room n
@@ -35,7 +35,7 @@ packed-below (b ∷ bs) (suc n) at = cons-below b bs (room n) (packed-below bs n
 pub packed-fits : (bs : List ℕ) → length bs ≤ 11 → packed bs < 2 * 38 ^ 11
 packed-fits bs few = packed-below bs 11 few
 
--- two names of one number are one
+-- two names with one number are the same
 packed-once : (bs cs : List ℕ) → ¬ (packed bs ≡ 0) → packed bs ≡ packed cs → bs ≡ cs
 packed-once [] [] apart e = refl
 packed-once [] (c ∷ cs) apart e = absurd (let more = cons-is c cs (λ z. apart (e ∙ z)) in let last = more.1 in let is = more.2 in omega arith)
@@ -60,7 +60,7 @@ short bs apart =
       | false ↦ λ e. absurd (e refl)
     ] apart
 
--- two names for which one number stands are one
+-- two names that one number stands for are the same
 pub is_the_name : (bs cs : List ℕ) (w v : ℕ) → w ≡ word_of bs → v ≡ word_of cs → ¬ (w ≡ 0) → w ≡ v → bs ≡ cs
 is_the_name bs cs w v is other apart same =
     let first = short bs (λ e. apart (is ∙ e)) in

@@ -27,7 +27,8 @@ set_names s = map (λ x. x.variable) s.settings
 abbrev pub is_held : Ports → Setting → Bool
 is_held its x = elim (named (λ v. v.name) x.variable its.inputs) [ None ↦ false | Some v ↦ fits v.ty x.value ]
 
--- A stimulus names an event input of an instance of the application, and sets variables WITH that event, each once, that are not connected and whose types hold the values.
+-- A stimulus names an event input of an instance of the application, and sets variables WITH that event, each once, that
+-- are not connected and whose types contain the values.
 pub record IsGood (lib : Library) (s : Stimulus) : Type 0 where
   pub kind : Kind
   pub of_kind : kind_of_stimulus lib s ≡ Some kind
@@ -47,7 +48,7 @@ OverLimit lib stimuli = (4096 < length (paths_of lib)) ⊎ (100000 < length stim
 
 -- ---- Acceptance
 
--- What the numbers from E20 to E30 say.
+-- What the numbers from E20 to E30 mean.
 abbrev pub Applies : (number : ℕ) → Library → Plan → List Stimulus → Type 0
 Applies n lib plan stimuli =
     ((n ≡ 20) × NameTwice lib plan) ⊎ ((n ≡ 21) × NameUnknown lib plan) ⊎ ((n ≡ 22) × KindWrong lib)

@@ -14,13 +14,13 @@ use Rattle.fb_types.specs.declared.library.CompositeType.{CompositeType}
 use Rattle.fb_types.specs.declared.event_kind.EventKind.{EventKind}
 use Rattle.fb_types.specs.declared.event_kind.EventKind.TheVariants.{Restart, Split, Merge, Rendezvous, Permit, Select, Switch, Delay, Cycle, SetReset, DataLatch, RisingEdge, FallingEdge, CountUp}
 
--- What the type of an instance is.
+-- The type of an instance.
 pub data Kind : Type 0 where
   Basic : BasicType → Kind
   Event : EventKind → Kind
   Composite : CompositeType → Kind
 
--- the first that has the name
+-- the first element with the name
 abbrev pub named : {A : Type 0} → (A → Name) → Name → List A → Option A
 named name_of n [] = None
 named name_of n (x ∷ xs) = if same_name (name_of x) n then Some x else named name_of n xs
@@ -126,7 +126,7 @@ is_event_input p e = among (event_names p.event_inputs) e
 abbrev pub is_input : Ports → Name → Bool
 is_input p v = among (variable_names p.inputs) v
 
--- what a variable begins with: its declared value, else 0 or FALSE
+-- the initial value of a variable: its declared value, else 0 or FALSE
 abbrev pub initial_of : Variable → Value
 initial_of v = elim v.initial [ None ↦ zero_of v.ty | Some w ↦ w ]
 

@@ -10,12 +10,13 @@ use Rattle.fb_types.specs.declared.value.Reason.{Reason}
 use Rattle.fb_types.specs.declared.value.Reason.TheVariants as reason
 use Rattle.fb_types.specs.declared.value.Ty.{Ty}
 
--- Where a run is: what the variables hold, and how many steps the tick has left.
+-- A point of a run: what the variables hold, and how many steps the tick has left.
 pub record Point : Type 0 where
   pub vars : Values
   pub left : ℕ
 
--- How a statement ends: the run goes on behind it, it left the loop around it, it returned from the algorithm, or a reason stopped it.
+-- How a statement ends: the run continues after it, it left the loop around it, it returned from the algorithm, or a
+-- reason stopped it.
 pub data End : Type 0 where
   Went : End
   Left : End
@@ -38,7 +39,7 @@ StepAnd (suc n) vars rest e q = rest (record { vars = vars; left = n }) e q
 abbrev pub Step : Running → Running
 Step rest p e q = StepAnd p.left p.vars rest e q
 
--- Where there is a value the rest follows, and else its reason stops the run.
+-- If there is a value the rest follows, and else its reason stops the run.
 abbrev pub With : {A : Type 0} → Result A Reason → (A → Running) → Running
 With (Ok a) rest p e q = rest a p e q
 With (Err r) rest p e q = Ends p (Stopped r) e q
@@ -79,7 +80,7 @@ AfterTurn (Stopped r) rest p e q = Ends p (Stopped r) e q
 abbrev pub TurnThen : Running → Running → Running
 TurnThen turn rest p e q = (f : End) × (m : Point) × turn p f m × AfterTurn f rest m e q
 
--- A loop of so many turns: before each the test says that there is one, and after the last one no more follows.
+-- A loop of a number of turns: before each the test says that there is one, and after the last one no more follows.
 abbrev pub Turns : (Values → Result Bool Reason) → Running → ℕ → Running
 Turns test turn zero p e q = With (test p.vars) (λ more p e q. Either more (λ _ _ _. ⊥) (λ p e q. Ends p Went e q) p e q) p e q
 Turns test turn (suc n) p e q = (test p.vars ≡ Ok true) × TurnThen turn (Turns test turn n) p e q
@@ -91,13 +92,13 @@ Loop test turn p e q = (n : ℕ) × Turns test turn n p e q
 abbrev pub passed : (end step z : ℤ) → Bool
 passed end step z = (int_lt end z && int_lt (pos 0) step) || (int_lt z end && int_lt step (pos 0))
 
--- After a turn of FOR: where the next value has passed the end the loop is left, and else it is assigned.
+-- After a turn of FOR: if the next value has passed the end the loop is left, and else it is assigned.
 abbrev pub Advances : Types → Name → (end step : ℤ) → Running
 Advances types n end step p e q =
     let next = whole (p.vars n) +ℤ step in
     Either (passed end step next) (λ p e q. Ends p Left e q) (Assigns types n (value.Whole next)) p e q
 
--- The turns of FOR, where the start is assigned.
+-- The turns of FOR, after the start is assigned.
 abbrev pub Counts : Types → Name → (end step : ℤ) → Running → Running
 Counts types n end step body =
     Loop (λ vars. Ok (not (passed end step (whole (vars n))))) (Step (Then body (Advances types n end step)))
@@ -145,7 +146,7 @@ abbrev mutual
 
 -- ---- Algorithms
 
--- RETURN ends the algorithm alone
+-- RETURN ends only the algorithm
 abbrev pub ended : End → End
 ended Returned = Went
 ended e = e

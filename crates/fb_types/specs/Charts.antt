@@ -14,14 +14,14 @@ use Rattle.fb_types.specs.declared.library.Condition.{Condition}
 use Rattle.fb_types.specs.declared.library.Transition.{Transition}
 use Rattle.fb_types.specs.declared.library.BasicType.{BasicType}
 
--- Where a chart is: its state, its variables, the steps that are left, and what it has emitted, in order.
+-- The position of a chart: its state, its variables, the steps that are left, and what it has emitted, in order.
 pub record Place : Type 0 where
   pub state : Name
   pub vars : Values
   pub left : ℕ
   pub emitted : List Emission
 
--- ---- What stands in the type
+-- ---- What the type has
 
 -- the transitions that leave a state, in the order of the text
 abbrev pub leaving : BasicType → Name → List Transition
@@ -45,11 +45,11 @@ abbrev pub guard_value : Option Expr → Values → Result Bool Reason
 guard_value None vars = Ok true
 guard_value (Some g) vars = truth_of (expr_of g) vars
 
--- Whether a condition is true. A guard behind an event is evaluated only when that event is present.
+-- Whether a condition is true. A guard after an event is evaluated only if that event is present.
 abbrev pub is_true : Condition → Option Name → Values → Result Bool Reason
 is_true c present vars = if is_present c.event present then guard_value c.guard vars else Ok false
 
--- What trying the transitions comes to, with the steps that are left.
+-- The result of trying the transitions, with the steps that are left.
 pub data Trial : Type 0 where
   Clears : (target : Name) → (left : ℕ) → Trial
   NoneClears : (left : ℕ) → Trial
@@ -60,7 +60,7 @@ by_condition (Ok true) target left later = Clears target left
 by_condition (Ok false) target left later = later
 by_condition (Err r) target left later = Fails r left
 
--- The first true transition, in the order of the text. Each one that is tried costs a step.
+-- The first true transition, in the order of the text. Each trial costs a step.
 abbrev pub trial_of : List Transition → Option Name → Values → ℕ → Trial
 trial_of [] present vars left = NoneClears left
 trial_of (t ∷ ts) present vars zero = Fails Steps 0
@@ -69,7 +69,7 @@ trial_of (t ∷ ts) present vars (suc left) =
 
 -- ---- Actions
 
--- A chart goes from one place to another, where it goes on, or a reason has stopped it.
+-- A chart moves from one position to another, where it continues or has been stopped by a reason.
 abbrev pub Moving : Type 1
 Moving = Place → Option Reason → Place → Type 0
 
@@ -109,7 +109,7 @@ abbrev pub OrHalts : Option Reason → Moving → Moving
 OrHalts None rest p stop q = rest p stop q
 OrHalts (Some r) rest p stop q = Halts (Some r) p stop q
 
--- The chain rests where no transition is true, or a reason stops the trial.
+-- The chain rests if no transition is true, or a reason stops the trial.
 abbrev pub Rests : Trial → Moving
 Rests (Clears target left) p stop q = ⊥
 Rests (NoneClears left) p stop q = Halts None (record p { left = left }) stop q
@@ -126,7 +126,7 @@ Enters t (Fails r left) rest p stop q = ⊥
 abbrev pub trial_at : BasicType → Option Name → Place → Trial
 trial_at t present p = trial_of (leaving t p.state) present p.vars p.left
 
--- A chain of so many links. The event is present in the first trial only.
+-- A chain of a number of links. The event is present in the first trial only.
 abbrev pub Links : BasicType → ℕ → Option Name → Moving
 Links t zero present p stop q = Rests (trial_at t present p) p stop q
 Links t (suc n) present p stop q = Enters t (trial_at t present p) (Links t n None) p stop q

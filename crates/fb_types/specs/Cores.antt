@@ -8,7 +8,8 @@ use Rattle.fb_types.specs.Machines.{Machine, Item, Local, waiting, end, Run, sen
 use Rattle.fb_types.specs.Parts.{machine, local_of}
 use Rattle.fb_types.specs.declared.key.Key.{Key}
 
--- What the core holds of one resource; of one that is out, as it left. Out means with a worker, for a run below a bound.
+-- What the core has of one resource; if it is out, the state in which it left. Out means with a worker, for a run below a
+-- bound.
 pub record Member (M : Machine) : Type 0 where
   pub state : Local M
   pub clock : ℕ
@@ -30,7 +31,8 @@ abbrev pub bound_of : Option (ℕ × ℕ) → ℕ
 bound_of (Some x) = x.1
 bound_of None = 0
 
--- What a resource still sends, it sends at this tick or later: one that has stopped not before its clock, and another not before the least tick m of all events either.
+-- What a resource still sends, it sends at this tick or later: not before its clock, and, if it has not stopped, not
+-- before the least tick m of all events either.
 abbrev pub floor_of : {R : Type 0} → Option R → (clock m : ℕ) → ℕ
 floor_of None clock m = max clock m
 floor_of (Some reason) clock m = clock
@@ -39,14 +41,15 @@ module _ (M : Machine) where
   abbrev pub Core : Type 0
   Core = (resource : ℕ) → Member M
 
-  -- where the clock stands after a run: at its stop, or else at its bound
+  -- the clock after a run: its stop, or else its bound
   abbrev pub clock_after : (bound : ℕ) → List (Item M) → ℕ
   clock_after bound [] = bound
   clock_after bound (i ∷ is) = stop_or i.out.stop i.key.tick (clock_after bound is)
 
   -- ---- Legal bounds
 
-  -- No event on an agenda, and no message in an outbox, comes before the tick. Where there are any, the greatest such tick is the least of theirs.
+  -- No event on an agenda, and no message in an outbox, comes before the tick. If there are any, the greatest such tick
+  -- is the least of theirs.
   abbrev pub IsFloor : Core → (tick : ℕ) → Type 0
   IsFloor c m =
       (s : ℕ) (k : Key) → k.tick < m
@@ -55,7 +58,8 @@ module _ (M : Machine) where
   abbrev pub floor : Core → (m resource : ℕ) → ℕ
   floor c m s = floor_of (c s).state.stop (c s).clock m
 
-  -- A bound of a resource is legal when every message to it in an outbox arrives at the bound or later, and so would every message that is sent over a link to it at the floor of the sender or later.
+  -- A bound of a resource is legal if every message to it in an outbox arrives at the bound or later, and so would every
+  -- message that is sent over a link to it at the floor of the sender or later.
   pub record IsLegal (c : Core) (r bound : ℕ) : Type 0 where
     pub m : ℕ
     pub is_floor : IsFloor c m
@@ -64,7 +68,7 @@ module _ (M : Machine) where
 
   -- ---- Steps
 
-  -- what a member is after a run
+  -- a member after a run
   abbrev pub returned : Member M → List (Item M) → Member M
   returned s is =
       record {
@@ -75,7 +79,7 @@ module _ (M : Machine) where
         lines = s.lines ++ lines_of M is;
       }
 
-  -- Every message goes onto the agenda of its receiver. A resource takes keys of its own alone.
+  -- Every message goes onto the agenda of its receiver. A resource takes only its own keys.
   abbrev pub exchanged : Core → Core
   exchanged c r =
       record (c r) {
@@ -102,7 +106,7 @@ module _ (M : Machine) where
     pub is_out : (c r).out ≡ Some (worker, bound)
     pub run : Run M r (c r).state bound is
 
-  -- A step in its turn. Messages are exchanged while nobody is out.
+  -- A step that may be done now. Messages are exchanged while no resource is out.
   abbrev pub MayDo : (horizon : ℕ) → Core → CoreStep M → Type 0
   MayDo horizon c (Lend worker r bound) = MayLend horizon c r bound
   MayDo horizon c (Give worker r is) = MayGive c worker r is

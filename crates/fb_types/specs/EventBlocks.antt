@@ -21,7 +21,7 @@ pub data Memory : Type 0 where
   -- CV and Q
   Count : ℕ → (reached : Bool) → Memory
 
--- What a reaction comes to.
+-- The result of a reaction.
 pub record Reaction : Type 0 where
   pub memory : Memory
   pub emits : List Name
@@ -128,7 +128,7 @@ reaction CountUp m e tick vars =
     if is e (codes "R") then emits (Count 0 false) (codes "RO" ∷ [])
     else counted m (natural (whole (vars (codes "PV"))))
 
--- E_CYCLE: the timer is set anew, after the time of the START that began it.
+-- E_CYCLE: the timer is set again, after the time of the START that began it.
 abbrev pub again : Memory → ℕ → Reaction
 again (Running time) tick = record { memory = Running time; emits = codes "EO" ∷ []; timer = At (tick + time) }
 again m tick = stays m

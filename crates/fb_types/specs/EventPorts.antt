@@ -5,7 +5,7 @@ use Rattle.fb_types.specs.declared.event_kind.EventKind.{EventKind}
 use Rattle.fb_types.specs.declared.event_kind.EventKind.TheVariants.{Restart, Split, Merge, Rendezvous, Permit, Select, Switch, Delay, Cycle, SetReset, DataLatch, RisingEdge, FallingEdge, CountUp}
 use Rattle.fb_types.specs.declared.library.Ports.{Ports}
 
--- where a kind of event blocks stands among all of them
+-- the index of a kind of event blocks among all of them
 abbrev pub kind_place : EventKind → ℕ
 kind_place Restart = 0
 kind_place Split = 1
@@ -22,6 +22,6 @@ kind_place RisingEdge = 11
 kind_place FallingEdge = 12
 kind_place CountUp = 13
 
--- each event block's interface at the place of its kind
+-- each event block's interface at the index of its kind
 abbrev pub ArePortsOfKinds : List Ports → Type 0
 ArePortsOfKinds all = (k : EventKind) → slice_get all (kind_place k) ≡ Some (ports_of_event_block k)

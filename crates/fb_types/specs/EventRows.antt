@@ -1,4 +1,4 @@
--- What the rows stand for in which the event blocks are written down.
+-- What the rows of the event blocks stand for.
 use Rattle.std.specs.Prelude.{List, map, Option, option_map}
 use Rattle.std.specs.Borrow.{Bor}
 use Rattle.fb_types.specs.Blocks.{named, event_with, variable, ports}
@@ -10,7 +10,7 @@ use Rattle.fb_types.specs.declared.library.Ports.{Ports}
 use Rattle.fb_types.specs.declared.library.Variable.{Variable}
 use Rattle.fb_types.specs.declared.value.Ty.{Ty}
 
--- the kind of the first entry that has the name
+-- the kind of the first entry with the name
 abbrev pub kind_among : List (Name × EventKind) → Name → Option EventKind
 kind_among table n = option_map (λ e. e.1) (named (λ e. e.0) n table)
 

@@ -84,7 +84,7 @@ counting =
 abbrev pub CountingTrace : Type 0
 CountingTrace = IsTrace (calc counting) One 1 10 (codes "0 MAIN > B.GO\n0 MAIN < B.DONE X=32767\nend 1\n") (AtHorizon 1)
 
--- .. and nine do not do.
+-- .. and nine are not enough.
 abbrev pub CountingStops : Type 0
 CountingStops =
     IsTrace (calc counting) One 1 9 (codes "0 MAIN > B.GO\n0 MAIN < B.DONE X=32767\nstop 0 MAIN steps\n") (AtStop 0 0 reason.Steps)
@@ -93,7 +93,7 @@ CountingStops =
 abbrev pub adding : read_stmt.Stmt
 adding = assignment_read (codes "X") (binary_read Add (whole_read (pos 32767)) (whole_read (pos 1)))
 
--- The sum is exact, and the variable does not hold it.
+-- The sum is exact, and the variable can't hold it.
 abbrev pub RangeTrace : Type 0
 RangeTrace =
     IsTrace (calc adding) One 1 10000
@@ -108,7 +108,7 @@ DivideTrace =
     IsTrace (calc dividing) One 1 10000
     (codes "0 MAIN > B.GO\nstop 0 MAIN divide\n") (AtStop 0 0 reason.Divide)
 
--- ---- A composite round a type that doubles a number
+-- ---- A composite around a type that doubles a number
 
 -- Y := 2 * X;
 abbrev pub doubling : read_stmt.Stmt

@@ -1,4 +1,5 @@
--- Worked examples: what a chart and a loop come to, step by step (IEC 61499-1, 5.2.2 and IEC 61131-3, 7.3.3; the count of steps is this project's profile).
+-- Worked examples: the runs of a chart and a loop, step by step (IEC 61499-1, 5.2.2 and IEC 61131-3, 7.3.3; the count of
+-- steps is this project's profile).
 use Rattle.std.specs.Prelude.{◌≡◌, ℕ, ◌+◌, List, [], ◌∷◌, Option, Some, pos, codes}
 use Rattle.fb_types.specs.Names.{Name, with_value}
 use Rattle.fb_types.specs.Syntax.{Whole, For, Empty, Stmts, no_stmt, then_stmts}
@@ -29,7 +30,7 @@ point vars left = record { vars = vars; left = left }
 abbrev pub counted : Values → Values
 counted vars = with_value (codes "X") (value.Whole (pos 32767)) (with_value (codes "X") (value.Whole (pos 32766)) vars)
 
--- A run of a body from one point ends so at another, and every run from that point does.
+-- A run of a body from one point ends this way at another, and every run from that point does.
 abbrev pub IsOnlyRun : Types → Stmts → Point → End → Point → Type 0
 IsOnlyRun types body p e q =
     RunsBody types body p e q × ((f : End) (s : Point) → RunsBody types body p f s → (f ≡ e) × (s ≡ q))
@@ -38,11 +39,11 @@ IsOnlyRun types body p e q =
 abbrev pub CountsInFive : Type 0
 CountsInFive = (vars : Values) (left : ℕ) → IsOnlyRun calc_types counting_loop (point vars (left + 5)) Went (point (counted vars) left)
 
--- Four steps do not do: the second turn begins, and its statement would be the fifth.
+-- Four steps are not enough: the second turn begins, and its statement would be the fifth.
 abbrev pub StopsInFour : Type 0
 StopsInFour = (vars : Values) → IsOnlyRun calc_types counting_loop (point vars 4) (Stopped Steps) (point (counted vars) 0)
 
--- ---- The chart without rest
+-- ---- The chart without a resting state
 
 abbrev pub place : Name → Values → ℕ → List Emission → Place
 place s vars left es = record { state = s; vars = vars; left = left; emitted = es }
@@ -50,12 +51,13 @@ place s vars left es = record { state = s; vars = vars; left = left; emitted = e
 abbrev pub ticked : Emission
 ticked = record { event = codes "TICKED"; values = [] }
 
--- A chart goes from one place to another by an event, and every reaction from there does.
+-- A chart moves from one position to another by an event, and every reaction from there does.
 abbrev pub IsOnlyReaction : BasicType → Name → Place → Option Reason → Place → Type 0
 IsOnlyReaction t e p stop q =
     ChartReacts t e p stop q × ((s : Option Reason) (r : Place) → ChartReacts t e p s r → (s ≡ stop) × (r ≡ q))
 
--- With nine steps left behind that of the event it clears five transitions and emits four times. The fifth action would be the tenth step.
+-- With nine steps left after that of the event it clears five transitions and emits four times. The fifth action would be
+-- the tenth step.
 abbrev pub EmitsFourTimes : Type 0
 EmitsFourTimes =
     (vars : Values) → IsOnlyReaction looper_type (codes "GO") (place (codes "IDLE") vars 9 []) (Some Steps)

@@ -77,13 +77,13 @@ number_table =
     ∷ (Call (codes "MAX") (two_arguments (Whole (pos 3)) (Whole (negsuc 3))), pos 3)
     ∷ (Call (codes "ABS") (one_argument (Whole (negsuc 2))), pos 3) ∷ []
 
--- Operators and functions where no reason comes.
+-- Operators and functions without a reason.
 pub record AreOperators : Type 0 where
   pub junctions : HaveTruths junction_table
   pub comparisons : HaveTruths comparison_table
   pub numbers : HaveNumbers number_table
 
--- Division cuts toward zero, and MOD has the sign of its first operand, or is 0 where the second one is 0.
+-- Division cuts toward zero, and MOD has the sign of its first operand, or is 0 if the second one is 0.
 pub record AreQuotients : Type 0 where
   pub quotient : HasResult (Binary Divide (Whole (negsuc 6)) (Whole (pos 2))) (number (negsuc 2))
   pub remainder : HasResult (Binary Modulo (Whole (negsuc 6)) (Whole (pos 2))) (number (negsuc 0))
@@ -91,7 +91,7 @@ pub record AreQuotients : Type 0 where
   pub remainder_by_zero : HasResult (Binary Modulo (Whole (pos 5)) (Whole (pos 0))) (number (pos 0))
   pub by_zero : HasResult one_by_zero (Err reason.Divide)
 
--- A result out of the range of whole numbers is a reason; MOD does not judge the quotient in it.
+-- A result out of the range of whole numbers is a reason; MOD does not judge its quotient.
 pub record AreJudged : Type 0 where
   pub sum : HasResult (Binary Add greatest (Whole (pos 1))) (Err reason.Range)
   pub negation : HasResult (Unary Negate least) (Err reason.Range)

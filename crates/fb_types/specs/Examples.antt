@@ -236,7 +236,7 @@ chart n ins outs states transitions =
       algorithms = [];
     }
 
--- ---- A chart with two transitions in a row by one event: it goes one state further at each event
+-- ---- A chart with two transitions in a row by one event: it moves one state further at each event
 
 abbrev pub stepper_type : BasicType
 stepper_type =
@@ -256,7 +256,8 @@ abbrev pub StepperTrace : Type 0
 StepperTrace =
     IsTrace stepper One 2 10000 (codes "0 MAIN > X.GO\n0 MAIN < X.E1\n1 MAIN > X.GO\n1 MAIN < X.E2\nend 2\n") (AtHorizon 2)
 
--- ---- A chart without rest, in the second of three resources: with ten steps it emits four times, and then the simulation stops
+-- ---- A chart without a resting state, in the second of three resources: with ten steps it emits four times, and then
+-- the simulation stops
 
 abbrev pub looper_type : BasicType
 looper_type =

@@ -59,7 +59,7 @@ kind_of_instance lib i = type_named lib i.block_type
 abbrev pub inside : Library → Instance → Option Network
 inside lib i = option_and_then network_of (kind_of_instance lib i)
 
--- the network at a path: the application's, or the one inside what stands there
+-- the network at a path: the application's, or the one inside the instance there
 abbrev pub network_at : Library → Path → Option Network
 network_at lib [] = Some lib.application.network
 network_at lib (n ∷ p) = option_and_then (inside lib) (option_and_then (λ net. instance_in net n) (network_at lib p))
@@ -71,7 +71,8 @@ instance_at lib (n ∷ p) = option_and_then (λ net. instance_in net n) (network
 abbrev pub kind_at : Library → Path → Option Kind
 kind_at lib p = option_and_then (kind_of_instance lib) (instance_at lib p)
 
--- The paths inside a network, at most so many names deep: a composite before its components, and these before its next sibling.
+-- The paths inside a network, at most `depth` names deep: a composite before its components, and these before its next
+-- sibling.
 abbrev pub paths_inside : (depth : ℕ) → Library → Path → Network → List Path
 paths_inside zero lib p net = []
 paths_inside (suc d) lib p net =
@@ -147,7 +148,7 @@ resource_names_of plan = map (λ r. r.name) plan.resources
 abbrev pub holder : Plan → Name → ℕ
 holder plan n = if plan.holds_all then 0 else unwrap_or (position (λ r. among r.instances n) plan.resources) 0
 
--- Components lie where their composite lies.
+-- Components are in the resource of their composite.
 abbrev pub resource_of : Plan → Path → ℕ
 resource_of plan [] = 0
 resource_of plan (n ∷ []) = holder plan n

@@ -1,4 +1,4 @@
--- What a run is to write, and the law that it is one thing.
+-- What a run writes, and the law that it is unique.
 use Rattle.std.specs.Prelude.{◌≡◌, ℕ, List, map}
 use Rattle.fb_types.specs.Flat.{flat}
 use Rattle.fb_types.specs.Systems.{System}
@@ -10,7 +10,7 @@ use Rattle.fb_types.specs.declared.deploy.Plan.{Plan}
 use Rattle.fb_types.specs.declared.deploy.Stimulus as deploy
 use Rattle.fb_types.specs.declared.run.Form.{Form}
 
--- A system with its stimuli, a horizon and a limit on steps has one simulation at most.
+-- A system with its stimuli, a horizon and a limit on steps has at most one simulation.
 abbrev pub OneSimulation : Type 0
 OneSimulation =
     (sys : System) (stimuli : List Stimulus) (horizon limit : ℕ) (ts us : List Taken)
@@ -34,7 +34,7 @@ system_of i = flat i.library i.plan
 abbrev pub stimuli_of : Inputs → List Stimulus
 stimuli_of i = map stimulus_of i.stimuli
 
--- The bytes are the text of the one-thread simulation of accepted inputs, and it ends so.
+-- The bytes are the text of the one-thread simulation of accepted inputs, and it ends this way.
 pub record IsTrace (i : Inputs) (form : Form) (horizon limit : ℕ) (bytes : List ℕ) (end : Ending) : Type 0 where
   pub takings : List Taken
   pub simulation : IsSimulation (system_of i) (stimuli_of i) horizon limit takings

@@ -1,4 +1,4 @@
--- Where the elements of a list stand, in place or on the heap, as the list of them.
+-- The elements of a list, in place or on the heap, as the list of them.
 use Rattle.std.specs.Prelude.{List, [], ◌∷◌}
 use Rattle.fb_types.specs.declared.few.Held.{Held}
 use Rattle.fb_types.specs.declared.few.Held.TheVariants.{Nothing, One, Several}

@@ -1,4 +1,4 @@
--- What the one-thread simulation has of one resource at a tick, and what the resource alone comes to (this project's profile).
+-- The history of one resource in the one-thread simulation, and what the resource does alone (this project's profile).
 use Rattle.std.specs.Prelude.{◌≡◌, ℕ, ◌+◌, ◌<◌, ◌≤◌, ◌⊎◌, ◌==◌, nat_lt, if◌then◌else◌, Option, None, List, [], ◌∷◌}
 use Rattle.fb_types.specs.Keys.{found, or_else}
 use Rattle.fb_types.specs.Systems.{System}
@@ -10,11 +10,13 @@ use Rattle.fb_types.specs.declared.value.Reason.{Reason}
 
 -- ---- Where there is a history
 
--- How far the simulation has taken a resource whole where it stops: a tick more for the resources below that of the stop.
+-- Up to which tick the simulation has taken a resource whole if it stops: a tick more for the resources below that of the
+-- stop.
 abbrev pub told_to : (stop_tick stop_resource resource : ℕ) → ℕ
 told_to m s r = if nat_lt r s then m + 1 else m
 
--- A resource has a history for a tick that is at most the horizon and, where the simulation stops, not past what it has taken whole.
+-- A resource has a history for a tick that is at most the horizon and, if the simulation stops, not past what it has
+-- taken whole.
 abbrev pub IsTold : Ending → (resource tick : ℕ) → Type 0
 IsTold (AtHorizon h) r t = t ≤ h
 IsTold (AtStop m s reason) r t = t ≤ told_to m s r
@@ -31,7 +33,7 @@ abbrev pub stop_of : (resource : ℕ) → List Taken → Option Reason
 stop_of r [] = None
 stop_of r (x ∷ xs) = or_else (stop_of r xs) (if x.key.resource == r then x.effect.stop else None)
 
--- what there is of a resource after the last taking of a key below a tick
+-- the state of a resource after the last taking of a key below a tick
 abbrev pub history : (sys : System) → List Stimulus → (limit : ℕ) → List Taken → (resource tick : ℕ) → Local (machine sys limit)
 history sys stimuli limit ts r t =
     local_of sys limit r (last (opening sys stimuli) (takings_below t ts)) (stop_of r (takings_below t ts))

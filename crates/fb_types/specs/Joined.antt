@@ -1,4 +1,5 @@
--- E23, E24 and E25: what data connections join, and how composites hold each other (IEC 61499-1, 5.3; the range of types and the height are this project's profile).
+-- E23, E24 and E25: types at the ends of data connections, and composites in composites (IEC 61499-1, 5.3; the range of
+-- types and the height are this project's profile).
 use Rattle.std.specs.Prelude.{◌≡◌, ◌⊎◌, ℕ, zero, suc, [], map, ◌++◌, true, Option, Some, None, Contains, option_map, option_and_then}
 use Rattle.fb_types.specs.Values.{fits}
 use Rattle.fb_types.specs.Blocks.{Composite, named, ports_of}
@@ -27,11 +28,11 @@ type_at_end lib n e =
       | Some c ↦ option_and_then (λ k. type_among (ports_of k) e) (option_and_then (kind_of_instance lib) (instance_in n.1 c))
     ]
 
--- Each value of the one type is one of the other. So BOOL goes with BOOL, and a range within a range.
+-- Each value of the one type is one of the other. So BOOL fits BOOL, and a range fits a range that contains it.
 abbrev pub IsWithin : Ty → Ty → Type 0
 IsWithin s t = (v : Value) → fits s v ≡ true → fits t v ≡ true
 
--- A data connection leads from a type to one that does not hold all its values.
+-- A data connection leads to a type that does not contain all values of the source type.
 abbrev pub OutOfRange : Library → Type 0
 OutOfRange lib =
     (n : Placed) × (c : Connection) × (s : Ty) × (t : Ty) × Contains (networks lib) n × Contains n.1.data_connections c
@@ -50,12 +51,12 @@ TwoSources lib =
 abbrev pub Holds : Library → CompositeType → CompositeType → Type 0
 Holds lib t u = (i : Instance) × Contains t.network.instances i × (type_named lib i.block_type ≡ Some (Composite u))
 
--- so many steps down, from a composite type to one that it holds
+-- a number of steps down, from a composite type to one that it contains
 abbrev pub Descends : Library → (steps : ℕ) → CompositeType → CompositeType → Type 0
 Descends lib zero t u = t ≡ u
 Descends lib (suc n) t u = (m : CompositeType) × Holds lib t m × Descends lib n m u
 
--- A composite type holds itself, or has a height over 16.
+-- A composite type contains itself, or has a height over 16.
 abbrev pub TooHigh : Library → Type 0
 TooHigh lib =
     (t : CompositeType) × (u : CompositeType) × Contains lib.blocks (block.Composite t)

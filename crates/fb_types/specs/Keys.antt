@@ -34,14 +34,14 @@ local_key t r n = record { tick = t; resource = r; class = 3; a = n; b = 0 }
 
 -- ---- Maps
 
--- A finite map from keys, as what stands at each key.
+-- A finite map from keys: the value at each key.
 abbrev pub Map : Type 0 → Type 0
 Map X = Key → Option X
 
 abbrev pub no_keys : {X : Type 0} → Map X
 no_keys j = None
 
--- the first where it is there, or the second
+-- the first if it is there, or the second
 abbrev pub or_else : {X : Type 0} → Option X → Option X → Option X
 or_else (Some x) other = Some x
 or_else None other = other
@@ -57,7 +57,7 @@ with_all es m j = or_else (found j es) (m j)
 abbrev pub without : {X : Type 0} → Key → Map X → Map X
 without k m j = if same_key k j then None else m j
 
--- A change of a map: at each key nothing, or what stands there from now on.
+-- A change of a map: at each key nothing, or its new value.
 abbrev pub Change : Type 0 → Type 0
 Change X = Key → Option (Option X)
 

@@ -36,7 +36,7 @@ same_sort TruthValue TruthValue = true
 same_sort WholeNumber WholeNumber = true
 same_sort _ _ = false
 
--- the sort of a value, where its operands have the right ones
+-- the kind of a value, if its operands have the right ones
 abbrev pub if_right : Bool → Sort → Option Sort
 if_right true s = Some s
 if_right false s = None
@@ -63,7 +63,7 @@ binary_sort LessOrEqual s t = if_right (are_whole s t) TruthValue
 binary_sort GreaterOrEqual s t = if_right (are_whole s t) TruthValue
 binary_sort _ s t = if_right (are_whole s t) WholeNumber
 
--- A wrong number of arguments has no sort.
+-- A wrong number of arguments has no kind.
 abbrev pub function_sort : Function → List Sort → Option Sort
 function_sort Min (s ∷ t ∷ []) = if_right (are_whole s t) WholeNumber
 function_sort Max (s ∷ t ∷ []) = if_right (are_whole s t) WholeNumber
@@ -72,7 +72,7 @@ function_sort Limit (s ∷ t ∷ u ∷ []) = if_right (same_sort s WholeNumber &
 function_sort Sel (s ∷ t ∷ u ∷ []) = if_right (same_sort s TruthValue && same_sort t u) t
 function_sort _ _ = None
 
--- the sort of an expression, or none where an operand or the number of arguments is wrong
+-- the kind of an expression, or none if an operand or the number of arguments is wrong
 abbrev mutual
   pub sort_of : Types → Expr → Option Sort
   sort_of types (Whole z) = Some WholeNumber
@@ -93,7 +93,7 @@ is_sort s (Some t) = same_sort s t
 
 -- ---- Statements
 
--- Where a statement stands: the types of the variables, those that it may not assign, and whether it is in a loop.
+-- What surrounds a statement: the types of the variables, those that it may not assign, and whether it is in a loop.
 pub record Place : Type 0 where
   pub types : Types
   pub fixed : Name → Bool

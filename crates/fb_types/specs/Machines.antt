@@ -3,7 +3,8 @@ use Rattle.std.specs.Prelude.{◌≡◌, ◌<◌, ℕ, Option, Some, None, List,
 use Rattle.fb_types.specs.Keys.{Precedes, Map, Change, or_else, without, changed_to}
 use Rattle.fb_types.specs.declared.key.Key.{Key}
 
--- What the taking of one event gives: the part as it is then, changes of local events and timers, messages under the keys of their arrivals, lines, and a reason to stop.
+-- What the taking of one event gives: the part after it, changes of local events and timers, messages under the keys of
+-- their arrivals, lines, and a reason to stop.
 pub record Outcome (Part Event Line Reason : Type 0) : Type 0 where
   pub part : Part
   pub changes : Change Event
@@ -11,13 +12,14 @@ pub record Outcome (Part Event Line Reason : Type 0) : Type 0 where
   pub lines : List Line
   pub stop : Option Reason
 
--- What is to be known of a simulator to speak of its resources apart: a resource's part of the state, and what taking an event gives from that part alone.
+-- What a simulator must provide to speak of its resources separately: a resource's part of the state, and what taking an
+-- event gives from that part alone.
 pub record Machine : Type 1 where
   pub Part : Type 0
   pub Event : Type 0
   pub Line : Type 0
   pub Reason : Type 0
-  -- an event may stand under a key
+  -- an event may be under a key
   pub Fits : Key → Event → Type 0
   pub Gives : Part → Key → Event → Outcome Part Event Line Reason → Type 0
   -- the resource that sends what arrives under a key
@@ -27,7 +29,7 @@ pub record Machine : Type 1 where
   pub line_tick : Line → ℕ
   pub line_resource : Line → ℕ
 
--- An event that was taken, and what came of it.
+-- An event that was taken, and its outcome.
 pub record Item (M : Machine) : Type 0 where
   pub key : Key
   pub event : M.Event
@@ -40,7 +42,7 @@ pub record Local (M : Machine) : Type 0 where
   pub inbox : Map M.Event
   pub stop : Option M.Reason
 
--- said of each element
+-- for each element
 abbrev pub Each : {A : Type 0} → (A → Type 0) → List A → Type 0
 Each P [] = Unit {0}
 Each P (x ∷ xs) = P x × Each P xs

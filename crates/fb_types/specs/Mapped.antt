@@ -23,7 +23,7 @@ event_pairs_of lib = pairs_in [] lib.application.network.event_connections
 abbrev pub data_pairs_of : Library → List (Port × Port)
 data_pairs_of lib = pairs_in [] lib.application.network.data_connections
 
--- a connection whose ends lie in two resources
+-- a connection whose ends are in two resources
 abbrev pub IsCut : Plan → Port × Port → Type 0
 IsCut plan c = resource_of plan c.0.at ≢ resource_of plan c.1.at
 

@@ -9,7 +9,7 @@ Name = List ℕ
 abbrev pub Path : Type 0
 Path = List Name
 
--- whether two lists agree, each element with the one at its place
+-- whether two lists agree, each element with the one at its index
 abbrev pub alike : {A : Type 0} → (A → A → Bool) → List A → List A → Bool
 alike same [] [] = true
 alike same [] (y ∷ ys) = false

@@ -14,17 +14,17 @@ use Rattle.fb_types.specs.declared.run.Line as run_line
 use Rattle.fb_types.specs.declared.run.Carried.{Carried}
 use Rattle.fb_types.specs.declared.run.Target.{Target}
 
--- the event at a place of a list of ports
+-- the event at an index of a list of ports
 abbrev pub event_at : List EventPort → ℕ → Name
 event_at es i = unwrap_or (slice_get (event_names es) i) []
 
--- values, each with the name at its place
+-- values, each with the name at its index
 abbrev pub pair_up : List Name → List Value → List Bound
 pair_up [] vs = []
 pair_up (n ∷ ns) [] = []
 pair_up (n ∷ ns) (v ∷ vs) = record { variable = n; value = v } ∷ pair_up ns vs
 
--- what the variables hold whose values stand at the places of their names
+-- what the variables hold whose values are at the indices of their names
 abbrev pub by_place : List Name → List Value → Values
 by_place [] vs m = zero_value
 by_place (n ∷ ns) [] m = zero_value

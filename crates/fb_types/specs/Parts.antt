@@ -26,7 +26,7 @@ part_of sys r s =
       meter = s.meters r;
     }
 
--- what the taking of a key gives, of its resource
+-- the outcome of the taking of a key, for its resource
 abbrev pub outcome_of : System → Key → Effect → Outcome Part Event Line Reason
 outcome_of sys k x =
     record { part = part_of sys k.resource x.state; changes = x.changes; sent = x.sent; lines = x.lines; stop = x.stop }

@@ -1,4 +1,4 @@
--- What local events and emissions come to, put under their keys and into lines (this project's profile).
+-- Local events and emissions, put under their keys and into lines (this project's profile).
 use Rattle.std.specs.Prelude.{ℕ, ◌+◌, List, [], ◌∷◌, false}
 use Rattle.fb_types.specs.Names.{Path, Port}
 use Rattle.fb_types.specs.Blocks.{Emission}

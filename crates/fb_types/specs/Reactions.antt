@@ -20,7 +20,7 @@ pub record World : Type 0 where
   pub blocks : Path → Block
   pub held : Port → Value
 
--- What a reaction puts out, in order: a local event, or a message to another resource, with the values that it carries.
+-- What a reaction emits, in order: a local event, or a message to another resource, with the values that it carries.
 pub data Out : Type 0 where
   Local : Port → Out
   Sends : Port → List (Port × Value) → Out
@@ -53,7 +53,7 @@ abbrev pub seen : System → World → Port → Value
 seen sys w q =
     if is_input_of (sys.kind q.at) q.name then (w.blocks q.at).variables q.name else (w.blocks q.at).published q.name
 
--- what a source shows in a resource: itself, or its held copy where it lies in another resource
+-- what a source shows in a resource: itself, or its held copy if it is in another resource
 abbrev pub shown : System → (resource : ℕ) → World → Port → Value
 shown sys r w s = if sys.resource s.at == r then seen sys w s else w.held s
 
@@ -66,7 +66,7 @@ abbrev pub sampled : System → (resource : ℕ) → World → Path → List Nam
 sampled sys r w p ns n =
     if among ns n then sampled_from sys r w (record { at = p; name = n }) else (w.blocks p).variables n
 
--- the event is taken: its variables are sampled, and its line tells their values
+-- the event is taken: its variables are sampled, and its line shows their values
 abbrev pub taking : System → Key → World → Port → Ports → ℕ → Outcome
 taking sys k w q ports left =
     let ns = inputs_with ports q.name in
@@ -78,7 +78,7 @@ taking sys k w q ports left =
 
 -- ---- Emission
 
--- where an event goes from a port: a local event, or a message where the target lies in another resource
+-- where an event goes from a port: a local event, or a message if the target is in another resource
 abbrev pub spread : System → (resource : ℕ) → List (Port × Value) → List Port → List Out
 spread sys r carried [] = []
 spread sys r carried (q ∷ qs) =
@@ -117,7 +117,7 @@ abbrev pub start_of : Outcome → Path → Place
 start_of o p =
     let b = o.world.blocks p in record { state = state_of b.memory; vars = b.variables; left = o.left; emitted = [] }
 
--- a basic block, where its chart has come to a place
+-- a basic block whose chart has reached a position
 abbrev pub settled : Path → Place → Option Reason → Outcome → Outcome
 settled p c stop o =
     let b = o.world.blocks p in
@@ -149,7 +149,7 @@ answered sys k p kind x o =
 
 -- ---- Composites
 
--- An event that arrives at an event input of a composite goes on inside.
+-- An event that arrives at an event input of a composite continues inside.
 abbrev pub crossing_in : System → Key → Port → Outcome → Outcome
 crossing_in sys k q o = record o { outs = spread sys k.resource [] (sys.targets q) }
 
@@ -193,7 +193,7 @@ abbrev pub hold_all : List (Port × Value) → (Port → Value) → Port → Val
 hold_all [] held = held
 hold_all (c ∷ cs) held = hold_all cs (with_held c.0 c.1 held)
 
--- An event is taken under its key, with so many steps left behind that of the event itself.
+-- An event is taken under its key, with this number of steps left after that of the event itself.
 abbrev pub Reacts : System → Key → World → AnEvent → ℕ → Outcome → Type 0
 Reacts sys k w (Stimulated q bs) left o = ReactsAt sys k (with_slots q.at bs w) q left (sys.kind q.at) o
 Reacts sys k w (Expired p) left o = o ≡ expires sys k w p left (sys.kind p)

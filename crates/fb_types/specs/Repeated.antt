@@ -13,14 +13,14 @@ use Rattle.fb_types.specs.declared.library.Ports.{Ports}
 use Rattle.fb_types.specs.declared.library.Variable.{Variable}
 use Rattle.fb_types.specs.declared.deploy.Plan.{Plan}
 
--- Something stands in the list twice.
+-- Something is in the list twice.
 abbrev pub Twice : {A : Type 0} → List A → Type 0
 Twice [] = ⊥
 Twice (x ∷ xs) = Contains xs x ⊎ Twice xs
 
 -- ---- Parts of a declaration
 
--- A network, with the composite type that it is inside of, or none for the application's.
+-- A network, with the composite type that contains it, or none for the application's.
 abbrev pub Placed : Type 0
 Placed = Option CompositeType × Network
 
@@ -45,7 +45,7 @@ abbrev pub internals_of : Kind → List Variable
 internals_of (Basic t) = t.internals
 internals_of _ = []
 
--- ---- The name spaces, in each of which a name may stand once
+-- ---- The name spaces, each of which may have a name once
 
 abbrev pub block_type_names : Library → List Name
 block_type_names lib = map (λ e. e.0) event_blocks ++ map type_name lib.blocks
@@ -88,7 +88,7 @@ event_pairs net = pairs_in [] net.event_connections
 abbrev pub link_pairs : Plan → List (Name × Name)
 link_pairs plan = map (λ l. (l.from, l.to)) plan.links
 
--- A name stands twice in a name space, an event connection twice in a network, or an ordered pair of resources has two links.
+-- A name is twice in a name space, an event connection twice in a network, or an ordered pair of resources has two links.
 abbrev pub NameTwice : Library → Plan → Type 0
 NameTwice lib plan =
     ((ns : List Name) × Contains (name_spaces lib plan) ns × Twice ns)

@@ -5,7 +5,7 @@ use Rattle.fb_types.specs.Machines.{Machine, Item}
 use Rattle.fb_types.specs.Cores.{Core, CoreStep, Lend, Give, Exchange, done, MayDo, floor}
 
 module _ (M : Machine) where
-  -- a list of steps, each in its turn
+  -- a list of steps, each when it may be done
   abbrev pub IsSchedule : (horizon : ℕ) → Core M → List (CoreStep M) → Type 0
   IsSchedule horizon c [] = Unit {0}
   IsSchedule horizon c (e ∷ es) = MayDo M horizon c e × IsSchedule horizon (done M c e) es
@@ -27,7 +27,7 @@ module _ (M : Machine) where
 
   -- ---- Completeness
 
-  -- nobody is out, and no message is on its way
+  -- no resource is out, and no message is on its way
   pub record IsHome (c : Core M) : Type 0 where
     pub home : (r : ℕ) → (c r).out ≡ None
     pub posted : (r : ℕ) → (c r).outbox ≡ []

@@ -80,7 +80,7 @@ opening sys stimuli = record { state = opening_state sys; agenda = opening_agend
 
 -- ---- The chain
 
--- An event that was taken, and what came of it.
+-- An event that was taken, and its effect.
 pub record Taken : Type 0 where
   pub key : Key
   pub event : AnEvent

@@ -1,4 +1,5 @@
--- Expressions and statements of Structured Text (IEC 61131-3, 7.3), as the definitions speak of them: the trees that were read, without the parentheses.
+-- Expressions and statements of Structured Text (IEC 61131-3, 7.3), as the definitions use them: the trees that were
+-- read, without the parentheses.
 use Rattle.std.specs.Prelude.{ℤ, pos, List, [], ◌∷◌, map, Bool, Option, Some, None}
 use Rattle.fb_types.specs.Names.{Name}
 use Rattle.fb_types.specs.declared.text.UnaryOperator.{UnaryOperator}
@@ -51,7 +52,7 @@ abbrev pub exprs : List Expr → Exprs
 exprs [] = no_expr
 exprs (e ∷ es) = then_exprs e (exprs es)
 
--- one node that was read, with what its parts say in their places
+-- one node that was read, with what its parts mean instead of them
 abbrev pub expr_step : Expr-F Expr → Expr
 expr_step (Expr-F.Whole z) = Whole z
 expr_step (Expr-F.Truth b) = Truth b
@@ -61,7 +62,7 @@ expr_step (Expr-F.Unary o e) = Unary o e
 expr_step (Expr-F.Binary o e f) = Binary o e f
 expr_step (Expr-F.Call f args) = Call f (exprs args)
 
--- what an expression that was read says
+-- what an expression that was read means
 abbrev pub expr_of : read.Expr → Expr
 expr_of = read.fold-Expr Expr expr_step
 
@@ -82,7 +83,7 @@ abbrev pub branches : List (List Label × Stmts) → Branches
 branches [] = no_branch
 branches (b ∷ bs) = then_branches b.0 b.1 (branches bs)
 
--- one statement that was read, with what is inside it in its places
+-- one statement that was read, with what its parts mean instead of them
 abbrev pub stmt_step : Stmt-F Stmt (List Label × Stmts) (Expr × Stmts) → Stmt
 stmt_step Stmt-F.Empty = Empty
 stmt_step Stmt-F.Exit = Exit
@@ -100,7 +101,7 @@ branch_step b = (b.labels, stmts b.body)
 abbrev pub choice_step : Choice-F Stmt (List Label × Stmts) (Expr × Stmts) → Expr × Stmts
 choice_step c = (expr_of c.condition, stmts c.body)
 
--- what a statement that was read says
+-- what a statement that was read means
 abbrev pub stmt_of : read_stmt.Stmt → Stmt
 stmt_of = read_stmt.fold-Stmt Stmt (List Label × Stmts) (Expr × Stmts) stmt_step branch_step choice_step
 

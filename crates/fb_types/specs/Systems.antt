@@ -8,7 +8,7 @@ pub record System : Type 0 where
   -- the instances, in the order of their numbers
   pub paths : List Path
   pub number : Path → ℕ
-  -- what stands at a path
+  -- the type of the instance at a path
   pub kind : Path → Option Kind
   -- the resource that holds an instance
   pub resource : Path → ℕ
@@ -16,7 +16,7 @@ pub record System : Type 0 where
   pub targets : Port → List Port
   -- what a data input, or the output of a composite from inside, is connected to
   pub source : Port → Option Port
-  -- what a variable begins with
+  -- the initial value of a variable
   pub initial : Port → Value
   -- the link from a resource to another
   pub link : (from to : ℕ) → ℕ

@@ -21,13 +21,14 @@ abbrev pub is_tick : Option ℕ → ℕ → Bool
 is_tick None t = false
 is_tick (Some s) t = s == t
 
--- In each tick of a resource the steps and the local events are counted afresh.
+-- In each tick of a resource the steps and the local events are counted from scratch.
 abbrev pub begun : (limit tick : ℕ) → Meter → Meter
 begun limit tick m = if is_tick m.tick tick then m else record { tick = Some tick; left = limit; locals = 0 }
 
 -- ---- New keys
 
--- What a reaction puts out, under its keys: local events are numbered within their tick and resource, and messages on their link.
+-- What a reaction emits, under its keys: local events are numbered within their tick and resource, and messages on their
+-- link.
 pub record Posts : Type 0 where
   pub locals : ℕ
   pub sent : ℕ → ℕ
@@ -54,7 +55,7 @@ post_all sys k (o ∷ os) x = post_all sys k os (post sys k o x)
 abbrev pub is_timer_of : (resource instance : ℕ) → Key → Bool
 is_timer_of r i k = k.resource == r && k.class == 1 && k.a == i
 
--- The timer of an instance is kept, taken out, or set anew, so there is one at most.
+-- The timer of an instance is kept, cleared or set, so there is at most one.
 abbrev pub timer_change : System → (resource : ℕ) → Path → TimerAsk → Change Event
 timer_change sys r p Keep j = None
 timer_change sys r p Clear j = if is_timer_of r (sys.number p) j then Some None else None
@@ -83,7 +84,7 @@ world_of s r = record { blocks = s.blocks; held = s.held r }
 abbrev pub posts_of : System → Key → Meter → State → List Out → Posts
 posts_of sys k m s outs = post_all sys k outs (record { locals = m.locals; sent = s.sent; raised = []; messages = [] })
 
--- what the outcome of a reaction comes to
+-- the effect of the outcome of a reaction
 abbrev pub effect_of : System → Key → Event → Meter → State → Outcome → Effect
 effect_of sys k event m s o =
     let x = posts_of sys k m s o.outs in

@@ -33,7 +33,7 @@ values_text (b ∷ bs) = codes " " ++ b.variable ++ codes "=" ++ value_text b.va
 abbrev pub place_text : System → (tick resource : ℕ) → List ℕ
 place_text sys tick r = decimal tick ++ codes " " ++ unwrap_or (slice_get sys.resource_names r) []
 
--- With form two, each line but the last begins with class, a and b of its key.
+-- With form two, each line except the last begins with class, a and b of its key.
 abbrev pub key_text : Form → Key → List ℕ
 key_text One k = []
 key_text Two k = decimal k.class ++ codes " " ++ decimal k.a ++ codes " " ++ decimal k.b ++ codes " "

@@ -1,4 +1,4 @@
--- E21: a name stands for nothing of the wanted sort in its place (IEC 61499-1, 5 to 7).
+-- E21: a name stands for nothing of the kind that is required there (IEC 61499-1, 5 to 7).
 use Rattle.std.specs.Prelude.{◌≡◌, ◌⊎◌, List, [], ◌∷◌, ◌++◌, map, flat_map, Bool, false, ◌&&◌, Option, Some, None, Contains, is_some, option_and_then}
 use Rattle.std.specs.List.{list_all}
 use Rattle.fb_types.specs.Names.{Name}
@@ -17,7 +17,7 @@ use Rattle.fb_types.specs.declared.library.Transition.{Transition}
 use Rattle.fb_types.specs.declared.library.PortName.{PortName}
 use Rattle.fb_types.specs.declared.deploy.Plan.{Plan}
 
--- A name, with all names of the sort that is wanted in its place.
+-- A name, with all names of the kind that is required there.
 abbrev pub Wanted : Type 0
 Wanted = Name × List Name
 
@@ -129,7 +129,7 @@ is_known t (OfFunction n) = is_some (function_named n)
 
 -- ---- Connections
 
--- whether the end of a connection is among the ports of the one sort at a component, or of the other at the boundary
+-- whether the end of a connection is among the ports of the one kind at a component, or of the other at the boundary
 abbrev pub is_end : Library → Placed → (component boundary : Ports → List Name) → PortName → Bool
 is_end lib n component boundary e =
     elim e.component [

@@ -52,14 +52,14 @@ fits Boolean (value.Bool b) = true
 fits t (value.Bool b) = false
 fits t (value.Whole z) = in_range t z
 
--- what a variable begins with that has no declared value
+-- the initial value of a variable that has no declared value
 abbrev pub zero_of : Ty → Value
 zero_of Boolean = value.Bool false
 zero_of t = value.Whole (pos 0)
 
 -- ---- Operators
 
--- A truth value or a whole number where the kinds are right, as they are in an accepted text.
+-- A truth value or a whole number if the kinds are right, as they are in an accepted text.
 abbrev pub whole : Value → ℤ
 whole (value.Bool b) = pos 0
 whole (value.Whole z) = z
@@ -93,7 +93,7 @@ same_value (value.Whole x) (value.Bool b) = false
 abbrev pub quotient : ℤ → ℤ → Result Value Reason
 quotient x y = if same_whole y (pos 0) then Err reason.Divide else judged (int_div x y)
 
--- `a MOD b` is `a - (a/b)*b`, and 0 where b is 0
+-- `a MOD b` is `a - (a/b)*b`, and 0 if b is 0
 abbrev pub modulus : ℤ → ℤ → Result Value Reason
 modulus x y = if same_whole y (pos 0) then judged (pos 0) else judged (x -ℤ (int_div x y *ℤ y))
 
@@ -134,7 +134,7 @@ absolute z = if int_lt z (pos 0) then neg_ℤ z else z
 abbrev pub number : ℤ → Result Value Reason
 number z = Ok (value.Whole z)
 
--- The arguments go by position. With another number of arguments, as no accepted text has, the value is 0.
+-- The arguments are given by position. With another number of arguments, as no accepted text has, the value is 0.
 abbrev pub function_value : Function → List Value → Result Value Reason
 function_value Min (a ∷ b ∷ []) = number (int_min (whole a) (whole b))
 function_value Max (a ∷ b ∷ []) = number (int_max (whole a) (whole b))
@@ -149,12 +149,12 @@ value_if_known None vs = number (pos 0)
 
 -- ---- Expressions
 
--- goes on with a value, unless there is a reason
+-- continues with a value, unless there is a reason
 abbrev pub and_then : {A B : Type 0} → Result A Reason → (A → Result B Reason) → Result B Reason
 and_then (Ok a) f = f a
 and_then (Err r) f = Err r
 
--- All operands and arguments are evaluated, from left to right. The first reason met is the answer.
+-- All operands and arguments are evaluated, from left to right. The first reason is the result.
 abbrev mutual
   pub value_of : Expr → Values → Result Value Reason
   value_of (Whole z) vars = Ok (value.Whole z)

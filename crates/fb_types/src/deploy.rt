@@ -10,10 +10,13 @@ use crate::value::Value;
 use std::alloc::{AllocError, Global};
 use std::marker::Model;
 
-/// A resource of a device, with the instances of the application that it holds.
+/// A resource of a device, with the instances of the application that it holds (IEC 61499-1, 7).
 pub struct ResourceEntry {
+    /// The name of its device.
     pub device: Name,
+    /// Its name.
     pub name: Name,
+    /// The names of the instances of the application that it holds.
     pub instances: Items<Name>,
 }
 
@@ -28,10 +31,13 @@ impl Drop for ResourceEntry {
     }
 }
 
-/// Carries the connections from one resource to another.
+/// A link, which carries the connections from one resource to another.
 pub struct Link {
+    /// The resource that sends.
     pub from: Name,
+    /// The resource that receives.
     pub to: Name,
+    /// How long messages take.
     pub latency: Latency,
 }
 
@@ -45,11 +51,14 @@ impl Drop for Link {
     }
 }
 
-/// Resources and links, each numbered by its place from 0. Where `holds_all` is set, the one resource
-/// holds every instance, whatever its list says.
+/// Resources and links, each numbered by its index from 0. If `holds_all` is set, the one resource holds every instance,
+/// regardless of its list.
 pub struct Plan {
+    /// The resources, in the order of the deployment.
     pub resources: Items<ResourceEntry>,
+    /// The links, in the order of the deployment.
     pub links: Items<Link>,
+    /// Set if the one resource holds every instance.
     pub holds_all: bool,
 }
 
@@ -63,7 +72,7 @@ impl Drop for Plan {
     }
 }
 
-/// A plan within the limits: 1 to 256 resources, one where it holds all, and at most 1,024 links.
+/// A plan within the limits: 1 to 256 resources, only one if it holds all, and at most 1,024 links.
 /// Contracts see the plan.
 pub struct Deploy {
     plan: Plan,
@@ -88,7 +97,7 @@ impl Model for Deploy {
 }
 
 impl Deploy {
-    /// The deployment of a plan that keeps the limits: 1 to 256 resources, one alone where that holds every instance, and at most
+    /// The deployment of a plan within the limits: 1 to 256 resources, only one if it holds every instance, and at most
     /// 1,024 links, whose latencies are tables as `Latency` has them.
     pub fn new(plan: Plan) -> Deploy
         requires { IsWithinLimits plan }
@@ -116,7 +125,7 @@ impl Deploy {
         Ok(Deploy { plan })
     }
 
-    /// What is deployed, which keeps the limits.
+    /// The plan, which is within the limits.
     pub fn plan(&self) -> &Plan
         ensures value { result.now ≡ self.now }
         ensures limits { IsWithinLimits self.now }
@@ -127,7 +136,9 @@ impl Deploy {
 
 /// A value for the slot of an input variable.
 pub struct Setting {
+    /// The name of the input variable.
     pub variable: Name,
+    /// Its value.
     pub value: Value,
 }
 
@@ -140,11 +151,15 @@ impl Drop for Setting {
     }
 }
 
-/// An event from outside, at an event input of an instance of the application. It sets slots first.
+/// An event from outside, at an event input of an instance of the application. It first sets slots.
 pub struct Stimulus {
+    /// In milliseconds.
     pub tick: u64,
+    /// The name of the instance.
     pub instance: Name,
+    /// The name of the event input.
     pub event: Name,
+    /// The slots that it sets, in the order of the row.
     pub settings: Items<Setting>,
 }
 

@@ -9,11 +9,11 @@ use std::marker::Model;
 
 /// The emissions of a reaction, in order. Contracts see them as a list.
 ///
-/// The first one is in place, so that a reaction that emits one event takes no memory. The memory of the others is kept
-/// when they leave: one list serves reaction after reaction.
+/// The first one is stored in place, so that a reaction that emits one event takes no memory. The memory of the others is
+/// kept when they are removed: one list serves reaction after reaction.
 pub struct Emits {
     first: Option<Emission>,
-    /// Those behind the first. Without a first there is none.
+    /// The emissions after the first. If there is no first, this is empty.
     others: VecDeque<Emission>,
 }
 
@@ -66,7 +66,7 @@ impl Emits {
     /// Adds an emission at the end.
     ///
     /// # Errors
-    /// When memory runs out, which happens at the second emission and later ones alone.
+    /// When memory runs out, which happens only from the second emission on.
     #[inline(always)]
     pub fn push(&mut self, emission: Emission) -> Result<(), AllocError>
         ensures ok { OnOk result (self.new ≡ self.old ++ emission ∷ []) }
@@ -80,7 +80,7 @@ impl Emits {
         Ok(())
     }
 
-    /// Takes out the first emission.
+    /// Removes the first emission, and returns it.
     #[inline(always)]
     pub fn pop_first(&mut self) -> Option<Emission>
         ensures { MatchOption result (self.old ≡ []) (λ emission. self.old ≡ emission ∷ self.new) }
@@ -97,7 +97,7 @@ impl Emits {
     pub fn clear(&mut self)
         ensures { self.new ≡ [] }
     {
-        // Mostly they have all been taken out.
+        // Usually they have all been taken out.
         if self.first.is_some() {
             self.drop_all();
         }

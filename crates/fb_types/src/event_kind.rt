@@ -37,7 +37,7 @@ pub enum EventKind {
 }
 
 impl EventKind {
-    /// All kinds, each at its place.
+    /// All kinds, each at its index.
     pub const ALL: [EventKind; 14] = [
         EventKind::Restart,
         EventKind::Split,
@@ -55,7 +55,7 @@ impl EventKind {
         EventKind::CountUp,
     ];
 
-    /// The place of a kind among all of them.
+    /// The index of a kind among all of them.
     pub fn place(self) -> usize
         ensures { result ≡ kind_place self }
     {

@@ -37,7 +37,7 @@ type EventRow = (&'static str, &'static [&'static str]);
 /// The name of a variable, and its type.
 type VariableRow = (&'static str, Ty);
 
-/// The interface of an event block, as it is written down.
+/// The interface of an event block, in rows.
 struct Rows {
     event_inputs: &'static [EventRow],
     event_outputs: &'static [EventRow],
@@ -135,7 +135,7 @@ fn is(name: &[u8], text: &str) -> bool
     text.as_bytes() == name
 }
 
-/// The kind of the first entry that has the name.
+/// The kind of the first entry with the name.
 fn look_up(mut table: &[(&str, EventKind)], name: &[u8]) -> Option<EventKind>
     ensures { result ≡ row.kind_among (map (λ e. (e.0.now, e.1)) table.entry.now) name.now }
 {
@@ -148,7 +148,7 @@ fn look_up(mut table: &[(&str, EventKind)], name: &[u8]) -> Option<EventKind>
     None
 }
 
-/// The event block that a type name stands for. The name is in upper case.
+/// The event block with a type name. The name is in upper case.
 pub fn kind_named(name: &[u8]) -> Option<EventKind>
     ensures { result ≡ spec.event_block_named name.now }
 {
@@ -223,7 +223,7 @@ pub fn ports_of(alloc: Global, kind: EventKind) -> Result<Ports, AllocError>
     })
 }
 
-/// The interfaces of all event blocks, each at the place of its kind.
+/// The interfaces of all event blocks, each at the index of its kind.
 pub fn all_ports(alloc: Global) -> Result<Items<Ports>, AllocError>
     ensures { IfOk result ArePortsOfKinds }
 {

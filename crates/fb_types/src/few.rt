@@ -1,4 +1,4 @@
-//! Lists that mostly have one element.
+//! Lists that usually have one element.
 
 ghost use Rattle.std.specs.Prelude.{◌≡◌, [], ◌∷◌, ◌++◌, ◌↔◌, IsTrue, IfOk, OnOk, OnErr};
 ghost use Rattle.fb_types.specs.Held.{all_held};
@@ -9,21 +9,20 @@ use std::marker::Model;
 use std::mem::replace;
 use std::slice::from_ref;
 
-/// For how many elements there is room where a second one comes.
+/// The capacity that is reserved when a second element comes.
 const ROOM: usize = 4;
 
-/// Where the elements of a list stand.
+/// Where the elements of a list are.
 #[derive(Drop)]
 pub enum Held<T> {
     Nothing,
-    /// In place.
+    /// One element, in place.
     One(T),
-    /// On the heap.
+    /// All elements, on the heap.
     Several(Vec<T>),
 }
 
-/// A list of which one element alone stands in place: it needs memory of its own for a second one. Contracts see its
-/// elements alone.
+/// A list that stores a single element in place. It allocates memory for a second one. Contracts see only its elements.
 pub struct Few<T> {
     held: Held<T>,
     alloc: Global,
@@ -113,7 +112,7 @@ impl<T: Copy> Few<T> {
 }
 
 impl Few<Value> {
-    /// The values, which are known to be small enough for a slice of one.
+    /// The values. Only `Value` has this method, since its size is known to allow a slice of one element.
     pub fn as_slice(&self) -> &[Value]
         ensures { result.now ≡ self.now }
     {

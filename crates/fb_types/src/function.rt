@@ -6,7 +6,7 @@ ghost use Rattle.fb_types.specs.Values.{function_named};
 
 use crate::name::Name;
 
-/// A function that expressions may call (IEC 61131-3, 6.6.2.5). Its arguments go by position.
+/// A function that expressions may call (IEC 61131-3, 6.6.2.5). Its arguments are given by position.
 #[derive(Clone, Copy)]
 pub enum Function {
     /// MIN: the lesser of two numbers.
@@ -15,9 +15,9 @@ pub enum Function {
     Max,
     /// ABS: a number without its sign.
     Abs,
-    /// LIMIT: of the least, a number and the most, the number within the two.
+    /// LIMIT: a number within the two bounds; the arguments are the least, the number and the greatest.
     Limit,
-    /// SEL: of a truth value and two further values, the first of these at FALSE and the second at TRUE.
+    /// SEL: one of two values by a truth value; the first for FALSE, the second for TRUE.
     Sel,
 }
 
@@ -28,7 +28,7 @@ fn is(name: &Name, text: &str) -> bool
 }
 
 impl Function {
-    /// The function of a name.
+    /// The function with a name.
     pub fn named(name: &Name) -> Option<Function>
         ensures { result ≡ function_named name.now }
     {

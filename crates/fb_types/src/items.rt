@@ -7,7 +7,7 @@ ghost use Rattle.std.specs.Borrow.{LendsIf, sem};
 use std::alloc::{AllocError, Global};
 use std::marker::Model;
 
-/// A list on the heap. Contracts see its elements alone: no pointer and no room.
+/// A list on the heap. Contracts see only its elements: no pointer and no capacity.
 pub struct Items<T> {
     all: Vec<T>,
 }
@@ -42,14 +42,14 @@ impl<T> Items<T> {
         }
     }
 
-    /// The elements of a `Vec`, which are not copied.
+    /// The list with the elements of a `Vec`. They are not copied.
     pub fn from_vec(all: Vec<T>) -> Items<T>
         ensures { result ≡ all.items }
     {
         Items { all }
     }
 
-    /// The elements in a `Vec`, which are not copied.
+    /// The elements as a `Vec`. They are not copied.
     pub fn into_vec(self) -> Vec<T>
         ensures { result.items ≡ self }
     {
@@ -69,7 +69,7 @@ impl<T> Items<T> {
         self.all.as_slice()
     }
 
-    /// How many elements there are.
+    /// The number of elements.
     pub fn len(&self) -> usize
         ensures { result ≡ length self.now }
     {
@@ -83,7 +83,7 @@ impl<T> Items<T> {
         self.all.is_empty()
     }
 
-    /// The element at a place, counted from 0, or none behind the end.
+    /// The element at an index, or `None` past the end.
     pub fn get(&self, index: usize) -> Option<&T>
         ensures value { option_copied result ≡ slice_get self.now index }
         ensures within { OnSome result (index < length self.now) }
@@ -91,7 +91,7 @@ impl<T> Items<T> {
         self.all.get(index)
     }
 
-    /// The element at a place, to be changed, or none behind the end.
+    /// The element at an index for changes, or `None` past the end.
     pub fn get_mut(&mut self, index: usize) -> Option<&mut T>
         ensures* writes_back { sem 𝓛 (LendsIf (the_row T.row) T.row self.entry result (slice_set self.old index) self.old) }
         ensures value { option_map (λ v. v.now) result ≡ slice_get self.old index }
@@ -120,14 +120,14 @@ impl<T: Copy> Items<T> {
         Ok(Items { all })
     }
 
-    /// The element at a place, or none behind the end.
+    /// A copy of the element at an index, or `None` past the end.
     pub fn value(&self, index: usize) -> Option<T>
         ensures { result ≡ slice_get self.now index }
     {
         self.get(index).copied()
     }
 
-    /// Puts an element at a place, in place of the one there. Behind the end nothing changes.
+    /// Replaces the element at an index. Past the end nothing changes.
     pub fn set(&mut self, index: usize, item: T)
         ensures { self.new ≡ slice_set self.old index item }
     {

@@ -5,8 +5,8 @@ ghost use Rattle.fb_types.specs.Keys.{key_cmp, local_key, message_key, stimulus_
 
 use std::cmp::Ordering;
 
-/// The time and place of an event. Events are taken in the order of their keys, which are compared part by
-/// part in the order of the fields. Parts that a class does not use are 0.
+/// The time and resource of an event. Events are taken in the order of their keys, which are compared part by part in the
+/// order of the fields. Parts that a class does not use are 0.
 ///
 /// | class | event | `a` | `b` |
 /// |---|---|---|---|
@@ -20,8 +20,11 @@ pub struct Key {
     pub tick: u64,
     /// The number of the resource.
     pub resource: u32,
+    /// The class of the event, from 0 to 3.
     pub class: u8,
+    /// The first number of the class.
     pub a: u128,
+    /// The second number of the class.
     pub b: u128,
 }
 
@@ -94,7 +97,7 @@ impl Key {
         }
     }
 
-    /// Whether it is the key of a local event.
+    /// Whether this is the key of a local event.
     #[inline(always)]
     pub fn is_local(&self) -> bool
         ensures local { IsTrue result ↔ (self.now.class ≡ 3) }
@@ -103,7 +106,7 @@ impl Key {
     }
 }
 
-/// The order in which the events of two keys are taken.
+/// The order of two keys, which is the order in which their events are taken.
 pub fn compare(a: &Key, b: &Key) -> Ordering
     ensures { result ≡ key_cmp a.now b.now }
 {

@@ -7,15 +7,17 @@ use crate::items::Items;
 use std::alloc::{AllocError, Global};
 use std::marker::Model;
 
-/// From this tick of sending on, a message takes so many ticks.
+/// From this tick of sending on, a message takes this number of ticks.
 #[derive(Clone, Copy)]
 pub struct Entry {
+    /// The tick of sending from which the entry holds, in milliseconds.
     pub from: u64,
+    /// The latency in ticks.
     pub latency: u64,
 }
 
-/// A table of latencies by the tick of sending: 1 to 64 entries, the first at tick 0, in strictly rising
-/// ticks of at most 10^12, each latency from 1 to 1,000,000 ticks. Contracts see the list of its entries.
+/// A table of latencies by the tick of sending: 1 to 64 entries, the first at tick 0, in strictly rising ticks of at most
+/// 10^12, each with a latency from 1 to 1,000,000 ticks. Contracts see the list of its entries.
 pub struct Latency {
     entries: Items<Entry>,
 }
@@ -40,7 +42,8 @@ impl Model for Latency {
 }
 
 impl Latency {
-    /// The latency of a table: 1 to 64 entries at rising ticks, the first at tick 0 and none past 10^12, each with 1 to 10^6 ticks.
+    /// The latency of a table: 1 to 64 entries in rising ticks, the first at tick 0 and none past 10^12, each with a
+    /// latency from 1 to 1,000,000 ticks.
     pub fn new(entries: Items<Entry>) -> Latency
         requires { IsLatencyTable entries }
         ensures { result ≡ entries }
@@ -58,7 +61,7 @@ impl Latency {
         Ok(Latency { entries })
     }
 
-    /// The table, whose entries each hold from their tick on.
+    /// The table. Each entry holds from its tick on.
     pub fn entries(&self) -> &[Entry]
         ensures value { result.now ≡ self.now }
         ensures table { IsLatencyTable self.now }

@@ -1,4 +1,5 @@
-//! Laws of the definitions that contracts cite.
+//! Laws of the definitions that contracts cite. Their functions do nothing when they run: they are there for their
+//! contracts.
 
 ghost use Rattle.fb_types.specs.ExampleValues.{AreAllEvaluated, AreJudged, AreOperators, AreQuotients, AreSelected};
 ghost use Rattle.fb_types.specs.Examples.{CounterTrace, CycleTrace, DelayTrace, HeldCopyTrace, LinkTrace, LooperTrace, ShortDelayTrace, StepperTrace, StoppedDelayTrace, TwoLinksTrace};
@@ -7,9 +8,9 @@ ghost use Rattle.fb_types.specs.ExampleInputs.{AcceptedExamples};
 ghost use Rattle.fb_types.specs.ExampleRuns.{CountsInFive, EmitsFourTimes, StopsInFour};
 ghost use Rattle.fb_types.specs.Headline.{OneSimulation};
 
-/// A system with its stimuli, a horizon and a limit on steps has at most one simulation: where two lists of
-/// takings are simulations of it, they are the same, key for key, with the same events, effects, lines and
-/// ending. So `the simulation` of a system can be spoken of, and no choice is left to who computes it.
+/// A system with its stimuli, a horizon and a limit on steps has at most one simulation: two simulations are the same,
+/// key for key, with the same events, effects, lines and ending. So a system determines `the simulation`, and no
+/// implementation has a choice.
 pub fn one_simulation()
     ensures { OneSimulation }
 {}
@@ -20,16 +21,16 @@ pub fn worked_cycle()
     ensures { CycleTrace }
 {}
 
-/// An E_DELAY of four ticks that is started at 0 and again at 2 goes off once, at 4: a START while it runs
-/// changes nothing, and its line still tells what was sampled. A STOP by a stimulus in the tick of the timer comes
-/// before the timer and clears it. A time below 1 counts as 1, and is told as it was sampled.
+/// An E_DELAY of four ticks that is started at 0 and again at 2 goes off once, at 4: a START while it runs changes
+/// nothing, and its line still shows what was sampled. A STOP by a stimulus in the tick of the timer comes before the
+/// timer and clears it. A time below 1 counts as 1, and its line shows the sampled value.
 pub fn worked_delay()
     ensures restarted { DelayTrace }
     ensures stopped { StoppedDelayTrace }
     ensures short { ShortDelayTrace }
 {}
 
-/// An E_CTU counts each CU, past its PV too, and tells from its PV on that it is reached.
+/// An E_CTU counts each CU, past its PV too, and reports from its PV on that it is reached.
 pub fn worked_counter()
     ensures { CounterTrace }
 {}
@@ -39,7 +40,7 @@ pub fn worked_link()
     ensures { LinkTrace }
 {}
 
-/// Of two messages that arrive in one tick at one resource, that of the lower link is taken first, also where it was
+/// Of two messages that arrive in one tick at one resource, that of the lower link is taken first, even if it was
 /// sent later.
 pub fn worked_two_links()
     ensures { TwoLinksTrace }
@@ -51,21 +52,21 @@ pub fn worked_held_copy()
     ensures { HeldCopyTrace }
 {}
 
-/// A chart whose two transitions in a row wait for the same event goes on by one state for each event: the event
-/// is present in the first trying alone.
+/// A chart whose two transitions in a row wait for the same event moves by one state for each event: the event is present
+/// only in the first trial.
 pub fn worked_stepper()
     ensures { StepperTrace }
 {}
 
-/// A chart without rest stops its resource when the steps of the tick are used up. The resource of a lower number
-/// has run whole in that tick, and the one of a higher number not at all.
+/// A chart without a resting state stops its resource when the steps of the tick are used up. The resource with a lower
+/// number has run its whole tick, and the one with a higher number has not started it.
 pub fn worked_looper()
     ensures chart { EmitsFourTimes }
     ensures trace { LooperTrace }
 {}
 
-/// A FOR up to the greatest value of the type of its variable ends there, and is no fault. Each turn costs a step
-/// besides its statements. With one step less than the tick takes, the simulation stops behind the emission.
+/// A FOR up to the greatest value of its variable's type ends there, and is no fault. Each turn costs a step in addition
+/// to its statements. With one step less than the tick takes, the simulation stops after the emission.
 pub fn worked_counting_loop()
     ensures counts { CountsInFive }
     ensures stops { StopsInFour }
@@ -73,8 +74,8 @@ pub fn worked_counting_loop()
     ensures stopped_trace { CountingStops }
 {}
 
-/// A sum that the variable's type does not hold stops the simulation with `range`, and a zero divisor with
-/// `divide`. The event that was taken has its line, and nothing is emitted.
+/// A sum that the variable's type does not contain stops the simulation with `range`, and a zero divisor with `divide`.
+/// The event that was taken has its line, and nothing is emitted.
 pub fn worked_faults()
     ensures range { RangeTrace }
     ensures divide { DivideTrace }

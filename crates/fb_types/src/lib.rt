@@ -1,12 +1,12 @@
 //! The data that the crates of the simulator share, and the model that all their contracts cite.
 //!
-//! Guarantees to callers: a `Deploy` and a `Latency` keep their limits in their types, keys are ordered as the
-//! definitions say, and a container is seen as what it contains. Of the definitions: a system has one simulation at
-//! most, and the worked examples have the traces that were worked out by hand.
+//! Guarantees to callers: a `Deploy` and a `Latency` keep their limits in their types. Keys are ordered as the
+//! definitions say. Contracts see a container as what it contains. A system has at most one simulation, and the worked
+//! examples have the traces that were worked out by hand.
 //!
-//! Read in this order: `library`, `text`, `value`, `sort`, `function` and `name`, what is read; `deploy` and
-//! `latency`; `event_kind` and `event_ports`, the event blocks; `limits`; `key`, `run` and `emits`, what a simulation gives; `items`,
-//! `few`, `short`, `boxed` and `reference`; `laws`. The definitions stand in `specs/`.
+//! Read in this order: `library`, `text`, `value`, `sort`, `function` and `name`, what is read; `deploy` and `latency`;
+//! `event_kind` and `event_ports`, the event blocks; `limits`; `key`, `run` and `emits`, what a simulation gives;
+//! `items`, `few`, `short`, `boxed` and `reference`; `laws`. The definitions are in `specs/`.
 #![tactic(auto)]
 
 pub mod boxed;

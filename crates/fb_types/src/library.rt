@@ -15,7 +15,9 @@ use crate::value::{Ty, Value};
 
 /// An event input or output, with the variables that go WITH it.
 pub struct EventPort {
+    /// The name of the event.
     pub name: Name,
+    /// The names of the variables WITH it.
     pub with: Items<Name>,
 }
 
@@ -28,8 +30,11 @@ impl Drop for EventPort {
 
 /// A variable of a block type: an input, an output or an internal one. Without an initial value it begins with 0 or FALSE.
 pub struct Variable {
+    /// The name of the variable.
     pub name: Name,
+    /// Its type.
     pub ty: Ty,
+    /// Its declared value, if any.
     pub initial: Option<Value>,
 }
 
@@ -44,7 +49,7 @@ impl Drop for Variable {
 }
 
 impl Variable {
-    /// What the variable begins with: its declared value, else 0 or FALSE.
+    /// The initial value of the variable: its declared value, else 0 or FALSE.
     pub fn first_value(&self) -> Value
         ensures { result ≡ initial_of self.now }
     {
@@ -68,9 +73,13 @@ impl Variable {
 
 /// The interface of a type, each list in the order of the declaration.
 pub struct Ports {
+    /// The event inputs.
     pub event_inputs: Items<EventPort>,
+    /// The event outputs.
     pub event_outputs: Items<EventPort>,
+    /// The data inputs.
     pub inputs: Items<Variable>,
+    /// The data outputs.
     pub outputs: Items<Variable>,
 }
 
@@ -87,7 +96,9 @@ impl Drop for Ports {
 
 /// An algorithm, an output event, or an algorithm followed by an output event.
 pub struct Action {
+    /// The algorithm to run, if any.
     pub algorithm: Option<Name>,
+    /// The event output to emit after it, if any.
     pub output: Option<Name>,
 }
 
@@ -102,7 +113,9 @@ impl Drop for Action {
 
 /// A state of an execution control chart.
 pub struct State {
+    /// The name of the state.
     pub name: Name,
+    /// The actions on entering the state, in their order.
     pub actions: Items<Action>,
 }
 
@@ -117,7 +130,9 @@ impl Drop for State {
 
 /// An event input, a guard, or an event input followed by a guard. With neither it is `1`.
 pub struct Condition {
+    /// The event input that must be present, if any.
     pub event: Option<Name>,
+    /// The guard that must be true, if any.
     pub guard: Option<Expr>,
 }
 
@@ -127,11 +142,14 @@ impl Drop for Condition {
     }
 }
 
-/// A transition of an execution control chart (IEC 61499-1, 5.2.1.2), by which a block goes from a state to a state where the
+/// A transition of an execution control chart (IEC 61499-1, 5.2.1.2): the block goes from one state to another if the
 /// condition holds.
 pub struct Transition {
+    /// The state that it leaves.
     pub from: Name,
+    /// The state that it enters.
     pub to: Name,
+    /// When it is taken.
     pub condition: Condition,
 }
 
@@ -147,7 +165,9 @@ impl Drop for Transition {
 
 /// An algorithm of a basic block type, with its statements in Structured Text.
 pub struct Algorithm {
+    /// The name of the algorithm.
     pub name: Name,
+    /// Its statements.
     pub body: Body,
 }
 
@@ -159,11 +179,17 @@ impl Drop for Algorithm {
 
 /// A basic block type. The first state is the initial one.
 pub struct BasicType {
+    /// The name of the type.
     pub name: Name,
+    /// Its interface.
     pub ports: Ports,
+    /// Its internal variables.
     pub internals: Items<Variable>,
+    /// The states of its chart, at least one.
     pub states: Items<State>,
+    /// The transitions of its chart, in the order of the text.
     pub transitions: Items<Transition>,
+    /// Its algorithms.
     pub algorithms: Items<Algorithm>,
 }
 
@@ -182,7 +208,9 @@ impl Drop for BasicType {
 
 /// A port of a component, or with no component one of the composite that the network belongs to.
 pub struct PortName {
+    /// The component, or none at the boundary.
     pub component: Option<Name>,
+    /// The port.
     pub port: Name,
 }
 
@@ -197,7 +225,9 @@ impl Drop for PortName {
 
 /// An event or data connection of a network: the port from which events or values come, and the one to which they go.
 pub struct Connection {
+    /// The port from which it leads.
     pub from: PortName,
+    /// The port to which it leads.
     pub to: PortName,
 }
 
@@ -207,9 +237,11 @@ impl Drop for Connection {
     }
 }
 
-/// A value that a data input of an instance is given, from the beginning on.
+/// A value that a data input of an instance has from the beginning on.
 pub struct Parameter {
+    /// The name of the data input.
     pub name: Name,
+    /// Its value.
     pub value: Value,
 }
 
@@ -221,8 +253,11 @@ impl Drop for Parameter {
 
 /// An instance of a block type in a network.
 pub struct Instance {
+    /// The name of the instance.
     pub name: Name,
+    /// The name of its type: an event block, or a block type of the declaration.
     pub block_type: Name,
+    /// The data inputs that are given values.
     pub parameters: Items<Parameter>,
 }
 
@@ -238,8 +273,11 @@ impl Drop for Instance {
 
 /// Instances and their connections, in the order of the text.
 pub struct Network {
+    /// The instances.
     pub instances: Items<Instance>,
+    /// The connections of events.
     pub event_connections: Items<Connection>,
+    /// The connections of data.
     pub data_connections: Items<Connection>,
 }
 
@@ -253,10 +291,13 @@ impl Drop for Network {
     }
 }
 
-/// A composite block type (IEC 61499-1, 5.3): its ports, and the network of instances behind them.
+/// A composite block type (IEC 61499-1, 5.3): its ports, and the network of instances inside it.
 pub struct CompositeType {
+    /// The name of the type.
     pub name: Name,
+    /// Its interface.
     pub ports: Ports,
+    /// The network inside it.
     pub network: Network,
 }
 
@@ -308,7 +349,9 @@ impl BlockType {
 
 /// The application: a network whose instances are mapped to resources.
 pub struct Application {
+    /// The name of the application.
     pub name: Name,
+    /// Its network.
     pub network: Network,
 }
 
@@ -323,7 +366,9 @@ impl Drop for Application {
 
 /// What a declaration text declares.
 pub struct Library {
+    /// The block types, in the order of the text.
     pub blocks: Items<BlockType>,
+    /// The application.
     pub application: Application,
 }
 

@@ -11,22 +11,22 @@ use crate::short::{ROOM, Short};
 use std::alloc::{AllocError, Global};
 use std::marker::Model;
 
-/// Where the bytes of a name stand.
+/// The storage of a name's bytes.
 #[derive(Drop)]
 enum Spelling {
-    /// In place.
+    /// Stored in place.
     Short(Short),
     /// On the heap.
     Long(Boxed<Items<u8>>),
 }
 
-/// A name of the declaration or the deployment: its letters, digits and underscores, in upper case. One of 14 bytes at most
-/// takes no memory of its own, and is copied in a few instructions. Contracts see its bytes.
+/// A name of the declaration or the deployment: its letters, digits and underscores, in upper case. A name of at most 14
+/// bytes takes no memory on the heap, and is copied in a few instructions. Contracts see its bytes.
 pub struct Name {
     spelling: Spelling,
-    /// The bytes as one number, so that most names are compared in a few instructions and without a look at
-    /// them. 0 where it is longer than a number has room for, or has a byte that is no upper-case letter, figure or
-    /// underscore: such names are compared letter by letter.
+    /// The bytes as one number, so that most names are compared in a few instructions. It is 0 if the name is too long
+    /// for the number, or has a byte that is not an upper-case letter, digit or underscore: such names are compared byte
+    /// by byte.
     word: u64,
 }
 
@@ -43,7 +43,7 @@ impl Model for Name {
 }
 
 impl Drop for Name {
-    /// Written out, so that a crate above lets a name go by one call, and proves nothing of its parts.
+    /// Written by hand, so that other crates drop a name with one call, and prove nothing about its parts.
     fn drop(self) {
         let Name {
             spelling: _,
@@ -53,7 +53,7 @@ impl Drop for Name {
 }
 
 impl Name {
-    /// The name with these bytes. Who reads a text gives them in upper case.
+    /// The name with these bytes. A caller that reads a text passes them in upper case.
     pub fn from_slice(alloc: Global, bytes: &[u8]) -> Result<Name, AllocError>
         ensures { IfOk result (λ n. n ≡ bytes.now) }
     {
@@ -62,14 +62,14 @@ impl Name {
         Ok(Name { spelling, word })
     }
 
-    /// A copy of a name that is given as text.
+    /// The name with the bytes of a text.
     pub fn from_text(alloc: Global, text: &str) -> Result<Name, AllocError>
         ensures { IfOk result (λ n. n ≡ text.now) }
     {
         Name::from_slice(alloc, text.as_bytes())
     }
 
-    /// The letters of the name, in upper case.
+    /// The bytes of the name, in upper case.
     pub fn as_bytes(&self) -> &[u8]
         ensures { result.now ≡ self.now }
     {
@@ -79,7 +79,7 @@ impl Name {
         }
     }
 
-    /// The number that stands for the name, or 0 where none does.
+    /// The number of the name, or 0 if it has none.
     #[inline(always)]
     pub fn word(&self) -> u64
         ensures { result ≡ number_for self.now }
@@ -87,7 +87,7 @@ impl Name {
         self.word
     }
 
-    /// Whether the two are one name. Both are kept in upper case, so letter case makes no difference.
+    /// Whether the two are the same name. Both are in upper case, so letter case makes no difference.
     #[inline(always)]
     pub fn is(&self, other: &Name) -> bool
         ensures { result ≡ same_name self.now other.now }
@@ -98,7 +98,7 @@ impl Name {
         self.word != 0 || self.is_spelt_as(other)
     }
 
-    /// The same as `is`, letter by letter.
+    /// The same as `is`, byte by byte.
     #[inline(never)]
     fn is_spelt_as(&self, other: &Name) -> bool
         ensures { result ≡ same_name self.now other.now }
@@ -106,7 +106,7 @@ impl Name {
         self.as_bytes() == other.as_bytes()
     }
 
-    /// A copy of the name. A long one wants memory.
+    /// A copy of the name. A long one takes memory.
     #[inline(always)]
     pub fn try_clone(&self, alloc: Global) -> Result<Name, AllocError>
         ensures { IfOk result (λ n. n ≡ self.now) }
@@ -130,7 +130,7 @@ fn spelling_of(alloc: Global, bytes: &[u8]) -> Result<Spelling, AllocError>
     }
 }
 
-/// A copy, which is made without a call where the bytes stand in place.
+/// A copy. If the bytes are stored in place, it is made without a call.
 #[inline(always)]
 fn copy_of(alloc: Global, spelling: &Spelling) -> Result<Spelling, AllocError>
     ensures { IfOk result (λ s. spelt s ≡ spelt spelling.now) }
@@ -150,15 +150,15 @@ fn on_heap(alloc: Global, bytes: &[u8]) -> Result<Spelling, AllocError>
     Ok(Spelling::Long(Boxed::new(alloc, copy)?))
 }
 
-/// The number that stands for a name.
+/// The number of a name.
 fn word_of(bytes: &[u8]) -> u64
     ensures { result ≡ number_for bytes.now }
 {
     if bytes.len() <= 12 { packed(bytes) } else { 0 }
 }
 
-/// The bytes of a short name as one number: digits in base 38, and a 1 before them all. No two names have the same, but
-/// for 0, which each name with another byte has.
+/// The bytes of a short name as one number: digits in base 38, after a leading 1. Different names have different numbers,
+/// except for 0, which is the number of every name with another byte.
 fn packed(bytes: &[u8]) -> u64
     requires { length bytes.now ≤ most }
     ensures { result ≡ number_of bytes.now }

@@ -6,10 +6,9 @@ use crate::name::Name;
 use std::marker::Model;
 use std::sync::atomic::{AtomicUsize, Ordering};
 
-/// The name of a variable, with the place at which the variable is expected in the list of its block's
-/// variables. Contracts see the name alone: who uses the place compares the name that stands there, so a
-/// place that is wrong costs time and nothing else. The place is noted by who first finds the variable, also
-/// where several threads share the text.
+/// The name of a variable, with the index at which it is expected in the list of its block's variables. Contracts see
+/// only the name: a user of the index compares the name at that index, so a wrong index costs time and nothing else.
+/// Whoever first finds the variable notes the index, even if several threads share the text.
 pub struct Reference {
     name: Name,
     place: AtomicUsize,
@@ -31,7 +30,7 @@ impl Model for Reference {
 }
 
 impl Reference {
-    /// A reference by a name, expected at the first place.
+    /// A reference by a name, expected at index 0.
     pub fn new(name: Name) -> Reference
         ensures { result ≡ name }
     {
@@ -48,12 +47,12 @@ impl Reference {
         &self.name
     }
 
-    /// Where the variable is expected.
+    /// The index at which the variable is expected.
     pub fn place(&self) -> usize {
         self.place.load(Ordering::SeqCst)
     }
 
-    /// Says where the variable is to be expected from now on.
+    /// Sets the index at which the variable is expected from now on.
     pub fn expect_at(&self, place: usize) {
         self.place.store(place, Ordering::SeqCst);
     }

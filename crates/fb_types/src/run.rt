@@ -1,5 +1,5 @@
-//! What waits in a simulation and what it gives: events, lines, messages, emissions, and how it ends. Instances,
-//! events and variables are numbers here, which stand for names only when a trace is written.
+//! What waits in a simulation and what it produces: events, lines, messages, emissions, and how it ends. Instances,
+//! events and variables are numbers here. They become names only when a trace is written.
 
 ghost use Rattle.std.specs.Prelude.{◌≡◌};
 ghost use Rattle.fb_types.specs.declared.run.Halt.TheVariants.{Memory, Stop};
@@ -17,11 +17,11 @@ pub type Values = Few<Value>;
 pub struct Line {
     /// The key of the event whose taking gave the line.
     pub key: Key,
-    /// Set where the event was taken, and not where it was emitted.
+    /// Set if the event was taken, not emitted.
     pub taken: bool,
     /// The number of the instance in the whole application.
     pub instance: u32,
-    /// The place of the event among the event inputs, or outputs, of the instance's type.
+    /// The index of the event among the event inputs, or outputs, of the instance's type.
     pub event: u32,
     /// The values of the variables WITH the event, in the order in which the variables are declared.
     pub values: Values,
@@ -43,37 +43,47 @@ impl Drop for Line {
 /// An event input of an instance, or an event output of a composite that is reached from inside.
 #[derive(Clone, Copy, PartialEq, Eq)]
 pub struct Target {
+    /// The number of the instance in the whole application.
     pub instance: u32,
+    /// The index among the event inputs, or outputs, of the instance's type.
     pub event: u32,
-    /// Set where the event is an output, which an event reaches from inside.
+    /// Set if the event is an output, which an event reaches from inside.
     pub is_output: bool,
 }
 
-/// A variable of an instance, by its place among the data inputs or the data outputs of the instance's type.
+/// A variable of an instance, by its index among the data inputs or the data outputs of the instance's type.
 #[derive(Clone, Copy, PartialEq, Eq)]
 pub struct Place {
+    /// The number of the instance in the whole application.
     pub instance: u32,
+    /// The index among the data inputs, or outputs, of the instance's type.
     pub variable: u32,
+    /// Set if the variable is an output.
     pub is_output: bool,
 }
 
 /// A value that was emitted, with the output variable that it is of.
 #[derive(Clone, Copy)]
 pub struct Carried {
+    /// The number of the instance that emitted it.
     pub instance: u32,
-    /// The place of the variable among the outputs of the instance's type.
+    /// The index of the variable among the outputs of the instance's type.
     pub variable: u32,
+    /// The value, which is one of the variable's type.
     pub value: Value,
 }
 
 /// An event on its way over a link.
 pub struct Message {
+    /// The number of the link, from 0 in the order of the deployment.
     pub link: u32,
     /// Its number on that link, from 0.
     pub number: u128,
     /// The tick of its arrival.
     pub arrives: u64,
+    /// The event input, or the composite's event output, at which it arrives.
     pub target: Target,
+    /// The values that it carries.
     pub values: Items<Carried>,
 }
 
@@ -109,22 +119,24 @@ impl Drop for Event {
     }
 }
 
-/// An output event that was emitted, by its place among the event outputs, with the values of its WITH
-/// variables in the order in which these are declared.
+/// An output event that was emitted, by its index among the event outputs, with the values of its WITH variables in the
+/// order in which these are declared.
 #[derive(Drop)]
 pub struct Emission {
+    /// The index among the event outputs of the block.
     pub event: u32,
+    /// The values of the WITH variables.
     pub values: Values,
 }
 
 pub use crate::emits::Emits;
 
-/// What a reaction asks of the timer of its event block.
+/// What a reaction requests for the timer of its event block.
 #[derive(Clone, Copy, PartialEq, Eq)]
 pub enum TimerAsk {
     /// The timer stays as it is.
     Keep,
-    /// The timer is taken out, if there is one.
+    /// The timer is removed, if there is one.
     Clear,
     /// The timer goes off at this tick.
     At(u64),
@@ -158,12 +170,13 @@ impl From<Reason> for Halt {
 pub struct StopMark {
     /// In milliseconds.
     pub tick: u64,
-    /// The number of the resource, as the deployment lists them from 0 on.
+    /// The number of the resource, from 0 in the order of the deployment.
     pub resource: u32,
+    /// Why it stops.
     pub reason: Reason,
 }
 
-/// The form of a trace: with `Two`, each line but the last begins with the class and the parts of the key.
+/// The form of a trace. With `Two`, each line except the last begins with the class and the parts of the key.
 #[derive(Clone, Copy)]
 pub enum Form {
     One,

@@ -4,13 +4,13 @@ ghost use Rattle.std.specs.Prelude.{◌≡◌, ◌≤◌, length};
 
 use std::marker::Model;
 
-/// For how many bytes there is room.
+/// The number of bytes that fit.
 pub(crate) const ROOM: usize = 14;
 
-/// Some bytes, 14 at most, which take no memory of their own. Contracts see them as a list.
+/// At most 14 bytes, stored in place without memory on the heap. Contracts see them as a list.
 #[derive(Drop)]
 pub(crate) struct Short {
-    /// How many of the bytes count.
+    /// The number of bytes in use.
     length: u8,
     bytes: [u8; ROOM],
 }
@@ -26,7 +26,7 @@ impl Model for Short {
 }
 
 impl Short {
-    /// A copy of bytes for which there is room.
+    /// A copy of bytes that fit.
     pub(crate) fn from_slice(bytes: &[u8]) -> Short
         requires { length bytes.now ≤ 14 }
         ensures { result ≡ bytes.now }

@@ -31,8 +31,8 @@ pub enum BinaryOperator {
     Modulo,
 }
 
-/// An expression. Time literals are whole numbers, in ticks. What stands in parentheses is a `Group`,
-/// so that the tree tells how deep the text nests.
+/// An expression. Time literals are whole numbers, in ticks. An expression in parentheses is a `Group`, so that the tree
+/// shows how deep the text nests.
 #[cycle(expr)]
 pub enum Expr {
     Whole(i128),
@@ -59,7 +59,7 @@ impl Drop for Expr {
     }
 }
 
-/// A statement. ELSE is the last list of IF and CASE, which is empty where the text has none.
+/// A statement. ELSE is the last list of IF and CASE, which is empty if the text has none.
 #[cycle(stmt)]
 pub enum Stmt {
     Empty,
@@ -90,10 +90,12 @@ impl Drop for Stmt {
     }
 }
 
-/// IF or ELSIF: the statements behind a condition.
+/// IF or ELSIF: the statements after a condition.
 #[cycle(stmt)]
 pub struct Choice {
+    /// The condition.
     pub condition: Expr,
+    /// The statements after THEN.
     pub body: Items<Stmt>,
 }
 
@@ -107,10 +109,12 @@ impl Drop for Choice {
     }
 }
 
-/// The statements behind the labels of a CASE.
+/// The statements after the labels of a CASE.
 #[cycle(stmt)]
 pub struct Branch {
+    /// The labels, at least one.
     pub labels: Items<Label>,
+    /// The statements after the labels.
     pub body: Items<Stmt>,
 }
 
@@ -124,12 +128,15 @@ impl Drop for Branch {
 /// A label, from its first bound to its last.
 #[derive(Clone, Copy)]
 pub struct Label {
+    /// The first value.
     pub first: i128,
+    /// The last value, which is the first one if the label is a single value.
     pub last: i128,
 }
 
 /// The statements of an algorithm.
 pub struct Body {
+    /// The statements, in the order of the text.
     pub statements: Items<Stmt>,
 }
 

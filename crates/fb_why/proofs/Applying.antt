@@ -1,4 +1,4 @@
--- From what holds at a place to the condition of its number.
+-- From what holds at a location to the condition of its number.
 use Rattle.std.proofs.Common.{◌≡◌, ℕ, zero, suc, ◌<◌, Bool, true, false, not, List, [], ◌∷◌, ◌++◌, map, Some, None, Contains, refl, sym, ◌∙◌, subst, inl, inr, arith}
 use Rattle.std.specs.Prelude.{flat_map, is_some, slice_get}
 use Rattle.std.proofs.lemmas.Bool.{true≢false}
@@ -41,7 +41,7 @@ use Rattle.fb_why.specs.declared.unmapped.Unmapped.TheVariants.{Unlisted, Again}
 use Rattle.fb_why.proofs.Once.{event_type_names, is_some-named}
 use Rattle.fb_why.proofs.Parted.{targets_are}
 
--- ---- What stands twice
+-- ---- What is there twice
 
 at_both : {A : Type 0} (xs : List A) (i j : ℕ) (x : A) → i < j → slice_get xs i ≡ Some x → slice_get xs j ≡ Some x → Twice xs
 at_both [] i j x less h g = absurd (cc)

@@ -1,4 +1,4 @@
--- The variables WITH output events, by names.
+-- The variables WITH output events, by name.
 use Rattle.std.proofs.Common.{◌≡◌, ◌||◌, ◌&&◌, Bool, true, false, cond, List, [], ◌∷◌, Option, Some, None, refl, sym, ◌∙◌, ap}
 use Rattle.std.specs.Prelude.{option_map, option_and_then}
 use Rattle.std.specs.List.{find, filter, list_any}
@@ -55,7 +55,7 @@ ports_answer p vs es e v outputs events =
     ∙ ap (λ b. b && list_any (goes_with e v) p.event_outputs) (any_map (λ (x : Variable). x.name) v p.outputs)
     ∙ sym (among-filter (λ v. list_any (goes_with e v) p.event_outputs) (variable_names p.outputs) v)
 
--- the same, from what the two parts answered
+-- the same, from the results of the two parts
 pub ports_then :
     (p : Ports) (vs : List Variable) (es : List EventPort) (e v : Name) (b r : Bool) → vs ≡ p.outputs → es ≡ p.event_outputs
     → b ≡ list_any (λ x. same_name v x.name) vs → b ≡ true → r ≡ list_any (goes_with e v) es → r ≡ among (outputs_with p e) v
@@ -71,7 +71,7 @@ ports_else p vs e v b outputs declared fails =
     let none : (list_any (λ (x : Variable). same_name v x.name) vs && rest) ≡ false = ap (λ c. c && rest) (sym declared ∙ fails) in
     fails ∙ sym none ∙ ports_answer p vs p.event_outputs e v outputs refl
 
--- ---- Types by names
+-- ---- Types by name
 
 pub event_carries :
     (lib : Library) (n e v : Name) (k : EventKind) → event_block_named n ≡ Some k
@@ -95,7 +95,7 @@ declared_carries lib bs n e v o h all found =
 abbrev kind_in : Library → Option Instance → Option Kind
 kind_in lib o = option_and_then (kind_of_instance lib) o
 
--- where an end lies, by the component that it names
+-- where an end is, by the component that it names
 abbrev end_at : PortName → Option Name → Path
 end_at q o = (elim o as (λ _. Port) [ None ↦ record { at = []; name = q.port } | Some c ↦ record { at = c ∷ []; name = q.port } ]).at
 

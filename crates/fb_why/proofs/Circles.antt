@@ -15,7 +15,7 @@ use Rattle.fb_why.specs.Heights.{IsRound, IsTooHighAt, LeadsBack, LeadsTo, below
 use Rattle.fb_why.specs.declared.heights.Descent.TheVariants.{Circle}
 use Rattle.fb_why.proofs.Marks.{by_place, held_at, kind_at, place_among}
 
--- ---- Types at places
+-- ---- Types at indices
 
 kind_there : (lib : Library) (n : Name) (j : ℕ) → place_of_type lib n ≡ Some j → type_named lib n ≡ option_map kind_of (slice_get lib.blocks j)
 kind_there lib n j h =
@@ -79,7 +79,7 @@ leads_on lib marks from k j leads h = (
       ] refl h,
 )
 
--- ---- The answer
+-- ---- The result
 
 circle_at :
     (lib : Library) (marks : List Bool) (k i : ℕ) (t : BlockType) → marks ≡ marks_after 15 lib → slice_get lib.blocks k ≡ Some t → marked_in lib marks t ≡ Some i

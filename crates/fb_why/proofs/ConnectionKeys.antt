@@ -23,7 +23,7 @@ then_assoc order.Less s t = refl
 then_assoc order.Equal s t = refl
 then_assoc order.Greater s t = refl
 
--- two keys are equal exactly where their ports are
+-- two keys are equal exactly if their ports are
 pub key_cmp-exact : IsExact key_cmp key_ports
 key_cmp-exact p q =
     subst (λ (r : Ordering). Decides (is_eq r) (key_ports p ≡ key_ports q))

@@ -1,4 +1,4 @@
--- Loops that look for the first element that passes a test, or fails it.
+-- Loops that search the first element that passes a test, or fails it.
 use Rattle.std.proofs.Common.{◌≡◌, ℕ, ◌+◌, ◌<◌, ◌≤◌, Bool, true, false, ◌&&◌, ◌||◌, List, ◌∷◌, drop, get_or, length, Option, Some, None, refl, sym, ◌∙◌, ap, arith}
 use Rattle.std.specs.Prelude.{position, option_map, slice_get}
 use Rattle.std.specs.List.{list_all, list_any}
@@ -6,7 +6,7 @@ use Rattle.std.proofs.lemmas.List.{at_drop_all, at_drop_more}
 use Rattle.std.proofs.lemmas.Option.{slice_get-get_or}
 use Rattle.fb_types.proofs.Positions.{position-first, position-later}
 
--- the place of what stands behind so many elements
+-- the index after this number of elements
 abbrev pub behind : ℕ → Option ℕ → Option ℕ
 behind k o = option_map (λ i. i + k) o
 
@@ -42,7 +42,7 @@ pub found_none :
     {A : Type 0} (p : A → Bool) (xs : List A) (k : ℕ) → length xs ≤ k → position p xs ≡ behind k (position p (drop k xs)) → None ≡ position p xs
 found_none p xs k past before = sym (before ∙ ap (behind k) (at_drop_all (position p) xs k past))
 
--- ---- A loop that looks for the first element of which something does not hold
+-- ---- A loop that searches the first element of which something does not hold
 
 -- the element at hand
 pub at_hand : {A : Type 0} (xs : List A) (i : ℕ) (x : A) → i < length xs → x ≡ get_or xs i x → slice_get xs i ≡ Some x
@@ -56,7 +56,7 @@ holds_on {A} f xs i x within is before holds =
     before ∙ at_drop_more (list_all f) xs i x within ∙ ap (λ (y : A). f y && list_all f (drop (i + 1) xs)) (sym is)
     ∙ ap (λ b. b && list_all f (drop (i + 1) xs)) holds
 
--- ---- A loop that looks for an element that passes a test
+-- ---- A loop that searches an element that passes a test
 
 pub any_found :
     {A : Type 0} (f : A → Bool) (xs : List A) (i : ℕ) (x : A) → i < length xs → x ≡ get_or xs i x → list_any f xs ≡ list_any f (drop i xs) → f x ≡ true

@@ -9,7 +9,7 @@ use Rattle.fb_why.specs.declared.cause.Flaw.{Flaw}
 use Rattle.fb_why.specs.declared.spot.Finding.{Finding}
 use Rattle.fb_why.specs.declared.spot.Spot.{Spot}
 
--- what is found at a place
+-- what is found at a location
 pub told_at :
     {E : Type 0} (made : Result (Option Finding) E) (place : Spot) (N : Type 0) (P : Spot → Type 0) → IfOk made (IsFoundAt place) → P place
     → IfOk made (λ o. MatchOption o N (λ r. P r.place))
@@ -17,7 +17,7 @@ told_at (Err e) place N P said holds = tt
 told_at (Ok None) place N P said holds = absurd said
 told_at (Ok (Some r)) place N P said holds = subst P (sym said) holds
 
--- a place, none, or one of the two, where it is known what is refused
+-- a location, none, or one of the two, if it is known what is refused
 pub some_by :
     {T : Type 0} (f g : Flaw) (library : Library) (plan : Plan) (spot : T → Spot) (found : Option T) (place : T) → f ≡ g → found ≡ Some place
     → MatchOption found (AppliesNowhere g library plan) (λ p. AppliesAt g library plan (spot p)) → AppliesAt f library plan (spot place)

@@ -42,7 +42,7 @@ any_by p (y ∷ ys) x c h =
       | inr rest ↦ ap (λ b. p y || b) (any_by p ys x rest h) ∙ (elim (p y) as (λ b. (b || true) ≡ true) [ true ↦ refl | false ↦ refl ])
     ]
 
--- a link that stands before another one
+-- a link that is before another one
 pub link_pair_at :
     (ls : List Link) (k j : ℕ) (l : Link) (from to : Name) → k < length ls → l ≡ get_or ls k l → from ≡ l.from → to ≡ l.to
     → position (is_joining from to) (take k ls) ≡ Some j → IsPair (map link_ends ls) (j, k)
@@ -60,7 +60,7 @@ link_pair_at ls k j l from to within is f t h =
       again = slice_get-map link_ends ls k ∙ ap (option_map link_ends) (at_hand ls k l within is);
     }
 
--- one link more, which does not stand before
+-- one link more, which is not there before
 pub link_once :
     (ls : List Link) (k : ℕ) (l : Link) (from to : Name) → k < length ls → l ≡ get_or ls k l → from ≡ l.from → to ≡ l.to
     → position (is_joining from to) (take k ls) ≡ None → ¬ (Twice (map link_ends (take k ls))) → ¬ (Twice (map link_ends (take (k + 1) ls)))

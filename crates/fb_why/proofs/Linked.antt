@@ -1,4 +1,4 @@
--- Connections that have a link, and such that have none.
+-- Connections that have a link, and connections without one.
 use Rattle.std.proofs.Common.{◌≡◌, ◌≢◌, ◌||◌, ℕ, true, false, List, [], Some, None, Contains, refl, sym, ◌∙◌, ap, subst, inl, inr, arith}
 use Rattle.std.specs.Prelude.{nat_eq, slice_get, option_map, is_some}
 use Rattle.std.specs.List.{list_any, list_all}
@@ -33,7 +33,7 @@ apart plan r s h =
       )
     ] refl h
 
--- and such are not linked
+-- and these are not linked
 not_linked : (plan : Plan) (r s : ℕ) → r ≢ s → link_between plan r s ≡ None → are_linked plan r s ≡ true → ⊥
 not_linked plan r s cut none h =
     let joining = is_joining (name_of_resource plan r) (name_of_resource plan s) in
@@ -57,7 +57,7 @@ unlinked_at plan cs ds k same f =
       none = a.1;
     }
 
--- where each connection is linked, none of their pairs lacks a link
+-- if each connection is linked, none of their pairs lacks a link
 linked_pairs :
     (plan : Plan) (cs ds : List Connection) (p : Port × Port) → cs ≡ ds → list_all (is_linked plan) cs ≡ true → Contains (pairs_in [] ds) p → IsCut plan p
     → link_between plan (resource_of plan p.0.at) (resource_of plan p.1.at) ≡ None → ⊥

@@ -38,7 +38,7 @@ all_listed ns is once all = record {
       (sym (listed_any ns i) ∙ All-contains (λ (y : Instance). is_listed ns y ≡ true) is i (AllPass-from_list_all (is_listed ns) is all) c);
 }
 
--- where all are listed, all are mapped
+-- if all are listed, all are mapped
 pub none_unmapped : (lib : Library) (plan : Plan) → AllListed (mapped lib plan) lib.application.network.instances → ¬ (NotMapped lib plan)
 none_unmapped lib plan all (inl w) = w.2 (all.listed w.0 w.1)
 none_unmapped lib plan all (inr t) = all.once t

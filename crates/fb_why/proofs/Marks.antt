@@ -1,4 +1,4 @@
--- Marks of block types by names: what is marked after so many rounds leads as many steps down.
+-- Marks of block types by name: what is marked after a number of rounds leads that number of steps down.
 use Rattle.std.proofs.Common.{◌≡◌, ℕ, zero, suc, ◌+◌, Bool, true, false, cond, List, [], ◌∷◌, map, Option, Some, None, Contains, refl, sym, ◌∙◌, ap, subst, inl, inr, arith}
 use Rattle.std.specs.Prelude.{All, slice_get, option_map, option_and_then, position, unwrap_or, is_some}
 use Rattle.std.specs.Bool.{Decides}
@@ -21,7 +21,7 @@ use Rattle.fb_types.proofs.ListTests.{passes_somewhere}
 use Rattle.fb_why_kinds.proofs.Typed.{declared_type, event_type}
 use Rattle.fb_why.proofs.Served.{Contains-any}
 
--- ---- Places
+-- ---- Indices
 
 pub position_at : {X : Type 0} (p : X → Bool) (xs : List X) (i : ℕ) → position p xs ≡ Some i → (x : X) × (slice_get xs i ≡ Some x) × (p x ≡ true)
 position_at p [] i h = absurd (cc)
@@ -72,11 +72,11 @@ place_answer lib bs n r all none found =
 
 -- ---- Marks
 
--- Some composite type stands so many steps below.
+-- Some composite type is this number of steps below.
 abbrev pub Leads : Library → ℕ → CompositeType → Type 0
 Leads lib steps t = (u : CompositeType) × Descends lib steps t u
 
--- A composite type is marked exactly where so many steps lead down from it, and no other type is.
+-- A composite type is marked exactly if this number of steps leads down from it, and no other type is.
 abbrev pub MarkOf : Library → ℕ → Option BlockType → Bool → Type 0
 MarkOf lib steps None b = b ≡ false
 MarkOf lib steps (Some (block.Basic t)) b = b ≡ false
@@ -103,7 +103,7 @@ mark_from_leads lib steps (Some (block.Composite t)) b is w =
     let same : t ≡ w.0 = let e = w.1 in cc in
     is.1 (subst (λ (m : CompositeType). Leads lib steps m) (sym same) w.2)
 
--- whether there is a mark at the place, if there is a place
+-- whether there is a mark at the index, if there is an index
 abbrev marked_there : List Bool → Option ℕ → Bool
 marked_there marks p = elim p [ None ↦ false | Some k ↦ unwrap_or (slice_get marks k) false ]
 
@@ -145,7 +145,7 @@ marked_from_leads lib steps marks i are w =
 
 -- ---- A round
 
--- a composite type holds a marked one exactly where one more step leads down
+-- a composite type contains a marked one exactly if one more step leads down
 holds-Decides :
     (lib : Library) (steps : ℕ) (marks : List Bool) (t : CompositeType) → AreMarks lib steps marks
     → Decides (holds_marked lib marks (block.Composite t)) (Leads lib (suc steps) t)
@@ -196,9 +196,9 @@ marks_more lib n marks seen more h same e =
 pub marks_done : (lib : Library) (n m : ℕ) (marks : List Bool) → marks ≡ marks_after n lib → n ≡ m → marks ≡ marks_after m lib
 marks_done lib n m marks h e = h ∙ ap (λ n. marks_after n lib) e
 
--- ---- Types that hold themselves
+-- ---- Types that contain themselves
 
--- from a type that leads to one that holds itself any number of steps lead down
+-- from a type that leads to one that contains itself, any number of steps leads down
 around :
     (lib : Library) (n : ℕ) (t : CompositeType) → Descends lib (suc n) t t → (steps left : ℕ) (m : CompositeType) → Descends lib left m t → Leads lib steps m
 around lib n t cycle zero left m d = (m, refl)
@@ -207,7 +207,7 @@ around lib n t cycle (suc steps) zero m d =
     let r = around lib n t cycle steps n cycle.0 cycle.2 in
     (r.0, (cycle.0, subst (λ (x : CompositeType). Holds lib x cycle.0) (sym d) cycle.1, r.1))
 
--- ---- The answer
+-- ---- The result
 
 pub right_after : (lib : Library) (marks : List Bool) → marks ≡ marks_after 15 lib → AreMarks lib 15 marks
 right_after lib marks after = subst (λ (ms : List Bool). AreMarks lib 15 ms) (sym after) (marks_right lib 15)

@@ -116,7 +116,7 @@ Twice-cases (x ∷ xs) ys t =
       ]
     ]
 
--- whether a name stands twice
+-- whether a name occurs twice
 unfoldable repeats : List Name → Bool
 repeats [] = false
 repeats (n ∷ ns) = list_any (same_name n) ns || repeats ns

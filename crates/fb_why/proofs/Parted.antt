@@ -49,7 +49,7 @@ Twice-map : {A B : Type 0} (f : A → B) (xs : List A) → Twice xs → Twice (m
 Twice-map f [] t = absurd t
 Twice-map f (x ∷ xs) t = elim t [ inl c ↦ inl (Contains-map f xs x c) | inr rest ↦ inr (Twice-map f xs rest) ]
 
--- where a connection leads, beside none
+-- where a connection leads, paired with none
 abbrev beside_none : Port → Port × Port
 beside_none p = (record { at = []; name = [] }, p)
 

@@ -32,7 +32,7 @@ excess_told excess text bytes given library plan rows (Ok None) read planned fed
     inl (record { library = library; plan = plan; list = rows; read = read; planned = planned; listed = fed; nowhere = holds })
 excess_told excess text bytes given library plan rows (Ok (Some r)) read planned fed holds = record { library = library; list = rows; read = read; listed = fed; applies = holds }
 
--- a declaration that can't be read, and is not refused for want of memory
+-- a declaration that can't be read, if memory did not run out
 pub unread_told :
     {E : Type 0} (made : Result (Option Finding) E) (F N : Type 0) (T : Finding → Type 0) → IfOk made (λ o. (o ≡ None) × F) → (F → N) → IfOk made (λ o. MatchOption o N T)
 unread_told (Err e) F N T said so = tt

@@ -1,4 +1,4 @@
--- Data connections that an event serves, and such that none does.
+-- Data connections that an event serves, and those that none serves.
 use Rattle.std.proofs.Common.{◌≡◌, ◌||◌, ◌&&◌, ℕ, Bool, true, false, List, [], ◌∷◌, Option, Some, None, Contains, refl, sym, ◌∙◌, ap, subst, inl, inr, arith}
 use Rattle.std.specs.Prelude.{nat_eq, slice_get, option_map, MatchOption}
 use Rattle.std.specs.List.{list_any, list_all}

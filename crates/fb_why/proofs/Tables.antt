@@ -1,4 +1,4 @@
--- A table of what was seen so far, with the place of each.
+-- A table of what was seen so far, with the index of each.
 use Rattle.std.proofs.Common.{◌≡◌, ℕ, ◌<◌, ◌+◌, true, false, cond, List, [], ◌∷◌, ◌++◌, length, map, take, drop, get_or, Option, Some, None, Contains, Ordering, refl, sym, ◌∙◌, ap, subst, inl, inr, arith}
 use Rattle.std.specs.Prelude.{slice_get}
 use Rattle.std.specs.Ordering.{is_eq}
@@ -16,7 +16,7 @@ use Rattle.fb_types.proofs.Elements.{Contains-nil}
 use Rattle.fb_check_names.proofs.Seen.{IsExact}
 use Rattle.fb_why.specs.Pairs.{IsPair}
 
--- ---- Places in longer lists
+-- ---- Indices in longer lists
 
 longer : {A : Type 0} (xs zs : List A) (r : ℕ × ℕ) → IsPair xs r → IsPair (xs ++ zs) r
 longer xs zs r p = record {

@@ -19,7 +19,7 @@ pub answers : {T E : Type 0} (P Q : T → Type 0) (r : Result T E) → ((x : T) 
 answers P Q (Ok x) gives h = gives x h
 answers P Q (Err e) gives h = h
 
--- ---- One least fault alone
+-- ---- There is only one least fault
 
 one_least : (m n : ℕ) (lib : Library) (plan : Plan) (stimuli : List Stimulus) → IsLeastFault m lib plan stimuli → IsLeastFault n lib plan stimuli → ¬ (m ≡ n) → ⊥
 one_least m n lib plan stimuli here there apart =

@@ -1,4 +1,4 @@
--- What is told of a place is what makes its number apply.
+-- What is reported of a location makes its number apply.
 use Rattle.fb_types.specs.Repeated.{NameTwice}
 use Rattle.fb_types.specs.Joined.{TwoSources, TooHigh}
 use Rattle.fb_types.specs.Mapped.{NotMapped, NoLink, NoEvent}

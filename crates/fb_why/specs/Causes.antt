@@ -9,7 +9,7 @@ use Rattle.fb_why.specs.declared.cause.Excess.TheVariants as excess
 use Rattle.fb_why.specs.declared.cause.Flaw.{Flaw}
 use Rattle.fb_why.specs.declared.cause.Flaw.TheVariants as flaw
 
--- What a text is refused for has this number. Want of memory has none.
+-- The number of the refusal of a text. Memory has none.
 abbrev pub text_number : ReadError → Option ℕ
 text_number read.Memory = None
 text_number read.Byte = Some 1

@@ -1,4 +1,4 @@
--- Where a refusal applies, of the bytes that were given (this project's own).
+-- Where a refusal applies to the bytes that were given (this project's own).
 use Rattle.std.specs.Prelude.{◌≡◌, ◌≢◌, ◌⊎◌, ℕ, List, Option, Some, None, Ok, Err, [], IfSome, MatchOption}
 use Rattle.fb_inputs.specs.Deployments.{deploy_of}
 use Rattle.fb_inputs.specs.Stimuli as inputs
@@ -48,7 +48,7 @@ use Rattle.fb_why_kinds.specs.Misjoins.{IsMisjoinedAt}
 
 -- ---- What is found
 
--- it is found at this place
+-- it is found at this location
 abbrev pub IsFoundAt : Spot → Option Finding → Type 0
 IsFoundAt place o = MatchOption o ⊥ (λ f. f.place ≡ place)
 
@@ -58,7 +58,7 @@ IsFoundAt place o = MatchOption o ⊥ (λ f. f.place ≡ place)
 abbrev pub IsNoText : List ℕ → Type 0
 IsNoText text = (library : Library) → IsLibraryText text library → ⊥
 
--- the plan of a deployment: where none is given, one resource that holds every instance
+-- the plan of a deployment: if none is given, one resource that holds every instance
 abbrev pub IsPlan : Option (List ℕ) → Plan → Type 0
 IsPlan None plan = plan ≡ single
 IsPlan (Some bytes) plan = deploy_of bytes ≡ Ok plan
@@ -70,7 +70,7 @@ IsNoPlan (Some bytes) = (n : ℕ) × (deploy_of bytes ≡ Err n)
 
 -- ---- A declaration and a deployment that are read
 
--- The refusal applies at this place.
+-- The refusal applies at this location.
 abbrev pub AppliesAt : Flaw → Library → Plan → Spot → Type 0
 AppliesAt flaw.Twice lib plan (spot.Twice p) = IsTwiceAt lib plan p
 AppliesAt flaw.Unknown lib plan (spot.Unknown p) = IsUnknownAt lib plan p
@@ -95,7 +95,7 @@ AppliesNowhere flaw.Unmapped lib plan = ¬ (NotMapped lib plan)
 AppliesNowhere flaw.Unlinked lib plan = ¬ (NoLink lib plan)
 AppliesNowhere flaw.Unserved lib plan = ¬ (NoEvent lib plan)
 
--- They were read, and the refusal applies to them at this place.
+-- They were read, and the refusal applies to them at this location.
 pub record TellsFlaw (flaw : Flaw) (declaration : List ℕ) (deploy : Option (List ℕ)) (place : Spot) : Type 0 where
   pub library : Library
   pub plan : Plan
@@ -117,41 +117,41 @@ HasNoFlaw flaw declaration deploy = IsFlawless flaw declaration deploy ⊎ IsNoT
 
 -- ---- The text of the declaration
 
--- A fault of the text has this number, and applies at this place.
+-- A fault of the text has this number, and applies at this location.
 abbrev pub TellsText : (number : ℕ) → (declaration : List ℕ) → Spot → Type 0
 TellsText number declaration (spot.Text p) = (fault : ReadError) × (text_number fault ≡ Some number) × TellsFault declaration fault p
 TellsText number declaration _ = ⊥
 
 -- ---- The bytes of the deployment and of the stimuli
 
--- What is told has this number, and is wrong at the place.
+-- What is reported has this number, and is wrong at the location.
 abbrev pub IsDeploymentSpot : (number : ℕ) → (bytes : List ℕ) → Spot → Type 0
 IsDeploymentSpot number bytes (spot.Deployment p) = (tables.number_of p ≡ number) × tables.IsFaultAt bytes p
 IsDeploymentSpot number bytes _ = ⊥
 
--- The stimuli are refused by this number, for what is told of the place.
+-- The stimuli are refused with this number, for what is reported of the location.
 abbrev pub IsStimuliSpot : (number : ℕ) → (bytes : List ℕ) → Spot → Type 0
 IsStimuliSpot number bytes (spot.Stimuli p) = (rows.number_of p ≡ number) × rows.IsRefusedAt bytes p
 IsStimuliSpot number bytes _ = ⊥
 
--- The deployment is there, and what has this number is wrong at the place.
+-- The deployment is given, and what has this number is wrong at the location.
 abbrev pub TellsDeployment : (number : ℕ) → Option (List ℕ) → Spot → Type 0
 TellsDeployment number deploy place = (bytes : List ℕ) × (deploy ≡ Some bytes) × IsDeploymentSpot number bytes place
 
--- The stimuli are there, and refused by this number for what is told of the place.
+-- The stimuli are given, and refused with this number for what is reported of the location.
 abbrev pub TellsStimuli : (number : ℕ) → Option (List ℕ) → Spot → Type 0
 TellsStimuli number stimuli place = (bytes : List ℕ) × (stimuli ≡ Some bytes) × IsStimuliSpot number bytes place
 
 abbrev pub TellsBytes : (number : ℕ) → (deploy stimuli : Option (List ℕ)) → Spot → Type 0
 TellsBytes number deploy stimuli place = TellsDeployment number deploy place ⊎ TellsStimuli number stimuli place
 
--- Something is wrong with the deployment at a place, and has another number.
+-- Something is wrong with the deployment at a location, and has another number.
 pub record HasOtherFault (number : ℕ) (bytes : List ℕ) : Type 0 where
   pub place : DeployPlace
   pub differs : tables.number_of place ≢ number
   pub fault : tables.IsFaultAt bytes place
 
--- The stimuli are refused by another number, for what is wrong at a place.
+-- The stimuli are refused with another number, for what is wrong at a location.
 pub record AreRefusedOtherwise (number : ℕ) (bytes : List ℕ) : Type 0 where
   pub place : StimuliPlace
   pub differs : rows.number_of place ≢ number
@@ -161,17 +161,17 @@ pub record AreRefusedOtherwise (number : ℕ) (bytes : List ℕ) : Type 0 where
 abbrev pub IsSilentOfDeployment : (number : ℕ) → (bytes : List ℕ) → Type 0
 IsSilentOfDeployment number bytes = IsShaped bytes ⊎ HasOtherFault number bytes
 
--- The stimuli are taken, or refused by another number.
+-- The stimuli are accepted, or refused with another number.
 abbrev pub IsSilentOfStimuli : (number : ℕ) → (bytes : List ℕ) → Type 0
 IsSilentOfStimuli number bytes = AreTaken bytes ⊎ AreRefusedOtherwise number bytes
 
--- It is so of the deployment and of the stimuli, of each where it is there.
+-- The same for the deployment and for the stimuli, for each that is given.
 abbrev pub IsSilentOfBytes : (number : ℕ) → (deploy stimuli : Option (List ℕ)) → Type 0
 IsSilentOfBytes number deploy stimuli = IfSome deploy (IsSilentOfDeployment number) × IfSome stimuli (IsSilentOfStimuli number)
 
 -- ---- With the stimuli
 
--- The stimuli: where none are given, there are none.
+-- The stimuli: if none are given, there are none.
 abbrev pub AreStimuli : Option (List ℕ) → List Stimulus → Type 0
 AreStimuli None stimuli = stimuli ≡ []
 AreStimuli (Some bytes) stimuli = inputs.stimuli_of bytes ≡ Ok stimuli
@@ -181,7 +181,7 @@ abbrev pub AreNoStimuli : Option (List ℕ) → Type 0
 AreNoStimuli None = ⊥
 AreNoStimuli (Some bytes) = (n : ℕ) × (inputs.stimuli_of bytes ≡ Err n)
 
--- The refusal applies at this place.
+-- The refusal applies at this location.
 abbrev pub ExceedsAt : Excess → Library → List Stimulus → Spot → Type 0
 ExceedsAt excess.Stimulus lib stimuli (spot.Stimulus p) = IsBadAt lib stimuli p
 ExceedsAt excess.Limit lib stimuli (spot.Limit l) = IsOver lib stimuli l
@@ -191,7 +191,7 @@ ExceedsAt _ lib stimuli _ = ⊥
 abbrev pub ExceedsNowhere : Excess → Library → Plan → List Stimulus → Type 0
 ExceedsNowhere excess lib plan stimuli = ¬ (IsLeastFault (excess_number excess) lib plan stimuli)
 
--- All were read, and the refusal applies to them at this place.
+-- All were read, and the refusal applies to them at this location.
 pub record TellsExcess (excess : Excess) (declaration : List ℕ) (deploy stimuli : Option (List ℕ)) (place : Spot) : Type 0 where
   pub library : Library
   pub list : List Stimulus
@@ -216,7 +216,7 @@ HasNoExcess excess declaration deploy stimuli =
 
 -- ---- By the number
 
--- What is refused by this number applies at this place.
+-- What is refused with this number applies at this location.
 abbrev pub TellsOf : Cause → (number : ℕ) → (declaration : List ℕ) → (deploy stimuli : Option (List ℕ)) → Spot → Type 0
 TellsOf cause.Text number declaration deploy stimuli place = TellsText number declaration place
 TellsOf cause.Bytes number declaration deploy stimuli place = TellsBytes number deploy stimuli place
@@ -224,8 +224,8 @@ TellsOf (cause.Flaw flaw) number declaration deploy stimuli place = TellsFlaw fl
 TellsOf (cause.Excess excess) number declaration deploy stimuli place = TellsExcess excess declaration deploy stimuli place
 TellsOf cause.Other number declaration deploy stimuli place = ⊥
 
--- Nothing is told where that does not apply, or where something can't be read or is refused by another number. Of a text it may be so
--- wherever the place is hard to find.
+-- Nothing is reported if the refusal does not apply, or if something can't be read or is refused with another number. For
+-- a text, nothing may be reported in any case in which the location is hard to find.
 abbrev pub IsSilentOf : Cause → (number : ℕ) → (declaration : List ℕ) → (deploy stimuli : Option (List ℕ)) → Type 0
 IsSilentOf cause.Text number declaration deploy stimuli = Unit {0}
 IsSilentOf cause.Bytes number declaration deploy stimuli = IsSilentOfBytes number deploy stimuli
@@ -233,10 +233,10 @@ IsSilentOf (cause.Flaw flaw) number declaration deploy stimuli = HasNoFlaw flaw 
 IsSilentOf (cause.Excess excess) number declaration deploy stimuli = HasNoExcess excess declaration deploy stimuli
 IsSilentOf cause.Other number declaration deploy stimuli = Unit {0}
 
--- The refusal of this number applies at this place.
+-- The refusal with this number applies at this location.
 abbrev pub Tells : (declaration : List ℕ) → (deploy stimuli : Option (List ℕ)) → (number : ℕ) → Spot → Type 0
 Tells declaration deploy stimuli number place = (cause : Cause) × IsCause number cause × TellsOf cause number declaration deploy stimuli place
 
--- No place is told.
+-- No location is reported.
 abbrev pub IsSilent : (declaration : List ℕ) → (deploy stimuli : Option (List ℕ)) → (number : ℕ) → Type 0
 IsSilent declaration deploy stimuli number = (cause : Cause) × IsCause number cause × IsSilentOf cause number declaration deploy stimuli

@@ -1,4 +1,4 @@
--- What stands twice in a list, by its places.
+-- What is in a list twice, by its indices.
 use Rattle.std.specs.Prelude.{◌≡◌, ◌<◌, ℕ, Bool, List, [], Option, Some, MatchOption, cond, slice_get}
 use Rattle.std.specs.Borrow.{Bor}
 use Rattle.fb_types.specs.Names.{Name, Port}
@@ -7,30 +7,31 @@ use Rattle.fb_types.specs.Repeated.{Twice}
 use Rattle.fb_types.specs.declared.library.Connection.{Connection}
 use Rattle.fb_check_names.specs.Ends.{end_port}
 
--- The same stands at both places, the earlier one first.
+-- The same item is at both indices, the earlier one first.
 pub record IsPair {A : Type 0} (xs : List A) (places : ℕ × ℕ) : Type 0 where
   pub in_order : places.0 < places.1
   pub what : A
   pub first : slice_get xs places.0 ≡ Some what
   pub again : slice_get xs places.1 ≡ Some what
 
--- a pair, or none where nothing stands twice
+-- a pair, or none if nothing is there twice
 abbrev pub Paired : {A : Type 0} → List A → Option (ℕ × ℕ) → Type 0
 Paired xs o = MatchOption o (¬ (Twice xs)) (IsPair xs)
 
 -- ---- Connections
 
--- the names at both ends: where a connection begins the component, if there is one, and the port, and so where it leads
+-- the names at both ends of a connection: of its beginning the component, if there is one, and the port, and the same of
+-- its end
 abbrev pub Key : Type 0
 Key = Option (Bor Name) × Bor Name × Option (Bor Name) × Bor Name
 
--- the two ports for which they stand
+-- the two ports that they stand for
 abbrev pub key_ports : Key → Port × Port
 key_ports k = (end_port (k.0, k.1), end_port (k.2, k.3))
 
 abbrev nowhere : Port
 nowhere = record { at = []; name = [] }
 
--- what connections are compared by: both ends, or where they lead alone
+-- what connections are compared by: both ends, or only where they lead
 abbrev pub compared : Bool → Connection → Port × Port
 compared both c = (cond both (port_in [] c.from) nowhere, port_in [] c.to)

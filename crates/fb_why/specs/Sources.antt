@@ -27,7 +27,7 @@ abbrev pub IsJoinedInside : BlockType → ℕ × ℕ → Type 0
 IsJoinedInside (block.Basic t) r = ⊥
 IsJoinedInside (block.Composite t) r = IsPair (targets t.network.data_connections) r
 
--- the block type at the place has two such connections
+-- the block type at the index has two such connections
 abbrev pub IsJoinedIn : List BlockType → (place : ℕ) → ℕ × ℕ → Type 0
 IsJoinedIn ts k r = (t : BlockType) × (slice_get ts k ≡ Some t) × IsJoinedInside t r
 

@@ -1,4 +1,5 @@
--- Stimuli that an application can't take, and limits (E29, E30): the place, and what is wrong there (this project's profile).
+-- Stimuli that an application can't take, and limits (E29, E30): the location, and what is wrong there (this project's
+-- profile).
 use Rattle.std.specs.Prelude.{◌≡◌, ◌⊎◌, ◌<◌, ℕ, List, [], ◌∷◌, length, false, true, Some, None, Contains, slice_get}
 use Rattle.fb_types.specs.Blocks.{Kind, ports_of, is_event_input, inputs_with}
 use Rattle.fb_types.specs.Flat.{paths_of, source_of}
@@ -15,7 +16,7 @@ use Rattle.fb_why.specs.declared.place.StimulusPlace.{StimulusPlace}
 
 -- ---- A stimulus
 
--- The variable goes WITH the event, no connection leads to it, and its type holds the value.
+-- The variable goes WITH the event, no connection leads to it, and its type contains the value.
 pub record Fits (lib : Library) (s : Stimulus) (kind : Kind) (x : Setting) : Type 0 where
   pub with_event : Contains (inputs_with (ports_of kind) s.event) x.variable
   pub unconnected : source_of lib (record { at = s.instance ∷ []; name = x.variable }) ≡ None
@@ -29,7 +30,7 @@ HasNoEvent lib s = (kind_of_stimulus lib s ≡ None) ⊎ ((kind : Kind) × (kind
 abbrev pub IsUnfit : Library → Stimulus → Setting → Type 0
 IsUnfit lib s x = (kind : Kind) × (kind_of_stimulus lib s ≡ Some kind) × ¬ (Fits lib s kind x)
 
--- Such a setting stands at this place.
+-- Such a setting is at this index.
 abbrev pub HasUnfit : Library → Stimulus → ℕ → Type 0
 HasUnfit lib s k = (x : Setting) × (slice_get s.settings k ≡ Some x) × IsUnfit lib s x
 
@@ -39,7 +40,7 @@ IsBad lib s fault.Event = HasNoEvent lib s
 IsBad lib s (fault.Setting k) = HasUnfit lib s k
 IsBad lib s fault.Twice = ¬ (¬ (Twice (set_names s)))
 
--- The stimulus stands there, and this is wrong with it.
+-- The stimulus is there, and this is wrong with it.
 abbrev pub IsBadAt : Library → List Stimulus → StimulusPlace → Type 0
 IsBadAt lib stimuli p = (s : Stimulus) × (slice_get stimuli p.row ≡ Some s) × IsBad lib s p.fault
 

@@ -27,7 +27,7 @@ use Rattle.fb_why.specs.declared.twice.GivenTwice.TheVariants as given
 abbrev pub parameter_names : Instance → List Name
 parameter_names i = map (λ x. x.name) i.parameters
 
--- the instance at the place gives a parameter twice
+-- the instance at the index gives a parameter twice
 abbrev pub IsParameterTwice : List Instance → (place : ℕ) → ℕ × ℕ → Type 0
 IsParameterTwice is k r = (i : Instance) × (slice_get is k ≡ Some i) × IsPair (parameter_names i) r
 
@@ -38,7 +38,7 @@ IsTwiceInNetwork net (network.Connection r) = IsPair (event_pairs net) r
 
 -- ---- Block types
 
--- the event at the place has a variable twice in its WITH list
+-- the event at the index has a variable twice in its WITH list
 abbrev pub IsWithTwice : List EventPort → (place : ℕ) → ℕ × ℕ → Type 0
 IsWithTwice es k r = (e : EventPort) × (slice_get es k ≡ Some e) × IsPair e.with r
 
@@ -55,17 +55,17 @@ IsTwiceInBlock (block.Basic t) b = IsTwiceInPorts t.ports t.internals b
 IsTwiceInBlock (block.Composite t) (Inside n) = IsTwiceInNetwork t.network n
 IsTwiceInBlock (block.Composite t) b = IsTwiceInPorts t.ports [] b
 
--- the block type at the place gives something twice
+-- the block type at the index gives something twice
 abbrev pub IsTwiceInSome : List BlockType → (place : ℕ) → InBlock → Type 0
 IsTwiceInSome ts k b = (t : BlockType) × (slice_get ts k ≡ Some t) × IsTwiceInBlock t b
 
 -- ---- A declaration and a deployment
 
--- the name is no event block's
+-- the name is not that of an event block
 abbrev pub is_own_name : BlockType → Bool
 is_own_name t = not (is_some (event_block_named (type_name t)))
 
--- the block type at the place has the name of an event block
+-- the block type at the index has the name of an event block
 abbrev pub IsEventBlock : List BlockType → (place : ℕ) → Type 0
 IsEventBlock ts k = (t : BlockType) × (slice_get ts k ≡ Some t) × (is_own_name t ≡ false)
 

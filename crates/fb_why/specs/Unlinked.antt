@@ -18,11 +18,11 @@ is_joining from to l = same_name l.from from && same_name l.to to
 abbrev pub are_linked : Plan → (from to : ℕ) → Bool
 are_linked plan r s = nat_eq r s || list_any (is_joining (name_of_resource plan r) (name_of_resource plan s)) plan.links
 
--- the ends lie in one resource, or there is a link for them
+-- one resource holds both ends, or there is a link for them
 abbrev pub is_linked : Plan → Connection → Bool
 is_linked plan c = are_linked plan (resource_of plan (port_in [] c.from).at) (resource_of plan (port_in [] c.to).at)
 
--- The connection stands there, its ends lie in two resources, and there is no link.
+-- The connection is there, its ends are in two resources, and there is no link.
 pub record IsUnlinked (plan : Plan) (pairs : List (Port × Port)) (k : ℕ) : Type 0 where
   pub stands : Port × Port
   pub found : slice_get pairs k ≡ Some stands

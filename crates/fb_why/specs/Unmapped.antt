@@ -15,7 +15,7 @@ use Rattle.fb_why.specs.declared.unmapped.Unmapped.TheVariants.{Unlisted, Again}
 abbrev pub is_listed : List (Bor Name) → Instance → Bool
 is_listed ns i = list_any (λ n. same_name i.name n.now) ns
 
--- The instance stands at the place, and has none of the names.
+-- The instance is at the index, and has none of the names.
 pub record IsUnlisted (ns : List Name) (is : List Instance) (place : ℕ) : Type 0 where
   pub instance : Instance
   pub stands : slice_get is place ≡ Some instance

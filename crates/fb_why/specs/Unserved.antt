@@ -1,4 +1,5 @@
--- Where no event serves a data connection between two resources (E28; that it needs an event connection beside it is this project's profile).
+-- Where no event serves a data connection between two resources (E28; that it needs a matching event connection is this
+-- project's profile).
 use Rattle.std.specs.Prelude.{◌≡◌, ℕ, Bool, false, ◌&&◌, ◌||◌, nat_eq, [], Option, Some, None, slice_get}
 use Rattle.std.specs.List.{list_any}
 use Rattle.fb_types.specs.Names.{Name, Port, same_path}
@@ -22,20 +23,20 @@ begin_together c d = same_path (port_in [] c.from).at (port_in [] d.from).at
 abbrev pub end_together : Plan → (c d : Connection) → Bool
 end_together plan c d = nat_eq (resource_of plan (port_in [] c.to).at) (resource_of plan (port_in [] d.to).at)
 
--- whether the event comes with the data: from the same block, WITH the variable, to the same resource
+-- whether the event brings the data: from the same block, WITH the variable, to the same resource
 abbrev pub brings : Library → Plan → (d e : Connection) → Bool
 brings lib plan d e =
     begin_together e d && (carries (kind_at lib (port_in [] d.from).at) e.from.port d.from.port && end_together plan e d)
 
--- the ends of a connection lie in one resource
+-- one resource holds both ends of a connection
 abbrev pub is_whole : Plan → Connection → Bool
 is_whole plan d = nat_eq (resource_of plan (port_in [] d.from).at) (resource_of plan (port_in [] d.to).at)
 
--- they do, or an event serves the data connection
+-- one resource holds both ends, or an event serves the data connection
 abbrev pub is_served : Library → Plan → Connection → Bool
 is_served lib plan d = is_whole plan d || list_any (brings lib plan d) lib.application.network.event_connections
 
--- The data connection stands there, its ends lie in two resources, and no event serves it.
+-- The data connection is there, its ends are in two resources, and no event serves it.
 pub record IsUnservedAt (lib : Library) (plan : Plan) (k : ℕ) : Type 0 where
   pub stands : Port × Port
   pub found : slice_get (data_pairs_of lib) k ≡ Some stands

@@ -5,7 +5,7 @@ ghost use Rattle.fb_why.specs.Causes.{IsCause, text_number};
 
 use fb_read::ReadError;
 
-/// What is refused of a declaration and a deployment that are read.
+/// A refusal of a declaration and a deployment that can be read.
 #[derive(Clone, Copy)]
 pub enum Flaw {
     /// Something is given twice (E20).
@@ -14,21 +14,21 @@ pub enum Flaw {
     Unknown,
     /// An expression, a statement or a value is of a wrong kind (E22).
     Misfit,
-    /// A data connection leads to a type that does not hold all values (E23).
+    /// A data connection leads to a type that does not contain all values (E23).
     Misjoin,
     /// Two data connections lead to one port (E24).
     Joined,
-    /// Composite types lie too deep in one another, or in a ring (E25).
+    /// Composite types are nested too deep, or in a circle (E25).
     TooHigh,
     /// An instance is not mapped to one resource (E26).
     Unmapped,
     /// A connection between two resources has no link (E27).
     Unlinked,
-    /// A data connection between two resources goes with no event (E28).
+    /// A data connection between two resources is served by no event (E28).
     Unserved,
 }
 
-/// What is refused of inputs once stimuli are there.
+/// A refusal of inputs with their stimuli.
 #[derive(Clone, Copy)]
 pub enum Excess {
     /// A stimulus does not fit its event input (E29).
@@ -37,7 +37,7 @@ pub enum Excess {
     Limit,
 }
 
-/// What is refused.
+/// What a refusal is about.
 #[derive(Clone, Copy)]
 pub enum Cause {
     /// The text of the declaration (E01 to E05).
@@ -48,11 +48,11 @@ pub enum Cause {
     Flaw(Flaw),
     /// What they say with the stimuli (E29 and E30).
     Excess(Excess),
-    /// What no place is told of.
+    /// No location is reported.
     Other,
 }
 
-/// What the refusal of this number is about.
+/// What the refusal with this number is about.
 pub(crate) fn cause_of(number: u8) -> Cause
     ensures { IsCause number result }
 {
@@ -74,7 +74,7 @@ pub(crate) fn cause_of(number: u8) -> Cause
     }
 }
 
-/// The number of what a text is refused for, from 1 to 5. Want of memory has none.
+/// The number of the refusal of a text, from 1 to 5. `Memory` has none.
 pub(crate) fn text_number(fault: &ReadError) -> Option<u8>
     ensures { result ≡ text_number fault.now }
 {

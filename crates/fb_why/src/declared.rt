@@ -1,4 +1,4 @@
-//! Where a refusal applies to a declaration and a deployment that are read.
+//! Where a refusal applies to a declaration and a deployment that can be read.
 
 ghost use Rattle.std.specs.Prelude.{IfOk, MatchOption};
 ghost use Rattle.fb_types.specs.declared.deploy.Plan.{Plan};
@@ -18,7 +18,7 @@ use fb_types::{Library, Plan};
 use fb_why_kinds::{misfit_place, misjoin_place, unknown_place};
 use std::alloc::{AllocError, Global};
 
-/// Where a data connection leads to a type that does not hold all values.
+/// A data connection that leads to a type that does not contain all values.
 fn misjoin_spot(library: &Library) -> Option<Spot>
     ensures { (plan : Plan) → MatchOption result (AppliesNowhere flaw.Misjoin library.now plan) (AppliesAt flaw.Misjoin library.now plan) }
 {
@@ -28,7 +28,7 @@ fn misjoin_spot(library: &Library) -> Option<Spot>
     }
 }
 
-/// Where a connection between two resources has no link.
+/// A connection between two resources without a link.
 fn unlinked_spot(library: &Library, plan: &Plan) -> Option<Spot>
     ensures { MatchOption result (AppliesNowhere flaw.Unlinked library.now plan.now) (AppliesAt flaw.Unlinked library.now plan.now) }
 {
@@ -38,7 +38,7 @@ fn unlinked_spot(library: &Library, plan: &Plan) -> Option<Spot>
     }
 }
 
-/// Where a data connection between two resources goes with no event.
+/// A data connection between two resources that no event serves.
 fn unserved_spot(library: &Library, plan: &Plan) -> Option<Spot>
     ensures { MatchOption result (AppliesNowhere flaw.Unserved library.now plan.now) (AppliesAt flaw.Unserved library.now plan.now) }
 {
@@ -48,7 +48,7 @@ fn unserved_spot(library: &Library, plan: &Plan) -> Option<Spot>
     }
 }
 
-/// The place at which the refusal applies to a declaration and a deployment.
+/// The location at which the refusal applies to a declaration and a deployment.
 fn spot_in(
     alloc: Global,
     flaw: Flaw,

@@ -8,7 +8,7 @@ ghost use Rattle.fb_why.specs.Explained.{explained};
 
 use crate::table::{Explanation, OF_CHECKS, OF_DECLARATIONS, OF_INPUTS};
 
-// Who looks through a table need not know what its rows say, so each is lent by a function that says their names alone.
+// A search needs only the names in a table. So each table is lent by a function whose contract is about the names only.
 
 fn of_declarations() -> &'static [Explanation]
     ensures { map (λ e. e.name.now) result.now ≡ spec.of_declarations }
@@ -28,7 +28,7 @@ fn of_checks() -> &'static [Explanation]
     &OF_CHECKS
 }
 
-/// The first explanation of the name.
+/// The first explanation with the name.
 fn look_up(table: &[Explanation], name: &[u8]) -> Option<Explanation>
     ensures named { IfSome result (λ e. e.name.now ≡ name.now) }
     ensures found { is_some result ≡ list_any (λ e. same_name e.name.now name.now) table.now }
@@ -41,7 +41,7 @@ fn look_up(table: &[Explanation], name: &[u8]) -> Option<Explanation>
     None
 }
 
-/// The explanation of a refusal by its name in the fault's line, as `E21` or `file fault`.
+/// The explanation of a refusal by its name in the fault's line, such as `E21` or `file fault`.
 pub fn explain(name: &str) -> Option<Explanation>
     ensures named { IfSome result (λ e. e.name.now ≡ name.now) }
     ensures all { is_some result ≡ list_any (λ n. same_name n name.now) explained }

@@ -1,4 +1,4 @@
-//! Where a refusal applies to inputs that are read, stimuli too.
+//! Where a refusal applies to inputs that can be read, with their stimuli.
 
 ghost use Rattle.std.specs.Prelude.{IfOk, MatchOption};
 ghost use Rattle.fb_why.specs.Findings.{ExceedsAt, ExceedsNowhere};
@@ -11,7 +11,7 @@ use crate::tell::{tell_limit, tell_stimulus};
 use fb_types::{Library, Plan, Stimulus};
 use std::alloc::{AllocError, Global};
 
-/// Where the refusal applies to inputs.
+/// Where the refusal applies to the inputs.
 pub fn finding_with(
     alloc: Global,
     excess: Excess,

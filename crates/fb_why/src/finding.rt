@@ -1,5 +1,4 @@
-//! What is found of a refusal: what was read is read once more, and looked through for a place at which the refusal
-//! applies.
+//! Finds where a refusal applies: reads the bytes again, and searches for a location at which the refusal applies.
 
 ghost use Rattle.std.specs.Prelude.{◌≡◌, ℕ, List, Option, None, IfOk, MatchOption, option_map};
 ghost use Rattle.fb_read.specs.Whole.{IsLibraryText, IsMemory};
@@ -16,7 +15,7 @@ use fb_types::{Deploy, Library, Plan, Stimulus};
 use fb_why_bytes::discard::discard;
 use std::alloc::{AllocError, Global};
 
-/// What is told of a declaration that can't be read: nothing, where that is not for want of memory.
+/// The result for a declaration that can't be read: no finding, unless memory ran out.
 fn untold(fault: ReadError) -> Result<Option<Finding>, AllocError>
     ensures { IfOk result (λ o. (o ≡ None) × ¬ (IsMemory fault)) }
 {
@@ -26,7 +25,7 @@ fn untold(fault: ReadError) -> Result<Option<Finding>, AllocError>
     }
 }
 
-/// The deployment that is given, or the one for none, if it is one.
+/// The deployment that is given, or the default one if none is given. `None` if the bytes are refused.
 fn deploy_of(alloc: Global, deploy: Option<&[u8]>) -> Result<Option<Deploy>, AllocError>
     ensures { let given = option_map (λ b. b.now) deploy.entry in IfOk result (λ o. MatchOption o (IsNoPlan given) (IsPlan given)) }
 {
@@ -40,7 +39,7 @@ fn deploy_of(alloc: Global, deploy: Option<&[u8]>) -> Result<Option<Deploy>, All
     }
 }
 
-/// The stimuli that are given, or none for none, if they are some.
+/// The stimuli that are given, or no stimuli if none are given. `None` if the bytes are refused.
 fn stimuli_of(alloc: Global, stimuli: Option<&[u8]>) -> Result<Option<Vec<Stimulus>>, AllocError>
     ensures { let given = option_map (λ b. b.now) stimuli.entry in IfOk result (λ o. MatchOption o (AreNoStimuli given) (λ v. AreStimuli given v.items)) }
 {
@@ -54,7 +53,7 @@ fn stimuli_of(alloc: Global, stimuli: Option<&[u8]>) -> Result<Option<Vec<Stimul
     }
 }
 
-/// Where the refusal applies to a library and to what the bytes of a deployment stand for.
+/// Where the refusal applies to a library and to the deployment in these bytes.
 fn flaw_finding_in(
     alloc: Global,
     flaw: Flaw,
@@ -70,7 +69,7 @@ fn flaw_finding_in(
     finding_in(alloc, flaw, library, deploy.plan())
 }
 
-/// Where the refusal applies to what the bytes of a declaration and a deployment stand for.
+/// Where the refusal applies to the declaration and the deployment in these bytes.
 fn flaw_finding(
     alloc: Global,
     flaw: Flaw,
@@ -89,7 +88,7 @@ fn flaw_finding(
     }
 }
 
-/// Where the refusal applies to a library, a plan and what the bytes of stimuli stand for.
+/// Where the refusal applies to a library, a plan and the stimuli in these bytes.
 fn excess_finding_with(
     alloc: Global,
     excess: Excess,
@@ -106,7 +105,7 @@ fn excess_finding_with(
     finding_with(alloc, excess, library, plan, stimuli.as_slice())
 }
 
-/// Where the refusal applies to a library and to what the bytes of a deployment and of stimuli stand for.
+/// Where the refusal applies to a library and to the deployment and the stimuli in these bytes.
 fn excess_finding_in(
     alloc: Global,
     excess: Excess,
@@ -123,7 +122,7 @@ fn excess_finding_in(
     excess_finding_with(alloc, excess, library, deploy.plan(), stimuli)
 }
 
-/// Where the refusal applies to what all bytes stand for.
+/// Where the refusal applies to the inputs in all bytes.
 fn excess_finding(
     alloc: Global,
     excess: Excess,
@@ -144,7 +143,7 @@ fn excess_finding(
     }
 }
 
-/// Where the refusal of this number applies, which is about the cause.
+/// Where the refusal with this number and this cause applies.
 fn finding_by(
     alloc: Global,
     cause: Cause,
@@ -165,8 +164,12 @@ fn finding_by(
     }
 }
 
-/// Where the refusal of this number applies to the bytes of a declaration, a deployment and stimuli, of which the last
+/// Where the refusal with this number applies to the bytes of a declaration, a deployment and stimuli, of which the last
 /// two may be missing.
+///
+/// # Errors
+///
+/// When memory runs out.
 pub fn finding_of(
     alloc: Global,
     number: u8,

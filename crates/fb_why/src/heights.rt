@@ -1,4 +1,4 @@
-//! Composite types that hold themselves, or have a height over 16 (E25).
+//! Composite types that contain themselves, or have a height over 16 (E25).
 
 ghost use Rattle.std.specs.Prelude.{◌≡◌, ⊤, IfOk, IsTrue, MatchOption, All, None, Some, map, position, slice_get};
 ghost use Rattle.fb_types.specs.Names.{same_name};
@@ -12,16 +12,16 @@ use fb_check_names::Named;
 use fb_types::{BlockType, Instance, Library, Name, kind_named};
 use std::alloc::{AllocError, Global};
 
-/// How many steps may lead down from a composite type. One that holds no composite type has height 1, and a height may
-/// be 16. So an instance from whose type as many lead down makes its holder too high.
+/// The number of steps below an instance's type from which its holder is too high. A composite type that contains no
+/// composite type has height 1, and the greatest height is 16.
 const MOST_STEPS: usize = 15;
 
-/// A composite type and an instance inside it, by their places, through which it leads too far down.
+/// A composite type and an instance inside it that makes it too high, by their indices.
 #[derive(Clone, Copy)]
 pub enum Descent {
-    /// It leads to itself.
+    /// The type contains itself.
     Circle(usize, usize),
-    /// It has a height over 16.
+    /// The type has a height over 16.
     Height(usize, usize),
 }
 
@@ -36,7 +36,7 @@ fn place_among(blocks: &[BlockType], name: &Name) -> Option<usize>
     None
 }
 
-/// The place of the block type for which a name stands.
+/// The index of the block type with a name.
 fn place_of_type(library: &Library, name: &Name) -> Option<usize>
     ensures { result ≡ spec.place_of_type library.now name.now }
 {
@@ -110,8 +110,8 @@ fn mark_again(alloc: Global, library: &Library, marks: &[bool]) -> Result<Vec<bo
     Ok(again)
 }
 
-/// The marks after so many rounds. At first each composite type is marked, and so after a number of rounds each from
-/// which as many steps lead down.
+/// The marks after these rounds. At first each composite type is marked. After n rounds those are marked from which n
+/// steps lead down.
 fn marks_after(alloc: Global, library: &Library, rounds: usize) -> Result<Vec<bool>, AllocError>
     ensures { IfOk result (λ v. v.items ≡ spec.marks_after rounds library.now) }
 {
@@ -122,7 +122,7 @@ fn marks_after(alloc: Global, library: &Library, rounds: usize) -> Result<Vec<bo
     Ok(marks)
 }
 
-/// The first composite type with an instance of a marked type, and this.
+/// The first composite type with an instance of a marked type, and this instance.
 fn first_holder(library: &Library, blocks: &[BlockType], marks: &[bool]) -> Option<(usize, usize)>
     ensures { MatchOption result (All (λ t. spec.marked_in library.now marks.now t ≡ None) blocks.now) (λ r. (t : BlockType) × (slice_get blocks.now r.0 ≡ Some t) × (spec.marked_in library.now marks.now t ≡ Some r.1)) }
 {
@@ -134,7 +134,7 @@ fn first_holder(library: &Library, blocks: &[BlockType], marks: &[bool]) -> Opti
     None
 }
 
-/// The place of the type of an instance inside.
+/// The index of the type of an instance inside a block type.
 fn type_inside(library: &Library, block: &BlockType, instance: usize) -> Option<usize>
     ensures { result ≡ spec.type_inside library.now block.now instance }
 {
@@ -147,7 +147,7 @@ fn type_inside(library: &Library, block: &BlockType, instance: usize) -> Option<
     }
 }
 
-/// The place of the type of the first instance inside a block type that is of a marked type.
+/// The index of the type of the first instance inside a block type that is of a marked type.
 fn below(library: &Library, marks: &[bool], place: usize) -> Option<usize>
     ensures { result ≡ spec.below library.now marks.now place }
 {
@@ -156,8 +156,8 @@ fn below(library: &Library, marks: &[bool], place: usize) -> Option<usize>
     type_inside(library, block, instance)
 }
 
-/// Whether steps to first marked instances lead from the one block type down to the other. So a circle is not found that
-/// is longer than the steps that are tried, or that such a step leaves: its types are told as too high.
+/// Whether steps to first marked instances lead from the one block type down to the other. A circle is not found if it is
+/// longer than the steps that are tried, or if such a step leaves it: its types are reported as too high.
 #[tactic(auto, using(crate::proofs::Circles::leads_itself))]
 fn leads_to(library: &Library, marks: &[bool], from: usize, to: usize) -> bool
     ensures { IsTrue result → spec.LeadsTo library.now from to }
@@ -175,7 +175,7 @@ fn leads_to(library: &Library, marks: &[bool], from: usize, to: usize) -> bool
     false
 }
 
-/// Whether the type of an instance inside the block type leads back to this.
+/// Whether the type of an instance inside the block type leads back to this type.
 fn leads_back(
     library: &Library,
     marks: &[bool],
@@ -191,7 +191,7 @@ fn leads_back(
     }
 }
 
-/// A composite type that holds itself, with the instance through which it does, if one is found.
+/// A composite type that contains itself, with the instance through which it does, if one is found.
 fn first_circle(library: &Library, blocks: &[BlockType], marks: &[bool]) -> Option<(usize, usize)>
     ensures { MatchOption result ⊤ (λ r. spec.IsRound library.now blocks.now marks.now r) }
 {
@@ -219,8 +219,8 @@ fn descent_by(library: &Library, marks: &[bool]) -> Option<Descent>
     }
 }
 
-/// A composite type that holds itself at any depth or has a height over 16, with the instance through which it does, if
-/// there is one.
+/// A composite type that contains itself at any depth or has a height over 16, with the instance through which it does,
+/// if there is one.
 pub(crate) fn too_high_place(
     alloc: Global,
     library: &Library,

@@ -1,23 +1,24 @@
-//! Why inputs are refused: what each refusal means, and the place at which it applies, for the numbers of which one is told.
+//! Explains refusals: what each refusal means, and, for most numbers, a location at which it applies.
 //!
-//! Guarantees to callers: `explanation::explain` has an explanation for each refusal and for nothing else. The place that
-//! `finding::finding_of` tells is one of what the bytes are or declare, and the refusal applies there; of E20 to E28 it tells none
-//! only where the refusal does not apply, or the bytes can't be read; of E29 and E30 only where that is not what the inputs are
-//! refused for. Of the texts nothing is promised.
+//! Guarantees to callers: `explanation::explain` has an explanation for each refusal and for nothing else. The location
+//! that `finding::finding_of` reports is in the bytes or in what they declare, and the refusal applies there. For E20 to
+//! E28 it reports none only if the refusal does not apply or the bytes can't be read; for E29 and E30 only if the inputs
+//! are refused for something else. The wording of the texts is not part of any contract.
 //!
-//! Of these places the crate has itself those for which names, connections and the mapping are looked through:
-//! `twice::twice_place` gives a place at which something is given twice (E20), `sources::joined_place` two data connections that
-//! lead to one port (E24), `heights::too_high_place` a composite type that holds itself or is too high, with the instance through
-//! which it does (E25), `unmapped::unmapped_place` an instance that is not mapped to one resource (E26),
-//! `unlinked::unlinked_place` a connection between two resources that have no link (E27), and `unserved::unserved_place` a data
-//! connection between two resources that no event serves (E28); each gives none exactly where there is no such place.
+//! This crate finds the locations for which names, connections and the mapping are searched: `twice::twice_place`
+//! something that is given twice (E20), `sources::joined_place` two data connections that lead to one port (E24),
+//! `heights::too_high_place` a composite type that contains itself or is too high, with the instance through which it
+//! does (E25), `unmapped::unmapped_place` an instance that is not mapped to one resource (E26),
+//! `unlinked::unlinked_place` a connection between two resources without a link (E27), and `unserved::unserved_place` a
+//! data connection between two resources that no event serves (E28). Each returns `None` exactly if there is no such
+//! location.
 //!
-//! Read in this order: `explanation` and `table`; `cause` and `spot`, what is refused by which number, and where. Then names,
-//! connections and the mapping: `among`, whether a name stands in a list, and `pair`, what stands twice in one; `twice`,
-//! `sources`, `heights`, `unmapped`, `unlinked` and `unserved`; `laws`; the modules `tell_..`, a place as a text. Then stimuli
-//! and limits: `place`, where stimuli don't fit an application, and limits; `verdict`, the least fault; `trial`, by which the
-//! check itself judges a part of a stimulus; `stimulus`, `limit` and `tell`. Then `refused`, `declared` and `fed`, places of
-//! bytes, of what they declare and of stimuli; `finding`, which reads the bytes once more, behind a refusal alone.
+//! Read in this order: `explanation` and `table`; `cause` and `spot`, what each number is about, and where. Then names,
+//! connections and the mapping: `among`, whether a name is in a list, and `pair`, what is in a list twice; `twice`,
+//! `sources`, `heights`, `unmapped`, `unlinked` and `unserved`; `laws`; the modules `tell_..`, a location as text. Then
+//! stimuli and limits: `place`, their locations; `verdict`, the least fault; `trial`, which applies the check to a part
+//! of a stimulus; `stimulus`, `limit` and `tell`. Then `refused`, `declared` and `fed`, locations in bytes, in what they
+//! declare, and in stimuli; `finding`, which reads the bytes again. All of this runs only after a refusal.
 #![tactic(auto)]
 
 mod among;

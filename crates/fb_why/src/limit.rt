@@ -1,4 +1,4 @@
-//! The limits of a check (E30).
+//! The limits on inputs (E30).
 
 ghost use Rattle.std.specs.Prelude.{IfOk, MatchOption};
 ghost use Rattle.fb_types.specs.Accepted.{IsLeastFault};
@@ -9,7 +9,7 @@ use crate::verdict::{has_number, least_fault};
 use fb_types::{Library, MOST_STIMULI, Plan, Stimulus};
 use std::alloc::{AllocError, Global};
 
-/// A limit that the inputs pass, or `None` where that is not what they are refused for.
+/// A limit that the inputs exceed, or `None` if they are refused for something else.
 pub fn limit_place(
     alloc: Global,
     library: &Library,

@@ -1,4 +1,4 @@
-//! The first thing of a list that stood in it before.
+//! Finds the first item of a list that is in it twice.
 
 ghost use Rattle.std.specs.Prelude.{◌≡◌, map, IfOk};
 ghost use Rattle.fb_check_names.specs.Ends.{link_ends};
@@ -12,10 +12,10 @@ use fb_types::{Connection, Link, Name};
 use std::alloc::{AllocError, Global};
 use std::collections::BTreeMap;
 
-/// The places in a list, from 0, of two that are the same, the earlier one first.
+/// The indices of two equal items in a list, the earlier one first.
 pub type Repeat = (usize, usize);
 
-/// The first name that stood before, with the place where it did.
+/// The first name that is in the list before, with both indices.
 pub(crate) fn name_pair(alloc: Global, names: &[&Name]) -> Result<Option<Repeat>, AllocError>
     ensures { IfOk result (Paired (names_in names.now)) }
 {
@@ -28,7 +28,7 @@ pub(crate) fn name_pair(alloc: Global, names: &[&Name]) -> Result<Option<Repeat>
     Ok(None)
 }
 
-/// The same of the names of a list.
+/// The same for the names of the items of a list.
 pub(crate) fn called_pair<T: Named>(
     alloc: Global,
     items: &[T],
@@ -40,10 +40,11 @@ pub(crate) fn called_pair<T: Named>(
     name_pair(alloc, names.as_slice())
 }
 
-/// The names at both ends of a connection: where it begins the component, if there is one, and the port, and so where it leads.
+/// The names at both ends of a connection: the component, if there is one, and the port of its beginning, and the same of
+/// its end.
 type ConnectionNames<'a> = (Option<&'a [u8]>, &'a [u8], Option<&'a [u8]>, &'a [u8]);
 
-/// The names by which two connections are the same: those of both ends, or where they lead alone.
+/// The names by which two connections are compared: those of both ends, or only of the end where they lead.
 fn names_of(connection: &Connection, both: bool) -> ConnectionNames<'_>
     ensures { key_ports result ≡ compared both connection.now }
 {
@@ -55,7 +56,7 @@ fn names_of(connection: &Connection, both: bool) -> ConnectionNames<'_>
     (None, &[], component, port)
 }
 
-/// The first connection that is the same as one before, by both ends or by where they lead alone, with the place of that one.
+/// The first connection that is equal to one before, by both ends or only by where they lead, with both indices.
 pub(crate) fn connection_pair(
     alloc: Global,
     connections: &[Connection],
@@ -72,7 +73,7 @@ pub(crate) fn connection_pair(
     Ok(None)
 }
 
-/// The first connection that leads to the port of one before, with the place of that one.
+/// The first connection that leads to the port of one before, with both indices.
 pub(crate) fn target_pair(
     alloc: Global,
     connections: &[Connection],
@@ -82,8 +83,8 @@ pub(crate) fn target_pair(
     connection_pair(alloc, connections, false)
 }
 
-/// The first link that goes from and to the same resources as one before, with the place of that one. Links are few, so no table is
-/// made of them.
+/// The first link that goes from and to the same resources as one before, with both indices. Links are few, so they are
+/// compared without a table.
 pub(crate) fn link_pair(links: &[Link]) -> Option<Repeat>
     ensures { Paired (map link_ends links.now) result }
 {

@@ -1,28 +1,30 @@
-//! Where stimuli don't fit an application, and limits.
+//! Locations in stimuli, and limits.
 
 /// What is wrong with a stimulus (E29). Settings are counted from 0.
 #[derive(Clone, Copy)]
 pub enum StimulusFault {
     /// It names no event input of an instance of the application.
     Event,
-    /// A variable is set that does not go WITH the event, or to which a connection leads, or whose type does not hold the
-    /// value.
+    /// It sets a variable that does not go WITH the event, to which a connection leads, or whose type does not contain
+    /// the value.
     Setting(usize),
-    /// A variable is set twice.
+    /// It sets a variable twice.
     Twice,
 }
 
 /// A stimulus that the application can't take, counted from 0 (E29).
 #[derive(Clone, Copy)]
 pub struct StimulusPlace {
+    /// The index of the row.
     pub row: usize,
+    /// What is wrong with it.
     pub fault: StimulusFault,
 }
 
-/// A limit of the check (E30).
+/// A limit on inputs (E30).
 #[derive(Clone, Copy)]
 pub enum Limit {
-    /// The instances, components included.
+    /// The number of instances, including components.
     Instances,
     Stimuli,
 }

@@ -14,7 +14,7 @@ use fb_why_bytes::tell_text::tell_text;
 use fb_why_bytes::{deployment_place, stimuli_place};
 use std::alloc::{AllocError, Global};
 
-/// Where the text of a declaration is refused, if that is by this number.
+/// Where the text of a declaration is refused, if its refusal has this number.
 pub fn text_finding(
     alloc: Global,
     number: u8,
@@ -41,7 +41,7 @@ pub fn text_finding(
     }
 }
 
-/// Where the bytes of a deployment are refused, if that is by this number.
+/// Where the bytes of a deployment are refused, if their refusal has this number.
 fn deployment_finding(
     alloc: Global,
     number: u8,
@@ -61,7 +61,7 @@ fn deployment_finding(
     )
 }
 
-/// Where the bytes of stimuli are refused, if that is by this number.
+/// Where the bytes of stimuli are refused, if their refusal has this number.
 fn stimuli_finding(alloc: Global, number: u8, bytes: &[u8]) -> Result<Option<Finding>, AllocError>
     ensures { IfOk result (λ o. MatchOption o (IsSilentOfStimuli number bytes.now) (λ r. IsStimuliSpot number bytes.now r.place)) }
 {
@@ -74,7 +74,7 @@ fn stimuli_finding(alloc: Global, number: u8, bytes: &[u8]) -> Result<Option<Fin
     found(Spot::Stimuli(place), tell_stimuli(alloc, bytes, place))
 }
 
-/// Where the bytes of a deployment that may be given are refused, if that is by this number.
+/// Where the bytes of a deployment, if given, are refused, if their refusal has this number.
 fn deployment_finding_if(
     alloc: Global,
     number: u8,
@@ -89,7 +89,7 @@ fn deployment_finding_if(
     }
 }
 
-/// Where the bytes of stimuli that may be given are refused, if that is by this number.
+/// Where the bytes of stimuli, if given, are refused, if their refusal has this number.
 fn stimuli_finding_if(
     alloc: Global,
     number: u8,
@@ -104,7 +104,7 @@ fn stimuli_finding_if(
     }
 }
 
-/// Where the bytes of a deployment are refused by this number, or those of stimuli.
+/// Where the bytes of a deployment or those of stimuli are refused with this number.
 pub fn bytes_finding(
     alloc: Global,
     number: u8,

@@ -13,7 +13,7 @@ use std::alloc::{AllocError, Global};
 pub enum Joined {
     /// Two of the application.
     Application(Repeat),
-    /// Two of the composite type at this place.
+    /// Two of the composite type at this index.
     Inside(usize, Repeat),
 }
 
@@ -29,7 +29,7 @@ fn joined_inside(alloc: Global, block: &BlockType) -> Result<Option<Repeat>, All
     }
 }
 
-/// The first block type with such connections, and these.
+/// The first block type with such connections, and these connections.
 fn joined_in_blocks(
     alloc: Global,
     blocks: &[BlockType],
@@ -44,7 +44,7 @@ fn joined_in_blocks(
     Ok(None)
 }
 
-/// Two data connections of one network that lead to one port, if there are such.
+/// Two data connections of one network that lead to one port, if there are any.
 pub(crate) fn joined_place(alloc: Global, library: &Library) -> Result<Option<Joined>, AllocError>
     ensures { IfOk result (λ o. MatchOption o (¬ (TwoSources library.now)) (IsJoinedAt library.now)) }
 {

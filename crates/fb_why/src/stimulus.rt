@@ -13,10 +13,10 @@ use fb_check_names::{Catalog, catalog_of};
 use fb_types::{Library, Plan, Stimulus};
 use std::alloc::{AllocError, Global};
 
-/// So many halvings leave one stimulus of as many as there may be.
+/// This number of halvings leaves one stimulus of the most that there may be.
 const HALVINGS: usize = 20;
 
-/// The first setting that can't be made alone, of a stimulus whose event is there.
+/// The first setting that can't be made by itself, of a stimulus whose event exists.
 fn unfit_setting(
     alloc: Global,
     library: &Library,
@@ -59,7 +59,7 @@ fn fault_of(
     }
 }
 
-/// So many stimuli from the front can all be taken. Where others can't, it is no more than a step to the first of those.
+/// A number of stimuli from the front that can all be taken. If others can't, the next one is the first of those.
 fn taken_front(
     alloc: Global,
     library: &Library,
@@ -105,7 +105,7 @@ fn bad_place(
     Ok(None)
 }
 
-/// A stimulus that the application can't take, or `None` where that is not what the inputs are refused for.
+/// A stimulus that the application can't take, or `None` if the inputs are refused for something else.
 pub fn stimulus_place(
     alloc: Global,
     library: &Library,

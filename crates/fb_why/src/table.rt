@@ -1,20 +1,22 @@
 //! What each refusal means, with examples of it and what to look at.
 
-/// What is told of a refusal, or of a file that can't be read.
+/// The explanation of a refusal, or of a fault of a file.
 #[derive(Clone, Copy)]
 pub struct Explanation {
-    /// How it is called in the line of the fault.
+    /// Its name in the line of the fault.
     pub name: &'static str,
+    /// What the refusal means.
     pub meaning: &'static str,
+    /// Two inputs that are refused for it.
     pub examples: [&'static str; 2],
-    /// What to look at.
+    /// What to check.
     pub look: &'static str,
 }
 
-// Three tables, since the proof of the function that lends one costs the square of its text. docs/FORMATS.md shows them one behind the
-// other; `tools/explained.py` compares.
+// Three tables, since the proof of the function that lends one takes time in the square of its text. docs/FORMATS.md
+// shows them one after another; `tools/explained.py` compares.
 
-/// Of what the text of a declaration is refused for.
+/// Refusals of the text of a declaration.
 pub static OF_DECLARATIONS: [Explanation; 5] = [
     Explanation {
         name: "E01",
@@ -63,7 +65,7 @@ pub static OF_DECLARATIONS: [Explanation; 5] = [
     },
 ];
 
-/// Of what a deployment or stimuli are refused for, by themselves.
+/// Refusals of a deployment or stimuli by themselves.
 pub static OF_INPUTS: [Explanation; 7] = [
     Explanation {
         name: "E10",
@@ -130,7 +132,7 @@ pub static OF_INPUTS: [Explanation; 7] = [
     },
 ];
 
-/// Of what the check refuses, and of files.
+/// Refusals of the check, and faults of files.
 pub static OF_CHECKS: [Explanation; 12] = [
     Explanation {
         name: "E20",

@@ -1,11 +1,11 @@
-//! The texts that tell of stimuli that do not fit, and of limits that are passed.
+//! Texts for stimuli that do not fit, and for limits that are exceeded.
 
 use crate::place::{Limit, StimulusFault, StimulusPlace};
 use fb_types::{Connection, Library, Name, Setting, Stimulus};
 use fb_why_kinds::Text;
 use std::alloc::{AllocError, Global};
 
-/// What stands behind a place, as in 1st.
+/// The ending of an ordinal number, as in 1st.
 fn ending(place: usize) -> &'static str {
     match (place % 10, place % 100) {
         (_, 11..=13) => "th",
@@ -16,7 +16,7 @@ fn ending(place: usize) -> &'static str {
     }
 }
 
-/// What is wrong with the stimulus at the place.
+/// Says what is wrong with the stimulus at this location.
 pub fn tell_stimulus(
     alloc: Global,
     library: &Library,
@@ -28,7 +28,7 @@ pub fn tell_stimulus(
     text.into_string()
 }
 
-/// Which limit is passed.
+/// Says which limit is exceeded.
 pub fn tell_limit(alloc: Global, limit: Limit) -> Result<String, AllocError> {
     let mut text = Text::new(alloc);
     text.words(match limit {
@@ -39,7 +39,7 @@ pub fn tell_limit(alloc: Global, limit: Limit) -> Result<String, AllocError> {
 }
 
 fn push_stimulus(text: &mut Text, library: &Library, stimuli: &[Stimulus], place: StimulusPlace) {
-    // Places are counted from 0, and told as 1st for 0.
+    // Rows are counted from 0 in the code, and from 1 in the text.
     let counted = place.row.saturating_add(1);
     text.numbered("stimuli: ", counted as i128);
     text.words(ending(counted));
@@ -104,7 +104,7 @@ fn push_setting(text: &mut Text, library: &Library, stimulus: &Stimulus, setting
     text.words(" has this name and holds this value");
 }
 
-/// Tells the first variable that is set twice.
+/// Adds the first variable that is set twice.
 fn push_twice(text: &mut Text, stimulus: &Stimulus) {
     let settings = stimulus.settings.as_slice();
     for (place, setting) in settings.iter().enumerate() {

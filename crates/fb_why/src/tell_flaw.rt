@@ -1,4 +1,4 @@
-//! The text that tells of a place in a declaration and a deployment (E20 to E28).
+//! The text for a location in a declaration and a deployment (E20 to E28).
 
 use crate::spot::Spot;
 use crate::tell_heights::push_descent;
@@ -12,7 +12,7 @@ use fb_why_kinds::tell_unknown::tell_unknown;
 use fb_why_kinds::{Text, tell_misfit, tell_misjoin};
 use std::alloc::{AllocError, Global};
 
-/// The line that tells of the place, and of what is wrong there.
+/// Says where the refusal applies, and what is wrong there.
 pub fn tell_flaw(
     alloc: Global,
     library: &Library,

@@ -1,10 +1,10 @@
-//! The text that tells of a composite type that holds itself, or is too high (E25).
+//! The text for a composite type that contains itself, or is too high (E25).
 
 use crate::heights::Descent;
 use fb_types::{BlockType, CompositeType, Library};
 use fb_why_kinds::{Text, push_instance};
 
-/// Adds which composite type leads too far down, and through which of its instances.
+/// Adds which composite type is too high, and through which of its instances.
 pub fn push_descent(text: &mut Text, library: &Library, place: Descent) {
     let (block, instance) = match place {
         Descent::Circle(block, instance) => (block, instance),

@@ -1,4 +1,4 @@
-//! The text that tells of two data connections that lead to one port (E24).
+//! The text for two data connections that lead to one port (E24).
 
 use crate::pair::Repeat;
 use crate::sources::Joined;

@@ -1,4 +1,4 @@
-//! The text that tells of what is given twice (E20).
+//! The text for what is given twice (E20).
 
 use crate::pair::Repeat;
 use crate::twice::{GivenTwice, InBlock, InNetwork};
@@ -29,7 +29,7 @@ pub fn push_given(text: &mut Text, library: &Library, plan: &Plan, given: GivenT
     }
 }
 
-/// What a block type gives twice, or that its own name is that of an event block.
+/// Adds what a block type gives twice, or that it has the name of an event block.
 fn push_block(text: &mut Text, blocks: &[BlockType], place: usize, found: Option<InBlock>) {
     if let Some(block) = blocks.get(place) {
         text.named("block type ", block.name());
@@ -48,7 +48,7 @@ fn push_link(text: &mut Text, plan: &Plan, (_, place): Repeat) {
     }
 }
 
-/// What stands at the second of two places has the name of the first.
+/// Adds that the item at the second of two indices has the name of the first.
 fn push_again<T: Named>(text: &mut Text, words: &str, items: &[T], (_, place): Repeat) {
     if let Some(item) = items.get(place) {
         text.named(words, item.name());
@@ -118,10 +118,10 @@ fn push_with(text: &mut Text, words: &str, events: &[EventPort], place: usize, p
     }
 }
 
-/// The sort and the name of what stands at a place of lists behind each other, or how far on the place is behind their ends.
+/// The kind and the name of the item at an index in a sequence of lists, or how far the index is past their ends.
 type Found<'a> = Result<(&'static str, &'a Name), usize>;
 
-/// What is found with one more list behind.
+/// Looks in one more list, if nothing is found yet.
 fn or_in<'a, T: Named>(found: Found<'a>, sort: &'static str, items: &'a [T]) -> Found<'a> {
     let place = match found {
         Ok(_) => return found,
@@ -133,7 +133,7 @@ fn or_in<'a, T: Named>(found: Found<'a>, sort: &'static str, items: &'a [T]) -> 
     }
 }
 
-/// What stands at a place among the ports and internal variables of a block type.
+/// The item at an index among the ports and internal variables of a block type.
 fn variable_at(block: &BlockType, place: usize) -> Found<'_> {
     let ports = block.ports();
     let found = or_in(Err(place), "an event input", ports.event_inputs.as_slice());

@@ -1,4 +1,4 @@
-//! The text that tells of a connection between two resources that have no link (E27).
+//! The text for a connection between two resources without a link (E27).
 
 use crate::unlinked::{Unlinked, resource_of};
 use fb_types::{Application, Connection, Plan, PortName};
@@ -29,7 +29,7 @@ fn push_connection(text: &mut Text, plan: &Plan, words: &str, connection: &Conne
     push_resource(text, " to resource ", plan, &connection.to);
 }
 
-/// Adds the resource in which an end of a connection of the application lies, behind words.
+/// Adds words, and the resource that holds the component at an end of a connection of the application.
 pub fn push_resource(text: &mut Text, words: &str, plan: &Plan, end: &PortName) {
     if let Some(resource) = plan.resources.get(resource_of(plan, end)) {
         text.named(words, &resource.name);

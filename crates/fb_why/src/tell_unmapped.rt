@@ -1,4 +1,4 @@
-//! The text that tells of an instance that is not mapped to one resource (E26).
+//! The text for an instance that is not mapped to one resource (E26).
 
 use crate::pair::Repeat;
 use crate::unmapped::Unmapped;
@@ -19,7 +19,7 @@ pub fn push_unmapped(text: &mut Text, application: &Application, plan: &Plan, pl
     }
 }
 
-/// The resource and the name at a place of the lists of all resources behind each other.
+/// The resource and the name at an index in the lists of all resources, one after another.
 fn listed_at(plan: &Plan, place: usize) -> Option<(&ResourceEntry, &Name)> {
     let mut rest = place;
     for resource in plan.resources.as_slice() {

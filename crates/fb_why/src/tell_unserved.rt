@@ -1,10 +1,10 @@
-//! The text that tells of a data connection between two resources that no event serves (E28).
+//! The text for a data connection between two resources that no event serves (E28).
 
 use crate::tell_unlinked::push_resource;
 use fb_types::{Application, Plan};
 use fb_why_kinds::Text;
 
-/// Adds which data connection no event serves, and which event would.
+/// Adds which data connection no event serves, and which event could.
 pub fn push_unserved(text: &mut Text, application: &Application, plan: &Plan, place: usize) {
     text.named("application ", &application.name);
     let Some(connection) = application.network.data_connections.get(place) else {

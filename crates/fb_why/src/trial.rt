@@ -1,4 +1,4 @@
-//! Parts of a stimulus, judged by the check itself.
+//! Parts of a stimulus, checked by the check itself.
 
 ghost use Rattle.std.specs.Prelude.{◌≡◌, ◌↔◌, ◌∷◌, [], IfOk, IsTrue};
 ghost use Rattle.fb_types.specs.Accepted.{BadStimulus};
@@ -10,7 +10,7 @@ use fb_types::{Items, Library, Setting, Stimulus};
 use std::alloc::{AllocError, Global};
 use std::slice::from_ref;
 
-/// The stimulus with these settings in place of its own.
+/// The stimulus with these settings instead of its own.
 fn with_settings(
     alloc: Global,
     stimulus: &Stimulus,
@@ -41,7 +41,7 @@ pub fn is_refused(
     has_bad_stimulus(alloc, library, catalog, from_ref(stimulus))
 }
 
-/// Whether the stimulus can't be taken even where it sets nothing.
+/// Whether the stimulus can't be taken even without its settings.
 pub fn is_bare_refused(
     alloc: Global,
     library: &Library,
@@ -55,7 +55,7 @@ pub fn is_bare_refused(
     is_refused(alloc, library, catalog, &bare)
 }
 
-/// Whether the stimulus can't be taken where it makes this setting alone.
+/// Whether the stimulus can't be taken with only this setting.
 pub fn is_one_refused(
     alloc: Global,
     library: &Library,

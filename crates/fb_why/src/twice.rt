@@ -25,7 +25,7 @@ use std::alloc::{AllocError, Global};
 pub enum InNetwork {
     /// The name of an instance.
     Instance(Repeat),
-    /// A parameter of the instance at this place.
+    /// A parameter of the instance at this index.
     Parameter(usize, Repeat),
     /// An event connection.
     Connection(Repeat),
@@ -37,26 +37,26 @@ pub enum InBlock {
     /// A name of its event inputs, event outputs, inputs, outputs and internal variables, which are one list in this
     /// order.
     Port(Repeat),
-    /// A variable WITH the event input at this place.
+    /// A variable WITH the event input at this index.
     WithInput(usize, Repeat),
-    /// A variable WITH the event output at this place.
+    /// A variable WITH the event output at this index.
     WithOutput(usize, Repeat),
     /// The name of a state.
     State(Repeat),
     /// The name of an algorithm.
     Algorithm(Repeat),
-    /// Something of the network inside.
+    /// Something in the network inside.
     Inside(InNetwork),
 }
 
-/// What a declaration or a deployment gives twice. Places in lists are counted from 0.
+/// What a declaration or a deployment gives twice. Indices in lists are counted from 0.
 #[derive(Clone, Copy)]
 pub enum GivenTwice {
-    /// The name of an event block, to the block type at this place.
+    /// The name of an event block, given to the block type at this index.
     EventBlock(usize),
     /// The name of a block type.
     Type(Repeat),
-    /// Something of the block type at this place.
+    /// Something of the block type at this index.
     Block(usize, InBlock),
     /// Something of the application.
     Application(InNetwork),
@@ -125,7 +125,7 @@ fn push_port_names<'a>(
     push_names(names, internals)
 }
 
-/// The first name of ports and internal variables that stands among them before.
+/// The first name of ports and internal variables that is among them before.
 fn port_pair(
     alloc: Global,
     ports: &Ports,
@@ -224,7 +224,7 @@ fn event_block(blocks: &[BlockType]) -> Option<usize>
     None
 }
 
-/// What is given twice, if something is.
+/// What is given twice, if anything is.
 pub(crate) fn twice_place(
     alloc: Global,
     library: &Library,

@@ -1,4 +1,4 @@
-//! Connections between two resources that have no link (E27).
+//! Connections between two resources without a link (E27).
 
 ghost use Rattle.std.specs.Prelude.{◌≡◌, ◌&&◌, MatchOption, [], Some, true, false, position, slice_get, unwrap_or};
 ghost use Rattle.std.specs.List.{list_all, list_any};
@@ -13,7 +13,7 @@ ghost use Rattle.fb_why.specs.Unlinked.{IsUnlinkedAt, is_joining, is_linked};
 use crate::among::is_among;
 use fb_types::{Connection, Library, Link, Name, Plan, PortName, ResourceEntry};
 
-/// A connection of the application between two resources that have no link, by its place among those of its sort.
+/// A connection of the application between two resources without a link, by its index among those that carry the same.
 #[derive(Clone, Copy)]
 pub enum Unlinked {
     Event(usize),
@@ -31,7 +31,7 @@ fn place_of_holder(resources: &[ResourceEntry], name: &Name) -> Option<usize>
     None
 }
 
-/// The resource that holds an instance of the application, by its place from 0.
+/// The index of the resource that holds an instance of the application.
 fn holder(plan: &Plan, name: &Name) -> usize
     ensures { result ≡ spec.holder plan.now name.now }
 {
@@ -41,7 +41,7 @@ fn holder(plan: &Plan, name: &Name) -> usize
     place_of_holder(plan.resources.as_slice(), name).unwrap_or(0)
 }
 
-/// The resource in which an end of a connection of the application lies, by its place from 0.
+/// The index of the resource that holds the component at an end of a connection of the application.
 pub(crate) fn resource_of(plan: &Plan, end: &PortName) -> usize
     ensures { result ≡ spec.resource_of plan.now (port_in [] end.now).at }
 {
@@ -51,7 +51,7 @@ pub(crate) fn resource_of(plan: &Plan, end: &PortName) -> usize
     }
 }
 
-/// The name of the resource at a place.
+/// The name of the resource at an index.
 fn name_of(plan: &Plan, resource: usize) -> &[u8]
     ensures { result.now ≡ name_of_resource plan.now resource }
 {
@@ -67,7 +67,7 @@ fn is_joining(link: &Link, from: &[u8], to: &[u8]) -> bool
     link.from.as_bytes() == from && link.to.as_bytes() == to
 }
 
-/// The place of the first link from the one resource to the other.
+/// The index of the first link from the one resource to the other.
 pub(crate) fn place_of_link(links: &[Link], from: &[u8], to: &[u8]) -> Option<usize>
     ensures { result ≡ position (is_joining from.now to.now) links.now }
 {
@@ -86,7 +86,7 @@ fn has_link(links: &[Link], from: &[u8], to: &[u8]) -> bool
     place.is_some()
 }
 
-/// Whether the ends of a connection lie in one resource, or there is a link for it.
+/// Whether one resource holds both ends of a connection, or there is a link for it.
 fn is_linked(plan: &Plan, connection: &Connection) -> bool
     ensures { result ≡ is_linked plan.now connection.now }
 {
@@ -100,7 +100,7 @@ fn is_linked(plan: &Plan, connection: &Connection) -> bool
         )
 }
 
-/// The first connection that has no link.
+/// The first connection without a link.
 fn first_unlinked(plan: &Plan, connections: &[Connection]) -> Option<usize>
     ensures { MatchOption result (list_all (is_linked plan.now) connections.now ≡ true) (λ k. (c : Connection) × (slice_get connections.now k ≡ Some c) × (is_linked plan.now c ≡ false)) }
 {
@@ -112,7 +112,7 @@ fn first_unlinked(plan: &Plan, connections: &[Connection]) -> Option<usize>
     None
 }
 
-/// A connection of the application between two resources that have no link, if there is one.
+/// A connection of the application between two resources without a link, if there is one.
 pub(crate) fn unlinked_place(library: &Library, plan: &Plan) -> Option<Unlinked>
     ensures { MatchOption result (¬ (NoLink library.now plan.now)) (IsUnlinkedAt library.now plan.now) }
 {

@@ -16,13 +16,13 @@ use std::alloc::{AllocError, Global};
 /// Where an instance of the application is not mapped to one resource.
 #[derive(Clone, Copy)]
 pub enum Unmapped {
-    /// No resource lists the instance at this place of the application.
+    /// No resource lists the instance at this index of the application.
     Unlisted(usize),
-    /// A name is listed twice, in the lists of all resources behind each other.
+    /// A name is listed twice, in the lists of all resources, one after another.
     Again(Repeat),
 }
 
-/// The names that the resources list, one list behind the other.
+/// The names that the resources list, one list after another.
 fn listed_names<'a>(
     alloc: Global,
     resources: &'a [ResourceEntry],
@@ -36,7 +36,7 @@ fn listed_names<'a>(
     Ok(names)
 }
 
-/// The names that are mapped, each as often as it is.
+/// The names that are mapped, each as often as it is mapped.
 fn mapped_names<'a>(
     alloc: Global,
     library: &'a Library,
@@ -75,7 +75,7 @@ fn first_unlisted(names: &[&Name], instances: &[Instance]) -> Option<usize>
     None
 }
 
-/// Where an instance is not among the names, or a name is there twice.
+/// Which instance is not among the names, or which name is among them twice.
 fn unmapped_among(
     alloc: Global,
     names: &[&Name],
@@ -92,7 +92,7 @@ fn unmapped_among(
     }
 }
 
-/// Where an instance of the application is not mapped to one resource, if one is not.
+/// Which instance of the application is not mapped to one resource, if there is one.
 pub(crate) fn unmapped_place(
     alloc: Global,
     library: &Library,

@@ -42,7 +42,7 @@ fn is_text(name: &Name, text: &[u8]) -> bool
     name.as_bytes() == text
 }
 
-/// The same of an event block.
+/// The same for an event block.
 fn event_block_carries(kind: EventKind, event: &Name, variable: &Name) -> bool
     ensures { result ≡ among (outputs_with (ports_of_event_block kind) event.now) variable.now }
 {
@@ -58,7 +58,7 @@ fn event_block_carries(kind: EventKind, event: &Name, variable: &Name) -> bool
     }
 }
 
-/// The same of the type that a name stands for.
+/// The same for the type with a name.
 fn type_carries(library: &Library, name: &Name, event: &Name, variable: &Name) -> bool
     ensures { result ≡ carries (type_named library.now name.now) event.now variable.now }
 {
@@ -95,7 +95,7 @@ fn begin_together(one: &Connection, other: &Connection) -> bool
     }
 }
 
-/// Whether an event comes with data: from the same block, WITH the variable, to the same resource.
+/// Whether an event brings the data of a connection: from the same block, WITH the variable, to the same resource.
 fn brings(library: &Library, plan: &Plan, connection: &Connection, event: &Connection) -> bool
     ensures { result ≡ brings library.now plan.now connection.now event.now }
 {
@@ -120,7 +120,7 @@ fn has_bringer(
     false
 }
 
-/// Whether the ends of a data connection lie in one resource, or an event serves it.
+/// Whether one resource holds both ends of a data connection, or an event serves it.
 fn is_served(library: &Library, plan: &Plan, connection: &Connection) -> bool
     ensures { result ≡ is_served library.now plan.now connection.now }
 {
@@ -141,8 +141,7 @@ fn first_unserved(library: &Library, plan: &Plan, connections: &[Connection]) ->
     None
 }
 
-/// The place among its data connections of one of the application between two resources that no event serves, if there
-/// is one.
+/// The index of a data connection of the application between two resources that no event serves, if there is one.
 pub fn unserved_place(library: &Library, plan: &Plan) -> Option<usize>
     ensures { MatchOption result (¬ (NoEvent library.now plan.now)) (IsUnservedAt library.now plan.now) }
 {

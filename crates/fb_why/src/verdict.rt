@@ -1,4 +1,4 @@
-//! What inputs are refused for.
+//! The refusal of inputs, by the check itself.
 
 ghost use Rattle.std.specs.Prelude.{◌≡◌, IfOk};
 ghost use Rattle.fb_why.specs.Trials as spec;
@@ -7,7 +7,7 @@ use fb_check::{Case, CheckError, Fault, judge};
 use fb_types::{Library, Plan, Stimulus};
 use std::alloc::{AllocError, Global};
 
-/// The least fault of the inputs, or `None` where they are accepted.
+/// The least fault of the inputs, or `None` if they are accepted.
 pub fn least_fault(
     alloc: Global,
     library: &Library,

@@ -1,4 +1,4 @@
--- Entries of tables of latencies, read one after the other.
+-- Entries of tables of latencies, read one after another.
 use Rattle.std.proofs.Common.{◌≡◌, ◌++◌, List, [], ◌∷◌, Vec, Global, Option, Some, None, refl, sym, ap, ◌∙◌}
 use Rattle.std.specs.Prelude.{IfSome, option_map, slice_get, ℕ}
 use Rattle.toml.specs.Data.{Data, Members, as_array, as_table}
@@ -17,7 +17,7 @@ pub pairs_push : (t : List WrittenEntry) (e : WrittenEntry) → pairs_of (t ++ e
 pairs_push [] e = refl
 pairs_push (x ∷ t) e = ap (λ (ps : List LatencyDraft). pair_of x ∷ ps) (pairs_push t e)
 
--- ---- Places
+-- ---- Locations
 
 pub table_told : (link : ℕ) (d : Data) (keys : Members) (t xs : List WrittenEntry) (o : Option DeployPlace) → Some keys ≡ as_table d → table_in keys ≡ Some (pairs_of t) → xs ≡ t
     → IfSome o (IsTablePlace link xs) → IfSome o (IsLinkPlace link d)

@@ -1,4 +1,4 @@
--- What is wrong with a row, from what its parts are.
+-- What is wrong with a row, from its parts.
 use Rattle.std.proofs.Common.{◌≡◌, ◌<◌, ◌≤◌, ℕ, zero, suc, Bool, true, false, ◌&&◌, List, [], ◌∷◌, length, Option, Some, None, Ok, Err, Bor, refl, sym, ap, ◌∙◌, subst}
 use Rattle.std.specs.Prelude.{MatchOption, IfOk, Result, is_some, slice_get}
 use Rattle.std.specs.List.{list_all}
@@ -21,7 +21,7 @@ use Rattle.fb_why_bytes.proofs.RowJudgements.{crowded, first_word, late, no_draf
 use Rattle.fb_why_bytes.proofs.WordLists.{shown}
 use Rattle.fb_types.proofs.Options.{none_from_is_some}
 
--- ---- Answers
+-- ---- Results
 
 pub answers : {T E : Type 0} (P Q : T → Type 0) (r : Result T E) → ((x : T) → P x → Q x) → IfOk r P → IfOk r Q
 answers P Q (Ok x) gives h = gives x h

@@ -1,4 +1,4 @@
--- What the reader's word on a row says of its parts.
+-- What the reader's verdict on a row says of its parts.
 use Rattle.std.proofs.Common.{◌≡◌, ◌<◌, ◌≤◌, ◌^◌, ℕ, nat_le, nat_lt, Bool, true, false, ◌&&◌, cond, List, [], ◌∷◌, Option, Some, None, Ok, Err, refl, sym, ap, ◌∙◌, arith}
 use Rattle.std.specs.Prelude.{is_some, option_map}
 use Rattle.std.specs.List.{list_all}
@@ -88,7 +88,7 @@ refused_alike before n (Some t) (Some d) h = at_settings (each setting d.words) 
 pub refused_anywhere : (before n : ℕ) (t e v : Text) → stimulus 0 (t ∷ e ∷ v ∷ []) ≡ Err n → stimulus before (t ∷ e ∷ v ∷ []) ≡ Err n
 refused_anywhere before n t e v h = by_parts before t e v ∙ refused_alike before n (natural t) (draft e v) (sym (by_parts 0 t e v) ∙ h)
 
--- a row that is taken alone is taken behind others, as far as there may be any
+-- a row that is accepted alone is accepted after others, up to the limit
 taken_alike :
     (before : ℕ) (tick : Option ℕ) (o : Option Draft) (s : Stimulus) → by_draft 0 tick o ≡ Ok s
     → by_draft before tick o ≡ cond (nat_lt before most_rows) (Ok s) (Err over_limit)
@@ -114,7 +114,7 @@ crowded before t e v s h le =
     by_parts before t e v ∙ taken_alike before (natural t) (draft e v) s (sym (by_parts 0 t e v) ∙ h)
     ∙ ap (λ (b : Bool). cond b (Ok s) (Err over_limit)) (le-ltb before most_rows le)
 
--- a row that is taken has few before it
+-- a row that is accepted has few before it
 few_alike : (before : ℕ) (tick : Option ℕ) (o : Option Draft) (s : Stimulus) → by_draft before tick o ≡ Ok s → before < most_rows
 few_alike before tick None s h = absurd (cc)
 few_alike before None (Some d) s h = absurd (cc)
@@ -160,7 +160,7 @@ shape_wrong tick (Some d) h = absurd (other_than_shape d tick h)
 pub no_draft : (t e v : Text) → stimulus 0 (t ∷ e ∷ v ∷ []) ≡ Err bad_row → draft e v ≡ None
 no_draft t e v h = shape_wrong (natural t) (draft e v) (sym (by_parts 0 t e v) ∙ h)
 
--- a row over a limit, where no other comes before, has a late tick
+-- a row over a limit, if no other comes before, has a late tick
 over_limit_late : (tick : Option ℕ) (o : Option Draft) → by_draft 0 tick o ≡ Err over_limit → (t : ℕ) × (tick ≡ Some t) × (10 ^ 12 < t)
 over_limit_late tick None h = absurd (other bad_row over_limit limit_not_row h)
 over_limit_late None (Some d) h = absurd (other bad_number over_limit limit_not_number h)
@@ -177,7 +177,7 @@ over_limit_late (Some t) (Some d) h = (t, refl, at_settings (each setting d.word
 pub late : (t e v : Text) → stimulus 0 (t ∷ e ∷ v ∷ []) ≡ Err over_limit → (tick : ℕ) × (natural t ≡ Some tick) × (10 ^ 12 < tick)
 late t e v h = over_limit_late (natural t) (draft e v) (sym (by_parts 0 t e v) ∙ h)
 
--- a row with a number that is none has the right shape
+-- a row with a number that is not one has the right shape
 number_wrong :
     (tick : Option ℕ) (o : Option Draft) → by_draft 0 tick o ≡ Err bad_number → (d : Draft) × (o ≡ Some d) × (is_some tick ≡ true → each setting d.words ≡ None)
 number_wrong tick None h = absurd (other bad_row bad_number number_not_row h)
@@ -236,7 +236,7 @@ setting_none : is_some (each setting []) ≡ true
 unfolding each
 setting_none = refl
 
--- the words of a text, found one after the other
+-- the words of a text, found one after another
 pub first_word : (w : Text) (ws : List Text) (found : List Word) → each word (w ∷ ws) ≡ Some found
     → (x : Word) × (rest : List Word) × (word w ≡ Some x) × (each word ws ≡ Some rest) × (found ≡ x ∷ rest)
 unfolding each
@@ -273,7 +273,7 @@ whole_settings e v d drawn valued none = by (event e) (each word (words v)) refl
         let some : is_some (each setting d.words) ≡ true = rw (← same) (all_valued (words v) ws is valued) in
         true≢false (sym some ∙ ap is_some none)
 
--- ---- One part, beside others with which nothing is wrong
+-- ---- One part, and others with which nothing is wrong
 
 abbrev early_tick : Text
 early_tick = 48 ∷ []
@@ -324,7 +324,7 @@ pub word-judged : (w : Text) → IsSingle w → stimulus 0 (early_tick ∷ plain
 unfolding natural
 word-judged w single = by_parts 0 early_tick plain_event w ∙ ap (by_draft 0 (Some 0)) (word-draft w single)
 
--- ---- The reader's word on one part
+-- ---- The reader's verdict on one part
 
 pub event_said : (e : Text) (v : RowVerdict) → IsVerdict (early_tick ∷ e ∷ [] ∷ []) v → has_shape v ≡ is_event e
 event_said e verdict.Taken h = by (event e) (sym (event-judged e) ∙ h.1)
@@ -348,7 +348,7 @@ event_said e verdict.Limit h = by (event e) (sym (event-judged e) ∙ h)
     by None g = absurd (other bad_row over_limit limit_not_row g)
     by (Some x) g = refl
 
--- a tick beside nothing that is wrong is refused as a number where it is none
+-- a tick that is not a number is refused as a number, if nothing else is wrong
 tick_none : (o : Option ℕ) (n : ℕ) → by_tick 0 (plain_draft []) o ≡ Err n → (n ≡ bad_number → ⊥) → true ≡ is_some o
 tick_none None n g differ = absurd (differ (sym (ap number_in g)))
 tick_none (Some t) n g differ = refl

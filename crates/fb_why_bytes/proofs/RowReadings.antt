@@ -1,4 +1,4 @@
--- Records of stimuli, read one after the other up to the first that is refused.
+-- Records of stimuli, read one after another up to the first that is refused.
 use Rattle.std.proofs.Common.{◌≡◌, ◌<◌, ◌+◌, ℕ, true, List, [], ◌∷◌, ◌++◌, length, Some, Ok, Err, Bor, refl, sym, ap, ◌∙◌, append_assoc, Fits, w64, arith}
 use Rattle.std.specs.Prelude.{MatchOption, Option, Result, slice_get}
 use Rattle.std.proofs.lemmas.List.{length_push}
@@ -17,7 +17,7 @@ use Rattle.fb_why_bytes.specs.RowVerdicts.{IsFine, IsJudged, IsRefusedFor}
 use Rattle.fb_why_bytes.specs.declared.place.RowFault.{RowFault}
 use Rattle.fb_why_bytes.proofs.RowJudgements.{few_before}
 
--- ---- The places of records
+-- ---- The indices of records
 
 slice_at : (xs ys : List Row) (x : Row) → slice_get (xs ++ x ∷ ys) (length xs) ≡ Some x
 slice_at [] ys x = refl

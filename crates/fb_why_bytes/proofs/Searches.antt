@@ -1,4 +1,4 @@
--- A loop that looks for the first element of which something does not hold.
+-- A loop that searches the first element of which something does not hold.
 use Rattle.std.proofs.Common.{◌≡◌, ℕ, ◌+◌, ◌<◌, Bool, true, ◌&&◌, List, drop, get_or, length, Some, sym, ◌∙◌, ap}
 use Rattle.std.specs.Prelude.{slice_get}
 use Rattle.std.specs.List.{list_all}

@@ -1,4 +1,4 @@
--- What the reader of declarations says of a text by its answer.
+-- What the reader of declarations says of a text by its result.
 use Rattle.std.proofs.Common.{◌≡◌, ℕ, subst, sym}
 use Rattle.fb_types.specs.declared.library.Library.{Library}
 use Rattle.fb_read.specs.declared.error.ReadError.{ReadError}

@@ -56,7 +56,7 @@ all_shown P (w ∷ ws) h = All-cons (λ (w : Bor Text). P w.now) w ws (All-head 
 pub all_single : (ws : List (Bor Text)) (z : Text) → shown ws ≡ words z → All (λ w. IsSingle w.now) ws
 all_single ws z all = all_shown IsSingle ws (subst (λ (xs : List Text). All IsSingle xs) (sym all) (words_single z))
 
--- ---- Words, one after the other
+-- ---- Words, one after another
 
 shown_push : (ws : List (Bor Text)) (w : Bor Text) → shown (ws ++ w ∷ []) ≡ shown ws ++ w.now ∷ []
 shown_push [] w = refl

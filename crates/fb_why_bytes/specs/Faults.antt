@@ -9,41 +9,43 @@ use Rattle.fb_why_bytes.specs.declared.text_place.TextPlace.{TextPlace}
 use Rattle.fb_why_bytes.specs.Places.{IsPlace}
 use Rattle.fb_why_bytes.specs.TextVerdicts.{IsNoLibrary}
 
--- The first byte past the greatest length stands there.
+-- The first byte past the greatest length is there.
 pub record IsTooLongAt (text : Text) (place : TextPlace) : Type 0 where
   pub long : most_bytes < length text
   pub first : place.start ≡ most_bytes
 
--- One byte stands there that may stand in comments alone. What stands before it has tokens, and with it the text is refused
--- for it.
+-- One byte is there that may occur only in comments. The text before it has tokens, and with it the text is refused for
+-- it.
 pub record IsByteAt (text : Text) (place : TextPlace) : Type 0 where
   pub one : place.end ≡ suc place.start
   pub unplain : is_plain (at text place.start) ≡ false
   pub before : HasTokens (take place.start text)
   pub up_to : HasTokenFault bad_byte (take place.end text)
 
--- What stands before the place has tokens, what stands there is refused by itself for a faulty token, and so is the text up to
--- there.
+-- The text before the location has tokens, the text at the location is refused by itself for a faulty token, and so is
+-- the text up to its end.
 pub record IsFaultyTokenAt (text : Text) (place : TextPlace) : Type 0 where
   pub before : HasTokens (take place.start text)
   pub here : HasTokenFault bad_token (slice_range text place.start place.end)
   pub up_to : HasTokenFault bad_token (take place.end text)
 
--- The line is the one that is told. What stands before the place has tokens, and so has the text up to there and the whole text,
--- and no library has these, whatever its nesting. At the end of the text the place is empty.
+-- The line is the one that is reported. The text before the location has tokens, and so has the text up to its end and
+-- the whole text, and these are the tokens of no library, regardless of nesting. At the end of the text the location is
+-- empty.
 pub record IsSyntaxAt (text : Text) (line : ℕ) (place : TextPlace) : Type 0 where
   pub told : place.line ≡ line
   pub before : HasTokens (take place.start text)
   pub up_to : IsNoLibrary IsDerived (take place.end text)
   pub whole : IsNoLibrary IsDerived text
 
--- What stands before the place has tokens, and so has the text up to there and the whole text, and no library has these.
+-- The text before the location has tokens, and so has the text up to its end and the whole text, and these are the tokens
+-- of no library.
 pub record IsNestingAt (text : Text) (place : TextPlace) : Type 0 where
   pub before : HasTokens (take place.start text)
   pub up_to : IsNoLibrary IsLibraryText (take place.end text)
   pub whole : IsNoLibrary IsLibraryText text
 
--- The refusal applies at the place.
+-- The refusal applies at the location.
 abbrev pub AppliesAt : Text → ReadError → TextPlace → Type 0
 AppliesAt text error.Memory place = ⊥
 AppliesAt text error.Byte place = IsByteAt text place
@@ -52,7 +54,7 @@ AppliesAt text (error.Syntax line) place = IsSyntaxAt text line place
 AppliesAt text error.TooLong place = IsTooLongAt text place
 AppliesAt text error.Nesting place = IsNestingAt text place
 
--- The place is one of the text, and the refusal applies there.
+-- The location is in the text, and the refusal applies there.
 pub record TellsFault (text : Text) (fault : ReadError) (place : TextPlace) : Type 0 where
   pub is_place : IsPlace text place
   pub applies : AppliesAt text fault place

@@ -1,4 +1,4 @@
--- The keys of a deployment, and what they want (this project's profile).
+-- The keys of a deployment, and the kinds of their values (this project's profile).
 use Rattle.std.specs.Prelude.{Bool, true, false, List, Option, Some, is_some, codes, option_and_then}
 use Rattle.toml.specs.Data.{Data, Members, get_member, as_array, as_integer}
 use Rattle.fb_inputs.specs.Words.{Text}
@@ -23,7 +23,7 @@ value_at keys k = get_member (text_of k) keys
 abbrev pub has_key : Members → DeployKey → Bool
 has_key keys k = is_some (value_at keys k)
 
--- whether a value is of the kind that the key wants
+-- whether a value is of the kind of the key
 abbrev pub is_of_kind : DeployKey → Data → Bool
 is_of_kind key.Resource d = is_some (as_array d)
 is_of_kind key.Link d = is_some (as_array d)
@@ -35,7 +35,7 @@ is_of_kind key.To d = is_some (name_of d)
 is_of_kind key.Latency d = is_some (as_integer d)
 is_of_kind key.Latencies d = is_some (as_array d)
 
--- whether an element of the array at the key is of the kind that is wanted there
+-- whether an element of the array at the key is of the kind that is required there
 abbrev pub is_element : DeployKey → Data → Bool
 is_element key.Instances d = is_some (name_of d)
 is_element key.Latencies d = is_some (pair d)

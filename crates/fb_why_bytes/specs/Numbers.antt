@@ -43,7 +43,7 @@ HasEntries keys t = table_in keys ≡ Some (pairs_of t)
 abbrev pub IsLatencyWrong : List WrittenEntry → ℕ → Type 0
 IsLatencyWrong t k = (e : WrittenEntry) × (slice_get t k ≡ Some e) × (is_latency e.ticks ≡ false)
 
--- whether an entry comes behind the one before it
+-- whether an entry is later than the one before it
 abbrev pub is_behind : Option WrittenEntry → WrittenEntry → Bool
 is_behind None e = true
 is_behind (Some before) e = is_after (unsigned_abs before.start) e.start
@@ -52,7 +52,7 @@ abbrev pub is_in_order : List WrittenEntry → ℕ → Option WrittenEntry → B
 is_in_order t k None = true
 is_in_order t k (Some e) = if k == 0 then is_zero e.start else is_behind (slice_get t (k - 1)) e
 
--- whether the entry at a place, if there is one, is the first one and at tick 0, or behind the one before it
+-- whether the entry at an index, if there is one, is the first one and at tick 0, or later than the one before it
 abbrev pub follows : List WrittenEntry → ℕ → Bool
 follows t k = is_in_order t k (slice_get t k)
 

@@ -1,4 +1,4 @@
--- Places in a text (this project's own).
+-- Locations in a text (this project's own).
 use Rattle.std.specs.Prelude.{◌≡◌, ◌≤◌, ℕ, ◌+◌, ◌==◌, not, length, take, count_by}
 use Rattle.std.specs.List.{suffix_len}
 use Rattle.fb_read.specs.Blank.{Text}
@@ -13,7 +13,7 @@ line_at text offset = 1 + count_by (λ b. b == 10) (take offset text)
 abbrev pub column_at : Text → ℕ → ℕ
 column_at text offset = 1 + suffix_len (λ b. not (b == 10)) (take offset text)
 
--- The place is one of the text, behind its byte order mark, and its line and its column are those at which it begins.
+-- The location is in the text, after its byte order mark, and its line and its column are those at which it begins.
 pub record IsPlace (text : Text) (place : TextPlace) : Type 0 where
   pub behind : length text ≤ place.start + length (behind_mark text)
   pub ordered : place.start ≤ place.end
@@ -21,7 +21,7 @@ pub record IsPlace (text : Text) (place : TextPlace) : Type 0 where
   pub line : place.line ≡ line_at text place.start
   pub column : place.column ≡ column_at text place.start
 
--- it lies between these offsets
+-- it is between these offsets
 pub record IsStretch (start end : ℕ) (place : TextPlace) : Type 0 where
   pub start_is : place.start ≡ start
   pub end_is : place.end ≡ end

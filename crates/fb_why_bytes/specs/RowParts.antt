@@ -1,4 +1,4 @@
--- The parts of a row, and which of them are what they are to be (this project's profile).
+-- The parts of a row, and which of them are right (this project's profile).
 use Rattle.std.specs.Prelude.{◌≡◌, ℕ, Bool, true, false, List, [], ◌∷◌, Option, Some, None, is_some, slice_get}
 use Rattle.std.specs.Borrow.{Bor}
 use Rattle.fb_inputs.specs.declared.row.Word.{Word}
@@ -23,7 +23,7 @@ has_value (Some x) = is_some x.value
 abbrev pub is_valued : Text → Bool
 is_valued z = has_value (word z)
 
--- a word, and where that is asked one with a value
+-- a word, and, if `valued` is set, one with a value
 abbrev pub is_right : (valued : Bool) → Text → Bool
 is_right true z = is_valued z
 is_right false z = is_word z
@@ -32,6 +32,6 @@ is_right false z = is_word z
 abbrev pub IsSingle : Text → Type 0
 IsSingle z = words z ≡ z ∷ []
 
--- The text fails the test that stands at this place of the list.
+-- The text at this index of the list fails the test.
 abbrev pub FailsAt : (Text → Bool) → List (Bor Text) → ℕ → Type 0
 FailsAt test ws k = (w : Bor Text) × (slice_get ws k ≡ Some w) × (test w.now ≡ false)

@@ -1,4 +1,4 @@
--- What the reader of stimuli says of a row, and what is wrong with the row then (this project's profile).
+-- What the reader of stimuli says of a row, and what is then wrong with the row (this project's profile).
 use Rattle.std.specs.Prelude.{◌≡◌, ℕ, Bool, true, false, Option, Some, None, MatchOption, Result, Ok, Err, slice_get}
 use Rattle.csv.specs.Records.{fields_of}
 use Rattle.csv.specs.declared.record.ByteRecord.{ByteRecord}
@@ -15,7 +15,7 @@ use Rattle.fb_why_bytes.specs.declared.place.RowFault.TheVariants as fault
 use Rattle.fb_why_bytes.specs.declared.row_verdict.RowVerdict.{RowVerdict}
 use Rattle.fb_why_bytes.specs.declared.row_verdict.RowVerdict.TheVariants as verdict
 
--- The row is one of stimuli. So many rows come before it.
+-- The row is a stimulus, after this number of rows.
 abbrev pub IsFine : ℕ → Row → Type 0
 IsFine before row = (s : Stimulus) × (stimulus before row ≡ Ok s)
 
@@ -25,7 +25,7 @@ IsVerdict row verdict.Shape = stimulus 0 row ≡ Err bad_row
 IsVerdict row verdict.Number = stimulus 0 row ≡ Err bad_number
 IsVerdict row verdict.Limit = stimulus 0 row ≡ Err over_limit
 
--- nothing is said against the shape, against the numbers, or at all
+-- the shape is right, the numbers are right, or all is right
 abbrev pub has_shape : RowVerdict → Bool
 has_shape verdict.Shape = false
 has_shape _ = true
@@ -53,7 +53,7 @@ IsShapeFault at values fault.Event = event at ≡ None
 IsShapeFault at values (fault.Word k) = (w : Text) × (slice_get (words values) k ≡ Some w) × (word w ≡ None)
 IsShapeFault at values _ = ⊥
 
--- A number is none, where the shape is right.
+-- A number is not a number, and the shape is right.
 abbrev pub IsNumberFault : Text → Text → RowFault → Type 0
 IsNumberFault tick values fault.Tick = natural tick ≡ None
 IsNumberFault tick values (fault.Value k) = (w : Text) × (slice_get (words values) k ≡ Some w) × (is_valued w ≡ false)

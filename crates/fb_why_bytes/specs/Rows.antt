@@ -1,4 +1,4 @@
--- Where stimuli are refused (E13 to E15): the place, and what is wrong there (this project's profile).
+-- Where stimuli are refused (E13 to E15): the location, and what is wrong there (this project's profile).
 use Rattle.std.specs.Prelude.{◌≡◌, ◌≤◌, ◌<◌, ◌^◌, ℕ, List, ◌∷◌, ◌++◌, length, true, false, Some, None, Ok, Err, slice_get}
 use Rattle.std.specs.Borrow.{Bor}
 use Rattle.csv.specs.Reading.{records, default_config, strip_bom}
@@ -18,15 +18,15 @@ use Rattle.fb_why_bytes.specs.declared.place.StimuliPlace.TheVariants as place
 
 -- ---- A row
 
--- There are three fields, of which this holds.
+-- There are three fields, for which this holds.
 abbrev pub OfFields : Row → (Text × Text × Text → Type 0) → Type 0
 OfFields row P = (f : Text × Text × Text) × (three row ≡ Some f) × P f
 
--- There is a word at this place, of which this holds.
+-- There is a word at this index, for which this holds.
 abbrev pub OfWord : ℕ → (Text → Type 0) → (Text × Text × Text → Type 0)
 OfWord k P f = (w : Text) × (slice_get (words f.2) k ≡ Some w) × P w
 
--- This is wrong with the row. So many rows come before it.
+-- This is wrong with the row, after this number of rows.
 abbrev pub IsRowFault : ℕ → Row → RowFault → Type 0
 IsRowFault before row fault.Fields = three row ≡ None
 IsRowFault before row fault.Event = OfFields row (λ f. event f.1 ≡ None)
@@ -47,7 +47,7 @@ number_of_row fault.Crowded = over_limit
 
 -- ---- All bytes
 
--- The record stands at this place behind a heading.
+-- The record is at this index after a heading.
 pub record IsRowAt (bytes : Text) (k : ℕ) (row : Row) : Type 0 where
   pub head : Row
   pub rows : List Row
@@ -62,7 +62,7 @@ pub record HasNoHeading (bytes : Text) : Type 0 where
   pub read : records default_config (strip_bom bytes) ≡ first ∷ rows
   pub other : is_head first ≡ false
 
--- This is wrong at the place.
+-- This is wrong at the location.
 abbrev pub IsFaultAt : Text → StimuliPlace → Type 0
 IsFaultAt bytes place.Bytes = most_bytes < length bytes
 IsFaultAt bytes place.Heading = HasNoHeading bytes
@@ -74,7 +74,7 @@ number_of place.Bytes = over_limit
 number_of place.Heading = bad_row
 number_of (place.Row k why) = number_of_row why
 
--- The bytes are refused, by the number of what is wrong at the place.
+-- The bytes are refused, by the number of what is wrong at the location.
 abbrev pub IsRefusedAt : Text → StimuliPlace → Type 0
 IsRefusedAt bytes p = (stimuli_of bytes ≡ Err (number_of p)) × IsFaultAt bytes p
 
@@ -82,7 +82,7 @@ IsRefusedAt bytes p = (stimuli_of bytes ≡ Err (number_of p)) × IsFaultAt byte
 abbrev pub AreTaken : Text → Type 0
 AreTaken bytes = (stimuli : List Stimulus) × (stimuli_of bytes ≡ Ok stimuli)
 
--- Behind a heading this many rows were read, and each was taken; the reader stands behind them.
+-- After a heading this many rows were read, and each was accepted; the reader is after them.
 pub record Stands (bytes : Text) (k : ℕ) (it : ByteRecordsIntoIter (Bor (List ℕ))) : Type 0 where
   pub left : Text
   pub here : IsAt it left

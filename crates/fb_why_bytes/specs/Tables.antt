@@ -1,4 +1,5 @@
--- Where a deployment is refused (E10, E11, E12, E15, E16): the place, and what is wrong there (this project's profile).
+-- Where a deployment is refused (E10, E11, E12, E15, E16): the location, and what is wrong there (this project's
+-- profile).
 use Rattle.std.specs.Prelude.{◌≡◌, ◌≤◌, ◌<◌, ℕ, Bool, true, false, ◌==◌, List, length, Option, Some, None, is_some, slice_get, codes}
 use Rattle.toml.specs.Data.{Data, Items, Members, as_array, as_table}
 use Rattle.toml.specs.View.{view}
@@ -19,15 +20,15 @@ use Rattle.fb_why_bytes.specs.declared.place.TablePlace.TheVariants as table
 use Rattle.fb_why_bytes.specs.declared.place.TableFault.{TableFault}
 use Rattle.fb_why_bytes.specs.declared.place.TableFault.TheVariants as fault
 
--- A value at the key is none of its kind.
+-- A value at the key is not of its kind.
 abbrev pub IsWrong : Members → DeployKey → Type 0
 IsWrong keys k = (d : Data) × (value_at keys k ≡ Some d) × (is_of_kind k d ≡ false)
 
--- An element of the array at the key is none of its kind.
+-- An element of the array at the key is not of its kind.
 abbrev pub IsWrongElement : Members → DeployKey → ℕ → Type 0
 IsWrongElement keys k i = (ds : List Data) × (d : Data) × (elements_at keys k ≡ Some ds) × (slice_get ds i ≡ Some d) × (is_element k d ≡ false)
 
--- This is wrong with a key that is wanted.
+-- This is wrong with a key that is required.
 abbrev pub IsAtKey : Members → DeployKey → TableFault → Type 0
 IsAtKey keys k (fault.Missing j) = (j ≡ k) × (has_key keys k ≡ false)
 IsAtKey keys k (fault.Wrong j) = (j ≡ k) × IsWrong keys k
@@ -81,7 +82,7 @@ IsLinkFault keys _ = ⊥
 
 -- ---- Both
 
--- what the one array of a document holds, and the other
+-- what the one array of a document contains, and the other
 abbrev pub is_entry : (is_link : Bool) → Data → Bool
 is_entry true d = is_some (link d)
 is_entry false d = is_some (resource d)
@@ -112,12 +113,12 @@ IsTopFault keys fault.Empty = has_no_resource keys ≡ true
 IsTopFault keys fault.Further = (has_key keys key.Resource ≡ true) × (has_known_keys keys ≡ false)
 IsTopFault keys _ = ⊥
 
--- This is wrong with a value that is to be a table of these keys.
+-- This is wrong with a value that should be a table of these keys.
 abbrev pub IsTableFault : (Members → TableFault → Type 0) → Data → TableFault → Type 0
 IsTableFault P d fault.NoTable = as_table d ≡ None
 IsTableFault P d why = (keys : Members) × (as_table d ≡ Some keys) × P keys why
 
--- This is wrong with the table at this place of those at a key.
+-- This is wrong with the table at this index of those at a key.
 abbrev pub IsInArray : (Members → TableFault → Type 0) → Members → DeployKey → ℕ → TableFault → Type 0
 IsInArray P keys k i why = (ds : List Data) × (d : Data) × (elements_at keys k ≡ Some ds) × (slice_get ds i ≡ Some d) × IsTableFault P d why
 
@@ -129,15 +130,15 @@ IsShapeFault keys (table.Link i) why = IsInArray IsLinkFault keys key.Link i why
 
 -- ---- The same of values
 
--- The value fails the test that stands at this place of the list.
+-- The value at this index of the list fails the test.
 abbrev pub FailsAt : (Data → Bool) → List Value → ℕ → Type 0
 FailsAt test vs k = (v : Value) × (slice_get vs k ≡ Some v) × (test (view v) ≡ false)
 
--- This is wrong with the value that stands at this place of the list.
+-- This is wrong with the value at this index of the list.
 abbrev pub IsFaultAmong : (Members → TableFault → Type 0) → List Value → ℕ × TableFault → Type 0
 IsFaultAmong P vs r = (v : Value) × (slice_get vs r.0 ≡ Some v) × IsTableFault P (view v) r.1
 
--- This is wrong with a value that is to be a table of latencies.
+-- This is wrong with a value that should be a table of latencies.
 abbrev pub IsEntriesFault : Data → TableFault → Type 0
 IsEntriesFault d (fault.Wrong key.Latencies) = as_array d ≡ None
 IsEntriesFault d (fault.Element key.Latencies i) = (ds : Items) × (e : Data) × (as_array d ≡ Some ds) × (slice_get (list_of ds) i ≡ Some e) × (is_some (pair e) ≡ false)
@@ -150,7 +151,7 @@ abbrev pub IsDocumentFault : Members → DeployPlace → Type 0
 IsDocumentFault keys (place.Shape t why) = IsShapeFault keys t why
 IsDocumentFault keys p = IsNumbersFault keys p
 
--- This is wrong at the place.
+-- This is wrong at the location.
 abbrev pub IsFaultAt : Text → DeployPlace → Type 0
 IsFaultAt bytes place.Bytes = most_bytes < length bytes
 IsFaultAt bytes (place.Document at) = (document bytes ≡ None) × (at ≤ length bytes)

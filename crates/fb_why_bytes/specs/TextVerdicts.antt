@@ -7,7 +7,7 @@ use Rattle.fb_read.specs.Whole.{IsDerived, IsLibraryText, HasTokenFault, HasToke
 use Rattle.fb_why_bytes.specs.declared.text_verdict.TextVerdict.{TextVerdict}
 use Rattle.fb_why_bytes.specs.declared.text_verdict.TextVerdict.TheVariants as verdict
 
--- the text has tokens, and no library has it
+-- the text has tokens, and they are the tokens of no library
 pub record IsNoLibrary (Has : Text → Library → Type 0) (text : Text) : Type 0 where
   pub tokens : HasTokens text
   pub none : (library : Library) → Has text library → ⊥

@@ -1,4 +1,4 @@
-//! Whether the refusal of a text applies at a place.
+//! Whether the refusal of a text applies at a location.
 
 ghost use Rattle.std.specs.Prelude.{◌≡◌, ◌≤◌, ◌<◌, IfOk, IsTrue, length, take, slice_range};
 ghost use Rattle.fb_read.specs.Blank.{at};
@@ -15,14 +15,14 @@ use fb_read::ReadError;
 use fb_types::MOST_BYTES;
 use std::alloc::{AllocError, Global};
 
-/// Whether this byte may stand outside of comments.
+/// Whether this byte may occur outside of comments.
 fn is_plain(b: u8) -> bool
     ensures { result ≡ spec.is_plain b }
 {
     b == b'\t' || b == b'\n' || b == b'\r' || (b' ' <= b && b <= b'~')
 }
 
-/// Whether all that stands before an offset is tokens.
+/// Whether everything before an offset is tokens.
 fn has_tokens(alloc: Global, text: &[u8], end: usize) -> Result<bool, AllocError>
     requires { end ≤ length text.now }
     ensures { IfOk result (λ b. IsTrue b → HasTokens (take end text.now)) }
@@ -35,7 +35,7 @@ fn has_tokens(alloc: Global, text: &[u8], end: usize) -> Result<bool, AllocError
     }
 }
 
-/// Whether a byte that may stand in comments alone stands at the place.
+/// Whether the location has a byte that may occur only in comments.
 fn is_byte(alloc: Global, text: &[u8], place: TextPlace) -> Result<bool, AllocError>
     requires { IsPlace text.now place }
     ensures { IfOk result (λ b. IsTrue b → IsByteAt text.now place) }
@@ -62,7 +62,7 @@ fn is_faulty(alloc: Global, text: &[u8]) -> Result<bool, AllocError>
     }
 }
 
-/// Whether a faulty token stands at the place.
+/// Whether the location has a faulty token.
 fn is_faulty_token(alloc: Global, text: &[u8], place: TextPlace) -> Result<bool, AllocError>
     requires { IsPlace text.now place }
     ensures { IfOk result (λ b. IsTrue b → IsFaultyTokenAt text.now place) }
@@ -76,7 +76,7 @@ fn is_faulty_token(alloc: Global, text: &[u8], place: TextPlace) -> Result<bool,
     is_faulty(alloc, &text[..place.end])
 }
 
-/// Whether no library has a text, whatever its nesting.
+/// Whether the text declares no library, regardless of its nesting.
 fn is_underivable(alloc: Global, text: &[u8]) -> Result<bool, AllocError>
     ensures { IfOk result (λ b. IsTrue b → IsNoLibrary IsDerived text.now) }
 {
@@ -96,7 +96,7 @@ fn is_syntax_fault(alloc: Global, text: &[u8], line: u32) -> Result<bool, AllocE
     }
 }
 
-/// Whether the text is refused for its syntax in this line, and at the place.
+/// Whether the text is refused for its syntax in this line, and at the location.
 fn is_syntax(alloc: Global, text: &[u8], line: u32, place: TextPlace) -> Result<bool, AllocError>
     requires { IsPlace text.now place }
     ensures { IfOk result (λ b. IsTrue b → IsSyntaxAt text.now line place) }
@@ -120,7 +120,7 @@ fn is_too_deep(alloc: Global, text: &[u8]) -> Result<bool, AllocError>
     }
 }
 
-/// Whether the text is refused for its nesting, and at the place.
+/// Whether the text is refused for its nesting, and at the location.
 fn is_nesting(alloc: Global, text: &[u8], place: TextPlace) -> Result<bool, AllocError>
     requires { IsPlace text.now place }
     ensures { IfOk result (λ b. IsTrue b → IsNestingAt text.now place) }
@@ -134,7 +134,7 @@ fn is_nesting(alloc: Global, text: &[u8], place: TextPlace) -> Result<bool, Allo
     is_too_deep(alloc, &text[..place.end])
 }
 
-/// Whether the refusal applies at the place.
+/// Whether the refusal applies at the location.
 pub fn applies(
     alloc: Global,
     text: &[u8],

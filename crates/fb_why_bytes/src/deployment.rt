@@ -8,11 +8,11 @@ ghost use Rattle.fb_why_bytes.specs.Tables.{IsDocumentFault, IsFaultAt, IsShaped
 use crate::numbers::numbers_place;
 use crate::place::DeployPlace;
 use crate::table::shape_fault;
-use std::alloc::{AllocError, Global};
 use fb_types::MOST_BYTES;
+use std::alloc::{AllocError, Global};
 use toml::Table;
 
-/// What is wrong with a document, if something is.
+/// What is wrong with a document, if anything is.
 fn document_place(alloc: Global, keys: &Table) -> Result<Option<DeployPlace>, AllocError>
     ensures { IfOk result (λ o. MatchOption o (is_some (draft (table_view keys.now)) ≡ true) (IsDocumentFault (table_view keys.now))) }
 {
@@ -23,8 +23,12 @@ fn document_place(alloc: Global, keys: &Table) -> Result<Option<DeployPlace>, Al
     }
 }
 
-/// Where the deployment that bytes of TOML are meant to be is refused, as far as that is found: for all but numbers that
-/// are wrong it is found where it is.
+/// Where the deployment in these bytes is refused, or `None`, which is returned only if the size and the shape of the
+/// deployment are right.
+///
+/// # Errors
+///
+/// When memory runs out.
 pub fn deployment_place(alloc: Global, bytes: &[u8]) -> Result<Option<DeployPlace>, AllocError>
     ensures { IfOk result (λ o. MatchOption o (IsShaped bytes.now) (IsFaultAt bytes.now)) }
 {

@@ -1,3 +1,3 @@
-//! Libraries that are no longer wanted.
+//! Frees libraries.
 
 pub use fb_read::discarding::discard;

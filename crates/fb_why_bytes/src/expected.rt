@@ -1,10 +1,10 @@
-//! Which tokens could stand at the place of a syntax fault.
+//! Which tokens could be at the location of a syntax fault.
 
 use crate::text_place::line_feeds;
 use crate::text_verdict::{TextVerdict, verdict_on};
 use std::alloc::{AllocError, Global};
 
-/// How long a text may be to be tried with every token, in bytes: each try reads all of it.
+/// The greatest length in bytes of a text that is tried with every token. Each try reads all of it.
 const MOST_TRIED: usize = 65_536;
 
 /// The keywords and the signs, and the names that the grammar asks for.
@@ -93,7 +93,7 @@ static WORDS: [&str; 82] = [
     "&",
 ];
 
-/// Whether a text may go on with a token: it is refused, if at all, on the line behind it.
+/// Whether a text may continue with a token: if it is refused at all, it is on the line after the token.
 fn may_stand(alloc: Global, before: &[u8], token: &str) -> Result<bool, AllocError> {
     let mut text = Vec::from_slice(alloc, before)?;
     text.push(b'\n')?;
@@ -106,7 +106,7 @@ fn may_stand(alloc: Global, before: &[u8], token: &str) -> Result<bool, AllocErr
     }
 }
 
-/// The tokens with which a text may go on, parted by blanks. Of a long text none is told.
+/// The tokens with which a text may continue, separated by blanks. For a long text there are none.
 pub fn expected(alloc: Global, before: &[u8]) -> Result<String, AllocError> {
     let mut all = String::new(alloc);
     if before.len() <= MOST_TRIED {
@@ -119,7 +119,7 @@ fn add_expected(alloc: Global, all: &mut String, before: &[u8]) -> Result<(), Al
     let named = add_if(alloc, all, before, "name", "X")?;
     add_if(alloc, all, before, "whole", "1")?;
     add_if(alloc, all, before, "time", "T#1s")?;
-    // Where any name may stand, so may these.
+    // Where any name may occur, these may occur too.
     if !named {
         add_words(alloc, all, before, &["IN", "ST"])?;
     }
@@ -130,7 +130,7 @@ fn known_words() -> &'static [&'static str] {
     &WORDS
 }
 
-/// Adds those of some words with which the text may go on.
+/// Adds those of these words with which the text may continue.
 fn add_words(
     alloc: Global,
     all: &mut String,
@@ -143,7 +143,7 @@ fn add_words(
     Ok(())
 }
 
-/// Adds a sort of tokens, if the text may go on with one of it, and says whether it may.
+/// Adds a kind of tokens, if the text may continue with one of it, and returns whether it may.
 fn add_if(
     alloc: Global,
     all: &mut String,

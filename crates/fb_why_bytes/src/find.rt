@@ -1,4 +1,4 @@
-//! The place at which a text is at fault.
+//! The location at which a text is at fault.
 
 ghost use Rattle.std.specs.Prelude.{IfOk, IfSome};
 ghost use Rattle.fb_why_bytes.specs.Faults.{TellsFault};
@@ -11,8 +11,8 @@ use fb_read::ReadError;
 use fb_types::MOST_BYTES;
 use std::alloc::{AllocError, Global};
 
-/// Whether a text is refused for its syntax before its end. Behind one more line feed a fault at the end has a line of its
-/// own. A text of the greatest length has no room for it, and counts as one that is at fault at its end.
+/// Whether a text is refused for its syntax before its end. With one more line feed, a fault at the end is on a line of
+/// its own. A text of the greatest length has no room for it, and counts as faulty at its end.
 fn breaks_syntax(alloc: Global, text: &[u8]) -> Result<bool, AllocError> {
     let mut ended = Vec::from_slice(alloc, text)?;
     ended.push(b'\n')?;
@@ -35,8 +35,8 @@ fn shows(alloc: Global, text: &[u8], fault: &ReadError) -> Result<bool, AllocErr
     }
 }
 
-/// Which token is the first with which the text shows the fault, or how many there are. Where a beginning of the text shows it,
-/// so does each longer one, if it ends behind a token.
+/// The index of the first token with which the text shows the fault, or the number of tokens. If a beginning of the text
+/// shows it, so does each longer beginning that ends after a token.
 fn first_faulty(
     alloc: Global,
     text: &[u8],
@@ -60,7 +60,7 @@ fn first_faulty(
     Ok(low)
 }
 
-/// Where the first token stands with which the text shows the fault. Behind the last one the text ends.
+/// The bytes of the first token with which the text shows the fault. After the last token, the end of the text.
 fn faulty_stretch(alloc: Global, text: &[u8], fault: &ReadError) -> Result<Stretch, AllocError> {
     if let ReadError::TooLong = fault {
         return Ok(Stretch {
@@ -79,8 +79,11 @@ fn faulty_stretch(alloc: Global, text: &[u8], fault: &ReadError) -> Result<Stret
     }
 }
 
-/// Where the refusal of a text applies. Told is the first such place; none is told where the text is not refused so, or memory
-/// was wanting.
+/// The first location at which the refusal of a text applies. `None` if the text is not refused for this.
+///
+/// # Errors
+///
+/// When memory runs out.
 pub fn text_place(
     alloc: Global,
     text: &[u8],

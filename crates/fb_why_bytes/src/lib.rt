@@ -1,15 +1,15 @@
-//! Where bytes that are refused are at fault: the text of a declaration (E01 to E05), a deployment and stimuli (E10 to E16).
+//! Finds where bytes are refused: the text of a declaration (E01 to E05), a deployment and stimuli (E10 to E16).
 //!
-//! Guarantees to callers: `find::text_place` gives a place of the text, with its line and column, at which the refusal
-//! applies. `stimuli::stimuli_place` gives a place of what is refused, by the number of the refusal, and none exactly where the
-//! stimuli are taken. `deployment::deployment_place` gives a place at which something is wrong, and none only where the shape of
-//! the deployment is right. Of the texts that tell a place nothing is promised.
+//! Guarantees to callers: `find::text_place` returns a location in the text, with its line and column, at which the
+//! refusal applies. `stimuli::stimuli_place` returns a location, with the number of the refusal, or `None` exactly if the
+//! stimuli are accepted. `deployment::deployment_place` returns a location at which something is wrong, and `None` only
+//! if the shape of the deployment is right. The wording of the texts is not part of any contract.
 //!
 //! Read in this order: `text_place`; `text_verdict`, what the reader of declarations says of a text, and `discard`, which
-//! frees what it read; `applies`, whether a refusal applies at a place; `scan` and `find`, where it may; `expected` and
-//! `tell_text`. Then `place`; `row_verdict`, by which the reader of stimuli itself judges a row or a word; `words`, `row`,
-//! `stimuli`; `names`, `table`, `numbers`, `deployment`; `text`, `tell_stimuli`, `tell_deployment`. All of it runs behind a
-//! refusal alone, and reads the text of a declaration some hundred times at most.
+//! frees what it read; `applies`, whether a refusal applies at a location; `scan` and `find`, which search it; `expected`
+//! and `tell_text`. Then `place`; `row_verdict`, which applies the reader of stimuli to a row or a word; `words`, `row`,
+//! `stimuli`; `names`, `table`, `numbers`, `deployment`; `text`, `tell_stimuli`, `tell_deployment`. All of this runs only
+//! after a refusal, and reads the text of a declaration some hundred times at most.
 #![tactic(auto)]
 
 mod applies;

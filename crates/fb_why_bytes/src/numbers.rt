@@ -10,18 +10,20 @@ ghost use Rattle.fb_why_bytes.specs.Numbers as spec;
 use crate::place::{DeployKey, DeployPlace};
 use crate::table::value_at;
 use fb_inputs::{is_after, is_latency};
-use std::alloc::{AllocError, Global};
 use fb_types::{MOST_ENTRIES, MOST_LINKS, MOST_RESOURCES};
+use std::alloc::{AllocError, Global};
 use toml::{Table, Value};
 
-/// From this tick on, so many ticks.
+/// A latency as it is written: a number of ticks, from this tick on.
 #[derive(Clone, Copy)]
 pub struct WrittenEntry {
+    /// The tick of sending from which it holds, as written.
     pub start: i64,
+    /// The latency in ticks, as written.
     pub ticks: i64,
 }
 
-/// What is judged of the links, one after the other.
+/// The checks of the links, in this order.
 #[derive(Clone, Copy)]
 pub enum LinkJudgement {
     /// Latencies are in range (E12).
@@ -121,7 +123,7 @@ fn wrong_latency(table: &[WrittenEntry]) -> Option<usize>
     None
 }
 
-/// Whether an entry comes behind the one before it, if there is one.
+/// Whether an entry comes after the one before it, if there is one.
 fn is_behind(before: Option<&WrittenEntry>, entry: &WrittenEntry) -> bool
     ensures { result ≡ spec.is_behind (option_map (λ e. e.now) before.entry) entry.now }
 {
@@ -131,7 +133,7 @@ fn is_behind(before: Option<&WrittenEntry>, entry: &WrittenEntry) -> bool
     }
 }
 
-/// Whether the entry at a place, if there is one, is the first one and at tick 0, or behind the one before it.
+/// Whether the entry at an index, if there is one, is the first one and at tick 0, or later than the one before it.
 fn follows(table: &[WrittenEntry], place: usize) -> bool
     ensures { result ≡ spec.follows table.now place }
 {
@@ -156,7 +158,7 @@ fn wrong_start(table: &[WrittenEntry]) -> Option<usize>
     None
 }
 
-/// What is wrong with the table of a link, of what is judged now.
+/// What is wrong with the table of a link, by the current check.
 fn table_place(judged: LinkJudgement, link: usize, table: &[WrittenEntry]) -> Option<DeployPlace>
     ensures { IfSome result (spec.IsTablePlace link table.now) }
 {
@@ -182,7 +184,7 @@ fn table_place(judged: LinkJudgement, link: usize, table: &[WrittenEntry]) -> Op
     }
 }
 
-/// What is wrong with a link, of what is judged now.
+/// What is wrong with a link, by the current check.
 fn link_place(
     alloc: Global,
     judged: LinkJudgement,
@@ -201,7 +203,7 @@ fn link_place(
     }
 }
 
-/// What is wrong with the first of the links that is wrong, of what is judged now.
+/// What is wrong with the first link that is wrong, by the current check.
 fn links_place(
     alloc: Global,
     judged: LinkJudgement,
@@ -231,7 +233,7 @@ fn count_at(keys: &Table, key: DeployKey) -> usize
     }
 }
 
-/// What is wrong with the links of a document, of what is judged now.
+/// What is wrong with the links of a document, by the current check.
 fn place_among_links(
     alloc: Global,
     judged: LinkJudgement,

@@ -1,25 +1,25 @@
-//! Where a refusal of a deployment or of stimuli applies.
+//! Locations in a deployment or in stimuli.
 
 ghost use Rattle.std.specs.Prelude.{◌≡◌};
 ghost use Rattle.fb_why_bytes.specs.Rows as rows;
 ghost use Rattle.fb_why_bytes.specs.Tables as tables;
 
-/// What is wrong with a row of stimuli. Words stand in the last field, parted by spaces, and are counted from 0.
+/// What is wrong with a row of stimuli. Words are in the last field, separated by spaces, and counted from 0.
 #[derive(Clone, Copy)]
 pub enum RowFault {
-    /// There are not three fields (E13).
+    /// There are not exactly three fields (E13).
     Fields,
     /// The event is not `INSTANCE.EVENT` (E13).
     Event,
     /// A word is not `NAME=VALUE` (E13).
     Word(usize),
-    /// The tick is no number (E14).
+    /// The tick is not a number (E14).
     Tick,
-    /// The value of a word is none (E14).
+    /// The value of a word is not a value (E14).
     Value(usize),
-    /// The tick is over the greatest one (E15).
+    /// The tick is over the greatest tick (E15).
     Late,
-    /// As many rows as there may be come before it (E15).
+    /// The row comes after the greatest number of rows (E15).
     Crowded,
 }
 
@@ -30,7 +30,7 @@ pub enum StimuliPlace {
     Bytes,
     /// The first record is not the heading (E13).
     Heading,
-    /// A row, counted from 0 behind the heading.
+    /// A row, counted from 0 after the heading.
     Row { row: usize, fault: RowFault },
 }
 
@@ -51,7 +51,7 @@ impl StimuliPlace {
     }
 }
 
-/// A table of a deployment. Those of a list are counted from 0.
+/// A table of a deployment. Items of a list are counted from 0.
 #[derive(Clone, Copy)]
 pub enum TablePlace {
     Top,
@@ -76,13 +76,13 @@ pub enum DeployKey {
 /// What is wrong with a table of a deployment (E11).
 #[derive(Clone, Copy)]
 pub enum TableFault {
-    /// What stands there is no table.
+    /// The value is not a table.
     NoTable,
     /// A key is missing: of `latency` and `latencies`, both.
     Missing(DeployKey),
-    /// A key has no value of its kind.
+    /// The value of a key is not of its kind.
     Wrong(DeployKey),
-    /// An element of the array at a key, counted from 0, is none of its kind.
+    /// An element of the array at a key, counted from 0, is not of its kind.
     Element(DeployKey, usize),
     /// There is no resource.
     Empty,
@@ -90,7 +90,7 @@ pub enum TableFault {
     Both,
     /// The link leads to the resource that it comes from.
     Itself,
-    /// There are further keys.
+    /// There are unknown keys.
     Further,
 }
 
@@ -99,9 +99,9 @@ pub enum TableFault {
 pub enum DeployPlace {
     /// There are too many bytes (E15).
     Bytes,
-    /// The bytes are no document; the reader found so at this byte, or behind the last one (E10).
+    /// The bytes are not TOML; the reader found this at this byte, or past the last one (E10).
     Document(usize),
-    /// A table has not the right shape (E11).
+    /// A table does not have the right shape (E11).
     Shape {
         table: TablePlace,
         fault: TableFault,
@@ -115,8 +115,8 @@ pub enum DeployPlace {
     NoEntry {
         link: usize,
     },
-    /// An entry of a link's table does not come behind the one before it: the first one not at tick 0, or one that is too
-    /// late (E16).
+    /// An entry of a link's table is not later than the one before it, is the first one and not at tick 0, or is too late
+    /// (E16).
     Entry {
         link: usize,
         entry: usize,

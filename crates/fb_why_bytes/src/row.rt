@@ -13,7 +13,7 @@ use crate::words::words_of;
 use fb_types::MOST_STIMULI;
 use std::alloc::{AllocError, Global};
 
-/// A tick and an event with which nothing is wrong.
+/// A tick and an event that are always right.
 const TICK: &[u8] = b"0";
 
 const EVENT: &[u8] = b"A.A";
@@ -34,7 +34,7 @@ fn is_tick(alloc: Global, text: &[u8]) -> Result<bool, AllocError>
     Ok(has_numbers(verdict))
 }
 
-/// Whether a text without spaces is `NAME=VALUE`, and its value is one too where that is asked.
+/// Whether a text without spaces is `NAME=VALUE`, and, if `valued` is set, has a value.
 fn is_right(alloc: Global, text: &[u8], valued: bool) -> Result<bool, AllocError>
     requires { spec.IsSingle text.now }
     ensures { IfOk result (λ b. b ≡ spec.is_right valued text.now) }
@@ -47,7 +47,7 @@ fn is_right(alloc: Global, text: &[u8], valued: bool) -> Result<bool, AllocError
     }
 }
 
-/// The first word that is not `NAME=VALUE`, or whose value is none where that is asked.
+/// The first word that is not `NAME=VALUE`, or, if `valued` is set, has no value.
 fn wrong_word(alloc: Global, words: &[&[u8]], valued: bool) -> Result<Option<usize>, AllocError>
     requires { All (λ w. spec.IsSingle w.now) words.now }
     ensures { IfOk result (λ o. MatchOption o (list_all (λ w. spec.is_right valued w.now) words.now ≡ true) (spec.FailsAt (spec.is_right valued) words.now)) }
@@ -76,7 +76,7 @@ fn shape_fault(alloc: Global, event: &[u8], values: &[u8]) -> Result<Option<RowF
     }
 }
 
-/// Which number of a row is none, where its shape is right.
+/// Which number of a row is not a number, if its shape is right.
 fn number_fault(alloc: Global, tick: &[u8], values: &[u8]) -> Result<Option<RowFault>, AllocError>
     ensures { IfOk result (λ o. MatchOption o ((spec.is_tick tick.now ≡ true) × (list_all spec.is_valued (words values.now) ≡ true)) (IsNumberFault tick.now values.now)) }
 {
@@ -92,7 +92,7 @@ fn number_fault(alloc: Global, tick: &[u8], values: &[u8]) -> Result<Option<RowF
     }
 }
 
-/// Whether as many rows as there may be come before one.
+/// The fault of a row after the greatest number of rows.
 fn crowded(before: usize) -> Option<RowFault>
     ensures { MatchOption result (before < most_rows) (λ f. (f ≡ RowFault.Crowded) × (most_rows ≤ before)) }
 {
@@ -103,7 +103,7 @@ fn crowded(before: usize) -> Option<RowFault>
     }
 }
 
-/// What is wrong with a row of three fields, before which so many rows come.
+/// What is wrong with a row of three fields, after this number of rows.
 pub fn row_fault(
     alloc: Global,
     before: usize,

@@ -6,40 +6,40 @@ ghost use Rattle.fb_why_bytes.specs.RowVerdicts as spec;
 use fb_inputs::{InputError, stimulus_of};
 use std::alloc::{AllocError, Global};
 
-/// What is said of a row.
+/// The verdict on a row.
 #[derive(Clone, Copy)]
 pub enum RowVerdict {
     Taken,
     /// It has the wrong shape.
     Shape,
-    /// A tick or a value is none.
+    /// A tick or a value is not a number.
     Number,
     /// It is over a limit.
     Limit,
 }
 
-/// Whether nothing is said against the shape.
+/// Whether the shape is right.
 pub fn has_shape(verdict: RowVerdict) -> bool
     ensures { result ≡ spec.has_shape verdict }
 {
     !matches!(verdict, RowVerdict::Shape)
 }
 
-/// Whether nothing is said against the numbers.
+/// Whether the numbers are right.
 pub fn has_numbers(verdict: RowVerdict) -> bool
     ensures { result ≡ spec.has_numbers verdict }
 {
     !matches!(verdict, RowVerdict::Number)
 }
 
-/// Whether nothing is said against the row.
+/// Whether the row is accepted.
 pub fn is_taken(verdict: RowVerdict) -> bool
     ensures { result ≡ spec.is_taken verdict }
 {
     matches!(verdict, RowVerdict::Taken)
 }
 
-/// What the reader says of a row with these fields, before which no other comes.
+/// What the reader says of a row with these fields, as the first row.
 pub fn judge_row(
     alloc: Global,
     tick: &[u8],

@@ -1,14 +1,16 @@
-//! Where the tokens of a text stand. What is faulty in place of a token counts as one, and so does a comment that is not closed.
+//! Where the tokens of a text are. A faulty token counts as one, and so does a comment that is not closed.
 
 ghost use Rattle.std.specs.Prelude.{◌+◌, ◌≤◌, ◌<◌, length};
 
 use crate::text_place::behind_mark;
 use std::alloc::{AllocError, Global};
 
-/// What stands from one offset up to another.
+/// The bytes from one offset up to another.
 #[derive(Clone, Copy)]
 pub struct Stretch {
+    /// The first offset.
     pub start: usize,
+    /// The offset past the last byte.
     pub end: usize,
 }
 
@@ -66,7 +68,7 @@ fn pause_len(z: &[u8]) -> usize
     }
 }
 
-/// The length of what goes on behind the `#` of a literal whose first word ends here.
+/// The length of the rest of a literal after its `#`, if its first word ends here.
 fn literal_rest(z: &[u8], word: usize) -> usize
     requires { word ≤ length z.now }
     ensures { word + result ≤ length z.now }
@@ -107,7 +109,7 @@ fn token_len(z: &[u8]) -> usize
     }
 }
 
-/// What stands in a text, token by token.
+/// The tokens of a text, one after another.
 pub fn stretches(alloc: Global, text: &[u8]) -> Result<Vec<Stretch>, AllocError> {
     let mut found = Vec::new(alloc);
     let mut start = text.len() - behind_mark(text).len();

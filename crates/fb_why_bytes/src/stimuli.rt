@@ -14,7 +14,7 @@ use fb_inputs::{InputError, columns, rows_of};
 use fb_types::MOST_STIMULI_BYTES;
 use std::alloc::{AllocError, Global};
 
-/// What is wrong with a record behind the heading, before which so many others come.
+/// What is wrong with a record after the heading, after this number of others.
 fn record_fault(
     alloc: Global,
     before: usize,
@@ -28,8 +28,8 @@ fn record_fault(
     }
 }
 
-/// What is wrong with the next record behind the heading. It is freed here, so that no caller holds it at its exits. One that
-/// was not read is not judged: memory was wanting.
+/// What is wrong with the next record after the heading. The record is dropped here, so that no caller has to drop it at
+/// its exits. A record that was not read is not judged: memory ran out.
 fn fault_of(
     alloc: Global,
     before: usize,
@@ -43,7 +43,7 @@ fn fault_of(
     }
 }
 
-/// The first of the records behind the heading with which something is wrong, and what.
+/// The first wrong record after the heading, and what is wrong with it.
 fn row_place(
     alloc: Global,
     rows: &mut ByteRecordsIntoIter<&[u8]>,
@@ -61,7 +61,7 @@ fn row_place(
     Ok(None)
 }
 
-/// Where the stimuli that bytes of CSV are meant to be are refused, or `None` where they are taken.
+/// Where stimuli in CSV are refused, or `None` if they are accepted.
 pub fn stimuli_place(alloc: Global, bytes: &[u8]) -> Result<Option<StimuliPlace>, AllocError>
     ensures { IfOk result (λ o. MatchOption o (AreTaken bytes.now) (IsRefusedAt bytes.now)) }
 {
@@ -77,7 +77,7 @@ pub fn stimuli_place(alloc: Global, bytes: &[u8]) -> Result<Option<StimuliPlace>
         return Ok(None);
     };
     let place = row_place(alloc, &mut rows);
-    // One call, where the way out would drop each part of the reader.
+    // Drops with one call. The exit would drop each part of the reader.
     drop(rows);
     place
 }

@@ -14,7 +14,7 @@ use crate::place::{DeployKey, TableFault, TablePlace};
 use std::alloc::{AllocError, Global};
 use toml::{Table, Value};
 
-/// How a key is written.
+/// The text of a key.
 pub fn key_text(key: DeployKey) -> &'static str
     ensures { result.now ≡ wanted.text_of key }
 {
@@ -55,7 +55,7 @@ fn is_name_value(alloc: Global, value: &Value) -> Result<bool, AllocError>
     }
 }
 
-/// What is wrong with the name at a key that wants one.
+/// What is wrong with the name at a key that needs one.
 fn name_fault(alloc: Global, keys: &Table, key: DeployKey) -> Result<Option<TableFault>, AllocError>
     requires { (d : Data) → wanted.is_of_kind key d ≡ is_some (inputs.name_of d) }
     ensures { IfOk result (λ o. MatchOption o (is_some (inputs.read_at inputs.name_of (wanted.text_of key) (table_view keys.now)) ≡ true) (spec.IsAtKey (table_view keys.now) key)) }
@@ -138,7 +138,7 @@ fn resource_keys_fault(alloc: Global, keys: &Table) -> Result<Option<TableFault>
     Ok(None)
 }
 
-/// What is wrong with the latencies at a key that wants them.
+/// What is wrong with the latencies at a key that needs them.
 fn entries_fault(value: &Value) -> Option<TableFault>
     ensures { MatchOption result (is_some (inputs.array_of inputs.pair (view value.now)) ≡ true) (spec.IsEntriesFault (view value.now)) }
 {
@@ -151,7 +151,7 @@ fn entries_fault(value: &Value) -> Option<TableFault>
     }
 }
 
-/// What is wrong with the one or more latencies of a link.
+/// What is wrong with the latency or the latencies of a link.
 fn latency_fault(keys: &Table) -> Option<TableFault>
     ensures { MatchOption result (is_some (inputs.table_of (wanted.value_at (table_view keys.now) DeployKey.Latency) (wanted.value_at (table_view keys.now) DeployKey.Latencies)) ≡ true) (spec.IsLinkFault (table_view keys.now)) }
 {
@@ -210,7 +210,7 @@ fn link_keys_fault(alloc: Global, keys: &Table) -> Result<Option<TableFault>, Al
     Ok(None)
 }
 
-/// What is wrong with a value that is to be a link, or else a resource.
+/// What is wrong with a value that should be a link, or else a resource.
 fn table_fault(
     alloc: Global,
     value: &Value,
@@ -228,7 +228,7 @@ fn table_fault(
     }
 }
 
-/// The first of the links, or else of the resources, with which something is wrong, and what.
+/// The first of the links, or else of the resources, that is wrong, and what is wrong with it.
 fn tables_fault(
     alloc: Global,
     values: &[Value],
@@ -261,7 +261,7 @@ fn resources_at(alloc: Global, keys: &Table) -> Result<Option<(TablePlace, Table
     }
 }
 
-/// What is wrong with the links of a document, which may have none.
+/// What is wrong with the links of a document, if any.
 fn links_at(alloc: Global, keys: &Table) -> Result<Option<(TablePlace, TableFault)>, AllocError>
     ensures { IfOk result (λ o. MatchOption o (is_some (inputs.optional_array inputs.link (get_member (codes "link") (table_view keys.now))) ≡ true) (λ r. spec.IsShapeFault (table_view keys.now) r.0 r.1)) }
 {
@@ -278,7 +278,7 @@ fn links_at(alloc: Global, keys: &Table) -> Result<Option<(TablePlace, TableFaul
     }
 }
 
-/// Whether a table of a document may have so many keys.
+/// Whether a document has no unknown keys.
 fn has_known_keys(keys: &Table) -> bool
     ensures { result ≡ spec.has_known_keys (table_view keys.now) }
 {

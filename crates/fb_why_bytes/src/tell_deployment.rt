@@ -1,4 +1,4 @@
-//! The texts that tell where a deployment is refused.
+//! The texts that say where a deployment is refused.
 
 use crate::place::{DeployKey, DeployPlace, TableFault, TablePlace};
 use crate::table::{key_text, value_at};
@@ -6,7 +6,7 @@ use crate::text::{Text, front};
 use std::alloc::{AllocError, Global};
 use toml::Table;
 
-/// Where a deployment is refused, and what was wanted there.
+/// Where a deployment is refused, and what was expected there.
 pub fn tell_deployment(
     alloc: Global,
     bytes: &[u8],
@@ -85,7 +85,7 @@ fn push_fault(alloc: Global, text: &mut Text, bytes: &[u8], table: TablePlace, f
     }
 }
 
-/// What the value at a key is not.
+/// What the value at a key must be.
 fn kind_of(key: DeployKey) -> &'static str {
     match key {
         DeployKey::Resource | DeployKey::Link => " is not an array of tables",
@@ -95,7 +95,7 @@ fn kind_of(key: DeployKey) -> &'static str {
     }
 }
 
-/// What an element of the array at a key is not.
+/// What an element of the array at a key must be.
 fn kind_of_element(key: DeployKey) -> &'static str {
     match key {
         DeployKey::Instances => " element is not a name",
@@ -117,7 +117,7 @@ fn known_keys(table: TablePlace) -> &'static [DeployKey] {
     }
 }
 
-/// Tells the first key that is not known.
+/// Adds the first unknown key of a table in a document.
 fn push_further(alloc: Global, text: &mut Text, bytes: &[u8], table: TablePlace) {
     text.words("there is a further key");
     match toml::table_from_slice(alloc, bytes) {
@@ -126,7 +126,7 @@ fn push_further(alloc: Global, text: &mut Text, bytes: &[u8], table: TablePlace)
     }
 }
 
-/// Adds the first key of the table that is not known.
+/// Adds the first unknown key of a table.
 fn push_unknown(text: &mut Text, keys: &Table, table: TablePlace) {
     let Some(keys) = table_at(keys, table) else {
         return;
@@ -150,7 +150,7 @@ fn is_known(table: TablePlace, key: &str) -> bool {
     false
 }
 
-/// The table of a document that is told.
+/// The table at a location.
 fn table_at(keys: &Table, table: TablePlace) -> Option<&Table> {
     let (key, place) = match table {
         TablePlace::Top => return Some(keys),
@@ -160,7 +160,7 @@ fn table_at(keys: &Table, table: TablePlace) -> Option<&Table> {
     value_at(keys, key)?.as_array()?.get(place)?.as_table()
 }
 
-/// Tells the latency of an entry of a link.
+/// Adds the latency of an entry of a link.
 fn push_latency(alloc: Global, text: &mut Text, bytes: &[u8], link: usize, entry: usize) {
     push_link(text, link);
     match toml::table_from_slice(alloc, bytes) {
@@ -170,7 +170,7 @@ fn push_latency(alloc: Global, text: &mut Text, bytes: &[u8], link: usize, entry
     text.words(" is not within 1 to 1,000,000");
 }
 
-/// Names the latency of an entry, or the one that the link has in place of a table.
+/// Adds the latency of an entry, or the latency of a link without a table.
 fn push_latency_of(text: &mut Text, keys: &Table, link: usize, entry: usize) {
     if has_one_latency(keys, link) {
         text.words("latency");
@@ -179,7 +179,7 @@ fn push_latency_of(text: &mut Text, keys: &Table, link: usize, entry: usize) {
     }
 }
 
-/// Whether a link has one latency, and no table of them.
+/// Whether a link has one latency, and no table.
 fn has_one_latency(keys: &Table, link: usize) -> bool {
     match table_at(keys, TablePlace::Link(link)) {
         Some(keys) => value_at(keys, DeployKey::Latency).is_some(),

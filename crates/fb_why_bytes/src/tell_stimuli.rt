@@ -1,4 +1,4 @@
-//! The texts that tell where stimuli are refused.
+//! The texts that say where stimuli are refused.
 
 use crate::place::{RowFault, StimuliPlace};
 use crate::text::Text;
@@ -7,7 +7,7 @@ use csv::{ByteRecord, Error};
 use fb_inputs::records_of;
 use std::alloc::{AllocError, Global};
 
-/// Where stimuli are refused, and what was wanted there.
+/// Where stimuli are refused, and what was expected there.
 pub fn tell_stimuli(
     alloc: Global,
     bytes: &[u8],
@@ -30,13 +30,13 @@ fn push_stimuli(alloc: Global, text: &mut Text, bytes: &[u8], place: StimuliPlac
     }
 }
 
-/// The record of the row at a place, if it is there.
+/// The record of the row at a location, if it is there.
 fn row_at(alloc: Global, bytes: &[u8], place: usize) -> Option<Result<ByteRecord, Error>> {
     let mut rows = records_of(alloc, bytes);
     rows.nth(place.saturating_add(1))
 }
 
-/// What is wrong with the row at the place. There is no text where it was not read: memory was wanting.
+/// Adds what is wrong with the row at a location. There is no text if the row was not read because memory ran out.
 fn push_row(alloc: Global, text: &mut Text, bytes: &[u8], place: usize, fault: RowFault) {
     match row_at(alloc, bytes, place) {
         Some(Ok(row)) => push_fault(alloc, text, &row, fault),
@@ -72,7 +72,7 @@ fn push_word(alloc: Global, text: &mut Text, row: &ByteRecord, place: usize, beh
     }
 }
 
-/// Adds what stands in a field, between words.
+/// Adds a field, between words.
 fn push_field(text: &mut Text, before: &str, field: Option<&[u8]>, behind: &str) {
     text.words(before);
     if let Some(field) = field {

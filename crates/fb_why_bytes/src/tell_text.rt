@@ -1,4 +1,4 @@
-//! The text that tells a place.
+//! The text for a location in a declaration.
 
 use crate::expected::expected;
 use crate::text::{Text, front};
@@ -7,10 +7,10 @@ use fb_read::ReadError;
 use fb_types::MOST_BYTES;
 use std::alloc::{AllocError, Global};
 
-/// How much of a token is told, in bytes.
+/// The most bytes of a token that are shown.
 const MOST_TOLD: usize = 40;
 
-/// The line that tells the place of a refusal: where it is, what stands there, and what was wanted.
+/// Says where a refusal applies: where it is, what is there, and what was expected.
 pub fn tell_text(
     alloc: Global,
     text: &[u8],
@@ -35,7 +35,7 @@ fn push_fault(alloc: Global, told: &mut Text, text: &[u8], fault: &ReadError, pl
     push_matter(alloc, told, fault, before, here);
 }
 
-/// What is told of what stands at a place: of an open comment its beginning.
+/// What is shown of the token at a location: of an open comment its beginning.
 fn token(here: &[u8]) -> &[u8] {
     match here {
         [b'(', b'*', ..] => b"(*",
@@ -43,7 +43,7 @@ fn token(here: &[u8]) -> &[u8] {
     }
 }
 
-/// What is the matter with what stands there, behind the beginning of the text.
+/// Adds what is wrong there, after the beginning of the text.
 fn push_matter(alloc: Global, told: &mut Text, fault: &ReadError, before: &[u8], here: &[u8]) {
     match fault {
         ReadError::Memory => told.words("out of memory"),
@@ -62,14 +62,14 @@ fn push_no_token(told: &mut Text, here: &[u8]) {
     }
 }
 
-/// Adds what stands there, between words.
+/// Adds the token, between words.
 fn push_about(told: &mut Text, before: &str, here: &[u8], behind: &str) {
     told.words(before);
     push_shown(told, here);
     told.words(behind);
 }
 
-/// What was wanted behind the beginning of a text, in place of what stands there.
+/// Adds what was expected after the beginning of a text, instead of what is there.
 fn push_syntax(alloc: Global, told: &mut Text, before: &[u8], here: &[u8]) {
     told.words("found ");
     if here.is_empty() {
@@ -83,7 +83,7 @@ fn push_syntax(alloc: Global, told: &mut Text, before: &[u8], here: &[u8]) {
     }
 }
 
-/// Adds the tokens that were wanted, if any is known.
+/// Adds the tokens that were expected, if any are known.
 fn push_wanted(told: &mut Text, wanted: &str) {
     if wanted.is_empty() {
         return;
@@ -96,7 +96,7 @@ fn push_wanted(told: &mut Text, wanted: &str) {
     told.words(wanted);
 }
 
-/// Adds bytes as a text, not too many of them: what is not printable by its number.
+/// Adds bytes as text, up to a limit. A byte that is not printable is shown by its number.
 fn push_shown(told: &mut Text, bytes: &[u8]) {
     for byte in front(bytes, MOST_TOLD) {
         match *byte {

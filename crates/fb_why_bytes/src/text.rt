@@ -1,11 +1,11 @@
-//! Texts that are put together.
+//! Texts that are composed of words and numbers.
 
 use std::alloc::{AllocError, Global};
 
-/// The greatest number of bytes of which one is told as they stand.
+/// The most bytes that are shown as they are.
 const MOST_TOLD: usize = 60;
 
-/// What stands behind a place, as in 1st.
+/// The ending of an ordinal number, as in 1st.
 fn ending(place: usize) -> &'static str {
     match (place % 10, place % 100) {
         (_, 11..=13) => "th",
@@ -16,12 +16,12 @@ fn ending(place: usize) -> &'static str {
     }
 }
 
-/// The first bytes, so many where there are more.
+/// The first bytes, at most this number.
 pub fn front(bytes: &[u8], most: usize) -> &[u8] {
     bytes.get(..most).unwrap_or(bytes)
 }
 
-/// How a byte is told: one that is no printing character of ASCII as a question mark.
+/// How a byte is shown: one that is not a printable ASCII character as a question mark.
 fn shown(byte: u8) -> u8 {
     match byte {
         b' '..=b'~' => byte,
@@ -29,16 +29,17 @@ fn shown(byte: u8) -> u8 {
     }
 }
 
-/// A text that grows. Where there is no memory for a part of it, it grows no more, and there is no text in the end: what writes
-/// to it need not look at that.
+/// A growing text. If memory runs out for a part, it stops growing and ends in an error, so code that appends needs no
+/// check.
 #[derive(Drop)]
 pub struct Text {
     all: String,
-    /// Whether there was memory for all of it so far.
+    /// `Ok` as long as there was memory for everything.
     written: Result<(), AllocError>,
 }
 
 impl Text {
+    /// An empty text.
     pub fn new(alloc: Global) -> Text {
         Text {
             all: String::new(alloc),
@@ -46,33 +47,37 @@ impl Text {
         }
     }
 
-    /// What it has grown to.
+    /// The finished text.
+    ///
+    /// # Errors
+    ///
+    /// If memory ran out on the way.
     pub fn into_string(self) -> Result<String, AllocError> {
         let Text { all, written } = self;
         written?;
         Ok(all)
     }
 
-    /// There was no memory for what was to be told.
+    /// Marks that memory ran out for a part.
     pub fn give_up(&mut self) {
         self.written = Err(AllocError);
     }
 
-    /// Words, as they are.
+    /// Appends words.
     pub fn words(&mut self, words: &str) {
         if self.written.is_ok() {
             self.written = self.all.push_str(words);
         }
     }
 
-    /// A letter of ASCII.
+    /// Appends an ASCII character.
     pub fn letter(&mut self, byte: u8) {
         if self.written.is_ok() {
             self.written = self.all.push(char::from(byte));
         }
     }
 
-    /// A number between words.
+    /// Appends a number between words.
     pub fn numbered(&mut self, before: &str, number: usize, behind: &str) {
         self.words(before);
         if self.written.is_ok() {
@@ -81,20 +86,20 @@ impl Text {
         self.words(behind);
     }
 
-    /// A place between words. It is counted from 0, and told as 1st for 0.
+    /// Appends an index between words. It is counted from 0, and shown as 1st for 0.
     pub fn placed(&mut self, before: &str, place: usize, behind: &str) {
         let counted = place.saturating_add(1);
         self.numbered(before, counted, ending(counted));
         self.words(behind);
     }
 
-    /// A line and a column of a text.
+    /// Appends a line and a column of a text.
     pub fn position(&mut self, line: usize, column: usize) {
         self.numbered("line ", line, "");
         self.numbered(", column ", column, ": ");
     }
 
-    /// Bytes between quotes, not too many of them.
+    /// Appends bytes between quotes, up to a limit.
     pub fn quoted(&mut self, bytes: &[u8]) {
         self.words("\"");
         for byte in front(bytes, MOST_TOLD) {

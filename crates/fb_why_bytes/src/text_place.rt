@@ -1,4 +1,4 @@
-//! Places in a text.
+//! Locations in a text.
 
 ghost use Rattle.std.specs.Prelude.{◌≡◌, ◌==◌, ◌≤◌, ◌<◌, IfSome, count_by, length, not};
 ghost use Rattle.std.specs.List.{suffix_len};
@@ -6,10 +6,12 @@ ghost use Rattle.fb_read.specs.Blank as spec;
 ghost use Rattle.fb_read.specs.Tokens.{behind_mark};
 ghost use Rattle.fb_why_bytes.specs.Places.{IsPlace, IsStretch};
 
-/// A place in a text: what stands from `start` up to `end`, offsets in bytes. At the end of the text nothing stands.
+/// A location in a text: the bytes from `start` up to `end`, both offsets in bytes. It is empty at the end of the text.
 #[derive(Clone, Copy)]
 pub struct TextPlace {
+    /// The offset of the first byte.
     pub start: usize,
+    /// The offset past the last byte.
     pub end: usize,
     /// The line of `start`, counted from 1 by line feeds.
     pub line: usize,
@@ -17,7 +19,7 @@ pub struct TextPlace {
     pub column: usize,
 }
 
-/// The byte at a place, and 0 past the end.
+/// The byte at an index, or 0 past the end.
 fn at(bytes: &[u8], i: usize) -> u8
     ensures value { result ≡ spec.at bytes.now i }
     ensures within { 0 < result → i < length bytes.now }
@@ -25,7 +27,7 @@ fn at(bytes: &[u8], i: usize) -> u8
     if i < bytes.len() { bytes[i] } else { 0 }
 }
 
-/// What stands behind one leading byte order mark.
+/// What follows one leading byte order mark.
 pub fn behind_mark(text: &[u8]) -> &[u8]
     ensures value { result.now ≡ behind_mark text.now }
     ensures shorter { length result.now ≤ length text.now }
@@ -37,7 +39,7 @@ pub fn behind_mark(text: &[u8]) -> &[u8]
     }
 }
 
-/// How many lines end in a text.
+/// The number of line feeds of a text.
 pub(crate) fn line_feeds(text: &[u8]) -> usize
     ensures { result ≡ count_by (λ b. b == 10) text.now }
 {
@@ -50,7 +52,7 @@ pub(crate) fn line_feeds(text: &[u8]) -> usize
     ended
 }
 
-/// How many bytes stand behind the last line feed.
+/// The number of bytes after the last line feed.
 fn behind_line_feed(text: &[u8]) -> usize
     ensures value { result ≡ suffix_len (λ b. not (b == 10)) text.now }
     ensures within { result ≤ length text.now }
@@ -66,7 +68,7 @@ fn behind_line_feed(text: &[u8]) -> usize
     behind
 }
 
-/// What stands between two offsets, if the text has them, behind its byte order mark.
+/// The bytes between two offsets, if the text has them after its byte order mark.
 pub fn place_at(text: &[u8], start: usize, end: usize) -> Option<TextPlace>
     ensures place { IfSome result (IsPlace text.now) }
     ensures there { IfSome result (λ place. IsStretch start end place) }

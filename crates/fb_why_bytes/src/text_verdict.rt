@@ -1,4 +1,4 @@
-//! What is read of a text, without its library.
+//! What the reader says of a text, without its library.
 
 ghost use Rattle.std.specs.Prelude.{IfOk};
 ghost use Rattle.fb_why_bytes.specs.TextVerdicts.{IsVerdict};

@@ -5,7 +5,7 @@ ghost use Rattle.fb_inputs.specs.Rows.{words};
 
 use std::alloc::{AllocError, Global};
 
-/// The words that spaces part.
+/// The words between spaces.
 pub fn words_of(alloc: Global, text: &[u8]) -> Result<Vec<&[u8]>, AllocError>
     ensures { IfOk result (λ v. map (λ w. w.now) v.items ≡ words text.now) }
 {

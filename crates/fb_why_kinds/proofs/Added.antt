@@ -1,4 +1,4 @@
--- Lists to which functions add, one after the other.
+-- Lists to which functions add, one after another.
 use Rattle.std.proofs.Common.{◌≡◌, ℕ, ◌+◌, ◌<◌, ◌≤◌, List, [], ◌∷◌, ◌++◌, drop, get_or, length, Result, append_assoc, sym, ◌∙◌, ap}
 use Rattle.std.specs.Prelude.{IfOk}
 use Rattle.std.proofs.lemmas.List.{append-nil, at_drop_all, at_drop_more}
@@ -8,7 +8,7 @@ use Rattle.std.proofs.lemmas.Result.{IfOk-equal}
 pub both_added : {X : Type 0} (a b c p q : List X) → b ≡ a ++ p → c ≡ b ++ q → c ≡ a ++ (p ++ q)
 both_added {X} a b c p q first last = last ∙ ap (λ (xs : List X). xs ++ q) first ∙ append_assoc a p q
 
--- the same, where the last call may fail, and where what is added is known by another name
+-- the same, if the last call may fail, and if what is added is known by another name
 pub then_added :
     {X T E : Type 0} (r : Result T E) (a b c p q w : List X) → w ≡ p ++ q → b ≡ a ++ p → IfOk r (λ _. c ≡ b ++ q) → IfOk r (λ _. c ≡ a ++ w)
 then_added {X} r a b c p q w told first last =

@@ -18,7 +18,7 @@ use Rattle.fb_why_kinds.specs.declared.place.UnknownName.{UnknownName}
 use Rattle.fb_why_kinds.specs.declared.place.UnknownName.TheVariants.{InstanceType, Parameter, End, With, Transition, Action, Guard, Body, Mapped, LinkEnd}
 use Rattle.fb_why_kinds.specs.Unknown.{IsUnknownIn, IsUnknownAt, IsBlockKnown}
 
--- a place in the declaration is one of all
+-- a location in the declaration is one of all
 pub in_declaration : (lib : Library) (plan : Plan) (p : UnknownName) → IsUnknownIn lib p → IsUnknownAt lib plan p
 in_declaration lib plan (InstanceType s i) h = h
 in_declaration lib plan (Parameter s i p) h = h
@@ -61,7 +61,7 @@ name_known lib plan application blocks deployment =
     ])
     deployment
 
--- what the search through the deployment answers, where nothing was found before
+-- the result of the search through the deployment, if nothing was found before
 pub whole_answer :
     (lib its : Library) (plan : Plan) (r : Option UnknownName) → its ≡ lib → ¬ (NetworkUnknown its (None, lib.application.network)) → All (IsBlockKnown its) its.blocks
     → MatchOption r (¬ (DeploymentUnknown lib plan)) (IsUnknownAt lib plan) → MatchOption r (¬ (NameUnknown lib plan)) (IsUnknownAt lib plan)

@@ -1,4 +1,4 @@
--- What is told of a place makes its number apply.
+-- What is reported of a location makes its number apply.
 use Rattle.std.proofs.Common.{◌≡◌, ℕ, Bool, true, false, [], ◌++◌, Option, Some, None, Contains, refl, sym, ◌∙◌, ap, subst, inl, inr}
 use Rattle.std.specs.Prelude.{flat_map, slice_get, option_and_then}
 use Rattle.std.specs.List.{list_all}
@@ -36,7 +36,7 @@ use Rattle.fb_why_kinds.specs.Statements.{each_in_body, stands_right}
 use Rattle.fb_why_kinds.proofs.Bodies.{body_each}
 use Rattle.fb_why_kinds.proofs.Parts.{part_fails}
 
--- ---- Networks and types at their places
+-- ---- Networks and types at their indices
 
 inside_networks : (t : BlockType) (n : Placed) → network_inside t ≡ Some n → Contains (networks_in t) n
 inside_networks (block.Basic t) n h = absurd (cc)

@@ -25,7 +25,7 @@ use Rattle.fb_why_kinds.proofs.NetworkPlaces.{unmet_is}
 
 -- ---- WITH lists
 
--- what the search for a variable that is none comes to
+-- the result of the search for a variable that does not exist
 abbrev pub FoundWith : List Name → List EventPort → ℕ × ℕ → Type 0
 FoundWith ns es r = (e : EventPort) × (slice_get es r.0 ≡ Some e) × ((n : Name) × (slice_get e.with r.1 ≡ Some n) × (among ns n ≡ false))
 

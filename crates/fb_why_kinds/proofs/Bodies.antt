@@ -1,4 +1,4 @@
--- An algorithm is right where each of its statements is, by itself.
+-- An algorithm is right if each of its statements is, by itself.
 use Rattle.std.proofs.Common.{◌≡◌, ℕ, zero, suc, ◌+◌, ◌<◌, arith, Bool, true, false, ◌&&◌, List, [], ◌∷◌, ◌++◌, drop, get_or, length, Option, Some, None, refl, subst, sym, ◌∙◌, ap}
 use Rattle.std.specs.Prelude.{MatchOption, slice_get}
 use Rattle.std.specs.List.{list_all}
@@ -50,7 +50,7 @@ both_right : (t : BasicType) (xs ys : List Standing) (a b : Bool) → all_right 
 both_right t xs ys a b h g = list_all-append (stands_right t) xs ys ∙ and_both h g
 
 mutual
-  -- a statement by itself, and those inside of it
+  -- a statement by itself, and those inside it
   inside_each : (t : BasicType) (l : Bool) (s : Stmt) → (own_right (in_place t l) s && all_right t (each_inside l s)) ≡ is_right (in_place t l) s
   inside_each t l Empty = refl
   inside_each t l Exit = and_true l

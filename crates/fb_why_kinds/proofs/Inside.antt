@@ -1,4 +1,4 @@
--- The statements inside of statements, each by its parts.
+-- The statements inside statements, each by its parts.
 use Rattle.std.proofs.Common.{◌≡◌, Bool, true, List, Option, ◌++◌, sym, ◌∙◌, ap, inl, inr}
 use Rattle.std.specs.Prelude.{◌⊎◌}
 use Rattle.fb_types.specs.Names.{Name}
@@ -18,7 +18,7 @@ inside l s = each_inside l (stmt_of s)
 abbrev each_in : Bool → List Stmt → List Standing
 each_in l ss = each_in_body l (all_of ss)
 
--- the lists are those that the code goes through
+-- the lists are those that the code uses
 pub inside_if :
     (l : Bool) (s : Stmt) (cs ds : List Choice) (os ps : List Stmt) → s ≡ read.If ds ps → cs ≡ ds → os ≡ ps
     → inside l s ≡ each_in_choices l (choices_of cs) ++ each_in l os
@@ -40,7 +40,7 @@ inside_loop l s os ps (inl (n, a, b, c, is)) body = ap (inside l) is ∙ ap (eac
 inside_loop l s os ps (inr (inl (c, is))) body = ap (inside l) is ∙ ap (each_inside l) (while_says c ps) ∙ ap (each_in true) (sym body)
 inside_loop l s os ps (inr (inr (c, is))) body = ap (inside l) is ∙ ap (each_inside l) (repeat_says ps c) ∙ ap (each_in true) (sym body)
 
--- behind a condition and behind labels
+-- after a condition and after labels
 pub inside_choice : (l : Bool) (c : Choice) (os : List Stmt) → os ≡ (out-Choice c).body → each_in_body l (choice_of c).1 ≡ each_in l os
 inside_choice l c os body = ap (λ r. each_in_body l r.1) (choice_says c) ∙ ap (each_in l) (sym body)
 

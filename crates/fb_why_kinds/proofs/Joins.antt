@@ -41,7 +41,7 @@ component_end lib n e c h =
       | Some c ↦ option_and_then (λ k. type_among (ports_of k) e) (option_and_then (kind_of_instance lib) (instance_in n.1 c))
     ]) h
 
--- at an instance that was looked for by its name, and whose type was
+-- at an instance that was found by its name, and whose type was
 pub instance_end :
     (lib : Library) (n : Placed) (e : PortName) (c : Name) (is : List Instance) (o : Option Instance) (k : Option Kind) → e.component ≡ Some c
     → is ≡ n.1.instances → o ≡ find (λ i. same_name i.name c) is → k ≡ option_and_then (kind_of_instance lib) o

@@ -23,7 +23,7 @@ names_of e = mentions (expr_of e)
 pub variable_names : (e : Expr) (n v : Name) → e ≡ expr.Variable v → n ≡ v → names_of e ≡ OfVariable n ∷ []
 variable_names e n v is same = ap names_of is ∙ ap mentions (variable_says v) ∙ ap (λ (n : Name). OfVariable n ∷ []) (sym same)
 
--- the operands are those that the code looks at
+-- the operands are those that the code uses
 pub group_names : (e a b : Expr) → e ≡ expr.Group b → a ≡ b → names_of e ≡ names_of a
 group_names e a b is same = ap names_of is ∙ ap mentions (group_says b) ∙ ap names_of (sym same)
 
@@ -51,7 +51,7 @@ named_in ss = mentions_body (all_of ss)
 pub assign_names : (s : Stmt) (n v : Name) (e : Expr) → s ≡ read.Assign v e → n ≡ v → named s ≡ OfVariable n ∷ mentions (expr_of e)
 assign_names s n v e is same = ap named is ∙ ap mentions_in (assign_says v e) ∙ ap (λ (n : Name). OfVariable n ∷ mentions (expr_of e)) (sym same)
 
--- the lists are those that the code goes through
+-- the lists are those that the code uses
 pub if_names :
     (s : Stmt) (cs ds : List Choice) (os ps : List Stmt) → s ≡ read.If ds ps → cs ≡ ds → os ≡ ps → named s ≡ mentions_choices (choices_of cs) ++ named_in os
 if_names s cs ds os ps is choices others =
@@ -74,7 +74,7 @@ while_names s c os ps is body = ap named is ∙ ap mentions_in (while_says c ps)
 pub repeat_names : (s : Stmt) (os ps : List Stmt) (c : Expr) → s ≡ read.Repeat ps c → os ≡ ps → named s ≡ named_in os ++ mentions (expr_of c)
 repeat_names s os ps c is body = ap named is ∙ ap mentions_in (repeat_says ps c) ∙ ap (λ (ss : List Stmt). named_in ss ++ mentions (expr_of c)) (sym body)
 
--- a condition and the statements behind it, and those behind labels
+-- a condition and the statements after it, and those after labels
 pub choice_names :
     (c : Choice) (os : List Stmt) → os ≡ (out-Choice c).body
     → mentions (choice_of c).0 ++ mentions_body (choice_of c).1 ≡ mentions (expr_of (out-Choice c).condition) ++ named_in os

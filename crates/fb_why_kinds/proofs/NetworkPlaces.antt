@@ -29,7 +29,7 @@ use Rattle.fb_why_kinds.specs.declared.place.Site.{Site}
 use Rattle.fb_why_kinds.specs.Sites.{network_at, instance_at, connections_of}
 use Rattle.fb_why_kinds.specs.Unknown.{Unmet, UnmetParameter, IsUnknownEnd, type_wanted, parameter_wanted, is_type_met, are_parameters_met, is_side_known, are_ends_known}
 
--- ---- Names that are wanted
+-- ---- Names that are required
 
 pub slice_get_map : {A B : Type 0} (f : A → B) (xs : List A) (k : ℕ) → slice_get (map f xs) k ≡ option_map f (slice_get xs k)
 slice_get_map f [] zero = refl
@@ -45,7 +45,7 @@ pub any_map : {A : Type 0} (f : A → Name) (n : Name) (xs : List A) → list_an
 any_map f n [] = refl
 any_map f n (x ∷ xs) = ap (λ b. same_name n (f x) || b) (any_map f n xs)
 
--- where nothing is answered
+-- if there is no result
 pub none_answer : {A : Type 0} (o : Option A) (N : Type 0) (P : A → Type 0) → o ≡ None → N → MatchOption o N P
 none_answer {A} o N P e h = subst (λ (o : Option A). MatchOption o N P) (sym e) h
 
@@ -61,7 +61,7 @@ parameters_are : (lib : Library) (i : Instance) (k : Kind) → kind_of_instance 
 parameters_are lib i k e =
     ap (λ (o : Option Kind). elim o as (λ _. List Wanted) [ None ↦ [] | Some k ↦ all_of (set_names i.parameters) (data_ins (ports_of k)) ]) e
 
--- the data inputs that are wanted of an instance, where the ports of its type are known
+-- the data inputs that are required of an instance, if the ports of its type are known
 wanted_of :
     (lib : Library) (i : Instance) (p : Ports) → Some p ≡ option_map ports_of (kind_of_instance lib i)
     → parameters_wanted lib i ≡ all_of (set_names i.parameters) (data_ins p)
@@ -72,7 +72,7 @@ wanted_of lib i p h =
       | Some k ↦ λ e h. parameters_are lib i k e ∙ ap (λ (q : Ports). all_of (set_names i.parameters) (data_ins q)) (sym (same_Some p (ports_of k) h))
     ] refl h
 
--- what the search for a parameter that is no input comes to
+-- the result of the search for a parameter that is not an input
 abbrev pub InputAnswer : Ports → List Parameter → Option ℕ → Type 0
 InputAnswer p xs r =
     MatchOption r (list_all (λ x. among (data_ins p) x.name) xs ≡ true)
@@ -138,7 +138,7 @@ pub instance_found :
 instance_found net n is o all found =
     sym (found ∙ ap (find (λ (i : Instance). same_name i.name n)) all ∙ find-named (λ (i : Instance). i.name) n net.instances)
 
--- ---- Places in a network
+-- ---- Locations in a network
 
 instance_is : (lib : Library) (s : Site) (n : Placed) (k : ℕ) (i : Instance) → network_at lib s ≡ Some n → slice_get n.1.instances k ≡ Some i → instance_at lib s k ≡ Some i
 instance_is lib s n k i at found = ap (option_and_then (λ (n : Placed). slice_get n.1.instances k)) at ∙ found

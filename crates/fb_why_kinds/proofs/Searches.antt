@@ -1,4 +1,4 @@
--- Loops that look for the first element of which something does not hold, or for one of which it holds.
+-- Loops that search the first element of which something does not hold, or one of which it holds.
 use Rattle.std.proofs.Common.{◌≡◌, ℕ, ◌+◌, ◌<◌, ◌≤◌, Bool, true, false, ◌&&◌, ◌||◌, List, drop, get_or, length, Some, sym, ◌∙◌, ap}
 use Rattle.std.specs.Prelude.{slice_get}
 use Rattle.std.specs.List.{list_all, list_any}

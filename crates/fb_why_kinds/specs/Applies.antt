@@ -1,4 +1,4 @@
--- What is told of a place is what makes its number apply.
+-- What is reported of a location makes its number apply.
 use Rattle.fb_types.specs.Joined.{OutOfRange}
 use Rattle.fb_types.specs.Kinds.{KindWrong}
 use Rattle.fb_types.specs.declared.library.Library.{Library}

@@ -26,7 +26,7 @@ use Rattle.fb_why_kinds.specs.Statements.{Standing, each_in_body, part_right}
 
 -- ---- Declared values
 
--- The variable is declared with a value that is none of its type.
+-- The variable is declared with a value that is not of its type.
 pub record IsInitialMisfit (lib : Library) (b : ℕ) (list : Variables) (k : ℕ) : Type 0 where
   pub in_type : BlockType
   pub stands : Variable
@@ -34,7 +34,7 @@ pub record IsInitialMisfit (lib : Library) (b : ℕ) (list : Variables) (k : ℕ
   pub found : slice_get (variables_at list in_type) k ≡ Some stands
   pub wrong : declared_right stands ≡ false
 
--- the same of a list of variables alone, and of a block type
+-- the same for a list of variables by itself, and for a block type
 abbrev pub MisfitAmong : List Variable → ℕ → Type 0
 MisfitAmong vs k = (v : Variable) × (slice_get vs k ≡ Some v) × (declared_right v ≡ false)
 
@@ -46,7 +46,7 @@ are_initials_right t = list_all declared_right (variables_in (kind_of t))
 
 -- ---- Parameters
 
--- The parameter of the instance is no value of its input's type.
+-- The parameter of the instance is not a value of its input's type.
 pub record IsParameterMisfit (lib : Library) (s : Site) (i p : ℕ) : Type 0 where
   pub network : Placed
   pub of_instance : Instance
@@ -58,7 +58,7 @@ pub record IsParameterMisfit (lib : Library) (s : Site) (i p : ℕ) : Type 0 whe
   pub kind_is : kind_of_instance lib of_instance ≡ Some kind
   pub wrong : parameter_right (ports_of kind) stands ≡ false
 
--- the same of an instance alone
+-- the same for an instance by itself
 pub record IsParameterWrong (lib : Library) (of_instance : Instance) (p : ℕ) : Type 0 where
   pub stands : Parameter
   pub kind : Kind
@@ -66,7 +66,7 @@ pub record IsParameterWrong (lib : Library) (of_instance : Instance) (p : ℕ) :
   pub kind_is : kind_of_instance lib of_instance ≡ Some kind
   pub wrong : parameter_right (ports_of kind) stands ≡ false
 
--- the same of a list of instances alone
+-- the same for a list of instances by itself
 abbrev pub ParameterAmong : Library → List Instance → ℕ × ℕ → Type 0
 ParameterAmong lib is r = (i : Instance) × (slice_get is r.0 ≡ Some i) × IsParameterWrong lib i r.1
 
@@ -79,7 +79,7 @@ are_set_right_inside lib = each_inside (λ n. are_set_right lib n.1)
 
 -- ---- Guards and algorithms
 
--- The guard of the transition is no truth value.
+-- The guard of the transition is not a truth value.
 pub record IsGuardMisfit (lib : Library) (b k : ℕ) : Type 0 where
   pub in_type : BasicType
   pub stands : Transition
@@ -99,13 +99,13 @@ pub record IsStatementMisfit (lib : Library) (b a k : ℕ) (part : StatementPart
 
 -- ---- All
 
--- The kind is wrong at this place.
+-- The kind is wrong at this location.
 abbrev pub IsMisfitAt : Library → Misfit → Type 0
 IsMisfitAt lib (misfit.Initial b l k) = IsInitialMisfit lib b l k
 IsMisfitAt lib (misfit.Parameter s i p) = IsParameterMisfit lib s i p
 IsMisfitAt lib (misfit.Guard b k) = IsGuardMisfit lib b k
 IsMisfitAt lib (misfit.Statement b a k part) = IsStatementMisfit lib b a k part
 
--- all is right in a block type, the parameters in its network too
+-- all is right in a block type, including the parameters in its network
 abbrev pub is_all_right : Library → BlockType → Bool
 is_all_right lib t = is_right_block t && are_set_right_inside lib t

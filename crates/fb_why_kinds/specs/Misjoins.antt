@@ -1,4 +1,5 @@
--- Where a data connection leads from a type to one that does not hold all its values (E23; IEC 61499-1, 5.3; the range of types is this project's profile).
+-- Where a data connection leads to a type that does not contain all values of the source type (E23; IEC 61499-1, 5.3; the
+-- range of types is this project's profile).
 use Rattle.std.specs.Prelude.{◌≡◌, ℕ, Bool, false, not, Some, slice_get}
 use Rattle.std.specs.List.{list_all}
 use Rattle.fb_types.specs.Joined.{IsWithin, type_at_end}
@@ -11,7 +12,7 @@ use Rattle.fb_check_networks.specs.Joins.{is_out}
 use Rattle.fb_why_kinds.specs.declared.place.Misjoin.{Misjoin}
 use Rattle.fb_why_kinds.specs.Sites.{each_inside, network_at, network_inside}
 
--- the type at the end of the connection holds all values of the one at its beginning, where both are types
+-- the type at the end of the connection contains all values of the one at its beginning, if both are types
 abbrev pub is_joined : Library → Placed → Connection → Bool
 is_joined lib n c = not (is_out (type_at_end lib n c.from) (type_at_end lib n c.to))
 
@@ -32,7 +33,7 @@ pub record IsMisjoinedInside (lib : Library) (t : BlockType) (k : ℕ) : Type 0 
   pub inside : network_inside t ≡ Some around
   pub misjoined : MisjoinedIn lib around k
 
--- The data connection is there, its ends are of these types, and the one does not hold all values of the other.
+-- The data connection is there, its ends are of these types, and the one does not contain all values of the other.
 pub record IsMisjoinedAt (lib : Library) (at : Misjoin) : Type 0 where
   pub network : Placed
   pub stands : Connection

@@ -1,4 +1,5 @@
--- The networks, block types and variables of a declaration by their places, and what stands at a place in a network (IEC 61499-1, 5.1 to 5.3).
+-- The networks, block types and variables of a declaration by their indices, and what is at an index in a network (IEC
+-- 61499-1, 5.1 to 5.3).
 use Rattle.std.specs.Prelude.{ℕ, List, Option, Some, None, slice_get, option_and_then, ◌≡◌, Bool, true, option_map}
 use Rattle.fb_types.specs.Blocks.{ports_of}
 use Rattle.fb_types.specs.Flat.{kind_of}
@@ -34,7 +35,7 @@ abbrev pub connections_of : FlowKind → Network → List Connection
 connections_of Events net = net.event_connections
 connections_of Data net = net.data_connections
 
--- the network that the code looks through, with the composite type around it
+-- the network that the code searches, with the composite type around it
 abbrev pub placed : PlacedNetwork → Placed
 placed s = (option_map (λ c. c.now) s.composite, s.network.now)
 
@@ -43,7 +44,7 @@ abbrev pub each_inside : (Placed → Bool) → BlockType → Bool
 each_inside test (block.Basic t) = true
 each_inside test (block.Composite t) = test (Some t, t.network)
 
--- the network stands there, inside of a composite type or not
+-- the network is there, inside a composite type or not
 abbrev pub IsNetworkAt : Library → Site → Network → Type 0
 IsNetworkAt lib s net = (n : Placed) × (network_at lib s ≡ Some n) × (n.1 ≡ net)
 

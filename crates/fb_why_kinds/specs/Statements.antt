@@ -1,4 +1,4 @@
--- The statements of an algorithm, and what is asked of each by itself (IEC 61131-3, 7.3.3).
+-- The statements of an algorithm, and what is required of each by itself (IEC 61131-3, 7.3.3).
 use Rattle.std.specs.Prelude.{◌≡◌, ℕ, zero, suc, List, [], ◌∷◌, ◌++◌, map, Bool, true, false, not, ◌&&◌, Some, slice_get}
 use Rattle.fb_types.specs.Syntax.{Stmt, Empty, Exit, Return, Assign, If, Case, For, While, Repeat, Stmts, no_stmt, then_stmts, Choices, no_choice, then_choices, Branches, no_branch, then_branches, stmt_of}
 use Rattle.fb_types.specs.Kinds.{Place, is_sort, sort_of, sort_of_type, same_sort, is_whole, is_condition}
@@ -9,7 +9,7 @@ use Rattle.fb_why_kinds.specs.declared.place.StatementPart.{StatementPart}
 use Rattle.fb_why_kinds.specs.declared.place.StatementPart.TheVariants as part
 use Rattle.fb_why_kinds.specs.declared.statements.Standing as code
 
--- A statement, and whether it stands in a loop.
+-- A statement, and whether it is in a loop.
 abbrev pub Standing : Type 0
 Standing = Bool × Stmt
 
@@ -39,7 +39,7 @@ abbrev mutual
   each_in_branches l no_branch = []
   each_in_branches l (then_branches ls body rest) = each_in_body l body ++ each_in_branches l rest
 
--- ---- What is asked of a statement by itself
+-- ---- What is required of a statement by itself
 
 abbrev pub conditions_right : Place → Choices → Bool
 conditions_right p no_choice = true
@@ -62,7 +62,7 @@ own_right p (For n a b c body) =
 own_right p (While c body) = is_condition p c
 own_right p (Repeat body c) = is_condition p c
 
--- one part of it: what a statement does not have is right
+-- one part of it: a part that a statement does not have is right
 abbrev pub part_right : Place → Stmt → StatementPart → Bool
 part_right p Exit part.Exit = p.in_loop
 part_right p (Assign n e) part.Assigned = not (p.fixed n)

@@ -1,4 +1,5 @@
--- Where a name stands for nothing of the wanted sort (E21): the place, and what is wanted there (IEC 61499-1, 5 to 7).
+-- Where a name stands for nothing of the required kind (E21): the location, and what is required there (IEC 61499-1, 5 to
+-- 7).
 use Rattle.std.specs.Prelude.{◌≡◌, ℕ, List, Bool, true, false, ◌&&◌, Option, Some, Contains, slice_get, option_map, option_and_then}
 use Rattle.std.specs.List.{list_all, list_any}
 use Rattle.fb_types.specs.Names.{Name, same_name}
@@ -38,7 +39,7 @@ use Rattle.fb_why_kinds.specs.declared.place.Side.TheVariants.{From, To}
 use Rattle.fb_why_kinds.specs.declared.place.Site.{Site}
 use Rattle.fb_why_kinds.specs.Sites.{basic_at, network_at, network_inside, instance_at, connections_of}
 
--- ---- Names that are wanted
+-- ---- Names that are required
 
 abbrev pub type_wanted : Library → Instance → Wanted
 type_wanted lib i = (i.block_type, block_type_names lib)
@@ -53,7 +54,7 @@ parameter_wanted lib i p = slice_get (parameters_wanted lib i) p
 abbrev pub are_parameters_met : Library → Instance → Bool
 are_parameters_met lib i = all_met (parameters_wanted lib i)
 
--- A name is wanted there that is not among those of its sort.
+-- A name is there that is not among those of its kind.
 abbrev pub Unmet : Option Wanted → Type 0
 Unmet o = (w : Wanted) × (o ≡ Some w) × ¬ (Contains w.1 w.0)
 
@@ -62,7 +63,8 @@ UnmetParameter lib i p = Unmet (parameter_wanted lib i p)
 
 -- ---- Ends of connections
 
--- at components, a connection leads from ports of the one sort to ports of the other; at the boundary it is the other way round
+-- at components, a connection leads from ports of the one kind to ports of the other; at the boundary it is the other way
+-- round
 abbrev pub outputs_of : FlowKind → Ports → List Name
 outputs_of Events = event_outs
 outputs_of Data = data_outs
@@ -110,7 +112,7 @@ action_wanted t a actions.Output = option_map (λ n. (n, event_outs t.ports)) a.
 
 -- ---- Expressions and statements
 
--- A variable or a function is unknown that stands so far on in what the type names there.
+-- The mention with this index among what the type names there is an unknown variable or function.
 pub record IsUnknownMention (lib : Library) (b : ℕ) (all : BasicType → Option (List Mention)) (k : ℕ) : Type 0 where
   pub in_type : BasicType
   pub among : List Mention
@@ -120,7 +122,7 @@ pub record IsUnknownMention (lib : Library) (b : ℕ) (all : BasicType → Optio
   pub found : slice_get among k ≡ Some stands
   pub unknown : is_known in_type stands ≡ false
 
--- the same of a list of mentions alone
+-- the same for a list of mentions by itself
 abbrev pub UnknownAmong : BasicType → List Mention → ℕ → Type 0
 UnknownAmong t ms k = (m : Mention) × (slice_get ms k ≡ Some m) × (is_known t m ≡ false)
 
@@ -130,9 +132,9 @@ guard_at x t = option_map guard_mentions (slice_get t.transitions x)
 abbrev pub body_at : ℕ → BasicType → Option (List Mention)
 body_at a t = option_map (λ a. mentions_body (body_of a.body)) (slice_get t.algorithms a)
 
--- ---- Places in a declaration
+-- ---- Locations in a declaration
 
--- Something is unknown at this place of the declaration.
+-- Something is unknown at this location of the declaration.
 abbrev pub IsUnknownIn : Library → UnknownName → Type 0
 IsUnknownIn lib (InstanceType s i) = Unmet (option_map (type_wanted lib) (instance_at lib s i))
 IsUnknownIn lib (Parameter s i p) = Unmet (option_and_then (λ x. parameter_wanted lib x p) (instance_at lib s i))
@@ -151,7 +153,7 @@ pub record IsBlockKnown (lib : Library) (t : BlockType) : Type 0 where
   pub names : is_known_block t ≡ true
   pub network : (n : Placed) → network_inside t ≡ Some n → ¬ (NetworkUnknown lib n)
 
--- ---- Places in a deployment
+-- ---- Locations in a deployment
 
 -- an instance that a resource lists
 abbrev pub mapped_wanted : Library → Plan → (resource instance : ℕ) → Option Wanted
@@ -178,7 +180,7 @@ is_resource rs n = list_any (λ r. same_name n r.name) rs
 abbrev pub are_sides_met : List ResourceEntry → Link → Bool
 are_sides_met rs l = is_resource rs l.from && is_resource rs l.to
 
--- Something is unknown at this place.
+-- Something is unknown at this location.
 abbrev pub IsUnknownAt : Library → Plan → UnknownName → Type 0
 IsUnknownAt lib plan (Mapped r i) = Unmet (mapped_wanted lib plan r i)
 IsUnknownAt lib plan (LinkEnd k side) = Unmet (link_wanted plan k side)

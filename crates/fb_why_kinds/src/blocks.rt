@@ -66,7 +66,7 @@ fn unknown_in_chart(library: &Library, block: usize, basic: &BasicType) -> Optio
     })
 }
 
-/// The first of some mentions that is unknown in the type.
+/// The first of these mentions that is unknown in the type.
 fn first_unknown(basic: &BasicType, mentions: &[Mention]) -> Option<usize>
     ensures { MatchOption result (all_known basic.now (meant_all mentions.now) ≡ true) (UnknownAmong basic.now (meant_all mentions.now)) }
 {
@@ -139,7 +139,7 @@ fn unknown_in_guards(
     Ok(None)
 }
 
-/// Where an algorithm or a guard names a variable or a function that there is not.
+/// Where an algorithm or a guard names a variable or a function that does not exist.
 fn unknown_in_texts(
     alloc: Global,
     library: &Library,
@@ -170,7 +170,7 @@ fn unknown_in_texts(
     }
 }
 
-/// Where a name of a block type stands for nothing, if there is such a place.
+/// Where a name of a block type stands for nothing, if there is such a location.
 fn unknown_in_block(
     alloc: Global,
     types: &BlockTypes,
@@ -198,7 +198,7 @@ fn unknown_in_block(
     }
 }
 
-/// Where a name of the block types stands for nothing, if there is such a place.
+/// Where a name of the block types stands for nothing, if there is such a location.
 fn unknown_in_some(
     alloc: Global,
     types: &BlockTypes,
@@ -215,7 +215,7 @@ fn unknown_in_some(
     Ok(None)
 }
 
-/// The same of all block types.
+/// The same for all block types.
 pub fn unknown_in_blocks(
     alloc: Global,
     types: &BlockTypes,

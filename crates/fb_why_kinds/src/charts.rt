@@ -18,7 +18,7 @@ use crate::place::{ActionPart, TransitionPart};
 use fb_check_names::PortSort;
 use fb_types::{Action, BasicType, EventPort, Name, Ports, State, Transition};
 
-/// The first name that is no variable of the sort.
+/// The first name that is not a variable of the kind.
 fn unknown_variable(ports: &Ports, sort: PortSort, names: &[Name]) -> Option<usize>
     ensures { MatchOption result (list_all (among (names_of_sort sort ports.now)) names.now ≡ true) (λ k. (n : Name) × (slice_get names.now k ≡ Some n) × (among (names_of_sort sort ports.now) n ≡ false)) }
 {
@@ -30,7 +30,7 @@ fn unknown_variable(ports: &Ports, sort: PortSort, names: &[Name]) -> Option<usi
     None
 }
 
-/// The first event with such a name in its WITH list, and the place of the name there.
+/// The first event with such a name in its WITH list, and the index of the name there.
 pub fn unknown_with(ports: &Ports, sort: PortSort, events: &[EventPort]) -> Option<(usize, usize)>
     ensures { MatchOption result (list_all (λ e. list_all (among (names_of_sort sort ports.now)) e.with) events.now ≡ true) (λ r. (e : EventPort) × (slice_get events.now r.0 ≡ Some e) × ((n : Name) × (slice_get e.with r.1 ≡ Some n) × (among (names_of_sort sort ports.now) n ≡ false))) }
 {

@@ -12,7 +12,7 @@ use crate::lookup::is_called;
 use crate::place::{Side, UnknownName};
 use fb_types::{Instance, Library, Link, Name, Plan, ResourceEntry};
 
-/// The first name that is no instance.
+/// The first name that is not an instance.
 fn unknown_name(instances: &[Instance], names: &[Name]) -> Option<usize>
     ensures { MatchOption result (list_all (is_instance instances.now) names.now ≡ true) (λ k. (n : Name) × (slice_get names.now k ≡ Some n) × (is_instance instances.now n ≡ false)) }
 {
@@ -36,7 +36,7 @@ fn unknown_mapped(instances: &[Instance], resources: &[ResourceEntry]) -> Option
     None
 }
 
-/// The end of a link that is no resource, the first one where both are none.
+/// The end of a link that is not a resource, the first one if both are not.
 fn unknown_side(resources: &[ResourceEntry], link: &Link) -> Option<Side>
     ensures { MatchOption result (are_sides_met resources.now link.now ≡ true) (λ side. is_resource resources.now (side_of side link.now) ≡ false) }
 {
@@ -61,7 +61,7 @@ fn unknown_link(resources: &[ResourceEntry], links: &[Link]) -> Option<(usize, S
     None
 }
 
-/// Where a name of a deployment stands for nothing, if there is such a place.
+/// Where a name of a deployment stands for nothing, if there is such a location.
 pub fn unknown_in_deployment(library: &Library, plan: &Plan) -> Option<UnknownName>
     ensures { MatchOption result (¬ (DeploymentUnknown library.now plan.now)) (IsUnknownAt library.now plan.now) }
 {

@@ -1,16 +1,16 @@
-//! Where a declaration and a deployment that are refused have names that stand for nothing, wrong kinds and wrong ranges (E21 to
-//! E23).
+//! Finds where names stand for nothing, and where kinds and ranges are wrong, in a declaration and a deployment that are
+//! refused (E21 to E23).
 //!
-//! Guarantees to callers: `unknown::unknown_place` gives a place at which a name is wanted and not there (E21),
-//! `misfits::misfit_place` one at which a declared value, a parameter, a guard or a statement has the wrong kind (E22), and
-//! `misjoins::misjoin_place` a data connection from a type to one that does not hold all its values (E23); each gives none exactly
-//! where there is no such place. By `laws::places_apply` the number applies where a place of the last two is told. Of the texts
-//! nothing is promised.
+//! Guarantees to callers: `unknown::unknown_place` returns a location of a name that stands for nothing (E21),
+//! `misfits::misfit_place` one at which a declared value, a parameter, a guard or a statement has the wrong kind (E22),
+//! and `misjoins::misjoin_place` a data connection to a type that does not contain all values of the source type (E23).
+//! Each returns `None` exactly if there is no such location. By `laws::places_apply` the number applies if one of the
+//! last two is reported. The wording of the texts is not part of any contract.
 //!
-//! Read in this order: `place`; `lookup`, `networks`, `blocks`, `charts`, `mentions` and `deployment`, where names are looked
-//! for; `unknown`. Then `types`, what names stand for; `misjoins`; `statements`, `parameters` and
-//! `misfits`; `laws`. Last `words`, `tell_sites`, `tell_unknown` and `tell_kinds`, a place as a text. A text that grows
-//! (`words`) serves `fb_why` too.
+//! Read in this order: `place`; `lookup`, `networks`, `blocks`, `charts`, `mentions` and `deployment`, which search
+//! names; `unknown`. Then `types`, what names stand for; `misjoins`; `statements`, `parameters` and `misfits`; `laws`.
+//! Last `words`, `tell_sites`, `tell_unknown` and `tell_kinds`, a location as text. `fb_why` uses the growing text of
+//! `words` too.
 #![tactic(auto)]
 
 mod blocks;

@@ -1,4 +1,4 @@
-//! What names stand for in a declaration, looked for from name to name.
+//! What names stand for in a declaration, found by comparing names.
 
 ghost use Rattle.std.specs.Prelude.{◌≡◌, IfOk, option_map};
 ghost use Rattle.std.specs.List.{list_any};
@@ -17,12 +17,13 @@ use std::alloc::{AllocError, Global};
 /// The block types of a declaration, and the ports of the event blocks in the order of their kinds.
 #[derive(Drop)]
 pub struct BlockTypes<'a> {
+    /// The declaration.
     pub library: &'a Library,
     event_ports: Items<Ports>,
     ghost of_kinds: { ArePortsOfKinds event_ports },
 }
 
-/// Whether one of some has the name.
+/// Whether an item has the name.
 pub(crate) fn is_called<T: Named>(items: &[T], name: &Name) -> bool
     ensures { result ≡ list_any (λ x. same_name name.now (T.called x)) items.now }
 {
@@ -34,7 +35,7 @@ pub(crate) fn is_called<T: Named>(items: &[T], name: &Name) -> bool
     false
 }
 
-/// Whether an interface has a port of the sort by the name.
+/// Whether an interface has a port of the kind with the name.
 pub fn has_port(ports: &Ports, sort: PortSort, name: &Name) -> bool
     ensures { result ≡ among (names_of_sort sort ports.now) name.now }
 {
@@ -47,6 +48,11 @@ pub fn has_port(ports: &Ports, sort: PortSort, name: &Name) -> bool
 }
 
 impl<'a> BlockTypes<'a> {
+    /// The types of a declaration.
+    ///
+    /// # Errors
+    ///
+    /// When memory runs out.
     pub fn new(alloc: Global, library: &'a Library) -> Result<BlockTypes<'a>, AllocError>
         ensures { IfOk result (λ t. t.library.now ≡ library.now) }
     {

@@ -1,4 +1,4 @@
-//! Variables and functions that guards and algorithms name and that stand for nothing (E21).
+//! Variables and functions in guards and algorithms whose names stand for nothing (E21).
 
 ghost use Rattle.std.specs.Prelude.{◌≡◌, ◌∷◌, ◌++◌, [], IfOk};
 ghost use Rattle.fb_types.specs.Blocks.{among, variable_names, variables_of};
@@ -57,7 +57,7 @@ fn push_arguments<'a>(all: &mut Vec<Mention<'a>>, arguments: &'a [Expr]) -> Resu
     Ok(())
 }
 
-/// The same of the step of FOR, if there is one.
+/// The same for the step of FOR, if there is one.
 fn push_step<'a>(all: &mut Vec<Mention<'a>>, step: &'a Option<Expr>) -> Result<(), AllocError>
     ensures { IfOk result (λ _. meant_all all.new.items ≡ meant_all all.old.items ++ mentions_of_step step.now) }
 {
@@ -67,7 +67,7 @@ fn push_step<'a>(all: &mut Vec<Mention<'a>>, step: &'a Option<Expr>) -> Result<(
     }
 }
 
-/// The same of what controls a FOR: its variable, and what it begins, ends and goes on with.
+/// The same for what controls a FOR: its variable, start, end and step.
 fn push_control<'a>(
     all: &mut Vec<Mention<'a>>,
     variable: &'a Reference,

@@ -21,7 +21,7 @@ use fb_check_types::is_condition;
 use fb_types::{Algorithm, BasicType, BlockType, Library, Transition, Variable};
 use std::alloc::{AllocError, Global};
 
-/// The first of some variables that is declared with a value that is none of its type.
+/// The first of these variables that is declared with a value not of its type.
 fn wrong_among(variables: &[Variable]) -> Option<usize>
     ensures { MatchOption result (list_all declared_right variables.now ≡ true) (MisfitAmong variables.now) }
 {
@@ -68,7 +68,7 @@ fn is_guard_right(basic: &BasicType, transition: &Transition) -> bool
     }
 }
 
-/// The first of some transitions whose guard is none.
+/// The first of these transitions whose guard is not a truth value.
 fn wrong_guard(basic: &BasicType, transitions: &[Transition]) -> Option<usize>
     ensures { MatchOption result (list_all (is_guard_right basic.now) transitions.now ≡ true) (λ k. (x : Transition) × (slice_get transitions.now k ≡ Some x) × (is_guard_right basic.now x ≡ false)) }
 {
@@ -80,7 +80,7 @@ fn wrong_guard(basic: &BasicType, transitions: &[Transition]) -> Option<usize>
     None
 }
 
-/// The first of some algorithms with a statement that is wrong, and that with its part.
+/// The first of these algorithms with a wrong statement, and the statement with its wrong part.
 fn wrong_body(
     alloc: Global,
     basic: &BasicType,
@@ -162,7 +162,7 @@ fn misfit_in_some(
     Ok(None)
 }
 
-/// A place at which a value, an expression or a statement has the wrong kind, or `None` where there is none.
+/// A location at which a value, an expression or a statement has the wrong kind, or `None` if there is none.
 pub fn misfit_place(alloc: Global, library: &Library) -> Result<Option<Misfit>, AllocError>
     ensures { IfOk result (λ o. MatchOption o (¬ (KindWrong library.now)) (IsMisfitAt library.now)) }
 {

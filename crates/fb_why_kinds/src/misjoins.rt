@@ -1,4 +1,4 @@
-//! Data connections that lead from a type to one that does not hold all its values (E23).
+//! Data connections to a type that does not contain all values of the source type (E23).
 
 ghost use Rattle.std.specs.Prelude.{◌≡◌, MatchOption, Some, true, false, slice_get};
 ghost use Rattle.std.specs.List.{list_all};
@@ -33,7 +33,7 @@ pub(crate) fn type_at_end(library: &Library, scope: &PlacedNetwork, end: &PortNa
     }
 }
 
-/// Whether the type at the end of a connection holds all values of the one at its beginning, where both are types.
+/// Whether the type at the end of a connection contains all values of the one at its beginning, if both are types.
 fn is_joined(library: &Library, scope: &PlacedNetwork, connection: &Connection) -> bool
     ensures { result ≡ is_joined library.now (placed scope.now) connection.now }
 {
@@ -45,7 +45,7 @@ fn is_joined(library: &Library, scope: &PlacedNetwork, connection: &Connection) 
     }
 }
 
-/// The first of some data connections that leads out of a range.
+/// The first of these data connections that leads out of range.
 fn first_misjoined(
     library: &Library,
     scope: &PlacedNetwork,
@@ -61,14 +61,14 @@ fn first_misjoined(
     None
 }
 
-/// The first data connection of a network that does.
+/// The first data connection of a network that leads out of range.
 fn misjoined_in(library: &Library, scope: &PlacedNetwork) -> Option<usize>
     ensures { MatchOption result (are_joined library.now (placed scope.now) ≡ true) (MisjoinedIn library.now (placed scope.now)) }
 {
     first_misjoined(library, scope, scope.network.data_connections.as_slice())
 }
 
-/// The first data connection inside a block type that does.
+/// The first data connection inside a block type that leads out of range.
 fn misjoined_inside(library: &Library, block: &BlockType) -> Option<usize>
     ensures { MatchOption result (are_joined_inside library.now block.now ≡ true) (IsMisjoinedInside library.now block.now) }
 {
@@ -84,7 +84,7 @@ fn misjoined_inside(library: &Library, block: &BlockType) -> Option<usize>
     }
 }
 
-/// The first block type with such a data connection inside, and that.
+/// The first block type with such a data connection inside, and the connection.
 fn misjoined_in_some(library: &Library, blocks: &[BlockType]) -> Option<(usize, usize)>
     ensures { MatchOption result (list_all (are_joined_inside library.now) blocks.now ≡ true) (λ r. (b : BlockType) × (slice_get blocks.now r.0 ≡ Some b) × IsMisjoinedInside library.now b r.1) }
 {
@@ -96,7 +96,7 @@ fn misjoined_in_some(library: &Library, blocks: &[BlockType]) -> Option<(usize, 
     None
 }
 
-/// A data connection that leads from a type to one that does not hold all its values, or `None` where there is none.
+/// A data connection to a type that does not contain all values of the source type, or `None` if there is none.
 pub fn misjoin_place(library: &Library) -> Option<Misjoin>
     ensures { MatchOption result (¬ (OutOfRange library.now)) (IsMisjoinedAt library.now) }
 {

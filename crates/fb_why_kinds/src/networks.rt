@@ -22,10 +22,12 @@ use fb_types::{
     CompositeType, Connection, Instance, Network, Parameter, PortName, Ports, instance_named,
 };
 
-/// A network, with the composite type that it is inside of, or none for the application's.
+/// A network with the composite type that contains it, or none for the application's.
 #[derive(Clone, Copy)]
 pub struct PlacedNetwork<'a> {
+    /// The composite type that contains the network, or none.
     pub composite: Option<&'a CompositeType>,
+    /// The network.
     pub network: &'a Network,
 }
 
@@ -41,7 +43,7 @@ fn unknown_type(types: &BlockTypes, instances: &[Instance]) -> Option<usize>
     None
 }
 
-/// The first parameter that is no data input of the interface.
+/// The first parameter that is not a data input of the interface.
 fn unknown_input(ports: &Ports, parameters: &[Parameter]) -> Option<usize>
     ensures { MatchOption result (list_all (λ x. among (data_ins ports.now) x.name) parameters.now ≡ true) (λ k. (x : Parameter) × (slice_get parameters.now k ≡ Some x) × (among (data_ins ports.now) x.name ≡ false)) }
 {
@@ -53,7 +55,7 @@ fn unknown_input(ports: &Ports, parameters: &[Parameter]) -> Option<usize>
     None
 }
 
-/// The first parameter of an instance that is no data input of its type. Where the type is unknown there is none.
+/// The first parameter of an instance that is not a data input of its type. If the type is unknown there is none.
 fn unknown_parameter(types: &BlockTypes, instance: &Instance) -> Option<usize>
     ensures { MatchOption result (are_parameters_met types.now.library.now instance.now ≡ true) (UnmetParameter types.now.library.now instance.now) }
 {
@@ -73,7 +75,7 @@ fn unknown_parameters(types: &BlockTypes, instances: &[Instance]) -> Option<(usi
     None
 }
 
-/// Whether an end is among the ports of the one sort at a component, or of the other at the boundary.
+/// Whether an end is among the ports of the one kind at a component, or of the other at the boundary.
 fn is_end(
     types: &BlockTypes,
     scope: &PlacedNetwork,
@@ -98,7 +100,7 @@ fn is_end(
     }
 }
 
-/// The sort of the ports of components from which a connection leads.
+/// The kind of the ports of components from which a connection leads.
 pub(crate) fn output_of(flow: FlowKind) -> PortSort
     ensures { names_of_sort result ≡ outputs_of flow }
 {
@@ -108,7 +110,7 @@ pub(crate) fn output_of(flow: FlowKind) -> PortSort
     }
 }
 
-/// The sort of the ports of components to which a connection leads.
+/// The kind of the ports of components to which a connection leads.
 pub(crate) fn input_of(flow: FlowKind) -> PortSort
     ensures { names_of_sort result ≡ inputs_of flow }
 {
@@ -135,7 +137,7 @@ fn is_side_known(
     }
 }
 
-/// The end of a connection that is unknown, the first one where both are.
+/// The end of a connection that is unknown, the first one if both are.
 fn unknown_side(
     types: &BlockTypes,
     scope: &PlacedNetwork,
@@ -153,7 +155,7 @@ fn unknown_side(
     None
 }
 
-/// The first connection with an end that is unknown, and that end.
+/// The first connection with an unknown end, and the end.
 fn unknown_end(
     types: &BlockTypes,
     scope: &PlacedNetwork,
@@ -181,7 +183,7 @@ fn end(site: Site, flow: FlowKind, connection: usize, side: Side) -> UnknownName
     }
 }
 
-/// Where a name of a network stands for nothing, if there is such a place.
+/// Where a name of a network stands for nothing, if there is such a location.
 pub fn unknown_in_network(
     types: &BlockTypes,
     site: Site,

@@ -1,4 +1,4 @@
-//! Parameters of instances that are no values of their inputs' types (E22).
+//! Parameters of instances that are not values of their inputs' types (E22).
 
 ghost use Rattle.std.specs.Prelude.{◌≡◌, MatchOption, Some, true, false, slice_get};
 ghost use Rattle.std.specs.List.{list_all};
@@ -14,7 +14,7 @@ use crate::place::{Misfit, Site};
 use crate::types::{Kind, type_named};
 use fb_types::{Instance, Library, Network, Parameter};
 
-/// Whether a parameter is a value of the type of the input that it sets, where the type has the input.
+/// Whether a parameter is a value of the type of the input that it sets, if the type has the input.
 fn is_right(kind: Kind, parameter: &Parameter) -> bool
     ensures { result ≡ parameter_right (ports_of (meant kind.entry)) parameter.now }
 {
@@ -24,7 +24,7 @@ fn is_right(kind: Kind, parameter: &Parameter) -> bool
     }
 }
 
-/// The first of some parameters that is none.
+/// The first of these parameters that is not.
 fn first_wrong(kind: Kind, parameters: &[Parameter]) -> Option<usize>
     ensures { MatchOption result (list_all (parameter_right (ports_of (meant kind.entry))) parameters.now ≡ true) (λ k. (x : Parameter) × (slice_get parameters.now k ≡ Some x) × (parameter_right (ports_of (meant kind.entry)) x ≡ false)) }
 {
@@ -36,7 +36,7 @@ fn first_wrong(kind: Kind, parameters: &[Parameter]) -> Option<usize>
     None
 }
 
-/// The first parameter of an instance that is none.
+/// The first parameter of an instance that is not.
 fn wrong_parameter(library: &Library, instance: &Instance) -> Option<usize>
     ensures { MatchOption result (parameters_right library.now instance.now ≡ true) (IsParameterWrong library.now instance.now) }
 {
@@ -44,7 +44,7 @@ fn wrong_parameter(library: &Library, instance: &Instance) -> Option<usize>
     first_wrong(kind, instance.parameters.as_slice())
 }
 
-/// The first of some instances with such a parameter, and that.
+/// The first of these instances with such a parameter, and the parameter.
 fn wrong_in_instances(library: &Library, instances: &[Instance]) -> Option<(usize, usize)>
     ensures { MatchOption result (list_all (parameters_right library.now) instances.now ≡ true) (ParameterAmong library.now instances.now) }
 {
@@ -56,7 +56,7 @@ fn wrong_in_instances(library: &Library, instances: &[Instance]) -> Option<(usiz
     None
 }
 
-/// Where a parameter in a network is none.
+/// Where a parameter in a network is not a value of its input's type.
 pub fn misfit_in_network(library: &Library, site: Site, network: &Network) -> Option<Misfit>
     requires { IsNetworkAt library.now site network.now }
     ensures { MatchOption result (list_all (parameters_right library.now) network.now.instances ≡ true) (IsMisfitAt library.now) }

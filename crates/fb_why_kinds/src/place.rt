@@ -1,12 +1,12 @@
-//! Where a name stands for nothing, where a value, an expression or a statement has the wrong kind, and where a data connection
-//! leads out of a range.
+//! Locations at which a name stands for nothing, a value, an expression or a statement has the wrong kind, or a data
+//! connection leads out of range.
 
 /// A network of a declaration.
 #[derive(Clone, Copy)]
 pub enum Site {
-    /// That of the application.
+    /// The network of the application.
     Application,
-    /// That inside of the composite type at this place among the block types.
+    /// The network inside the composite type at this index among the block types.
     Inside(usize),
 }
 
@@ -46,7 +46,8 @@ pub enum ActionPart {
     Output,
 }
 
-/// A place of a declaration or a deployment at which a name stands for nothing. What stands in a list is counted from 0, in the order of the text.
+/// A location of a declaration or a deployment at which a name stands for nothing. Items of lists are counted from 0, in
+/// the order of the text.
 #[derive(Clone, Copy)]
 pub enum UnknownName {
     /// The type of an instance of a network.
@@ -60,7 +61,7 @@ pub enum UnknownName {
         instance: usize,
         parameter: usize,
     },
-    /// An end of a connection, among those that carry the same.
+    /// An end of a connection, counted among those that carry the same.
     End {
         site: Site,
         flow: FlowKind,
@@ -87,13 +88,13 @@ pub enum UnknownName {
         action: usize,
         part: ActionPart,
     },
-    /// What a guard of the block type names, counted as its variables and functions stand in the text.
+    /// A variable or a function in a guard of the block type, counted as they occur in the text.
     Guard {
         block: usize,
         transition: usize,
         mention: usize,
     },
-    /// What an algorithm of the block type names, counted alike.
+    /// A variable or a function in an algorithm of the block type, counted the same way.
     Body {
         block: usize,
         algorithm: usize,
@@ -119,32 +120,32 @@ pub enum Variables {
     Internals,
 }
 
-/// What is asked of a statement by itself, apart from the statements inside of it.
+/// What is required of a statement by itself, except for the statements inside it.
 #[derive(Clone, Copy)]
 pub enum StatementPart {
-    /// That EXIT stands in a loop.
+    /// EXIT is in a loop.
     Exit,
-    /// That the variable that is assigned, or that controls a FOR, is no input.
+    /// The variable that is assigned, or that controls a FOR, is not an input.
     Assigned,
-    /// That the assigned value has the kind of the variable.
+    /// The assigned value has the kind of the variable.
     Value,
-    /// That the condition of IF, or of the ELSIF at this place behind it, is a truth value.
+    /// The condition of IF, or of the ELSIF at this index after it, is a truth value.
     Choice(usize),
-    /// That the selector of CASE is a number.
+    /// The selector of CASE is a number.
     Selector,
-    /// That the variable that controls a FOR is a number.
+    /// The variable that controls a FOR is a number.
     Control,
-    /// That what a FOR begins with is a number.
+    /// The start of a FOR is a number.
     Start,
-    /// That what a FOR ends with is a number.
+    /// The end of a FOR is a number.
     End,
-    /// That the step of a FOR is a number.
+    /// The step of a FOR is a number.
     Step,
-    /// That the condition of WHILE or UNTIL is a truth value.
+    /// The condition of WHILE or UNTIL is a truth value.
     Condition,
 }
 
-/// A place at which a kind is wrong. What stands in a list is counted from 0, in the order of the text.
+/// A location at which a kind is wrong. Items of lists are counted from 0, in the order of the text.
 #[derive(Clone, Copy)]
 pub enum Misfit {
     /// The declared value of a variable of the block type.
@@ -164,7 +165,7 @@ pub enum Misfit {
         block: usize,
         transition: usize,
     },
-    /// A part of a statement of an algorithm of the block type, all its statements counted as they begin in the text.
+    /// A part of a statement of an algorithm of the block type. Statements are counted as they begin in the text.
     Statement {
         block: usize,
         algorithm: usize,
@@ -176,6 +177,8 @@ pub enum Misfit {
 /// A data connection, among those of its network, counted from 0 in the order of the text.
 #[derive(Clone, Copy)]
 pub struct Misjoin {
+    /// The network.
     pub site: Site,
+    /// The index among the data connections of the network.
     pub connection: usize,
 }

@@ -1,4 +1,4 @@
-//! The first statement of an algorithm of which a part has the wrong kind (IEC 61131-3, 7.3.3).
+//! The first statement of an algorithm with a part of the wrong kind (IEC 61131-3, 7.3.3).
 
 ghost use Rattle.std.specs.Prelude.{◌≡◌, ◌∷◌, ◌++◌, [], IfOk, MatchOption, true, false};
 ghost use Rattle.std.specs.List.{list_all};
@@ -16,10 +16,12 @@ use fb_check_types::{
 use fb_types::{Algorithm, BasicType, Body, Branch, Choice, Expr, Reference, Sort, Stmt};
 use std::alloc::{AllocError, Global};
 
-/// A statement, and whether it stands in a loop.
+/// A statement, and whether it is in a loop.
 #[derive(Clone, Copy)]
 pub struct Standing<'a> {
+    /// The statement.
     pub statement: &'a Stmt,
+    /// Set if it is in a loop.
     pub in_loop: bool,
 }
 
@@ -35,7 +37,7 @@ fn push_standing<'a>(
     Ok(())
 }
 
-/// Adds statements and those inside of them, in the order in which they begin in the text.
+/// Adds statements, including those inside them, in the order in which they begin in the text.
 #[cycle(statement)]
 fn push_statements<'a>(
     all: &mut Vec<Standing<'a>>,
@@ -113,7 +115,7 @@ pub fn all_statements(alloc: Global, body: &Body) -> Result<Vec<Standing>, Alloc
     Ok(all)
 }
 
-/// The first condition of IF and its ELSIFs that is no truth value.
+/// The first condition of IF and its ELSIFs that is not a truth value.
 fn wrong_choice(basic: &BasicType, choices: &[Choice]) -> Option<usize>
     ensures { MatchOption result (conditions_right (place_in basic.now) (choices_of choices.now) ≡ true) (λ k. choice_right (place_in basic.now) (choices_of choices.now) k ≡ false) }
 {
@@ -125,7 +127,7 @@ fn wrong_choice(basic: &BasicType, choices: &[Choice]) -> Option<usize>
     None
 }
 
-/// What is wrong of an assignment.
+/// What is wrong with an assignment.
 fn wrong_in_assignment(
     basic: &BasicType,
     variable: &Reference,
@@ -143,7 +145,7 @@ fn wrong_in_assignment(
     None
 }
 
-/// What is wrong of a FOR, apart from the statements inside of it.
+/// What is wrong with a FOR, except for the statements inside it.
 fn wrong_in_for(
     basic: &BasicType,
     variable: &Reference,
@@ -172,7 +174,7 @@ fn wrong_in_for(
     None
 }
 
-/// The first part of a statement that is wrong, apart from the statements inside of it.
+/// The first wrong part of a statement, except for the statements inside it.
 fn wrong_part(basic: &BasicType, standing: &Standing) -> Option<StatementPart>
     ensures { MatchOption result (stands_right basic.now (standing_of standing.now) ≡ true) (λ part. part_right (in_place basic.now standing.now.in_loop) (stmt_of standing.now.statement.now) part ≡ false) }
 {
@@ -208,7 +210,7 @@ fn wrong_part(basic: &BasicType, standing: &Standing) -> Option<StatementPart>
     }
 }
 
-/// The first of some statements of which a part is wrong, and that part.
+/// The first of these statements with a wrong part, and the part.
 fn first_wrong(basic: &BasicType, statements: &[Standing]) -> Option<(usize, StatementPart)>
     ensures { MatchOption result (list_all (stands_right basic.now) (all_standing statements.now) ≡ true) (WrongAmong basic.now (all_standing statements.now)) }
 {
@@ -220,7 +222,7 @@ fn first_wrong(basic: &BasicType, statements: &[Standing]) -> Option<(usize, Sta
     None
 }
 
-/// The first statement of an algorithm of which a part is wrong, and that part.
+/// The first statement of an algorithm with a wrong part, and the part.
 pub fn wrong_statement(
     alloc: Global,
     basic: &BasicType,

@@ -1,4 +1,4 @@
-//! The text that tells where a kind or a range is wrong: where it is, what stands there, and what was wanted.
+//! The text for a wrong kind or range: where it is, what is there, and what was expected.
 
 use crate::misfits::internals_of;
 use crate::misjoins::type_at_end;
@@ -13,14 +13,14 @@ use fb_check_types::{Typing, sort_of, sort_of_type};
 use fb_types::{BasicType, BlockType, Choice, Expr, Library, Reference, Sort, Stmt, Ty, Variable};
 use std::alloc::{AllocError, Global};
 
-/// The line that tells where a value, an expression or a statement has the wrong kind.
+/// Says where a value, an expression or a statement has the wrong kind.
 pub fn tell_misfit(alloc: Global, library: &Library, place: Misfit) -> Result<String, AllocError> {
     let mut text = Text::new(alloc);
     push_misfit(alloc, &mut text, library, place)?;
     text.into_string()
 }
 
-/// The line that tells which data connection leads out of a range.
+/// Says which data connection leads out of range.
 pub fn tell_misjoin(
     alloc: Global,
     library: &Library,
@@ -67,7 +67,7 @@ fn push_misfit(
     Ok(())
 }
 
-/// That a value of the type is wanted.
+/// Adds that a value of the type is expected.
 fn push_wanted(text: &mut Text, ty: Ty) {
     text.words(": a value of ");
     text.words(type_words(ty));
@@ -142,7 +142,7 @@ fn words_for_wanted(sort: Sort) -> &'static str {
     }
 }
 
-/// Words for an expression, which kind of it is wanted, and what it has.
+/// Adds words for an expression, the kind that is expected, and its kind.
 fn push_kind(text: &mut Text, basic: &BasicType, words: &str, (wanted, expr): (Sort, &Expr)) {
     text.words(words);
     text.words(words_for_wanted(wanted));
@@ -209,7 +209,7 @@ fn push_part(text: &mut Text, basic: &BasicType, statement: &Stmt, part: Stateme
     }
 }
 
-/// That a data input is assigned, or controls a FOR.
+/// Adds that a data input is assigned, or controls a FOR.
 fn push_assigned(text: &mut Text, words: &str, variable: &Reference) {
     text.named(words, variable.name());
     text.named(" := ..: ", variable.name());

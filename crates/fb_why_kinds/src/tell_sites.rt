@@ -1,18 +1,18 @@
-//! Words for networks, block types and instances, and where they are found.
+//! Words for networks, block types and instances, and how they are found.
 
 use crate::networks::PlacedNetwork;
 use crate::place::Site;
 use crate::words::Text;
 use fb_types::{BasicType, BlockType, Instance, Library, Transition};
 
-/// Words for a block type.
+/// Adds words for a block type.
 pub(crate) fn push_block(text: &mut Text, library: &Library, block: usize) {
     if let Some(block) = library.blocks.get(block) {
         text.named("block type ", block.type_name());
     }
 }
 
-/// Words for a block type, which is returned if it is a basic one.
+/// Adds words for a block type, and returns it if it is a basic one.
 pub(crate) fn push_basic<'a>(
     text: &mut Text,
     library: &'a Library,
@@ -25,7 +25,7 @@ pub(crate) fn push_basic<'a>(
     }
 }
 
-/// Words for the network of a site.
+/// Adds words for the network of a site.
 pub(crate) fn push_site(text: &mut Text, library: &Library, site: Site) {
     match site {
         Site::Application => text.named("application ", &library.application.name),
@@ -55,13 +55,13 @@ pub(crate) fn instance_of(library: &Library, site: Site, instance: usize) -> Opt
     scope_of(library, site)?.network.instances.get(instance)
 }
 
-/// Words for a transition.
+/// Adds words for a transition.
 pub(crate) fn push_transition(text: &mut Text, transition: &Transition) {
     text.named(": transition ", &transition.from);
     text.named(" TO ", &transition.to);
 }
 
-/// Words for an instance and its type.
+/// Adds words for an instance and its type.
 pub fn push_instance(text: &mut Text, instance: &Instance) {
     text.named(": instance ", &instance.name);
     text.named(" : ", &instance.block_type);

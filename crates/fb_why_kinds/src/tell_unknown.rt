@@ -1,4 +1,4 @@
-//! The text that tells where a name stands for nothing: where it is, and what was wanted there.
+//! The text for a name that stands for nothing: where it is, and what was expected there.
 
 use crate::lookup::BlockTypes;
 use crate::mentions::{Mention, push_body, push_expression};
@@ -12,7 +12,7 @@ use fb_check_names::PortSort;
 use fb_types::{Action, BasicType, CompositeType, Instance, Library, Name, Plan, instance_named};
 use std::alloc::{AllocError, Global};
 
-/// The line that tells the place: where it is, what stands there, and what was wanted.
+/// Says where the name is, what is there, and what was expected.
 pub fn tell_unknown(
     alloc: Global,
     library: &Library,
@@ -23,7 +23,7 @@ pub fn tell_unknown(
     told(alloc, &types, plan, place)
 }
 
-/// The text of the place. What it reads it borrows, and what it writes to has one owner above all that may fail.
+/// Writes the text of the location into a text that has one owner, outside all calls that may fail.
 fn told(
     alloc: Global,
     types: &BlockTypes,
@@ -127,7 +127,7 @@ fn tell_end(
     }
 }
 
-/// What the composite type around a network lacks, or that there is none.
+/// Adds what the composite type around a network lacks, or that there is none.
 fn tell_boundary(
     text: &mut Text,
     composite: Option<&CompositeType>,
@@ -143,7 +143,7 @@ fn tell_boundary(
     }
 }
 
-/// What the type of an instance lacks.
+/// Adds what the type of an instance lacks.
 fn tell_port(
     text: &mut Text,
     types: &BlockTypes,
@@ -182,7 +182,7 @@ fn tell_link(text: &mut Text, plan: &Plan, link: usize, side: Side) {
     text.named(": there is no resource ", wanted);
 }
 
-/// The same of places in a block type.
+/// The same for locations in a block type.
 fn tell_in_block(
     alloc: Global,
     text: &mut Text,

@@ -1,4 +1,4 @@
-//! What the names of block types and of their ports stand for, looked for from name to name.
+//! What the names of block types and of their ports stand for, found by comparing names.
 
 ghost use Rattle.std.specs.Prelude.{◌≡◌, [], ◌∷◌, option_map};
 ghost use Rattle.fb_types.specs.Blocks as blocks;
@@ -9,14 +9,14 @@ ghost use Rattle.fb_why_kinds.specs.Types.{joinable, meant};
 use fb_check_types::{port_type, variable_type};
 use fb_types::{BasicType, BlockType, EventKind, Library, Name, Ty, block_named, kind_named};
 
-/// What the type of an instance is.
+/// The type of an instance.
 #[derive(Clone, Copy)]
 pub enum Kind<'a> {
     Event(EventKind),
     Declared(&'a BlockType),
 }
 
-/// What a type's name stands for.
+/// The type with a name.
 pub fn type_named<'a>(library: &'a Library, name: &Name) -> Option<Kind<'a>>
     ensures { option_map meant result ≡ flat.type_named library.now name.now }
 {
@@ -36,7 +36,7 @@ pub fn is_input(basic: &BasicType, name: &Name) -> bool
     variable_type(basic.ports.inputs.as_slice(), name).is_some()
 }
 
-/// The type, where the text is the name.
+/// The type, if the text is the name.
 fn if_named(text: &str, ty: Ty, name: &Name) -> Option<Ty>
     ensures { result ≡ roles.type_named (blocks.variable text.now ty ∷ []) name.now }
 {

@@ -12,7 +12,7 @@ use crate::place::{Site, UnknownName};
 use fb_types::{Library, Plan};
 use std::alloc::{AllocError, Global};
 
-/// The place, where the types of the declaration are at hand.
+/// The location, from the types of the declaration.
 fn unknown_with(
     alloc: Global,
     library: &Library,
@@ -35,7 +35,11 @@ fn unknown_with(
     Ok(unknown_in_deployment(library, plan))
 }
 
-/// A place at which a name stands for nothing of the wanted sort, or `None` where there is no such name.
+/// A location at which a name stands for nothing of the required kind, or `None` if there is no such name.
+///
+/// # Errors
+///
+/// When memory runs out.
 pub fn unknown_place(
     alloc: Global,
     library: &Library,

@@ -1,15 +1,15 @@
-//! Texts that are put together of words, names and numbers.
+//! Texts that are composed of words, names and numbers.
 
 use fb_check_names::{Named, PortSort};
 use fb_types::{Connection, Name, PortName, Ports, Ty, Value};
 use std::alloc::{AllocError, Global};
 
-/// A text that grows. Where there is no memory for a part of it, it grows no more, and there is no text in the end: what writes
-/// to it need not look at that.
+/// A growing text. If memory runs out for a part, it stops growing and ends in an error, so code that appends needs no
+/// check.
 #[derive(Drop)]
 pub struct Text {
     all: String,
-    /// Whether there was memory for all of it so far.
+    /// `Ok` as long as there was memory for everything.
     written: Result<(), AllocError>,
 }
 
@@ -22,14 +22,18 @@ impl Text {
         }
     }
 
-    /// What it has grown to.
+    /// The finished text.
+    ///
+    /// # Errors
+    ///
+    /// If memory ran out on the way.
     pub fn into_string(self) -> Result<String, AllocError> {
         let Text { all, written } = self;
         written?;
         Ok(all)
     }
 
-    /// Words, as they are.
+    /// Appends words.
     pub fn words(&mut self, words: &str) {
         if self.written.is_ok() {
             self.written = self.all.push_str(words);
@@ -42,20 +46,20 @@ impl Text {
         }
     }
 
-    /// A name.
+    /// Appends a name.
     pub fn name(&mut self, name: &Name) {
         for byte in name.as_bytes() {
             self.letter(*byte);
         }
     }
 
-    /// Words, and a name behind them.
+    /// Appends words, and a name.
     pub fn named(&mut self, words: &str, name: &Name) {
         self.words(words);
         self.name(name);
     }
 
-    /// Words, and a number behind them.
+    /// Appends words, and a number.
     pub fn numbered(&mut self, words: &str, number: i128) {
         self.words(words);
         if self.written.is_ok() {
@@ -63,7 +67,7 @@ impl Text {
         }
     }
 
-    /// A value, a time as its ticks.
+    /// Appends a value; a time as its ticks.
     pub fn value(&mut self, value: Value) {
         match value {
             Value::Bool(true) => self.words("TRUE"),
@@ -72,7 +76,7 @@ impl Text {
         }
     }
 
-    /// The name of a port, behind that of its instance where it has one.
+    /// Appends the name of a port, after that of its instance if it has one.
     pub fn port(&mut self, port: &PortName) {
         if let Some(component) = &port.component {
             self.name(component);
@@ -81,7 +85,7 @@ impl Text {
         self.name(&port.port);
     }
 
-    /// Words, and a connection behind them.
+    /// Appends words, and a connection.
     pub fn connection(&mut self, words: &str, connection: &Connection) {
         self.words(words);
         self.port(&connection.from);
@@ -89,7 +93,7 @@ impl Text {
         self.port(&connection.to);
     }
 
-    /// What there is in place of what was wanted.
+    /// Appends the names that exist.
     pub(crate) fn names<T: Named>(&mut self, items: &[T]) {
         let mut before = " (it has ";
         for item in items {
@@ -103,7 +107,7 @@ impl Text {
         });
     }
 
-    /// What has no port of the sort by the name, and which ports it has.
+    /// Appends that the owner has no port of this kind with the name, and which ports it has.
     pub fn lacks(&mut self, owner: &Name, sort: PortSort, wanted: &Name, ports: &Ports) {
         self.named(": ", owner);
         self.named(words_for(sort), wanted);

@@ -1,4 +1,4 @@
-//! The simulator's program: it hands over the words, the files and the outputs of the machine.
+//! The simulator's program: it passes on the words, the files and the outputs of the machine.
 //!
 //! The calls are those of `fbsim_command`, which is a library, since no crate can use a program.
 #![tactic(auto)]
@@ -13,8 +13,8 @@ use std::sync::Wait;
 use std::thread::Threads;
 use std::{env, io};
 
-/// Calls the program with the words that it was started with. The host opens its files and its outputs, and the workers
-/// have a handle of their own, since a host that is passed on starts no threads.
+/// Calls the program with the words that it was started with. The host opens its files and its outputs. The workers have
+/// a handle of their own, since a host that is passed on starts no threads.
 fn call<R: Threads + Wait + Sync>(rt: &R, host: &HostRuntime) -> io::Result<u8> {
     let alloc = host.alloc();
     let words: Vec<String> = env::args(host)?.collect(alloc)?;

@@ -1,4 +1,4 @@
-//! How calls end over files and outputs in memory, for each status. Expected bytes were worked out by hand, or are the
+//! How calls end with files and outputs in memory, for each status. Expected bytes were worked out by hand, or are the
 //! texts of clap, the parser of command lines.
 
 mod files;
@@ -86,8 +86,8 @@ static STOPPED: [(&str, &str); 4] = [
     ),
 ];
 
-/// Calls that fail, each with its status and its line. The fault of a file comes before the refusal of a file that was
-/// read before it.
+/// Calls that fail, each with its status and its line. A fault of a file is reported before the refusal of a file that
+/// was read before it.
 static FAILED: [(&str, u8, &str); 18] = [
     (
         "fbsim run pair --deploy pair_at_once --horizon 5",

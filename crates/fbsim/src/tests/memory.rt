@@ -8,7 +8,7 @@ use std::io::Write;
 /// The name of a file for which there is no memory.
 const FULL: &str = "full";
 
-/// Files by their names. The name `-` is standard input, once.
+/// Files by name. The name `-` is standard input, once.
 #[derive(Drop)]
 pub struct Memory {
     files: &'static [(&'static str, &'static str)],
@@ -16,6 +16,7 @@ pub struct Memory {
 }
 
 impl Memory {
+    /// These files, with their texts.
     pub fn new(files: &'static [(&'static str, &'static str)]) -> Memory {
         Memory {
             files,
@@ -68,11 +69,13 @@ impl Streams for Memory {
 /// Takes at most `room` bytes in all, and then gives an error.
 #[derive(Drop)]
 pub struct Narrow {
+    /// The bytes that were taken.
     pub got: Vec<u8>,
     room: usize,
 }
 
 impl Narrow {
+    /// A writer with room for this number of bytes.
     pub fn new(alloc: Global, room: usize) -> Narrow {
         Narrow {
             got: Vec::new(alloc),

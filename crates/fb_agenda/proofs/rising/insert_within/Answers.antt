@@ -4,7 +4,7 @@ use Rattle.fb_agenda.proofs.Calendars.{absent_between, err_known}
 use Rattle.fb_agenda.proofs.Orders.{put_over, put_between, searchable}
 use Rattle.fb_agenda.proofs.rising.insert_within.Goals as goal
 
--- the key is there, and its event is written over
+-- the key is there, and its event is replaced
 pub returns-in-Ok-clause-ok : goal.returns-in-Ok-clause-ok
 returns-in-Ok-clause-ok c =
     let found = c.in-Ok.ensures.position (λ e. e.0) (answers_always _ _ _ (λ f a r g called. search rules)) in
@@ -18,7 +18,7 @@ returns-in_ok-insert-in-Err-clause-ok c =
     c.in_ok-insert-in-Err.ensures.items
     ∙ put_between c.args.key c.args.event es c.in-Err.index (omega (arith, c.in-Err.ensures.bound)) (λ j d less. parted.0 j d (omega arith) less) (λ j d le less. parted.1 j d le less)
 
--- memory is wanting only where the key is not there
+-- memory runs out only if the key is not there
 pub returns-in_err-insert-in-Err-clause-absent : goal.returns-in_err-insert-in-Err-clause-absent
 returns-in_err-insert-in-Err-clause-absent c =
     let es = c.args.events.now.items in
@@ -26,7 +26,7 @@ returns-in_err-insert-in-Err-clause-absent c =
     err_known c.from_residual-in_err-insert-in-Err.result
     (absent_between c.args.key es c.in-Err.index (λ j d less. parted.0 j d (omega arith) less) (λ j d le less. parted.1 j d le less))
 
--- the place was near the back
+-- the index was near the back
 pub returns-in-Some-clause-ok : goal.returns-in-Some-clause-ok
 returns-in-Some-clause-ok c =
     let es = c.args.events.now.items in

@@ -9,7 +9,7 @@ use Rattle.fb_check.proofs.stimuli.push_names.Goals as goal
 abbrev variable_of : Setting → Name
 variable_of x = x.variable
 
--- one more name behind those so far
+-- one more name after those so far
 names_more :
     (xs : List Setting) (i : ℕ) (x : Setting) (before so_far after : List (Bor Name)) (n : Bor Name) → i < length xs → x ≡ get_or xs i x
     → n.now ≡ variable_of x → names_in so_far ≡ names_in before ++ map variable_of (take i xs) → after ≡ so_far ++ n ∷ []

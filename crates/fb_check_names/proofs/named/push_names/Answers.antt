@@ -5,7 +5,7 @@ use Rattle.fb_types.proofs.LoopSteps.{map_take_more}
 use Rattle.fb_check_names.specs.Places.{names_in}
 use Rattle.fb_check_names.proofs.named.push_names.Goals as goal
 
--- one more name behind those so far
+-- one more name after those so far
 names_more :
     {A : Type 0} (f : A → Name) (xs : List A) (i : ℕ) (x : A) (before so_far after : List (Bor Name)) (n : Bor Name) → i < length xs → x ≡ get_or xs i x
     → n.now ≡ f x → names_in so_far ≡ names_in before ++ map f (take i xs) → after ≡ so_far ++ n ∷ []

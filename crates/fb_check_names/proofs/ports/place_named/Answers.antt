@@ -8,7 +8,7 @@ use Rattle.fb_types.proofs.Positions.{is_some-position, position-append_old, pos
 use Rattle.fb_check_names.specs.Numbers.{place_of}
 use Rattle.fb_check_names.proofs.ports.place_named.Goals as goal
 
--- where none of those so far has the name, the next one's answer is that of all up to it
+-- if none of those so far has the name, the result of the next one is that of all up to it
 pushed :
     {A : Type 0} (f : A → Name) (n : Name) (xs : List A) (i : ℕ) (x : A) (m : Name) (b : Bool) → i < length xs → x ≡ get_or xs i x → m ≡ f x
     → place_of (map f (take i xs)) n ≡ None → same_name n m ≡ b → place_of (map f (take (i + 1) xs)) n ≡ cond b (Some i) None

@@ -4,7 +4,7 @@ use Rattle.fb_check_types.specs.Checks.{in_place}
 use Rattle.fb_check_types.specs.Trees.{all_of, branches_of, choices_of}
 use Rattle.fb_check_types.proofs.bodies.+right.Given as goal
 
--- all are right where the rest is
+-- all are right if the rest is
 abbrev pub invariant-are_statements_right-loop-statement : goal.invariant-are_statements_right-loop-statement
 invariant-are_statements_right-loop-statement l =
     body_right (in_place l.scope l.in_loop) (all_of l.statements) ≡ body_right (in_place l.scope l.in_loop) (all_of (drop l.statement-index l.statements))

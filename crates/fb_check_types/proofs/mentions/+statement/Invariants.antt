@@ -4,7 +4,7 @@ use Rattle.fb_check_types.specs.Checks.{all_known}
 use Rattle.fb_check_types.specs.Trees.{all_of, branches_of, choices_of}
 use Rattle.fb_check_types.proofs.mentions.+statement.Given as goal
 
--- all are known where the rest is
+-- all are known if the rest is
 abbrev pub invariant-are_statements_known-loop-statement : goal.invariant-are_statements_known-loop-statement
 invariant-are_statements_known-loop-statement l =
     all_known l.scope (mentions_body (all_of l.statements)) ≡ all_known l.scope (mentions_body (all_of (drop l.statement-index l.statements)))

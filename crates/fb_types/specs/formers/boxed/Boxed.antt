@@ -1,4 +1,4 @@
--- `Boxed` as a type that may hold the type that holds it.
+-- `Boxed` as a part of recursive types.
 use mathlib.Core.Path.{refl}
 use mathlib.Core.Former.{Former, this, const, pair, via}
 use base.Stored.{gnil}

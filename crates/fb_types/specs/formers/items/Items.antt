@@ -1,4 +1,4 @@
--- `Items` as a type that may hold the type that holds it.
+-- `Items` as a part of recursive types.
 use mathlib.Core.Path.{◌≡◌, refl, sym}
 use mathlib.Core.List.{List, []}
 use mathlib.Core.Former.{Former, this, list, via, children}

@@ -9,7 +9,7 @@ use Rattle.fb_agenda.proofs.Apart.{moved_apart, moved_waits, queue_apart, queue_
 use Rattle.fb_agenda.proofs.Queueing.{gone_queue, gone_sets, here, place_within, set_queue, set_sets, where_some}
 use Rattle.fb_agenda.proofs.agenda.Agenda.put_aside.Goals as goal
 
--- ---- Another target comes into the queue
+-- ---- Another target is put into the queue
 
 pub invariant_of-self-in-Some-target_of : goal.invariant_of-self-in-Some-target_of
 invariant_of-self-in-Some-target_of c =
@@ -36,7 +36,7 @@ returns-in-Some-target_of-clause-put c =
     (λ j. queue_waits v c.self.inside.later.has_local inv k (Some (Local t)) (local_events (slice_set ts i (k, t))) (set_sets ts k i t inv.queue place) (inv.apart k (here ts k i t inv.queue place)) j
     ∙ ap (λ (e : Event). cond (same_key k j) (Some e) (waiting v j)) (sym c.in-Some-target_of.ensures))
 
--- ---- The event leaves the queue
+-- ---- The event is removed from the queue
 
 pub invariant_of-self-2 : goal.invariant_of-self-2
 invariant_of-self-2 c =

@@ -6,7 +6,7 @@ use Rattle.fb_types.specs.Keys.{or_else, same_key}
 use Rattle.fb_agenda.proofs.Calendars.{alone, err_known, few_sets, few_split, kept_both, lookup_both, many_sets, many_split, over_is, put_absent, put_both, put_rises, put_sets, put_split, quiet_put, quiet_result}
 use Rattle.fb_agenda.proofs.calendar.Calendar.insert.Goals as goal
 
--- ---- The tree is empty
+-- ---- The map is empty
 
 pub invariant_of-self : goal.invariant_of-self
 invariant_of-self c =

@@ -3,7 +3,7 @@ use Rattle.std.proofs.lemmas.List.{nil_from_length}
 use Rattle.fb_agenda.proofs.Calendars.{begins_both, below_first, front_before, front_kept, front_left, front_split, front_value, leads_none, quiet_popped}
 use Rattle.fb_agenda.proofs.calendar.Calendar.pop_below.Goals as goal
 
--- ---- The tree is empty
+-- ---- The map is empty
 
 pub invariant_of-self : goal.invariant_of-self
 invariant_of-self c =
@@ -51,7 +51,7 @@ returns-then-is_empty-clause-kept c =
     let many = c.self.inside.many.entries in
     rw (← c.self.view_is) (front_kept few c.pop_below.new.events.items many c.pop_below.result c.pop_below.ensures.items)
 
--- ---- Some are in the tree
+-- ---- The map has some
 
 pub returns-clause-below : goal.returns-clause-below
 returns-clause-below c =
