@@ -6,30 +6,25 @@ The explanations stand in the tables of crates/fb_why/src/table.rt. With --write
 marks there. Each line of --why that the page shows has to be one that a stored case or a call of tools/calls.py wants told.
 Where the page shows others, this says so and ends with status 1. ./gate does it."""
 
-import ast
 import re
 import sys
 import tomllib
 
 import calls
 from kit import TOP
+from unbuilt import TABLE, entries
 
 CASES = f"{TOP}/cases/why.toml"
-TABLE = f"{TOP}/crates/fb_why/src/table.rt"
 PAGE = f"{TOP}/docs/FORMATS.md"
 FIRST = "<!-- The explanations of crates/fb_why/src/table.rt, by tools/explained.py --write -->\n"
 LAST = "<!-- The end of the explanations -->\n"
 HEADING = "| name | means | for example | look at |\n|---|---|---|---|\n"
 TOLD = "| refusal | a line that `--why` tells |\n|---|---|\n"
-TEXT = r'("(?:[^"\\]|\\.)*")'
-ENTRY = re.compile(
-    r"Explanation \{\s*name: TEXT,\s*meaning:\s*TEXT,\s*examples: \[\s*TEXT,\s*TEXT,?\s*\],\s*look:\s*TEXT,\s*\}".replace("TEXT", TEXT)
-)
 
 
 def rows(table):
     """Returns the explanations as rows of a table for the page."""
-    found = [[ast.literal_eval(text) for text in it.groups()] for it in ENTRY.finditer(table)]
+    found = entries(table)
     declared = sum(map(int, re.findall(r"\[Explanation; (\d+)\]", table)))
     if len(found) != declared:
         sys.exit(f"{TABLE}: {declared} explanations are declared, and {len(found)} were read")

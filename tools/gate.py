@@ -5,7 +5,7 @@ Without a crate it is the whole gate: each example's page explains its trace, do
 refusals, what the documents name is there (tools/documents.py), and what tries stored cases and wrong bodies tells right ones
 from wrong ones (tools/cases_test.py, tools/wrong_bodies_test.py); then, from nothing, every crate and its tests are
 proved, every wrong body in crates/*/must-fail is shown to be refused, tests and programs are run, and the program is
-called at least once for each status (tools/calls.py), as docs/FIRST_APPLICATION.md has it (tools/first_application.py),
+called at least once for each status (tools/calls.py), as docs/FIRST_APPLICATION.md has it (tools/first_application.py), by ./simulate (tools/launcher.py),
 for the waveforms of the examples, which are compared with their traces (tools/waves.py), and of what is no trace
 (tools/traces.py), on the stored cases of cases/ (tools/cases.py), on rings of resources (tools/rings.py), on systems that
 are drawn by lot (tools/drawn.py) and on types with more events than 16 bits can number (tools/wide.py), with outputs that take little and readers that fail (tools/narrow.py), on texts that are cut or changed in one byte (tools/hostile.py), and with each
@@ -39,6 +39,7 @@ import drawn
 import explained
 import first_application
 import hostile
+import launcher
 import narrow
 import refuse
 import rings
@@ -171,6 +172,7 @@ def call_after_each_run():
 
     def tries(made):
         yield first_application.main(made) == 0
+        yield launcher.main(made) == 0
         yield waves.make_all(made)
         yield traces.try_all(made)
         yield cases.run_all(made)

@@ -1,0 +1,190 @@
+#!/usr/bin/env python3
+"""tools/launcher.py [--write] [PROGRAM]: what ./simulate does around the program, and the texts that it has beside the program.
+
+The built program, or PROGRAM, prints the help of docs/HELP.md, the explanations that tools/unbuilt.py reads from the sources, and the
+version of CHANGELOG.md. The man page and the completions name each command and option of the help. Then ./simulate is called in a copy
+of what it needs, with stand-ins for the tools that build: by a symbolic link, without a build, with an unproved program, and to
+install. With --write this writes docs/HELP.md as the program prints it. ./gate does all but that each time it has run the program."""
+
+import os
+import re
+import shutil
+import subprocess
+import sys
+import tempfile
+import time
+
+import unbuilt
+from calls import CYCLE, EXPLAINED, TO_8
+from kit import TOP
+from program import Room
+
+PROGRAM = f"{TOP}/crates/fbsim/out/fbsim"
+COMMANDS = ("", "run", "check", "wave", "explain")
+HEAD = "# Help\n\nWhat `--help` prints, for the program and each of its commands. `tools/launcher.py --write` writes this page.\n"
+COMPLETIONS = ("bash-completion/completions/fbsim", "zsh/site-functions/_fbsim", "fish/vendor_completions.d/fbsim.fish")
+MANUAL = "man/man1/fbsim.1"
+# What ./simulate needs of the repository.
+NEEDED = ("simulate", "tools/unbuilt.py", "docs/HELP.md", "CHANGELOG.md", "crates.txt", "crates/fb_why/src/table.rt", "share")
+STANDS_IN = """import os, shutil, sys
+print("a build", file=sys.stderr)
+if sys.argv[1:]:
+    shutil.copy(f"{os.path.dirname(__file__)}/../crates/fbsim/out/fbsim", sys.argv[1])
+sys.exit(not sys.argv[1:])
+"""
+NOT_PROVED = "simulate: this program is not proved: `./simulate` without --unproved proves it and builds it\n"
+
+
+# ---- The texts
+
+
+def printed(room, words):
+    """Returns what the program prints."""
+    ran = room.call(words)
+    return ran.stdout.decode() if ran.returncode == 0 else f"status {ran.returncode}"
+
+
+def help_page(room):
+    """Returns docs/HELP.md as the program prints its parts."""
+    blocks = []
+    for command in COMMANDS:
+        call = " ".join(["fbsim", *[command] * bool(command), "--help"])
+        blocks.append(f"\n```console\n$ {call}\n{printed(room, call.split()[1:])}```\n")
+    return HEAD + "".join(blocks)
+
+
+def unnamed(texts):
+    """What is to be said of the man page and the completions that lack an option, a command or a refusal."""
+    options = {it for text in texts.values() for it in re.findall(r"^ +(?:-\w, )?--(\w+)", text, re.M)}
+    faults = []
+    for place in (MANUAL, *COMPLETIONS):
+        text = unbuilt.content(f"{TOP}/share/{place}").replace("\\-", "-")
+        wanted = {it for it in COMMANDS if it} | {f"-l {it} " if place.endswith(".fish") else f"--{it}" for it in options}
+        wanted |= set() if place == MANUAL else {*EXPLAINED[:-1]}
+        faults += [f"share/{place}: lacks {it}" for it in sorted(wanted) if it not in text and f"-{{h,-{it}" not in text]
+    return faults
+
+
+def completed(*words):
+    """Returns what bash completes the last word to."""
+    script = f'source "$0"; COMP_WORDS=("$@"); COMP_CWORD={len(words) - 1}; _fbsim; echo "${{COMPREPLY[*]}}"'
+    ran = subprocess.run(["bash", "-c", script, f"{TOP}/share/{COMPLETIONS[0]}", *words], capture_output=True, text=True, cwd=TOP)
+    return ran.stdout.split()
+
+
+def texts_beside(room):
+    """What is to be said of the texts that stand beside the program."""
+    faults = unnamed(unbuilt.helps())
+    if help_page(room) != unbuilt.content(unbuilt.HELP):
+        faults.append("docs/HELP.md: the program prints another help: tools/launcher.py --write")
+    told = unbuilt.explanations()
+    faults += [f"explain {it}: the program prints another text than tools/unbuilt.py" for it in EXPLAINED if printed(room, ["explain", it]) != told.get(it)]
+    wanted = {("fbsim", "wa"): ["wave"], ("fbsim", "run", "--se"): ["--serial"], ("fbsim", "explain", "E3"): ["E30"], ("fbsim", "check", "cas"): ["cases"]}
+    faults += [f"bash completes {words} to {completed(*words)}" for words, to in wanted.items() if completed(*words) != to]
+    return faults
+
+
+# ---- The launcher
+
+
+class Launcher:
+    """./simulate in a copy of what it needs, with stand-ins for what builds, and what was wrong with its calls."""
+
+    def __init__(self, folder, program):
+        self.folder, self.tree, self.faults, self.count = folder, f"{folder}/a tree", [], 0
+        for it in NEEDED:
+            to = f"{self.tree}/{it}"
+            os.makedirs(os.path.dirname(to), exist_ok=True)
+            (shutil.copytree if os.path.isdir(f"{TOP}/{it}") else shutil.copy2)(f"{TOP}/{it}", to)
+        for it in ("build", "unproved"):
+            with open(f"{self.tree}/tools/{it}.py", "w") as file:
+                file.write(STANDS_IN)
+        self.out = f"{self.tree}/crates/fbsim/out"
+        self.built, self.unproved = f"{self.out}/fbsim", f"{self.out}/fbsim.unproved"
+        os.makedirs(self.out)
+        shutil.copy(program, self.built)
+        os.chmod(self.built, 0o755)
+
+    def is_changed(self, *programs):
+        """Has a source change after these programs were built."""
+        now = time.time()
+        for it in programs:
+            os.utime(it, (now - 9, now - 9))
+        os.utime(f"{self.tree}/crates.txt", (now - 5, now - 5))
+
+    def call(self, words, status, out="", err="", by=None):
+        """Calls it, and notes where that ends otherwise. Only the last lines of a long text are compared."""
+        ran = subprocess.run([by or f"{self.tree}/simulate", *words], input=CYCLE.decode(), capture_output=True, text=True, cwd=self.folder)
+        self.count += 1
+        if (ran.returncode, ran.stdout, ran.stderr) != (status, out, err):
+            self.faults.append(f"./simulate {words}: status {ran.returncode}, {ran.stdout[-300:]!r}, {ran.stderr[-300:]!r}")
+
+
+def follow_links(it):
+    """By symbolic links, one to another."""
+    os.symlink("a tree/simulate", f"{it.folder}/near")
+    os.makedirs(f"{it.folder}/bin")
+    os.symlink("../near", f"{it.folder}/bin/fbsim")
+    for by in (None, f"{it.folder}/near", f"{it.folder}/bin/fbsim"):
+        it.call(["run", "-", "--horizon", "8"], 0, TO_8.decode(), by=by)
+
+
+def answer_unbuilt(it):
+    """Without a build: what needs none is answered, and all else asks for one."""
+    it.is_changed(it.built)
+    texts, refusal = unbuilt.helps(), "E21"
+    it.call(["--help"], 0, texts[""])
+    it.call(["help", "run"], 0, texts["run"])
+    it.call(["wave", "-h"], 0, texts["wave"])
+    it.call(["explain", refusal], 0, unbuilt.explanations()[refusal])
+    it.call(["explain", "E06"], 5, err="error: no refusal is called E06\n")
+    it.call(["--version"], 0, f"fbsim {unbuilt.version()}\n")
+    it.call(["check", "-"], 126, err="a build\n")
+    it.call(["install", f"{it.folder}/to"], 126, err="a build\n")
+
+
+def keep_unproved(it):
+    """Without proofs: built once, and again when a source has changed."""
+    it.call(["--unproved", "explain", "E06"], 5, err=NOT_PROVED + "error: no refusal is called E06\n")
+    it.call(["--unproved", "check", "-"], 0, "accepted\n", NOT_PROVED + "a build\n")
+    it.call(["--unproved", "check", "-"], 0, "accepted\n", NOT_PROVED)
+    it.is_changed(it.unproved)
+    it.call(["--unproved", "check", "-"], 0, "accepted\n", NOT_PROVED + "a build\n")
+
+
+def install(it):
+    """Into a folder that is not there yet, and once more over it."""
+    os.utime(it.built)
+    to = f"{it.folder}/to a folder"
+    it.call(["install"], 5, err="usage: ./simulate install DIR\n")
+    for _ in range(2):
+        it.call(["install", to], 0)
+    found = {os.path.relpath(f"{at}/{name}", to) for at, _, names in os.walk(to) for name in names}
+    if found != {"bin/fbsim", *(f"share/{name}" for name in (MANUAL, *COMPLETIONS))}:
+        it.faults.append(f"./simulate install: {sorted(found)}")
+    it.call(["check", "-"], 0, "accepted\n", by=f"{to}/bin/fbsim")
+
+
+def main(program=PROGRAM, *words):
+    """Returns the status: 0 where all is as it should be."""
+    if program == "--write":
+        with Room(*words or [PROGRAM]) as room, open(unbuilt.HELP, "w") as it:
+            it.write(help_page(room))
+        return 0
+    with tempfile.TemporaryDirectory(prefix="launcher-") as folder:
+        # The help names the program as it was called.
+        named = shutil.copy(program, f"{folder}/fbsim")
+        with Room(named) as room:
+            faults = texts_beside(room)
+        it = Launcher(folder, named)
+        for part in (follow_links, answer_unbuilt, keep_unproved, install):
+            part(it)
+    faults += it.faults
+    for fault in faults:
+        print(fault)
+    print(f"launcher: {len(faults)} faults" if faults else f"launcher: {it.count} calls, and the texts beside the program, are as they should be", flush=True)
+    return int(bool(faults))
+
+
+if __name__ == "__main__":
+    sys.exit(main(*sys.argv[1:]))
