@@ -493,12 +493,12 @@ def content(path):
 def calls_of_examples(folder):
     """Copies the examples into this folder, and returns for each the calls that are to give its trace."""
     found = []
-    for args in sorted(glob.glob(f"{TOP}/examples/*/args")):
+    shutil.copytree(f"{TOP}/examples", folder, dirs_exist_ok=True)
+    for args in sorted(glob.glob(f"{folder}/**/args", recursive=True)):
         example = os.path.dirname(args)
-        shutil.copytree(example, f"{folder}/{os.path.basename(example)}")
         words, trace = content(args).decode().splitlines(), content(f"{example}/trace")
         status = int(trace.splitlines()[-1].startswith(b"stop"))
-        found += [Call([*words, *way], status, out=trace, example=os.path.basename(example)) for way in WAYS]
+        found += [Call([*words, *way], status, out=trace, example=os.path.relpath(example, folder)) for way in WAYS]
     return found
 
 

@@ -3,13 +3,16 @@
 
 A system is drawn by a seed: two to five resources, instances in them, connections and links, some of which carry nothing, latencies
 by which a message may overtake another, stimuli of which several come at one tick, and where the run ends. Some of the systems stop,
-by their steps, a range or a divisor, and some come to their horizon. What --serial writes is to be what any number of workers writes.
+by their steps, a range or a divisor, and some come to their horizon. What --serial and any number of workers write is to be what the
+second simulator of tools/interpreter.py works out.
 
 ./gate makes these runs each time it has run the program. Without ./gate they are made of the program as ./simulate built it."""
 
 import sys
+import tomllib
 from typing import NamedTuple
 
+import interpreter
 from cases import WAYS, shown
 from kit import TOP
 from program import Room, side_by_side
@@ -163,30 +166,33 @@ class Sketch:
 
 
 def run_of(room, seed, ways):
-    """Returns what comes of the system of a seed by each of these ways: the status, what is written and what is told."""
+    """Returns what is to come of the system of a seed, and what comes of it by each of these ways: the status, what is written and what
+    is told."""
     sketch = Sketch(Dice(seed))
     declaration, deployment, stimuli = sketch.declaration(), sketch.deployment(), sketch.stimuli()
-    numbers = ["--horizon", str(sketch.dice.one_of(HORIZONS)), "--steps", str(sketch.dice.one_of(STEPS)), "--trace", "2"]
+    horizon, steps = sketch.dice.one_of(HORIZONS), sketch.dice.one_of(STEPS)
+    system = interpreter.System(declaration, tomllib.loads(deployment), interpreter.stimuli_in(stimuli), steps)
+    trace = system.run(horizon, form=2).encode()
+    wanted = int(trace.splitlines()[-1].startswith(b"stop")), trace, b""
+    numbers = ["--horizon", str(horizon), "--steps", str(steps), "--trace", "2"]
     for ending, text in (("deploy", deployment), ("stimuli", stimuli)):
         with open(f"{room.folder}/{seed}.{ending}", "w", encoding="utf-8") as it:
             it.write(text)
     words = ["run", "-", "--deploy", f"{seed}.deploy", "--stim", f"{seed}.stimuli", *numbers]
     came = [room.call([*words, *way], declaration.encode()) for way in ways]
-    return [(it.returncode, it.stdout, it.stderr) for it in came]
+    return wanted, [(it.returncode, it.stdout, it.stderr) for it in came]
 
 
 def try_all(program):
-    """Returns whether each system has one trace, and some of them stop."""
-    serial, *others = WAYS["run"]
+    """Returns whether each system has the one trace that it is to have, and some of them stop."""
+    ways = WAYS["run"]
     seeds = [first + more for first in SEEDS for more in range(10)]
     with Room(program) as room:
-        came = side_by_side(lambda seed: run_of(room, seed, [serial, *others]), seeds)
+        came = side_by_side(lambda seed: run_of(room, seed, ways), seeds)
     faults, stops = [], 0
-    for seed, (first, *more) in zip(seeds, came):
-        stops += first[0] == 1
-        if first[0] not in (0, 1) or not first[1] or first[2]:
-            faults.append(f"the system of {seed} is not run: {shown(*first)}")
-        faults += [f"the system of {seed}, {' '.join(way)}: {shown(*it)}" for way, it in zip(others, more) if it != first]
+    for seed, (wanted, runs) in zip(seeds, came):
+        stops += wanted[0] == 1
+        faults += [f"the system of {seed}, {' '.join(way)}: {shown(*it)}" for way, it in zip(ways, runs) if it != wanted]
     print("\n".join(faults[:SHOWN]), end="\n" * bool(faults))
     print(f"systems by lot: {len(seeds)}, of which {stops} stop; {len(faults)} faults", flush=True)
     return not faults and 20 < stops < 180

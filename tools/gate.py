@@ -2,7 +2,8 @@
 """./gate [--jobs N] [CRATE..]: the test command and merge gate of this repository.
 
 Without a crate it is the whole gate: each example's page explains its trace, docs/FORMATS.md shows the explanations of the
-refusals, what the documents name is there (tools/documents.py), and what tries stored cases and wrong bodies tells right ones
+refusals, what the documents name is there (tools/documents.py), the traces of the examples are those of a second simulator
+(tools/interpreter.py) and follow the rules of their page (tools/bottling.py), and what tries stored cases and wrong bodies tells right ones
 from wrong ones (tools/cases_test.py, tools/wrong_bodies_test.py); then, from nothing, every crate and its tests are
 proved, every wrong body in crates/*/must-fail is shown to be refused, tests and programs are run, and the program is
 called at least once for each status (tools/calls.py), as docs/FIRST_APPLICATION.md has it (tools/first_application.py), by ./simulate (tools/launcher.py),
@@ -31,6 +32,7 @@ import tempfile
 import time
 from concurrent.futures import ThreadPoolExecutor
 
+import bottling
 import calls
 import cases
 import cases_test
@@ -39,6 +41,7 @@ import drawn
 import explained
 import first_application
 import hostile
+import interpreter
 import launcher
 import narrow
 import refuse
@@ -282,7 +285,8 @@ def main(words):
     if any(it.startswith("-") for it in words):
         print(__doc__, file=sys.stderr)
         return 2
-    if subprocess.run(["examples/check"]).returncode or explained.main([]) or documents.main() or cases_test.main():
+    pages = explained.main([]) or documents.main() or bottling.main() or interpreter.main([])
+    if subprocess.run(["examples/check"]).returncode or pages or cases_test.main():
         print("0 passed, 1 failed")
         return 1
     with tempfile.TemporaryDirectory(prefix="gate-") as room:

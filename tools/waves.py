@@ -214,11 +214,12 @@ def content(path):
 def runs():
     """The files of each example, and of a run that stops, with the words of the run. The trace is one of the files."""
     yield "stop", {"stop.iec": calls.RING, "trace": calls.STOPPED}, ["run", "stop.iec", "--horizon", "1", "--steps", "3"]
-    for args in sorted(glob.glob(f"{TOP}/examples/*/args")):
+    for args in sorted(glob.glob(f"{TOP}/examples/**/args", recursive=True)):
         folder = os.path.dirname(args)
-        name = os.path.basename(folder)
-        files = {os.path.basename(it): content(it) for it in glob.glob(f"{folder}/*") if os.path.isfile(it)}
-        yield name, files, content(args).decode().splitlines()
+        # (the declaration and the deployment of a scenario stand in the folder above it)
+        near = [it for at in (os.path.dirname(folder), folder) for it in glob.glob(f"{at}/*") if os.path.isfile(it)]
+        words = [it.removeprefix("../") for it in content(args).decode().splitlines()]
+        yield os.path.relpath(folder, f"{TOP}/examples"), {os.path.basename(it): content(it) for it in near}, words
 
 
 def cases(room):
@@ -231,7 +232,7 @@ def cases(room):
         second = room.call([*words, "--trace", "2"]).stdout
         if form_one(second) != files["trace"]:
             wrong.append(f"{name}: the trace of form two tells of other lines")
-        found.append(Case(name, files[f"{name}.iec"], files.get("deploy.toml"), (files["trace"], second)))
+        found.append(Case(name, files[words[1]], files.get("deploy.toml"), (files["trace"], second)))
     own = [("switch", SWITCH, TWO_RESOURCES, SWITCHED), ("ends", SINK, None, ENDS)]
     found += [Case(name, text, deployed, (form_one(trace), trace)) for name, text, deployed, trace in own]
     return found, wrong
