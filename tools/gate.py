@@ -3,8 +3,8 @@
 
 Without a crate it is the whole gate: each example's page explains its trace, docs/FORMATS.md shows the explanations of the
 refusals, what the documents name is there (tools/documents.py), the traces of the examples are those of a second simulator
-(tools/interpreter.py) and follow the rules of their page (tools/bottling.py), and what tries stored cases and wrong bodies tells right ones
-from wrong ones (tools/cases_test.py, tools/wrong_bodies_test.py); then, from nothing, every crate and its tests are
+(tools/interpreter.py) and follow the rules of their page (tools/bottling.py), the syntax files of editors/ colour declarations right
+(tools/editors.py), and what tries stored cases and wrong bodies tells right ones from wrong ones (tools/cases_test.py, tools/wrong_bodies_test.py); then, from nothing, every crate and its tests are
 proved, every wrong body in crates/*/must-fail is shown to be refused, tests and programs are run, and the program is
 called at least once for each status (tools/calls.py), as docs/FIRST_APPLICATION.md has it (tools/first_application.py), by ./simulate (tools/launcher.py),
 for the waveforms of the examples, which are compared with their traces (tools/waves.py), and of what is no trace
@@ -38,6 +38,7 @@ import cases
 import cases_test
 import documents
 import drawn
+import editors
 import explained
 import first_application
 import hostile
@@ -285,7 +286,7 @@ def main(words):
     if any(it.startswith("-") for it in words):
         print(__doc__, file=sys.stderr)
         return 2
-    pages = explained.main([]) or documents.main() or bottling.main() or interpreter.main([])
+    pages = explained.main([]) or documents.main() or bottling.main() or interpreter.main([]) or editors.main()
     if subprocess.run(["examples/check"]).returncode or pages or cases_test.main():
         print("0 passed, 1 failed")
         return 1
