@@ -3,8 +3,8 @@
 
 It goes through the page from top to bottom. A line that is a file's name in backquotes and a colon, and the block below it, is a file
 to be written, in place of an earlier one of that name. A block `console` has commands behind `$ ` and below each what it prints:
-`./simulate WORD..`, with `| tail -n N` behind it or not, and `echo $?`. Each is called of the built program, or of PROGRAM, and where
-it prints anything else, this says so and ends with status 1."""
+`./simulate WORD..`, with `| tail -n N` or `> FILE` behind it or not, and `echo $?`. Each is called of the built program, or of PROGRAM,
+and where it prints anything else, this says so and ends with status 1."""
 
 import os
 import re
@@ -68,11 +68,15 @@ class Reader:
         if command == "echo $?":
             return [str(self.status)]
         called, _, cut = command.partition(" | ")
+        called, _, file = called.partition(" > ")
         program, *words = shlex.split(called)
         if program != "./simulate":
             sys.exit(f"{PAGE}: another command: {command}")
         ran = self.room.call([word.removeprefix(FOLDER) for word in words])
         self.status = ran.returncode
+        if file:
+            self.write(file.removeprefix(FOLDER), ran.stdout.decode().splitlines())
+            return ran.stderr.decode().splitlines()
         lines = (ran.stdout + ran.stderr).decode().splitlines()
         if not cut:
             return lines
