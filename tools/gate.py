@@ -9,7 +9,7 @@ proved, every wrong body in crates/*/must-fail is shown to be refused, tests and
 called at least once for each status (tools/calls.py), as docs/FIRST_APPLICATION.md has it (tools/first_application.py), by ./simulate (tools/launcher.py),
 for the waveforms of the examples, which are compared with their traces (tools/waves.py), and of what is no trace
 (tools/traces.py), on the stored cases of cases/ (tools/cases.py), on rings of resources (tools/rings.py), on systems that
-are drawn by lot (tools/drawn.py) and on types with more events than 16 bits can number (tools/wide.py), with outputs that take little and readers that fail (tools/narrow.py), on texts that are cut or changed in one byte (tools/hostile.py), and with each
+are drawn by lot (tools/drawn.py), with their types too (tools/drawn_types.py), and on types with more events than 16 bits can number (tools/wide.py), with outputs that take little and readers that fail (tools/narrow.py), on texts that are cut or changed in one byte (tools/hostile.py), and with each
 of its requests for memory refused (tools/refuse.py). Then it tells the processor seconds and the memory of each crate. The last
 line is 'N passed, M failed', and the status 0 where none failed.
 
@@ -38,6 +38,7 @@ import cases
 import cases_test
 import documents
 import drawn
+import drawn_types
 import editors
 import explained
 import first_application
@@ -182,6 +183,7 @@ def call_after_each_run():
         yield cases.run_all(made)
         yield rings.try_all(made)
         yield drawn.try_all(made)
+        yield drawn_types.try_all(made)
         yield wide.main([made]) == 0
         yield narrow.try_all(made)
         yield hostile.try_all(made)

@@ -19,6 +19,7 @@ from declaration import Reader
 TOP = os.path.dirname(os.path.dirname(os.path.realpath(__file__)))
 STEPS = 10_000
 MOST = 2**127
+REASONS = ("steps", "divide", "range")
 BITS = {"SINT": 8, "INT": 16, "DINT": 32, "LINT": 64, "TIME": 64}
 UNSIGNED = {"USINT": 8, "UINT": 16, "UDINT": 32, "ULINT": 64}
 
@@ -167,10 +168,15 @@ def value_of(tree, values):
     return OPERATORS[tree[0]](*[value_of(part, values) for part in tree[1:]])
 
 
+def ends_of(kind):
+    """Returns the least number of a type, and the one above the greatest."""
+    return (0, 2 ** UNSIGNED[kind]) if kind in UNSIGNED else (-(2 ** (BITS[kind] - 1)), 2 ** (BITS[kind] - 1))
+
+
 def is_of(kind, value):
     if kind == "BOOL":
         return isinstance(value, bool)
-    low, high = (0, 2 ** UNSIGNED[kind]) if kind in UNSIGNED else (-(2 ** (BITS[kind] - 1)), 2 ** (BITS[kind] - 1))
+    low, high = ends_of(kind)
     return low <= value < high
 
 
