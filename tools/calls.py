@@ -18,6 +18,7 @@ import tempfile
 import threading
 from typing import NamedTuple, Optional
 
+import unbuilt
 from kit import TOP, rt
 
 PROGRAM = "fbsim"
@@ -206,6 +207,10 @@ CALLS = [
     Call(["explain", "--help"], 0, out=None, has=HELP_OF_EXPLAIN),
     Call(["explain", "file fault"], 0, out=None, has=("file fault: A file can't be read.", "For example:", "Look at: ")),
     Call(["wave", "--help"], 0, out=None, has=HELP_OF_WAVE),
+    # The version is that of CHANGELOG.md.
+    *(Call([it], 0, out=f"fbsim {unbuilt.version()}\n".encode()) for it in ("--version", "-V")),
+    Call(["--version"], 3, err=b"write fault after 0 bytes\n", to="full"),
+    Call(["run", "--version"], 5, err=None),
     # A waveform, of both forms of a trace, from a file, a pipe and standard input.
     Call(["wave", "cycle", "trace"], 0, out=WAVE_TO_8),
     Call(["wave", "-", "trace"], 0, out=WAVE_TO_8, given=CYCLE),

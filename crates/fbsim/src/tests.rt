@@ -35,7 +35,8 @@ const HELP: &str =
     \x20 explain  Says what a refusal means, with two examples of it and what to look at.\n\
     \x20 help     Print this message or the help of the given subcommand(s)\n\n\
     Options:\n\
-    \x20 -h, --help  Print help\n\n\
+    \x20 -h, --help     Print help\n\
+    \x20 -V, --version  Print version\n\n\
     Example: fbsim run cell.iec --deploy cell.toml --stim cell.csv --horizon 1000\n";
 
 const NO_COMMAND: &str = "error: 'fbsim' requires a subcommand but one was not provided\n\
@@ -62,11 +63,12 @@ const NO_FORM: &str = "error: invalid value '3' for '--trace <trace>'\n\
     \x20 [possible values: 1, 2]\n\nFor more information, try '--help'.\n";
 
 /// Calls with status 0, each with its output.
-static ENDED: [(&str, &str); 4] = [
+static ENDED: [(&str, &str); 5] = [
     ("fbsim run - --horizon 8", CYCLE_TRACE),
     ("fbsim run cycle --horizon 8 --serial", CYCLE_TRACE),
     ("fbsim check cycle", "accepted\n"),
     ("fbsim --help", HELP),
+    ("fbsim --version", "fbsim 1.1.0\n"),
 ];
 
 /// Calls with status 1, each with its output.

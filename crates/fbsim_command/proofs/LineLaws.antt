@@ -4,11 +4,11 @@ use Rattle.std.specs.Prelude.{◌≢◌, IfNone, IfOk, IfErr, OnOk, []}
 use Rattle.clap.specs.Words.{App, Row, Text, HasKind, IsAmong, first_of, fault_of, kind_of, is_simple, is_simple_and_free, takes, matches_of, subcommand_of}
 use Rattle.clap.specs.declared.error.Error.{Error}
 use Rattle.clap.specs.declared.error.kind.ErrorKind.{ErrorKind}
-use Rattle.clap.specs.declared.error.kind.ErrorKind.TheVariants.{DisplayHelp, OutOfMemory}
+use Rattle.clap.specs.declared.error.kind.ErrorKind.TheVariants.{DisplayHelp, DisplayVersion, OutOfMemory}
 use Rattle.fb_types.specs.declared.run.Form.{Form}
 use Rattle.fb_types.specs.declared.run.Form.TheVariants.{One, Two}
 use Rattle.clap.specs.declared.builder.value_parser.ValueParser.{ValueParser}
-use Rattle.fbsim_command.specs.Line.{AreCall, AreNoCall, AskHelp, IsTaken, NameNoCall, IsForm, AsksWave, IsNumber, IsAction, IsTask, IsCall, IsCallOf, IsFault, IsFlag, command_name, call_name, AreForms, simulator, simulator_with}
+use Rattle.fbsim_command.specs.Line.{AreCall, AreNoCall, AskHelp, IsTaken, NameNoCall, IsForm, AsksWave, IsNumber, IsAction, IsTask, IsCall, IsCallOf, IsFault, IsFlag, IsText, command_name, call_name, AreForms, simulator, simulator_with}
 use Rattle.fbsim_command.proofs.FormLaws.{same_fault, same_subcommand, same_takes}
 use Rattle.fbsim_command.specs.declared.line.LineFault.{LineFault}
 use Rattle.fbsim_command.specs.declared.line.Task.{Task}
@@ -111,15 +111,19 @@ no_trace rows none w is = let given = is.trace in absurd cc
 -- ---- The words, by what the parser says of them
 
 module _ (values : ValueParser) (are : AreForms values) (a : App) (words : List Text) (is : a ≡ simulator_with values) where
-  pub asks_help : (e : Error) → (is_simple_and_free a ≡ true → HasKind (fault_of a words) e) → kind_of e ≡ DisplayHelp → AskHelp words
-  asks_help e kinds help = go (subst (λ (x : App). is_simple_and_free x ≡ true → HasKind (fault_of x words) e) is kinds refl)
+  asks : (k : ErrorKind) → OutOfMemory ≢ k → (e : Error) → (is_simple_and_free a ≡ true → HasKind (fault_of a words) e) → kind_of e ≡ k → IsAmong k (fault_of simulator words)
+  asks k other e kinds same = go (subst (λ (x : App). is_simple_and_free x ≡ true → HasKind (fault_of x words) e) is kinds refl)
     where
-      go : HasKind (fault_of (simulator_with values) words) e → AskHelp words
-      go (inl memory) = let bad : OutOfMemory ≡ DisplayHelp = sym memory ∙ help in cc
-      go (inr among) = subst (IsAmong DisplayHelp) (same_fault values are words) (subst (λ (k : ErrorKind). IsAmong k (fault_of (simulator_with values) words)) help among)
+      go : HasKind (fault_of (simulator_with values) words) e → IsAmong k (fault_of simulator words)
+      go (inl memory) = absurd (other (sym memory ∙ same))
+      go (inr among) = subst (IsAmong k) (same_fault values are words) (subst (λ (x : ErrorKind). IsAmong x (fault_of (simulator_with values) words)) same among)
+
+  pub asks_help : (e : Error) → (is_simple_and_free a ≡ true → HasKind (fault_of a words) e) → IsText (kind_of e) → AskHelp words
+  asks_help e kinds (inl help) = inl (asks DisplayHelp (λ bad. cc) e kinds help)
+  asks_help e kinds (inr version) = inr (asks DisplayVersion (λ bad. cc) e kinds version)
 
   pub are_refused : (e : Error) → (is_simple_and_free a ≡ true → HasKind (fault_of a words) e) → (takes a words ≡ true → kind_of e ≡ OutOfMemory)
-      → kind_of e ≢ OutOfMemory → kind_of e ≢ DisplayHelp → AreNoCall words
+      → kind_of e ≢ OutOfMemory → ¬ (IsText (kind_of e)) → AreNoCall words
   are_refused e kinds passes other no_help = record { cause = inl (kind_of e, record { among = among; no_help = no_help }); none = none }
     where
       same : IsAmong (kind_of e) (fault_of (simulator_with values) words) → IsAmong (kind_of e) (fault_of simulator words)

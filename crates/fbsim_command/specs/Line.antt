@@ -1,11 +1,11 @@
 -- The command line (this project's own): the program's commands, and what a parse of the words asks for.
-use Rattle.std.specs.Prelude.{◌≡◌, ◌≢◌, ◌⊎◌, ◌<◌, ◌^◌, ◌↔◌, ℕ, Bool, true, IsTrue, List, [], ◌∷◌, Option, Some, map, option_map, codes}
+use Rattle.std.specs.Prelude.{◌≡◌, ◌⊎◌, ◌<◌, ◌^◌, ◌↔◌, ℕ, Bool, true, IsTrue, List, [], ◌∷◌, Option, Some, map, option_map, codes}
 use Rattle.std.specs.Borrow.{Bor}
 use Rattle.std.specs.Str.Parse.{IsNumeral, digits_value, without_leading_plus}
 use Rattle.clap.specs.Words.{App, Rule, Row, Text, new_app, new_rule, with_rule, with_subcommand, subcommand_of, first_of, one_of, takes, fault_of, IsAmong}
 use Rattle.clap.specs.declared.builder.action.ArgAction.TheVariants.{SetTrue}
 use Rattle.clap.specs.declared.error.kind.ErrorKind.{ErrorKind}
-use Rattle.clap.specs.declared.error.kind.ErrorKind.TheVariants.{DisplayHelp}
+use Rattle.clap.specs.declared.error.kind.ErrorKind.TheVariants.{DisplayHelp, DisplayVersion}
 use Rattle.clap.specs.declared.builder.value_parser.ValueParser.{ValueParser}
 use Rattle.clap.specs.declared.builder.value_parser.ValueParser.TheVariants as parser
 use Rattle.fb_types.specs.declared.run.Form.{Form}
@@ -101,7 +101,7 @@ explain = begun (codes "explain") (codes "NAME")
 -- the program's command, with this parser for the form of the trace
 abbrev pub simulator_with : ValueParser → App
 simulator_with values = with_subcommand (with_subcommand (with_subcommand (with_subcommand
-    (record { top = record (new_app (codes "fbsim")).top { subcommand_required = true }; subs = [] })
+    (record { top = record (new_app (codes "fbsim")).top { has_version = true; subcommand_required = true }; subs = [] })
     (with_run_options values (files (codes "run"))).top)
     (files (codes "check")).top)
     wave.top)
@@ -194,19 +194,23 @@ IsFault Memory = ⊥
 IsFault (Help text) = ⊥
 IsFault (Fault text) = Unit {0}
 
--- the parser may answer these words with the help
-abbrev pub AskHelp : List Text → Type 0
-AskHelp words = IsAmong DisplayHelp (fault_of simulator words)
+-- the answer of the parser is the help or the version
+abbrev pub IsText : ErrorKind → Type 0
+IsText kind = (kind ≡ DisplayHelp) ⊎ (kind ≡ DisplayVersion)
 
--- the parser finds this fault in the words, and it is not that help is asked for
+-- the parser may answer these words with the help or the version
+abbrev pub AskHelp : List Text → Type 0
+AskHelp words = IsAmong DisplayHelp (fault_of simulator words) ⊎ IsAmong DisplayVersion (fault_of simulator words)
+
+-- the parser finds this fault in the words, and it is not that help or the version is asked for
 pub record IsRefused (words : List Text) (kind : ErrorKind) : Type 0 where
   pub among : IsAmong kind (fault_of simulator words)
-  pub no_help : kind ≢ DisplayHelp
+  pub no_help : ¬ (IsText kind)
 
 abbrev pub NameNoCall : List Text → Type 0
 NameNoCall words = (r : Call) → AreCall words r → ⊥
 
--- the parser refuses these words, and not with the help, or they name no call
+-- the parser refuses these words, and not with the help or the version, or they name no call
 pub record AreNoCall (words : List Text) : Type 0 where
   pub cause : ((kind : ErrorKind) × IsRefused words kind) ⊎ (IsTaken words × NameNoCall words)
   pub none : takes simulator words ≡ true → NameNoCall words

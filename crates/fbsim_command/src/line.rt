@@ -2,7 +2,7 @@
 
 ghost use Rattle.std.specs.Prelude.{◌≡◌, ◌≢◌, ℕ, Ok, IfOk, IfErr, IfSome, IfNone, None, OnOk, map, codes, false};
 ghost use Rattle.fbsim_command.specs.Line as spec;
-ghost use Rattle.fbsim_command.specs.Line.{AreCall, AreNoCall, AskHelp, AsksWave, AreForms, IsTask, IsFault, IsFlag, IsForm, IsHelp, IsNumber, IsAction, IsCall, IsCallOf, IsTaken, command_name, call_name};
+ghost use Rattle.fbsim_command.specs.Line.{AreCall, AreNoCall, AskHelp, AsksWave, AreForms, IsTask, IsFault, IsFlag, IsForm, IsHelp, IsText, IsNumber, IsAction, IsCall, IsCallOf, IsTaken, command_name, call_name};
 ghost use Rattle.fbsim_command.specs.declared.line.LineFault.TheVariants.{Memory};
 ghost use Rattle.fbsim_command.specs.declared.line.Task.{Task};
 ghost use Rattle.fbsim_command.specs.declared.line.Action.{Action};
@@ -81,7 +81,7 @@ pub enum Action {
 #[derive(Drop)]
 pub enum LineFault {
     Memory,
-    /// Help was asked for, and this is its text.
+    /// Help or the version was asked for, and this is its text.
     Help(String),
     /// The words are no call, for what this text says.
     Fault(String),
@@ -97,6 +97,9 @@ impl From<AllocError> for LineFault {
 
 /// What is said of words that the parser takes and that name no call all the same.
 const NO_CALL: &str = "error: the words name no call\n";
+
+/// The version of the program, that of CHANGELOG.md.
+const VERSION: &str = "1.1.0";
 
 const ABOUT: &str =
     "Simulates IEC 61499-1 control applications in virtual time; one tick is a millisecond of it.";
@@ -350,6 +353,7 @@ fn simulator<'a>(alloc: Global, forms: ValueParser<'a>) -> Result<Command<'a>, A
     ensures { IfOk result (λ c. app_of c ≡ spec.simulator_with forms.entry) }
 {
     let command = Command::new(alloc, "fbsim")
+        .version(VERSION)
         .about(ABOUT)
         .after_help(EXAMPLE)
         .subcommand_required(true);
@@ -474,9 +478,9 @@ fn call_of<'a>(name: &str, found: &ArgMatches<'a>) -> Option<Call<'a>>
 }
 
 fn fault(alloc: Global, error: &Error) -> LineFault
-    ensures help { IsHelp result → kind_of error.now ≡ ErrorKind.DisplayHelp }
+    ensures help { IsHelp result → IsText (kind_of error.now) }
     ensures fault { IsFault result → kind_of error.now ≢ ErrorKind.OutOfMemory }
-    ensures no_help { IsFault result → kind_of error.now ≢ ErrorKind.DisplayHelp }
+    ensures no_help { IsFault result → ¬ (IsText (kind_of error.now)) }
 {
     let kind = error.kind();
     if kind == ErrorKind::OutOfMemory {
@@ -485,6 +489,7 @@ fn fault(alloc: Global, error: &Error) -> LineFault
     match format!(in alloc; "{error}") {
         Err(_) => LineFault::Memory,
         Ok(text) if kind == ErrorKind::DisplayHelp => LineFault::Help(text),
+        Ok(text) if kind == ErrorKind::DisplayVersion => LineFault::Help(text),
         Ok(text) => LineFault::Fault(text),
     }
 }
@@ -506,7 +511,7 @@ fn call_in<'a>(alloc: Global, matches: &ArgMatches<'a>) -> Result<Call<'a>, Line
 /// The call that the words name, the program's own name first.
 ///
 /// # Errors
-/// `Help` where help is asked for, `Fault` where the words are no call, and `Memory`.
+/// `Help` where help or the version is asked for, `Fault` where the words are no call, and `Memory`.
 pub fn parse<'a>(alloc: Global, words: &'a [&'a str]) -> Result<Call<'a>, LineFault>
     ensures call { IfOk result (AreCall (map (λ w. w.now) words.entry.now)) }
     ensures taken { OnOk result (IsTaken (map (λ w. w.now) words.entry.now)) }

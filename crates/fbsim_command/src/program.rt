@@ -217,7 +217,7 @@ fn explain_to<W: Write>(alloc: Global, name: &str, out: &mut W) -> Result<Done, 
     Ok(Done::Explained)
 }
 
-/// Writes the help.
+/// Writes the help, or the version.
 fn help_to<W: Write>(help: &str, out: &mut W) -> Result<Done, Failure>
     ensures whole { IfOk result (λ d. (d ≡ Helped) × Appends (W.contents out.old) (W.contents out.new) help.now) }
     ensures part { IfErr result (WritesPart (W.contents out.old) (W.contents out.new) help.now) }

@@ -8,7 +8,7 @@ use crate::failure::Failure;
 /// What a call of the program has done.
 #[derive(Clone, Copy)]
 pub enum Done {
-    /// The help is written.
+    /// The help is written, or the version.
     Helped,
     /// What a refusal means is written.
     Explained,

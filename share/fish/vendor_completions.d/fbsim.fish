@@ -10,6 +10,7 @@ complete -c fbsim -n "not __fish_seen_subcommand_from $commands" -a wave -d "Con
 complete -c fbsim -n "not __fish_seen_subcommand_from $commands" -a explain -d "Explain a refusal"
 complete -c fbsim -n "not __fish_seen_subcommand_from $commands" -a help -d "Print help"
 complete -c fbsim -s h -l help -d "Print help"
+complete -c fbsim -n "not __fish_seen_subcommand_from $commands" -s V -l version -d "Print the version"
 
 complete -c fbsim -n "__fish_seen_subcommand_from run check wave" -l deploy -r -F -d "Deployment in TOML"
 complete -c fbsim -n "__fish_seen_subcommand_from run check" -l stim -r -F -d "Stimuli in CSV"

@@ -6,10 +6,11 @@ use Rattle.fbsim_command.proofs.line.simulator.Goals as goal
 
 pub returns : goal.returns
 returns c =
-    let top : app_of c.subcommand_required-command.result ≡ record (new_app (codes "fbsim")) { top = record (new_app (codes "fbsim")).top { subcommand_required = true } } =
+    let top : app_of c.subcommand_required-command.result ≡ record (new_app (codes "fbsim")) { top = record (new_app (codes "fbsim")).top { has_version = true; subcommand_required = true } } =
     ap app_of_fields c.subcommand_required-command.ensures
     ∙ ap (λ (a : App). record a { top = record a.top { subcommand_required = true } })
-    (ap app_of_fields c.after_help.ensures ∙ ap app_of_fields c.about.ensures ∙ c.new.ensures.app) in
+    (ap app_of_fields c.after_help.ensures ∙ ap app_of_fields c.about.ensures ∙ ap app_of_fields c.version.ensures
+    ∙ ap (λ (a : App). record a { top = record a.top { has_version = true } }) c.new.ensures.app) in
     let runs = joined_on _ _ _ _ _ c.with_subcommand-command.ensures top (stands_well _ _ c.run.ensures.app c.run.ensures.globals) in
     let checks = joined_on _ _ _ _ _ c.with_subcommand-command-2.ensures runs (stands_well _ _ c.files.ensures.app c.files.ensures.globals) in
     let shows = joined_on _ _ _ _ _ c.with_subcommand-command-3.ensures checks (stands_well _ _ c.wave_command.ensures.app c.wave_command.ensures.globals) in
