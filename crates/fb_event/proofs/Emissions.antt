@@ -77,10 +77,10 @@ pub push-IsWellFormed : (b : KindState) (emits : List run.Emission) (place : ℕ
 push-IsWellFormed b emits place all here = All-push (IsWellFormed (state_of b).kind) _ _ all (emission_at-IsWellFormed b place here)
 
 -- what a step emits is what its reaction emits
-pub emissions-Performs : (s : State) (r : Reaction) (step : Step) (old new : List run.Emission) → Performs s r step
-    → new ≡ old ++ map (emission_at step.block) step.emits.now → meanings s.kind new ≡ meanings s.kind old ++ emissions_of s.kind r
-emissions-Performs s r step old new h e =
-    let sent = meanings-state step.block (state s.kind r.memory) h.block step.emits.now h.within in
+pub emissions-Performs : (s : State) (r : Reaction) (b : KindState) (step : Step) (old new : List run.Emission) → Performs s r b step
+    → new ≡ old ++ map (emission_at b) step.emits.now → meanings s.kind new ≡ meanings s.kind old ++ emissions_of s.kind r
+emissions-Performs s r b step old new h e =
+    let sent = meanings-state b (state s.kind r.memory) h.block step.emits.now h.within in
     rw e (map-append _ old _ ∙ ap (λ es. meanings s.kind old ++ es) (sent ∙ ap (emissions (ports_of_event_block s.kind) (output_of r.memory)) h.emits))
 
 -- no list but the empty one has no images
@@ -89,8 +89,8 @@ map-nil f [] e = refl
 map-nil f (x ∷ xs) e = cc
 
 -- a step emits nothing where its reaction does
-pub silent-Performs : (s : State) (r : Reaction) (step : Step) → Performs s r step → r.emits ≡ [] → step.emits.now ≡ []
-silent-Performs s r step h e = map-nil _ step.emits.now (h.emits ∙ e)
+pub silent-Performs : (s : State) (r : Reaction) (b : KindState) (step : Step) → Performs s r b step → r.emits ≡ [] → step.emits.now ≡ []
+silent-Performs s r b step h e = map-nil _ step.emits.now (h.emits ∙ e)
 
 -- event outputs with the values of all data outputs are well-formed emissions
 all-IsWellFormed : (b : KindState) (s : State) → state_of b ≡ s → (places : List ℕ) → All (IsEventOutput s.kind) places → All (IsWellFormed s.kind) (map (emission_at b) places)
@@ -100,18 +100,18 @@ all-IsWellFormed b s e places within =
     (All-weaker (IsEventOutput (state_of b).kind) (λ place. IsWellFormed (state_of b).kind (emission_at b place)) (emission_at-IsWellFormed b) places here)) within
 
 -- what a step emits is what its reaction emits
-emitted-Performs : (s : State) (r : Reaction) (step : Step) → Performs s r step → meanings s.kind (emitted_by step) ≡ emissions_of s.kind r
-emitted-Performs s r step h =
-    meanings-state step.block (state s.kind r.memory) h.block step.emits.now h.within ∙ ap (emissions (ports_of_event_block s.kind) (output_of r.memory)) h.emits
+emitted-Performs : (s : State) (r : Reaction) (b : KindState) (step : Step) → Performs s r b step → meanings s.kind (emitted_by b step) ≡ emissions_of s.kind r
+emitted-Performs s r b step h =
+    meanings-state b (state s.kind r.memory) h.block step.emits.now h.within ∙ ap (emissions (ports_of_event_block s.kind) (output_of r.memory)) h.emits
 
 -- .. behind what was emitted before
-pub behind-Performs : (s : State) (r : Reaction) (step : Step) (old new : List run.Emission) → Performs s r step
-    → new ≡ old ++ map (emission_at step.block) step.emits.now → EmitsBehind s.kind r old new
-behind-Performs s r step old new h e = record {
-  news = emitted_by step;
+pub behind-Performs : (s : State) (r : Reaction) (b : KindState) (step : Step) (old new : List run.Emission) → Performs s r b step
+    → new ≡ old ++ map (emission_at b) step.emits.now → EmitsBehind s.kind r old new
+behind-Performs s r b step old new h e = record {
+  news = emitted_by b step;
   behind = e;
-  meant = emitted-Performs s r step h;
-  well_formed = all-IsWellFormed step.block (state s.kind r.memory) h.block step.emits.now h.within;
+  meant = emitted-Performs s r b step h;
+  well_formed = all-IsWellFormed b (state s.kind r.memory) h.block step.emits.now h.within;
 }
 
 pub ruleset step_emissions = (emissions-Performs, silent-Performs, behind-Performs)

@@ -16,6 +16,6 @@ values_of b = let s = state_of b in map (output_of s.memory) (variable_names (po
 abbrev pub emission_at : KindState → ℕ → Emission
 emission_at b place = record { event = place; values = values_of b }
 
--- what a step emits, event after event
-abbrev pub emitted_by : Step → List Emission
-emitted_by step = map (emission_at step.block) step.emits.now
+-- what a block emits by a step, event after event
+abbrev pub emitted_by : KindState → Step → List Emission
+emitted_by b step = map (emission_at b) step.emits.now

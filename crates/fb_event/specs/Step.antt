@@ -9,13 +9,14 @@ use Rattle.fb_event.specs.Reactions.{IsEventOutput}
 use Rattle.fb_types.specs.declared.event_kind.EventKind.TheVariants.{Delay}
 use Rattle.fb_types.specs.declared.run.TimerAsk.{TimerAsk}
 use Rattle.fb_event.specs.Block.{state, state_of, memory_of_timer, IsInRange, IsTimeInRange}
+use Rattle.fb_event.specs.declared.state.KindState.{KindState}
 use Rattle.fb_event.specs.declared.state.Timer.{Timer}
 use Rattle.fb_event.specs.declared.step.Step.{Step}
 
--- The step is this reaction of a block in this state.
-pub record Performs (s : State) (r : Reaction) (step : Step) : Type 0 where
-  pub block : state_of step.block ≡ state s.kind r.memory
-  pub in_range : IsInRange step.block
+-- What a block has become and the step are this reaction of a block in this state.
+pub record Performs (s : State) (r : Reaction) (after : KindState) (step : Step) : Type 0 where
+  pub block : state_of after ≡ state s.kind r.memory
+  pub in_range : IsInRange after
   pub emits : map (event_at (ports_of_event_block s.kind).event_outputs) step.emits.now ≡ r.emits
   pub within : All (IsEventOutput s.kind) step.emits.now
   pub ask : step.ask ≡ r.timer

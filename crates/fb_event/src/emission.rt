@@ -23,13 +23,42 @@ pub(crate) fn emit_all(
     ensures kept { BeginsWith emits.old emits.new }
     ensures silent { events.now ≡ [] → IsOk result }
 {
+    // Most event blocks have no data outputs.
+    if block.is_bare() {
+        return emit_all_bare(block, events, emits);
+    }
     for event in events {
         emit(block, *event, emits)?;
     }
     Ok(())
 }
 
+/// .. of a block without data outputs.
 #[inline(always)]
+fn emit_all_bare(block: KindState, events: &[u32], emits: &mut Emits) -> Result<(), AllocError>
+    requires events { All (IsEventOutput (state_of block).kind) events.now }
+    requires bare { values_of block ≡ [] }
+    ensures ok { OnOk result (emits.new ≡ emits.old ++ map (emission_at block) events.now) }
+    ensures well_formed { let IsFit = IsWellFormed (state_of block).kind in All IsFit emits.old → All IsFit emits.new }
+    ensures kept { BeginsWith emits.old emits.new }
+    ensures silent { events.now ≡ [] → IsOk result }
+{
+    for event in events {
+        emit_bare(block, *event, emits)?;
+    }
+    Ok(())
+}
+
+#[inline(always)]
+fn emit_bare(block: KindState, event: u32, emits: &mut Emits) -> Result<(), AllocError>
+    requires { values_of block ≡ [] }
+    ensures ok { OnOk result (emits.new ≡ emits.old ++ emission_at block event ∷ []) }
+    ensures err { OnErr result (emits.new ≡ emits.old) }
+{
+    let values = Values::new(emits.allocator());
+    emits.push(Emission { event, values })
+}
+
 fn emit(block: KindState, event: u32, emits: &mut Emits) -> Result<(), AllocError>
     ensures ok { OnOk result (emits.new ≡ emits.old ++ emission_at block event ∷ []) }
     ensures err { OnErr result (emits.new ≡ emits.old) }

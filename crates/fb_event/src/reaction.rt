@@ -8,7 +8,7 @@ ghost use Rattle.fb_event.specs.Reactions.{BeginsWith, EmitsBehind, FitTheirType
 
 use crate::emission::emit_all;
 use crate::state::EventState;
-use crate::step::{Step, expiry, reaction};
+use crate::step::{expiry, reaction};
 use fb_types::{Emits, Halt, TimerAsk, Value};
 
 /// The reaction of an event block to the event input at a place of its event inputs, in a tick that is at most
@@ -20,6 +20,7 @@ use fb_types::{Emits, Halt, TimerAsk, Value};
 /// `Halt::Memory` where memory ran out, and never a stop. Nothing is said of what the block remembers then.
 /// A reaction that emits nothing takes no memory.
 #[tactic(auto, using(crate::proofs::Inputs::inputs, crate::proofs::Emissions::step_emissions))]
+#[inline(always)]
 pub fn react(
     state: &mut EventState,
     event: u32,
@@ -47,8 +48,10 @@ pub fn react(
     ensures only_memory { IfErr result (λ halt. halt ≡ Halt.Memory) }
     ensures silent { (reaction_to state.old event tick inputs.now).emits ≡ [] → IsOk result }
 {
-    let step = reaction(state.block, event, tick, first(inputs));
-    perform(&step, state, emits, ask)
+    let step = reaction(&mut state.block, event, tick, first(inputs));
+    emit_all(state.block, step.emits, emits)?;
+    *ask = step.ask;
+    Ok(())
 }
 
 /// The reaction of an event block to its timer, which goes off in a tick that is at most 10^12. It reads no
@@ -80,32 +83,8 @@ pub fn expire(
     ensures only_memory { IfErr result (λ halt. halt ≡ Halt.Memory) }
     ensures silent { (expiry_of state.old tick).emits ≡ [] → IsOk result }
 {
-    let step = expiry(state.block, tick);
-    perform(&step, state, emits, ask)
-}
-
-/// Emits what the step emits, and then makes the block and the timer what the step says.
-#[inline(always)]
-fn perform(
-    step: &Step,
-    state: &mut EventState,
-    emits: &mut Emits,
-    ask: &mut TimerAsk,
-) -> Result<(), Halt>
-    requires in_range { IsInRange step.now.block }
-    requires events { All (IsEventOutput (state_of step.now.block).kind) step.now.emits.now }
-    requires kind { (state_of step.now.block).kind ≡ state.old.kind }
-    ensures state { OnOk result (state.new ≡ state_of step.now.block) }
-    ensures timer { OnOk result (ask.new ≡ step.now.ask) }
-    ensures emitted { OnOk result (emits.new ≡ emits.old ++ map (emission_at step.now.block) step.now.emits.now) }
-    ensures kind { state.new.kind ≡ state.old.kind }
-    ensures well_formed { let IsFit = IsWellFormed state.old.kind in All IsFit emits.old → All IsFit emits.new }
-    ensures kept { BeginsWith emits.old emits.new }
-    ensures only_memory { IfErr result (λ halt. halt ≡ Halt.Memory) }
-    ensures silent { step.now.emits.now ≡ [] → IsOk result }
-{
-    emit_all(step.block, step.emits, emits)?;
-    state.block = step.block;
+    let step = expiry(&mut state.block, tick);
+    emit_all(state.block, step.emits, emits)?;
     *ask = step.ask;
     Ok(())
 }

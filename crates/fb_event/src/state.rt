@@ -97,7 +97,20 @@ impl EventState {
 }
 
 impl KindState {
+    ghost use Rattle.std.specs.Prelude.{◌≡◌, ◌↔◌, [], IsTrue};
     ghost use Rattle.fb_event.specs.Block.{state_of};
+    ghost use Rattle.fb_event.specs.Emissions.{values_of};
+
+    /// Whether it has no data outputs, as most.
+    #[inline(always)]
+    pub(crate) fn is_bare(&self) -> bool
+        ensures { IsTrue result ↔ (values_of self.now ≡ []) }
+    {
+        match self {
+            KindState::SetReset(_) | KindState::DataLatch(_) | KindState::CountUp { .. } => false,
+            _ => true,
+        }
+    }
 
     /// The kind of the block.
     pub(crate) fn kind(&self) -> EventKind

@@ -25,10 +25,10 @@ const S_OF_SET_RESET: u32 = 0;
 
 const R_OF_COUNT_UP: u32 = 1;
 
-/// What a reaction of an event block comes to: what the block is then, what it emits, and what it asks of its timer.
+/// What a reaction of an event block comes to, apart from what the block is then: what it emits, and what it asks of its
+/// timer.
 #[derive(Clone, Copy)]
 pub(crate) struct Step {
-    pub block: KindState,
     /// The places of the event outputs that are emitted, in order. The same values go with each.
     pub emits: &'static [u32],
     /// What is asked of the timer.
@@ -37,132 +37,141 @@ pub(crate) struct Step {
 
 impl Step {
     /// Nothing is emitted, and the timer stays as it is.
-    fn silent(block: KindState) -> Step
-        ensures block { result.block ≡ block }
+    fn silent() -> Step
         ensures emits { result.emits.now ≡ [] }
         ensures ask { result.ask ≡ TimerAsk.Keep }
     {
-        Step::emitting(block, &[])
+        Step::emitting(&[])
     }
 
     /// The event outputs at these places are emitted, in order. The timer stays as it is.
-    fn emitting(block: KindState, emits: &'static [u32]) -> Step
-        ensures block { result.block ≡ block }
+    fn emitting(emits: &'static [u32]) -> Step
         ensures emits { result.emits.now ≡ emits.now }
         ensures ask { result.ask ≡ TimerAsk.Keep }
     {
         Step {
-            block,
             emits,
             ask: TimerAsk::Keep,
         }
     }
 
     /// The first event output is emitted if the condition holds. The timer stays as it is.
-    fn emitting_if(condition: bool, block: KindState) -> Step
-        ensures block { result.block ≡ block }
+    fn emitting_if(condition: bool) -> Step
         ensures emits { result.emits.now ≡ (if condition then 0 ∷ [] else []) }
         ensures ask { result.ask ≡ TimerAsk.Keep }
     {
         if condition {
-            Step::emitting(block, &[0])
+            Step::emitting(&[0])
         } else {
-            Step::silent(block)
+            Step::silent()
         }
     }
 }
 
-/// The reaction to the event input at a place, with the value of the data input, if the block has one.
+/// The reaction to the event input at a place, with the value of the data input, if the block has one. The block is
+/// changed where it remembers something else then.
 #[tactic(auto, using(crate::proofs::Events::places_of_events))]
-pub(crate) fn reaction(block: KindState, event: u32, tick: u64, input: Value) -> Step
+#[inline(always)]
+pub(crate) fn reaction(block: &mut KindState, event: u32, tick: u64, input: Value) -> Step
     requires early { tick ≤ 10 ^ 12 }
-    requires running { IsInRange block }
-    requires in_range { IsInTime block input }
-    ensures { Performs (state_of block) (reaction_with (state_of block) event tick input) result }
+    requires running { IsInRange block.old }
+    requires in_range { IsInTime block.old input }
+    ensures { Performs (state_of block.old) (reaction_with (state_of block.old) event tick input) block.new result }
 {
-    match block {
-        KindState::Restart => Step::silent(block),
-        KindState::Split => Step::emitting(block, &[0, 1]),
-        KindState::Merge => Step::emitting(block, &[0]),
-        KindState::Rendezvous { first, second } => rendezvous(first, second, event),
-        KindState::Permit => Step::emitting_if(is_true(input), block),
-        KindState::Select => Step::emitting_if((event == EI0_OF_SELECT) != is_true(input), block),
-        KindState::Switch => Step::emitting(block, if is_true(input) { &[1] } else { &[0] }),
+    match *block {
+        KindState::Restart => Step::silent(),
+        KindState::Split => Step::emitting(&[0, 1]),
+        KindState::Merge => Step::emitting(&[0]),
+        KindState::Rendezvous { first, second } => {
+            let (after, step) = rendezvous(first, second, event);
+            *block = after;
+            step
+        }
+        KindState::Permit => Step::emitting_if(is_true(input)),
+        KindState::Select => Step::emitting_if((event == EI0_OF_SELECT) != is_true(input)),
+        KindState::Switch => Step::emitting(if is_true(input) { &[1] } else { &[0] }),
         KindState::Delay(timer) => {
             let (timer, ask) = timed(timer, event, tick, input);
+            *block = KindState::Delay(timer);
             Step {
                 ask,
-                ..Step::silent(KindState::Delay(timer))
+                ..Step::silent()
             }
         }
         KindState::Cycle(timer) => {
             let (timer, ask) = timed(timer, event, tick, input);
+            *block = KindState::Cycle(timer);
             Step {
                 ask,
-                ..Step::silent(KindState::Cycle(timer))
+                ..Step::silent()
             }
         }
         KindState::SetReset(q) => {
             let set = event == S_OF_SET_RESET;
-            Step::emitting_if(q != set, KindState::SetReset(set))
+            *block = KindState::SetReset(set);
+            Step::emitting_if(q != set)
         }
         KindState::DataLatch(q) => {
             let d = is_true(input);
-            Step::emitting_if(q != d, KindState::DataLatch(d))
+            *block = KindState::DataLatch(d);
+            Step::emitting_if(q != d)
         }
         KindState::RisingEdge(before) => {
             let now = is_true(input);
-            Step::emitting_if(!before && now, KindState::RisingEdge(now))
+            *block = KindState::RisingEdge(now);
+            Step::emitting_if(!before && now)
         }
         KindState::FallingEdge(before) => {
             let now = is_true(input);
-            Step::emitting_if(before && !now, KindState::FallingEdge(now))
+            *block = KindState::FallingEdge(now);
+            Step::emitting_if(before && !now)
         }
-        KindState::CountUp { count, reached } => count_up(count, reached, event, input),
+        KindState::CountUp { count, reached } => {
+            let (after, step) = count_up(count, reached, event, input);
+            *block = after;
+            step
+        }
     }
 }
 
-/// The reaction to the timer.
-pub(crate) fn expiry(block: KindState, tick: u64) -> Step
+/// The reaction to the timer. The block is changed where it remembers something else then.
+pub(crate) fn expiry(block: &mut KindState, tick: u64) -> Step
     requires early { tick ≤ 10 ^ 12 }
-    requires running { IsInRange block }
-    ensures { Performs (state_of block) (expiry_of (state_of block) tick) result }
+    requires running { IsInRange block.old }
+    ensures { Performs (state_of block.old) (expiry_of (state_of block.old) tick) block.new result }
 {
-    match block {
-        KindState::Restart => Step::emitting(block, &[0]),
-        KindState::Delay(_) => Step::emitting(KindState::Delay(Timer::Idle), &[0]),
+    match *block {
+        KindState::Restart => Step::emitting(&[0]),
+        KindState::Delay(_) => {
+            *block = KindState::Delay(Timer::Idle);
+            Step::emitting(&[0])
+        }
         KindState::Cycle(Timer::Running(time)) => Step {
-            block,
             emits: &[0],
             ask: TimerAsk::At(tick + time),
         },
-        _ => Step::silent(block),
+        _ => Step::silent(),
     }
 }
 
 /// E_REND emits EO when both events have come, and R clears both marks.
-fn rendezvous(first: bool, second: bool, event: u32) -> Step
+fn rendezvous(first: bool, second: bool, event: u32) -> (KindState, Step)
     ensures { let before = KindState.Rendezvous first second in
-        Performs (state_of before) (reaction_with (state_of before) event 0 (Value.Bool false)) result }
+        Performs (state_of before) (reaction_with (state_of before) event 0 (Value.Bool false)) result.0 result.1 }
 {
+    let cleared = KindState::Rendezvous {
+        first: false,
+        second: false,
+    };
     if event == R_OF_RENDEZVOUS {
-        return Step::silent(KindState::Rendezvous {
-            first: false,
-            second: false,
-        });
+        return (cleared, Step::silent());
     }
     let first = first || event == EI1_OF_RENDEZVOUS;
     let second = second || event == EI2_OF_RENDEZVOUS;
     if first && second {
-        Step::emitting(
-            KindState::Rendezvous {
-                first: false,
-                second: false,
-            },
-            &[0],
-        )
+        (cleared, Step::emitting(&[0]))
     } else {
-        Step::silent(KindState::Rendezvous { first, second })
+        (KindState::Rendezvous { first, second }, Step::silent())
     }
 }
 
@@ -186,25 +195,23 @@ fn timed(timer: Timer, event: u32, tick: u64, input: Value) -> (Timer, TimerAsk)
 }
 
 /// E_CTU counts up to 65535, and R sets it to 0.
-fn count_up(count: u16, reached: bool, event: u32, input: Value) -> Step
+fn count_up(count: u16, reached: bool, event: u32, input: Value) -> (KindState, Step)
     ensures { let before = KindState.CountUp count reached in
-        Performs (state_of before) (reaction_with (state_of before) event 0 input) result }
+        Performs (state_of before) (reaction_with (state_of before) event 0 input) result.0 result.1 }
 {
     if event == R_OF_COUNT_UP {
-        return Step::emitting(
-            KindState::CountUp {
-                count: 0,
-                reached: false,
-            },
-            &[1],
-        );
+        let cleared = KindState::CountUp {
+            count: 0,
+            reached: false,
+        };
+        return (cleared, Step::emitting(&[1]));
     }
     if count == u16::MAX {
-        return Step::silent(KindState::CountUp { count, reached });
+        return (KindState::CountUp { count, reached }, Step::silent());
     }
     let count = count + 1;
     let reached = whole(input) <= count as i128;
-    Step::emitting(KindState::CountUp { count, reached }, &[0])
+    (KindState::CountUp { count, reached }, Step::emitting(&[0]))
 }
 
 /// A time in ticks. Below 1 it counts as 1.

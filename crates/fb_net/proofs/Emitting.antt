@@ -41,6 +41,18 @@ carried_named sys k (place ∷ places) (v ∷ values) =
 all_first : {A : Type 0} (P : A → Type 0) (x : A) (xs : List A) → P x → All P xs → All P (x ∷ xs)
 all_first P x xs h hs = All-append P (x ∷ []) xs (All-push P [] x (λ k d lt. absurd (omega arith)) h) hs
 
+-- what holds of each element holds of the one between two parts
+pub middle_fits : {A : Type 0} (P : A → Type 0) (done : List A) (x : A) (rest all : List A) → all ≡ done ++ x ∷ rest → All P all → P x
+middle_fits P done x rest all parts each = go done (subst (λ (xs : List _). All P xs) parts each)
+  where
+    go : (xs : List _) → All P (xs ++ x ∷ rest) → P x
+    go [] h = h 0 x (omega arith)
+    go (y ∷ ys) h = go ys (λ k d lt. h (suc k) d (omega arith))
+
+-- .. and of those behind the first
+pub others_fit : {A : Type 0} (P : A → Type 0) (x : A) (rest all : List A) → all ≡ x ∷ rest → All P all → All P rest
+others_fit P x rest all parts each = λ k d lt. subst (λ (xs : List _). All P xs) parts each (suc k) d (omega arith)
+
 pub are_carried :
     (sys : System) (k : ℕ) (places : List ℕ) (values : List Value) → k < length sys.paths
     → All (λ place. place < length (ports_at sys (path_at sys k)).outputs) places → All (IsCarried sys) (carried_by k places values)
@@ -62,17 +74,17 @@ pub nothing_emitted :
     (i : Inputs) (key : Key) (k : ℕ) (f : Forest) (x : Outbox) → AreOuts (system_of i) f.resource x → HasEmitted i key k f x [] f x
 nothing_emitted i key k f x outs = record { emitted = λ before o h. h; outs = outs; resource = refl }
 
-pub one_more_emitted :
-    (i : Inputs) (key : Key) (k : ℕ) (f g h : Forest) (x y z : Outbox) (es : List run.Emission) (e : run.Emission)
-    → HasEmitted i key k f x es g y → HasEmitted i key k g y (e ∷ []) h z → HasEmitted i key k f x (es ++ e ∷ []) h z
-one_more_emitted i key k f g h x y z es e first then =
+pub more_emitted :
+    (i : Inputs) (key : Key) (k : ℕ) (f g h : Forest) (x y z : Outbox) (es ds : List run.Emission)
+    → HasEmitted i key k f x es g y → HasEmitted i key k g y ds h z → HasEmitted i key k f x (es ++ ds) h z
+more_emitted i key k f g h x y z es ds first then =
     let sys = system_of i in
     let p = path_at sys k in
     let said = emission_of (ports_at sys p) in
     record {
       emitted = λ before o s.
           subst (λ (o : Outcome). Stands i before h z o)
-          (sym (ap (λ (ds : List Emission). emitted_all sys key p ds o) (map-append said es (e ∷ [])) ∙ emitted_all-append sys key p (map said es) (said e ∷ []) o))
+          (sym (ap (λ (ms : List Emission). emitted_all sys key p ms o) (map-append said es ds) ∙ emitted_all-append sys key p (map said es) (map said ds) o))
           (then.emitted before (emitted_all sys key p (map said es) o) (first.emitted before o s));
       outs = then.outs;
       resource = then.resource ∙ first.resource;

@@ -7,7 +7,7 @@ use Rattle.fb_net.specs.Emitting.{HasEmitted}
 use Rattle.fb_net.specs.Outs.{AreOuts}
 use Rattle.fb_net.specs.Steps.{AreKept, EmitsWell, IsKept, IsSame, MayEmit, system_in}
 use Rattle.fb_net.specs.declared.taking.Taking.{Taking}
-use Rattle.fb_net.proofs.Emitting.{one_more_emitted}
+use Rattle.fb_net.proofs.Emitting.{more_emitted}
 use Rattle.fb_net.proofs.Wholes.{kept-then}
 use Rattle.fb_net.specs.Worlds.{InForest}
 
@@ -25,11 +25,10 @@ kept-after a b c same first next =
     kept-then a.system.now a.forest.now b.forest.now c.forest.now first
     (already (λ (i : Inputs) (k : Key). AreKept i b.forest.now c.forest.now) a b same next)
 
-pub emitted-after : (a b c : Taking) (n : ℕ) (es : List Emission) (e : Emission) → IsSame a b → EmitsWell a n es b → EmitsWell b n (e ∷ []) c
-    → EmitsWell a n (es ++ e ∷ []) c
-emitted-after a b c n es e same first next =
-    one_more_emitted a.system.now a.key.now n a.forest.now b.forest.now c.forest.now a.outbox.now b.outbox.now c.outbox.now es e first
-    (already (λ (i : Inputs) (k : Key). HasEmitted i k n b.forest.now b.outbox.now (e ∷ []) c.forest.now c.outbox.now) a b same next)
+pub emitted-after : (a b c : Taking) (n : ℕ) (es ds : List Emission) → IsSame a b → EmitsWell a n es b → EmitsWell b n ds c → EmitsWell a n (es ++ ds) c
+emitted-after a b c n es ds same first next =
+    more_emitted a.system.now a.key.now n a.forest.now b.forest.now c.forest.now a.outbox.now b.outbox.now c.outbox.now es ds first
+    (already (λ (i : Inputs) (k : Key). HasEmitted i k n b.forest.now b.outbox.now ds c.forest.now c.outbox.now) a b same next)
 
 pub may-emit-again : (a b : Taking) (n : ℕ) (es : List Emission) → IsSame a b → MayEmit a n → EmitsWell a n es b → MayEmit b n
 may-emit-again a b n es same may emitted = record {

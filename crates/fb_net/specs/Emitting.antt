@@ -37,6 +37,10 @@ abbrev pub others : List Port → List Port
 others [] = []
 others (q ∷ qs) = qs
 
+-- the emission of an event output without values
+abbrev pub bare : (event : ℕ) → run.Emission
+bare event = record { event = event; values = [] }
+
 -- values, each with the data output at its place
 abbrev pub outputs_at : System → (instance : ℕ) → (places : List ℕ) → List Value → List Bound
 outputs_at sys k places values = pair_up (map (variable_at (ports_at sys (path_at sys k)).outputs) places) values

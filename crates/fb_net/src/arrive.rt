@@ -105,6 +105,7 @@ impl Taking<'_> {
     ///
     /// # Errors
     /// When memory runs out, and never a stop.
+    #[inline(always)]
     fn arrive_event(&mut self, kind: EventKind, at: Target, emits: &mut Emits) -> Result<(), Halt>
         requires place { MayArrive self.old at }
         requires input { at.is_output ≡ false }
@@ -234,6 +235,7 @@ impl Taking<'_> {
     ///
     /// # Errors
     /// `Halt::Stop` where a reason ends the reaction: what was put out before it stands.
+    #[inline(always)]
     pub fn arrive(&mut self, at: Target, meter: &mut Meter, emits: &mut Emits) -> Result<(), Halt>
         requires target { IsTarget (system_in self.old) at }
         requires here { InForest self.old.system.now self.old.forest.now at.instance }

@@ -9,7 +9,7 @@ ghost use Rattle.fb_system.specs.Lines.{BelongsTo, IsEmission};
 ghost use Rattle.fb_system.specs.Ports.{IsCarried, IsPort, IsTarget};
 ghost use Rattle.fb_system.specs.Stands.{ArePlaces};
 ghost use Rattle.fb_net.specs.Changes.{Changes};
-ghost use Rattle.fb_net.specs.Emitting.{PutsOut, carried_by, others, outputs_at, outputs_shown};
+ghost use Rattle.fb_net.specs.Emitting.{PutsOut, bare, carried_by, others, outputs_at, outputs_shown};
 ghost use Rattle.fb_net.specs.Outs.{IsOut, out_of};
 ghost use Rattle.fb_net.specs.Steps.{ArePutOut, EmitsAll, EmitsWell, IsKept, IsSame, MayEmit, ports_in};
 
@@ -242,7 +242,7 @@ impl Taking<'_> {
     {
         // Most events of event blocks have no variables WITH them.
         if emission.values.is_empty() {
-            return self.emit_bare(instance, emission);
+            return self.emit_bare(instance, emission.event);
         }
         let system = self.system;
         let places = system.outputs_with(instance, emission.event);
@@ -298,20 +298,18 @@ impl Taking<'_> {
         Ok(())
     }
 
-    /// Emits one output event that brings no values: it goes where its connections lead, and it has a line. Errors are as
-    /// of `emit_one`.
+    /// Emits one output event without values: it goes where its connections lead, and it has a line. Errors are as of
+    /// `emit_one`.
     #[inline(always)]
-    fn emit_bare(&mut self, instance: u32, emission: Emission) -> Result<(), AllocError>
+    fn emit_bare(&mut self, instance: u32, event: u32) -> Result<(), AllocError>
         requires place { MayEmit self.old instance }
-        requires emission { IsEmission (ports_in self.old instance) emission }
-        requires bare { emission.values ≡ [] }
-        ensures emitted { OnOk result (EmitsWell self.old instance (emission ∷ []) self.new) }
+        requires emission { IsEmission (ports_in self.old instance) (bare event) }
+        ensures emitted { OnOk result (EmitsWell self.old instance (bare event ∷ []) self.new) }
 
         // Also where memory runs out.
         ensures kept { IsKept self.old self.new }
         ensures same { IsSame self.old self.new }
     {
-        let Emission { event, values } = emission;
         let from = Target {
             instance,
             event,
@@ -325,6 +323,7 @@ impl Taking<'_> {
             &[],
             &[],
         )?;
+        let values = Values::new(*self.outbox.lines.allocator());
         self.outbox.lines.reserve(1)?;
         self.outbox.lines.push_reserved(Line {
             key: *self.key,
@@ -345,6 +344,28 @@ impl Taking<'_> {
         requires emissions { All (IsEmission (ports_in self.old instance)) emits.old }
         ensures emitted { OnOk result (EmitsAll self.old instance emits.old self.new) }
         ensures outs { OnOk result (ArePutOut self.old self.new) }
+
+        // Also where memory runs out.
+        ensures kept { IsKept self.old self.new }
+        ensures same { IsSame self.old self.new }
+    {
+        let Some(emission) = emits.pop_first() else {
+            return Ok(());
+        };
+        self.emit_one(instance, emission)?;
+        // Mostly there is one.
+        if emits.is_empty() {
+            return Ok(());
+        }
+        self.emit_others(instance, emits)
+    }
+
+    /// .. those behind the first.
+    #[inline(never)]
+    fn emit_others(&mut self, instance: u32, emits: &mut Emits) -> Result<(), AllocError>
+        requires place { MayEmit self.old instance }
+        requires emissions { All (IsEmission (ports_in self.old instance)) emits.old }
+        ensures emitted { OnOk result (EmitsWell self.old instance emits.old self.new) }
 
         // Also where memory runs out.
         ensures kept { IsKept self.old self.new }

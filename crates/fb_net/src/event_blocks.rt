@@ -59,11 +59,11 @@ pub fn react_event(
     react_at(blocks, first, below, at.event, tick, inputs, emits, ask)
 }
 
-/// The reaction of the event block on a way to an event, where it stands: goes down by the first place, and on by those
-/// below.
+/// The reaction of the event block on a way to an event: goes down by the first place, and on by those below.
 ///
 /// # Errors
 /// As of `react_event`.
+#[inline(always)]
 fn react_at(
     blocks: &mut Items<Block>,
     first: usize,
@@ -80,21 +80,70 @@ fn react_at(
     ensures reacted { Changed (HasTurned (λ s. reaction_to s event tick inputs.now) ask.new emits.new) blocks.old (first ∷ below.now) result blocks.new }
     ensures only_memory { IfErr result (λ halt. halt ≡ Halt.Memory) }
 {
+    match below {
+        // Most event blocks stand in no composite.
+        [] => react_here(blocks, first, event, tick, inputs, emits, ask),
+        [_, ..] => react_below(blocks, first, below, event, tick, inputs, emits, ask),
+    }
+}
+
+/// .. of one that may stand in a composite.
+fn react_below(
+    blocks: &mut Items<Block>,
+    first: usize,
+    below: &[u32],
+    event: u32,
+    tick: u64,
+    inputs: &[Value],
+    emits: &mut Emits,
+    ask: &mut TimerAsk,
+) -> Result<(), Halt>
+    requires early { tick ≤ 10 ^ 12 }
+    requires event { IsTypedAt inputs.now blocks.old (first ∷ below.now) }
+    requires fresh { emits.old ≡ [] }
+    ensures reacted { Changed (HasTurned (λ s. reaction_to s event tick inputs.now) ask.new emits.new) blocks.old (first ∷ below.now) result blocks.new }
+    ensures only_memory { IfErr result (λ halt. halt ≡ Halt.Memory) }
+{
+    match below {
+        [] => react_here(blocks, first, event, tick, inputs, emits, ask),
+        [next, rest @ ..] => {
+            let Some(place) = blocks.get_mut(first) else {
+                unreachable!()
+            };
+            match place.components_mut() {
+                Some(components) => {
+                    let next = *next as usize;
+                    react_below(components, next, rest, event, tick, inputs, emits, ask)
+                }
+                None => unreachable!(),
+            }
+        }
+    }
+}
+
+/// .. of the one at a place.
+#[inline(always)]
+fn react_here(
+    blocks: &mut Items<Block>,
+    first: usize,
+    event: u32,
+    tick: u64,
+    inputs: &[Value],
+    emits: &mut Emits,
+    ask: &mut TimerAsk,
+) -> Result<(), Halt>
+    requires early { tick ≤ 10 ^ 12 }
+    requires event { IsTypedAt inputs.now blocks.old (first ∷ []) }
+    requires fresh { emits.old ≡ [] }
+    ensures reacted { Changed (HasTurned (λ s. reaction_to s event tick inputs.now) ask.new emits.new) blocks.old (first ∷ []) result blocks.new }
+    ensures only_memory { IfErr result (λ halt. halt ≡ Halt.Memory) }
+{
     let Some(place) = blocks.get_mut(first) else {
         unreachable!()
     };
-    match below {
-        [] => match place {
-            Block::Event(state) => react(state, event, tick, inputs, emits, ask),
-            Block::Basic(_) | Block::Composite(_) => unreachable!(),
-        },
-        [next, rest @ ..] => match place.components_mut() {
-            Some(components) => {
-                let next = *next as usize;
-                react_at(components, next, rest, event, tick, inputs, emits, ask)
-            }
-            None => unreachable!(),
-        },
+    match place {
+        Block::Event(state) => react(state, event, tick, inputs, emits, ask),
+        Block::Basic(_) | Block::Composite(_) => unreachable!(),
     }
 }
 

@@ -22,6 +22,7 @@ impl Taking<'_> {
     ///
     /// # Errors
     /// As `arrive`.
+    #[inline(never)]
     fn take_stimulus(&mut self, row: u32, meter: &mut Meter, emits: &mut Emits) -> Result<(), Halt>
         requires { MayTake self.old (Event.Stimulus row) }
         ensures taken { WasTaken self.old (Event.Stimulus row) meter.old.left result self.new meter.new.left }
@@ -37,6 +38,7 @@ impl Taking<'_> {
     ///
     /// # Errors
     /// As `arrive`.
+    #[inline(always)]
     fn take_message(
         &mut self,
         message: &Message,

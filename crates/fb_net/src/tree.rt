@@ -47,9 +47,11 @@ impl Model for Tree {
 
     ghost view = { λ t. t.forest };
 
+    ghost use Rattle.std.specs.Prelude.{◌<◌};
     ghost use Rattle.fb_net.specs.Whole.{IsTree};
 
-    ghost invariant = { λ t. ∥ IsTree t.forest ∥₁ };
+    // There are at most 256 resources.
+    ghost invariant = { λ t. (t.forest.resource < 256) × ∥ IsTree t.forest ∥₁ };
 }
 
 impl Tree {
@@ -66,6 +68,14 @@ impl Tree {
         let forest = crate::building::build(alloc, system, resource)?;
         let emits = Emits::new(alloc);
         Ok(Tree { forest, emits })
+    }
+
+    /// The number of the resource whose blocks these are, 0 to 255.
+    #[inline(always)]
+    pub fn resource(&self) -> u32
+        ensures { result ≡ self.now.resource }
+    {
+        self.forest.resource as u32
     }
 
     /// Takes an event of the resource at a tick, which is at most 10^12 milliseconds. `meter` has the steps that are left in

@@ -1,61 +1,42 @@
-use Rattle.std.proofs.Common.{◌≡◌, ◌++◌, ◌∷◌, [], ◌∙◌, List, ap, refl, sym, subst, append_assoc, arith}
-use Rattle.std.proofs.lemmas.List.{append-nil}
-use Rattle.fb_types.specs.declared.run.Emission.{Emission}
+use Rattle.std.proofs.Common.{◌∷◌, [], List, subst, sym}
+use Rattle.std.proofs.lemmas.Result.{on_ok_weaker}
+use Rattle.std.specs.Prelude.{All}
 use Rattle.fb_types.specs.Headline.{Inputs, system_of}
 use Rattle.fb_types.specs.Numbers.{path_at, ports_at}
 use Rattle.fb_types.specs.declared.key.Key.{Key}
+use Rattle.fb_types.specs.declared.run.Emission.{Emission}
 use Rattle.fb_system.specs.Lines.{IsEmission}
-use Rattle.fb_net.specs.Steps.{EmitsAll, ports_in}
-use Rattle.fb_net.proofs.Emitting.{middle_fits, nothing_emitted}
+use Rattle.fb_net.specs.Steps.{EmitsWell, ports_in}
+use Rattle.fb_net.proofs.Emitting.{others_fit}
 use Rattle.fb_net.proofs.Same.{emitted-after, kept-after, may-emit-again, still}
-use Rattle.fb_net.proofs.Wholes.{kept-same}
 use Rattle.fb_net.proofs.taking.Taking.emit_all.Goals as goal
 
-pub loop-emission-start : goal.loop-emission-start
-loop-emission-start c = record {
-  done = [];
-  parts = refl;
-  emitted = nothing_emitted c.args.self.now.system.now c.args.self.now.key.now c.args.instance c.args.self.now.forest.now c.args.self.now.outbox.now c.requires.place.outs;
-  kept = kept-same c.args.self.now.system.now c.args.self.now.forest.now;
-  same = record { system = refl; key = refl; forest = refl; outbox = refl };
-}
+pub emit_others-requires-clause-place : goal.emit_others-requires-clause-place
+emit_others-requires-clause-place c =
+    may-emit-again c.args.self.now c.emit_one.new.self c.args.instance (c.in-Some.emission ∷ []) c.emit_one.ensures.same c.requires.place c.in_ok-emit_one.ensures.emitted
 
-pub emit_one-requires-clause-place : goal.emit_one-requires-clause-place
-emit_one-requires-clause-place c =
-    may-emit-again c.args.self.now c.loop-emission.self c.args.instance c.loop-emission.invariant.done c.loop-emission.invariant.same c.requires.place c.loop-emission.invariant.emitted
-
-pub emit_one-requires-clause-emission : goal.emit_one-requires-clause-emission
-emit_one-requires-clause-emission c =
-    let e = c.in-Some.emission in
-    let so_far = c.loop-emission.invariant in
-    let parts = so_far.parts ∙ ap (λ (rest : List Emission). so_far.done ++ rest) c.in-Some.ensures in
-    still (λ (i : Inputs) (k : Key). IsEmission (ports_at (system_of i) (path_at (system_of i) c.args.instance)) e) c.args.self.now c.loop-emission.self so_far.same
-    (middle_fits (IsEmission (ports_in c.args.self.now c.args.instance)) so_far.done e c.pop_first.new.self c.args.emits.now parts c.requires.emissions)
-
-pub loop-emission-preserved : goal.loop-emission-preserved
-loop-emission-preserved c =
-    let e = c.in-Some.emission in
-    let so_far = c.loop-emission.invariant in
-    let next = c.emit_one.ensures in
-    record {
-      done = so_far.done ++ e ∷ [];
-      parts = so_far.parts ∙ ap (λ (rest : List Emission). so_far.done ++ rest) c.in-Some.ensures ∙ sym (append_assoc so_far.done (e ∷ []) c.pop_first.new.self);
-      emitted = emitted-after c.args.self.now c.loop-emission.self c.emit_one.new.self c.args.instance so_far.done e so_far.same so_far.emitted c.in_ok-emit_one.ensures.emitted;
-      kept = kept-after c.args.self.now c.loop-emission.self c.emit_one.new.self so_far.same so_far.kept next.kept;
-      same = record {
-        system = next.same.system ∙ so_far.same.system;
-        key = next.same.key ∙ so_far.same.key;
-        forest = next.same.forest ∙ so_far.same.forest;
-        outbox = next.same.outbox ∙ so_far.same.outbox;
-      };
-    }
-
-pub returns-in_err-emit_one-clause-kept : goal.returns-in_err-emit_one-clause-kept
-returns-in_err-emit_one-clause-kept c =
-    kept-after c.args.self.now c.loop-emission.self c.emit_one.new.self c.loop-emission.invariant.same c.loop-emission.invariant.kept c.emit_one.ensures.kept
+pub emit_others-requires-clause-emissions : goal.emit_others-requires-clause-emissions
+emit_others-requires-clause-emissions c =
+    let rest = c.pop_first.new.self in
+    still (λ (i : Inputs) (k : Key). All (IsEmission (ports_at (system_of i) (path_at (system_of i) c.args.instance))) rest) c.args.self.now c.emit_one.new.self c.emit_one.ensures.same
+    (others_fit (IsEmission (ports_in c.args.self.now c.args.instance)) c.in-Some.emission rest c.args.emits.now c.in-Some.ensures c.requires.emissions)
 
 pub returns-clause-emitted : goal.returns-clause-emitted
 returns-clause-emitted c =
-    let so_far = c.loop-emission.invariant in
-    subst (λ (es : List Emission). EmitsAll c.args.self.now c.args.instance es c.loop-emission.self)
-    (sym (so_far.parts ∙ ap (λ (rest : List Emission). so_far.done ++ rest) c.in-None.ensures ∙ append-nil so_far.done)) so_far.emitted.emitted
+    let rest = c.pop_first.new.self in
+    let mid = c.emit_one.new.self in
+    let all = λ (h : EmitsWell mid c.args.instance rest c.emit_others.new.self).
+    subst (λ (es : List Emission). EmitsWell c.args.self.now c.args.instance es c.emit_others.new.self) (sym c.in-Some.ensures)
+    (emitted-after c.args.self.now mid c.emit_others.new.self c.args.instance (c.in-Some.emission ∷ []) rest c.emit_one.ensures.same c.in_ok-emit_one.ensures.emitted h) in
+    on_ok_weaker c.emit_others.result (λ h. (all h).emitted) c.emit_others.ensures.emitted
+
+pub returns-clause-outs : goal.returns-clause-outs
+returns-clause-outs c =
+    let rest = c.pop_first.new.self in
+    let mid = c.emit_one.new.self in
+    let all = λ (h : EmitsWell mid c.args.instance rest c.emit_others.new.self).
+    emitted-after c.args.self.now mid c.emit_others.new.self c.args.instance (c.in-Some.emission ∷ []) rest c.emit_one.ensures.same c.in_ok-emit_one.ensures.emitted h in
+    on_ok_weaker c.emit_others.result (λ h. (all h).outs) c.emit_others.ensures.emitted
+
+pub returns-clause-kept : goal.returns-clause-kept
+returns-clause-kept c = kept-after c.args.self.now c.emit_one.new.self c.emit_others.new.self c.emit_one.ensures.same c.emit_one.ensures.kept c.emit_others.ensures.kept

@@ -1,5 +1,7 @@
-use Rattle.std.proofs.Common.{[], ◌∷◌, ◌++◌, ◌∙◌, List, length, ap, refl, sym}
+use Rattle.std.proofs.Common.{[], ◌∷◌, ◌++◌, ◌∙◌, List, ap, refl}
 use Rattle.fb_types.specs.declared.run.Line.{Line}
+use Rattle.fb_types.specs.declared.value.Value.{Value}
+use Rattle.fb_net.specs.Emitting.{bare}
 use Rattle.fb_net.specs.declared.outbox.Outbox.{Outbox}
 use Rattle.fb_net.proofs.Emitting.{Doing, has_emitted, line_by, no_places}
 use Rattle.fb_net.proofs.Publishing.{nothing_shown}
@@ -11,17 +13,20 @@ returns-clause-emitted c =
     let i = c.args.self.now.system.now in
     let key = c.args.self.now.key.now in
     let k = c.args.instance in
-    let e = c.args.emission in
+    let e = bare c.args.event in
     let f = c.args.self.now.forest.now in
     let x = c.args.self.now.outbox.now in
     let y : Outbox = record { lines = c.push_reserved.new.self; outs = c.send_out.new.outs; timer = x.timer } in
     let done : Doing i key k f x e f y = record {
       places = [];
-      stand = no_places _ _ (sym (ap length c.requires.bare) ∙ c.requires.emission.values);
+      stand = no_places _ _ c.requires.emission.values;
       published = nothing_shown i k f;
       sent = c.in_ok-send_out.ensures.sent;
       belong = c.in_ok-send_out.ensures.outs;
-      lines = c.push_reserved.ensures.items ∙ ap (λ (ls : List Line). ls ++ line_by key k e ∷ []) c.in_ok-reserve.ensures.items;
+      lines =
+          c.push_reserved.ensures.items
+          ∙ ap (λ (vs : List Value). c.reserve.new.self.items ++ line_by key k (record { event = c.args.event; values = vs }) ∷ []) c.new-values.ensures
+          ∙ ap (λ (ls : List Line). ls ++ line_by key k e ∷ []) c.in_ok-reserve.ensures.items;
       timer = refl;
     } in
     has_emitted i key k f x e f y done c.requires.place.number c.requires.place.here c.requires.place.resource c.args.self.now.named c.requires.emission c.requires.place.outs

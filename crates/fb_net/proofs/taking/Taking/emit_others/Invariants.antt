@@ -1,6 +1,6 @@
 use Rattle.std.proofs.Common.{length}
 use Rattle.fb_net.proofs.Same.{EmittedSoFar}
-use Rattle.fb_net.proofs.taking.Taking.emit_all.Given as goal
+use Rattle.fb_net.proofs.taking.Taking.emit_others.Given as goal
 
 abbrev pub invariant-loop-emission : goal.invariant-loop-emission
 invariant-loop-emission l = EmittedSoFar l.initial.self l.self l.instance l.initial.emits l.emits

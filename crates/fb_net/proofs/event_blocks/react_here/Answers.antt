@@ -1,0 +1,18 @@
+use Rattle.std.proofs.Common.{rules, arith, sym, ap, ◌∙◌, []}
+use Rattle.fb_net.specs.declared.block.Block.TheVariants as block
+use Rattle.fb_net.proofs.Descents.{changed_here}
+use Rattle.fb_net.proofs.Events.{all_new, has_answered}
+use Rattle.fb_net.proofs.event_blocks.react_here.Goals as goal
+
+pub returns-clause-reacted : goal.returns-clause-reacted
+returns-clause-reacted c =
+    changed_here _ c.args.blocks.now c.args.first [] c.in-Some.place.now (sym c.in-Some.ensures.value) _ c.react.result (omega arith)
+    (record {
+      event = _;
+      state = c.react.new.state;
+      was_event = c.in-Event.is ∙ ap block.Event (sym c.in-Event.state-is);
+      is_event = search rules;
+      answered = has_answered c.react.result _ _ c.react.new.state c.react.new.ask c.args.emits.now c.react.new.emits c.requires.fresh c.react.ensures.memory c.react.ensures.timer c.react.ensures.emitted;
+      kind = c.react.ensures.kind;
+      well_formed = all_new _ c.args.emits.now c.react.new.emits c.requires.fresh c.react.ensures.well_formed;
+    })

@@ -1,0 +1,61 @@
+use Rattle.std.proofs.Common.{◌≡◌, ◌++◌, ◌∷◌, [], ◌∙◌, List, ap, refl, sym, subst, append_assoc, arith}
+use Rattle.std.proofs.lemmas.List.{append-nil}
+use Rattle.fb_types.specs.declared.run.Emission.{Emission}
+use Rattle.fb_types.specs.Headline.{Inputs, system_of}
+use Rattle.fb_types.specs.Numbers.{path_at, ports_at}
+use Rattle.fb_types.specs.declared.key.Key.{Key}
+use Rattle.fb_system.specs.Lines.{IsEmission}
+use Rattle.fb_net.specs.Steps.{EmitsWell, ports_in}
+use Rattle.fb_net.proofs.Emitting.{middle_fits, nothing_emitted}
+use Rattle.fb_net.proofs.Same.{emitted-after, kept-after, may-emit-again, still}
+use Rattle.fb_net.proofs.Wholes.{kept-same}
+use Rattle.fb_net.proofs.taking.Taking.emit_others.Goals as goal
+
+pub loop-emission-init : goal.loop-emission-init
+loop-emission-init c = record {
+  done = [];
+  parts = refl;
+  emitted = nothing_emitted c.args.self.now.system.now c.args.self.now.key.now c.args.instance c.args.self.now.forest.now c.args.self.now.outbox.now c.requires.place.outs;
+  kept = kept-same c.args.self.now.system.now c.args.self.now.forest.now;
+  same = record { system = refl; key = refl; forest = refl; outbox = refl };
+}
+
+pub emit_one-requires-clause-place : goal.emit_one-requires-clause-place
+emit_one-requires-clause-place c =
+    may-emit-again c.args.self.now c.loop-emission.self c.args.instance c.loop-emission.invariant.done c.loop-emission.invariant.same c.requires.place c.loop-emission.invariant.emitted
+
+pub emit_one-requires-clause-emission : goal.emit_one-requires-clause-emission
+emit_one-requires-clause-emission c =
+    let e = c.in-Some.emission in
+    let so_far = c.loop-emission.invariant in
+    let parts = so_far.parts ∙ ap (λ (rest : List Emission). so_far.done ++ rest) c.in-Some.ensures in
+    still (λ (i : Inputs) (k : Key). IsEmission (ports_at (system_of i) (path_at (system_of i) c.args.instance)) e) c.args.self.now c.loop-emission.self so_far.same
+    (middle_fits (IsEmission (ports_in c.args.self.now c.args.instance)) so_far.done e c.pop_first.new.self c.args.emits.now parts c.requires.emissions)
+
+pub loop-emission-preserved : goal.loop-emission-preserved
+loop-emission-preserved c =
+    let e = c.in-Some.emission in
+    let so_far = c.loop-emission.invariant in
+    let next = c.emit_one.ensures in
+    record {
+      done = so_far.done ++ e ∷ [];
+      parts = so_far.parts ∙ ap (λ (rest : List Emission). so_far.done ++ rest) c.in-Some.ensures ∙ sym (append_assoc so_far.done (e ∷ []) c.pop_first.new.self);
+      emitted = emitted-after c.args.self.now c.loop-emission.self c.emit_one.new.self c.args.instance so_far.done (e ∷ []) so_far.same so_far.emitted c.in_ok-emit_one.ensures.emitted;
+      kept = kept-after c.args.self.now c.loop-emission.self c.emit_one.new.self so_far.same so_far.kept next.kept;
+      same = record {
+        system = next.same.system ∙ so_far.same.system;
+        key = next.same.key ∙ so_far.same.key;
+        forest = next.same.forest ∙ so_far.same.forest;
+        outbox = next.same.outbox ∙ so_far.same.outbox;
+      };
+    }
+
+pub returns-in_err-emit_one-clause-kept : goal.returns-in_err-emit_one-clause-kept
+returns-in_err-emit_one-clause-kept c =
+    kept-after c.args.self.now c.loop-emission.self c.emit_one.new.self c.loop-emission.invariant.same c.loop-emission.invariant.kept c.emit_one.ensures.kept
+
+pub returns-clause-emitted : goal.returns-clause-emitted
+returns-clause-emitted c =
+    let so_far = c.loop-emission.invariant in
+    subst (λ (es : List Emission). EmitsWell c.args.self.now c.args.instance es c.loop-emission.self)
+    (sym (so_far.parts ∙ ap (λ (rest : List Emission). so_far.done ++ rest) c.in_default.ensures ∙ append-nil so_far.done)) so_far.emitted
