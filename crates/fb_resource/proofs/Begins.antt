@@ -1,22 +1,48 @@
--- The blocks and the counts of a resource at the beginning.
-use Rattle.std.proofs.Common.{ℕ, refl, None, arith}
+-- The blocks, the counts and the queues at the beginning.
+use Rattle.std.proofs.Common.{◌≡◌, ℕ, All, length, refl, sym, subst, Option}
+use Rattle.std.specs.Global.{Vec}
+use Rattle.std.proofs.lemmas.List.Elements.{All-nil}
 use Rattle.fb_types.specs.Headline.{Inputs, AreAccepted, system_of}
 use Rattle.fb_types.specs.Simulation.{opening_state}
 use Rattle.fb_types.specs.Takes.{world_of}
+use Rattle.fb_agenda.specs.Agendas.{Contents}
+use Rattle.fb_system.specs.Lines.{BelongsTo}
 use Rattle.fb_net.specs.Worlds.{IsForest}
 use Rattle.fb_net.specs.declared.resource.Forest.{Forest}
 use Rattle.fb_laws.proofs.Accepted.{accepted_typed}
 use Rattle.fb_laws.proofs.Simulated.{opening_state-typed}
+use Rattle.fb_resource.specs.Openings.{IsOpened}
+use Rattle.fb_resource.specs.Posts.{IsMessage}
+use Rattle.fb_resource.specs.Takings.{AreReady, IsEmpty, IsHere, queues_of}
+use Rattle.fb_resource.specs.Waiting.{IsInOrder}
+use Rattle.fb_resource.specs.declared.given.Given.{Given}
 use Rattle.fb_resource.specs.Counts.{IsMetered}
-use Rattle.fb_resource.specs.Takings.{IsHere}
+use Rattle.fb_resource.proofs.Meters.{fresh_counts, metered_fresh}
 
 pub here_opened : (i : Inputs) (r : ℕ) (t : Forest) → AreAccepted i → IsForest i t (world_of (opening_state (system_of i)) r)
-    → IsHere i (opening_state (system_of i)) r t (record { tick = None; left = 0; locals = 0 })
+    → IsHere i (opening_state (system_of i)) r 0 t fresh_counts
 here_opened i r t accepted forest = record {
   blocks = forest;
-  meter = refl;
+  meter = λ limit tick late. refl;
   typed = opening_state-typed (system_of i) (accepted_typed i accepted).system (accepted_typed i accepted).begins;
 }
 
-pub metered_opened : (limit : ℕ) → IsMetered limit (record { tick = None; left = 0; locals = 0 })
-metered_opened limit = record { left = omega arith; locals = omega arith }
+pub metered_opened : (limit : ℕ) → IsMetered limit fresh_counts
+metered_opened limit = metered_fresh limit fresh_counts refl
+
+-- an agenda in order is ready before anything was given
+pub ready_empty : (i : Inputs) (tick : ℕ) (a : Contents) (sent : Vec ℕ) (g : Given) → IsInOrder i tick a → length a.due ≡ length (system_of i).paths
+    → length sent.items ≡ (system_of i).links → IsEmpty g → AreReady i tick (queues_of a sent g)
+ready_empty i tick a sent g order due counted empty = record {
+  order = order;
+  due = due;
+  counted = counted;
+  mail = subst (λ ms. All (IsMessage i) ms) (sym empty.mail) (All-nil (IsMessage i));
+  lines = subst (λ ls. All (BelongsTo (system_of i)) ls) (sym empty.lines) (All-nil (BelongsTo (system_of i)));
+  none = empty.none;
+  keeps = empty.keeps;
+}
+
+pub ready_opened : (i : Inputs) (of : Option ℕ) (a : Contents) (sent : Vec ℕ) (g : Given) → IsOpened i of a → length sent.items ≡ (system_of i).links → IsEmpty g
+    → AreReady i 0 (queues_of a sent g)
+ready_opened i of a sent g opened counted empty = ready_empty i 0 a sent g opened.order opened.due counted empty

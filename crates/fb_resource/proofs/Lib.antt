@@ -3,6 +3,7 @@ pub mod Apart
 pub mod Begins
 pub mod Fuel
 pub mod Leaving
+pub mod Meters
 pub mod Lists
 pub mod OpenIs
 pub mod PostLaws

@@ -1,12 +1,12 @@
 -- A resource to which messages have come.
-use Rattle.std.proofs.Common.{◌≡◌, ℕ, ◌<◌, Bool, true, false, cond, eqb, List, [], ◌∷◌, map, refl, sym, ap, subst, ◌∙◌, Option, Some, None, All, ◌⊎◌, ⊎_elim, arith}
+use Rattle.std.proofs.Common.{◌≡◌, ℕ, Bool, true, false, cond, eqb, List, [], ◌∷◌, map, refl, sym, ap, subst, ◌∙◌, Option, Some, None, All, ◌⊎◌, ⊎_elim, arith}
 use Rattle.std.specs.Prelude.{option_map, is_some, slice_index, length}
 use Rattle.std.proofs.lemmas.List.Elements.{All-head, All-tail, All-weaker}
 use Rattle.std.proofs.lemmas.Bool.{cases_Bool, eq-eqb}
 use Rattle.fb_types.specs.Headline.{Inputs, system_of}
 use Rattle.fb_types.specs.Keys.{found, or_else, same_key, timer_key}
 use Rattle.fb_types.specs.Machines.{Local}
-use Rattle.fb_types.specs.Parts.{count_of, machine}
+use Rattle.fb_types.specs.Parts.{machine}
 use Rattle.fb_types.specs.declared.key.Key.{Key}
 use Rattle.fb_types.specs.declared.run.Message.{Message}
 use Rattle.fb_types.proofs.KeyLaws.{same_key_is}
@@ -21,7 +21,7 @@ use Rattle.fb_net.specs.Events.{event_of, IsEventIn}
 use Rattle.fb_resource.specs.Posts.{arriving, key_of, receiver_of}
 use Rattle.fb_resource.specs.Waiting.{IsInOrder, MayWait, meaning}
 use Rattle.fb_resource.specs.Resources.{HasReceived, IsFor, IsOf, StandsFor, with_messages}
-use Rattle.fb_resource.specs.declared.resource.Inner.{Inner}
+use Rattle.fb_resource.specs.declared.resource.Resource.{Resource}
 
 -- ---- What is found among the messages
 
@@ -68,24 +68,24 @@ found_none n ms j other = none_since _ (λ e is. other (arrival_class n ms j (ap
 
 -- ---- What waits
 
-module _ (i : Inputs) (limit : ℕ) (ms : List Message) (old : Inner) (agenda : Contents)
-    (put : (j : Key) → waiting agenda j ≡ or_else (found j (arrivals_at old.number ms)) (waiting old.queues.agenda j))
-    (due : agenda.due ≡ old.queues.agenda.due) (of : IsOf i limit old) (for_it : All (IsFor i old) ms) where
+module _ (i : Inputs) (ms : List Message) (old : Resource) (agenda : Contents)
+    (put : (j : Key) → waiting agenda j ≡ or_else (found j (arrivals_at old.tree.resource ms)) (waiting old.agenda j))
+    (due : agenda.due ≡ old.agenda.due) (of : IsOf i old) (for_it : All (IsFor i old) ms) where
   -- the resource with that agenda
-  abbrev new : Inner
-  new = record old { queues = record old.queues { agenda = agenda } }
+  abbrev new : Resource
+  new = record old { agenda = agenda }
 
   -- a key of another class has what it had
-  same_waits : (j : Key) → (j.class ≡ 2 → ⊥) → waiting agenda j ≡ waiting old.queues.agenda j
-  same_waits j other = put j ∙ ap (λ o. or_else o (waiting old.queues.agenda j)) (found_none old.number ms j other)
+  same_waits : (j : Key) → (j.class ≡ 2 → ⊥) → waiting agenda j ≡ waiting old.agenda j
+  same_waits j other = put j ∙ ap (λ o. or_else o (waiting old.agenda j)) (found_none old.tree.resource ms j other)
 
-  may_wait : All (λ m. MayWait i old.clock (arrival_at old.number m).0 (Arrival m)) ms
-  may_wait = All-weaker (IsFor i old) (λ m. MayWait i old.clock (arrival_at old.number m).0 (Arrival m)) one ms for_it
+  may_wait : All (λ m. MayWait i old.clock (arrival_at old.tree.resource m).0 (Arrival m)) ms
+  may_wait = All-weaker (IsFor i old) (λ m. MayWait i old.clock (arrival_at old.tree.resource m).0 (Arrival m)) one ms for_it
     where
-      one : (m : Message) → IsFor i old m → MayWait i old.clock (arrival_at old.number m).0 (Arrival m)
+      one : (m : Message) → IsFor i old m → MayWait i old.clock (arrival_at old.tree.resource m).0 (Arrival m)
       one m it = record {
-        event = subst (λ r. IsEventIn i r (Arrival m)) (it.here ∙ sym of.numbered) it.message.event;
-        resource = subst (λ r. r < count_of (system_of i)) (sym of.numbered) of.named;
+        event = subst (λ r. IsEventIn i r (Arrival m)) it.here it.message.event;
+        resource = of.named;
         later = it.later;
         typed = it.message.typed;
         own = refl;
@@ -94,38 +94,40 @@ module _ (i : Inputs) (limit : ℕ) (ms : List Message) (old : Inner) (agenda : 
   order : IsInOrder i old.clock agenda
   order = record {
     waits = λ j e is. ⊎_elim
-        (λ h. found_of (λ k f. MayWait i old.clock k f) old.number ms may_wait j e h)
-        (λ h. of.ready.order.waits j e h)
-        (or_else_some (found j (arrivals_at old.number ms)) (waiting old.queues.agenda j) e (sym (put j) ∙ is));
+        (λ h. found_of (λ k f. MayWait i old.clock k f) old.tree.resource ms may_wait j e h)
+        (λ h. of.order.waits j e h)
+        (or_else_some (found j (arrivals_at old.tree.resource ms)) (waiting old.agenda j) e (sym (put j) ∙ is));
     timed = λ j r k e is timer.
         subst (λ (xs : List ℕ). same_key (timer_key (slice_index xs k) r k) j ≡ true) (sym due)
-        (of.ready.order.timed j r k e (sym (same_waits j (λ two. let one = timer_class r k j timer in omega (arith, one, two))) ∙ is) timer);
-    home = λ j e is one. of.ready.order.home j e (sym (same_waits j (λ two. omega (arith, one, two))) ∙ is) one;
+        (of.order.timed j r k e (sym (same_waits j (λ two. let one = timer_class r k j timer in omega (arith, one, two))) ∙ is) timer);
+    home = λ j e is one. of.order.home j e (sym (same_waits j (λ two. omega (arith, one, two))) ∙ is) one;
   }
 
   at_home : (j : Key) (e : Event) → waiting agenda j ≡ Some e → j.resource ≡ old.tree.resource
   at_home j e is = ⊎_elim
-      (λ h. found_of (λ k f. k.resource ≡ old.tree.resource) old.number ms (All-weaker (IsFor i old) (λ m. (arrival_at old.number m).0.resource ≡ old.tree.resource) (λ m it. of.numbered) ms for_it) j e h)
+      (λ h. found_of (λ k f. k.resource ≡ old.tree.resource) old.tree.resource ms (All-weaker (IsFor i old) (λ m. (arrival_at old.tree.resource m).0.resource ≡ old.tree.resource) (λ m it. refl) ms for_it) j e h)
       (λ h. of.home j e h)
-      (or_else_some (found j (arrivals_at old.number ms)) (waiting old.queues.agenda j) e (sym (put j) ∙ is))
+      (or_else_some (found j (arrivals_at old.tree.resource ms)) (waiting old.agenda j) e (sym (put j) ∙ is))
 
-  receivers : All (λ m. receiver_of (system_of i) m ≡ old.number) ms
-  receivers = All-weaker (IsFor i old) (λ m. receiver_of (system_of i) m ≡ old.number) (λ m it. it.here ∙ sym of.numbered) ms for_it
+  receivers : All (λ m. receiver_of (system_of i) m ≡ old.tree.resource) ms
+  receivers = All-weaker (IsFor i old) (λ m. receiver_of (system_of i) m ≡ old.tree.resource) (λ m it. it.here) ms for_it
 
-  meaning_is : (j : Key) → meaning i agenda j ≡ or_else (found j (map (arriving i) ms)) (meaning i old.queues.agenda j)
+  meaning_is : (j : Key) → meaning i agenda j ≡ or_else (found j (map (arriving i) ms)) (meaning i old.agenda j)
   meaning_is j =
       ap (option_map (event_of i)) (put j)
-      ∙ map_or_else (event_of i) (found j (arrivals_at old.number ms)) (waiting old.queues.agenda j)
-      ∙ ap (λ o. or_else o (meaning i old.queues.agenda j)) (sym (found_arriving i old.number ms receivers j))
+      ∙ map_or_else (event_of i) (found j (arrivals_at old.tree.resource ms)) (waiting old.agenda j)
+      ∙ ap (λ o. or_else o (meaning i old.agenda j)) (sym (found_arriving i old.tree.resource ms receivers j))
 
   arriving_none : (j : Key) → (j.class ≡ 2 → ⊥) → found j (map (arriving i) ms) ≡ None
-  arriving_none j other = found_arriving i old.number ms receivers j ∙ ap (option_map (event_of i)) (found_none old.number ms j other)
+  arriving_none j other = found_arriving i old.tree.resource ms receivers j ∙ ap (option_map (event_of i)) (found_none old.tree.resource ms j other)
 
-  stands : (l : Local (machine (system_of i) limit)) → StandsFor i limit l old → StandsFor i limit (with_messages i limit ms l) new
-  stands l before = record {
+  stands : (limit : ℕ) (l : Local (machine (system_of i) limit)) → StandsFor i limit l old → StandsFor i limit (with_messages i limit ms l) new
+  stands limit l before = record {
     state = before.state;
     part = before.part;
-    here = before.here;
+    blocks = before.blocks;
+    typed = before.typed;
+    unused = before.unused;
     counts = before.counts;
     own = before.own;
     inbox = λ j other.
@@ -155,31 +157,21 @@ module _ (i : Inputs) (limit : ℕ) (ms : List Message) (old : Inner) (agenda : 
               ∙ ap (λ o. or_else o (or_else (l.own j) (l.inbox j))) (sym none)
               ∙ tail
 
-  still_of : IsOf i limit new
+  still_of : IsOf i new
   still_of = record {
-    numbered = of.numbered;
     named = of.named;
-    metered = of.metered;
-    past = of.past;
-    ready = record {
-      order = order;
-      due = ap length due ∙ of.ready.due;
-      counted = of.ready.counted;
-      mail = of.ready.mail;
-      lines = of.ready.lines;
-      none = of.ready.none;
-      keeps = of.ready.keeps;
-    };
+    order = order;
+    due = ap length due ∙ of.due;
+    counted = of.counted;
     home = at_home;
-    told = of.told;
-    stands = (with_messages i limit ms of.stands.0, stands of.stands.0 of.stands.1);
+    stands = λ limit. (with_messages i limit ms (of.stands limit).0, stands limit (of.stands limit).0 (of.stands limit).1);
   }
 
-pub received : (ms : List Message) (old : Inner) (agenda : Contents)
-    → ((j : Key) → waiting agenda j ≡ or_else (found j (arrivals_at old.number ms)) (waiting old.queues.agenda j)) → agenda.due ≡ old.queues.agenda.due
-    → HasReceived ms old (record old { queues = record old.queues { agenda = agenda } })
+pub received : (ms : List Message) (old : Resource) (agenda : Contents)
+    → ((j : Key) → waiting agenda j ≡ or_else (found j (arrivals_at old.tree.resource ms)) (waiting old.agenda j)) → agenda.due ≡ old.agenda.due
+    → HasReceived ms old (record old { agenda = agenda })
 received ms old agenda put due = record {
   besides = refl;
-  of = λ i limit of for_it. still_of i limit ms old agenda put due of for_it;
-  stands = λ i limit of for_it l before. stands i limit ms old agenda put due of for_it l before;
+  of = λ i of for_it. still_of i ms old agenda put due of for_it;
+  stands = λ i limit of for_it l before. stands i ms old agenda put due of for_it limit l before;
 }

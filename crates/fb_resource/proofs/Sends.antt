@@ -30,8 +30,7 @@ use Rattle.fb_system.proofs.rows.StimulusRow.TheSendSync as row
 use Rattle.fb_ecc.proofs.state.BasicState.TheSendSync as basic
 use Rattle.fb_event.proofs.state.EventState.TheSendSync as event
 use Rattle.fb_net.proofs.shell.Shell.TheSendSync as shell
-use Rattle.fb_resource.proofs.tick_counts.TickCounts.TheSendSync as meter
-use Rattle.fb_resource.proofs.queues.Queues.TheSendSync as queues
+use Rattle.fb_agenda.proofs.agenda.Agenda.TheSendSync as agenda
 use Rattle.fb_types.specs.contracts.text.Expr as Expr
 use Rattle.fb_types.specs.contracts.text.Stmt as Stmt
 use Rattle.fb_types.specs.contracts.library.Condition as Condition
@@ -52,7 +51,6 @@ use Rattle.fb_net.specs.contracts.tree.Tree as Tree
 use Rattle.fb_types.proofs.text.Expr.TheLaws.TheKnot as expr
 use Rattle.fb_types.proofs.text.Stmt.TheLaws.TheKnot as stmt
 use Rattle.fb_net.proofs.block.Block.TheLaws.TheKnot as block
-use Rattle.fb_resource.specs.contracts.resource.Inner as Inner
 use Rattle.fb_resource.specs.contracts.resource.Resource as Resource
 use Rattle.fb_resource.specs.contracts.resource.WindowDone as WindowDone
 
@@ -147,11 +145,8 @@ tree_send = search (sendable, crosses, forest_send) depth 40
 
 -- ---- Resources
 
-pub inner_send : IsSend (Inner.the_field).row
-inner_send = search (sendable, crosses, tree_send, meter.the_field_send, queues.the_field_send, reason.the_field_send) depth 40
-
-pub resource_send : IsSend Resource.the_row
-resource_send = search (sendable, crosses, inner_send) depth 40
+pub resource_send : IsSend (Resource.the_field).row
+resource_send = search (sendable, crosses, tree_send, agenda.the_send, reason.the_field_send) depth 40
 
 pub done_send : IsSend (WindowDone.the_field).row
 done_send = search (sendable, crosses, resource_send, line.the_field_send, message.the_field_send, mark.the_field_send) depth 40

@@ -29,10 +29,10 @@ use Rattle.fb_laws.proofs.Agendas.{holds_none}
 use Rattle.fb_laws.proofs.Simulated.{IsTypedConfig, takes-typed}
 use Rattle.fb_resource.specs.Counts.{meter_of}
 use Rattle.fb_resource.specs.Posts.{CountsAre, arriving}
-use Rattle.fb_resource.specs.Takings.{IsHere, IsSettled, IsTakenHere}
+use Rattle.fb_resource.specs.Takings.{IsHere, IsSettled, IsTakenHere, Queues}
 use Rattle.fb_resource.specs.Waiting.{meaning}
 use Rattle.fb_resource.specs.declared.tick_counts.TickCounts as counted
-use Rattle.fb_resource.specs.declared.queues.Queues.{Queues}
+use Rattle.fb_resource.proofs.Meters.{alike_same}
 
 -- ---- No step is left
 
@@ -43,10 +43,10 @@ takes_none sys limit s k e m is none =
     subst (λ (n : Meter). TakesWith sys s k e n n.left (out_of_steps s)) (sym is)
     (subst (λ (l : ℕ). TakesWith sys s k e m l (out_of_steps s)) (sym none) refl)
 
-pub taken_none : (i : Inputs) (limit : ℕ) (s : State) (k : Key) (e : AnEvent) (m : Meter) (t : Forest) (x : counted.TickCounts) (q : Queues)
-    → begun limit k.tick (s.meters k.resource) ≡ m → m.left ≡ 0 → IsHere i s k.resource t x → CountsAre q.sent.items s.sent
-    → IsTakenHere i limit s k e (Some reason.Steps) t x q q
-taken_none i limit s k e m t x q is none here counts = record {
+pub taken_none : (i : Inputs) (limit : ℕ) (s : State) (k : Key) (e : AnEvent) (m : Meter) (from : ℕ) (t : Forest) (x : counted.TickCounts) (q : Queues)
+    → begun limit k.tick (s.meters k.resource) ≡ m → m.left ≡ 0 → IsHere i s k.resource from t x → CountsAre q.sent.items s.sent
+    → IsTakenHere i limit s k e (Some reason.Steps) from t x q q
+taken_none i limit s k e m from t x q is none here counts = record {
   effect = out_of_steps s;
   takes = takes_none (system_of i) limit s k e m is none;
   stops = refl;
@@ -101,21 +101,21 @@ with_at_here n x f = ap (λ b. cond b x (f n)) (eq-eqb n n refl)
 -- ---- The taking
 
 -- What an event came to in its tree was settled: it is taken, whether or not its reaction stops.
-pub taken_one : (i : Inputs) (limit : ℕ) (s : State) (k : Key) (e : Event) (m meter : counted.TickCounts) (l : ℕ) (stop : Option Reason) (old mid new : Queues) (before : Forest) (was : counted.TickCounts) (tree : Forest) (x : Outbox)
+pub taken_one : (i : Inputs) (limit : ℕ) (s : State) (k : Key) (e : Event) (m meter : counted.TickCounts) (l : ℕ) (stop : Option Reason) (old mid new : Queues) (from : ℕ) (before : Forest) (was : counted.TickCounts) (tree : Forest) (x : Outbox)
     → IsTypedSystem (system_of i) → IsTypedEvent (system_of i) (event_of i e)
-    → IsHere i s k.resource before was → CountsAre old.sent.items s.sent
+    → IsHere i s k.resource from before was → CountsAre old.sent.items s.sent
     → begun limit k.tick (s.meters k.resource) ≡ meter_of m → m.left ≡ suc l
     → CameTo i k e (only_lines (map (line_of (system_of i)) old.outbox.lines.items)) l stop tree meter.left x (world_of s k.resource)
     → mid ≡ record old { outbox = x }
     → ((counts : ℕ → ℕ) → CountsAre mid.sent.items counts
     → IsSettled i k (path_of (event_of i e)) x.timer (post_all (system_of i) k (map (out_of (system_of i)) x.outs.items) (record { locals = m.locals; sent = counts; raised = []; messages = [] })) mid new meter.locals)
     → meter.tick ≡ Some k.tick → new.outbox.lines.items ≡ x.lines.items
-    → IsTakenHere i limit s k (event_of i e) stop tree meter old new
-taken_one i limit s k e m meter l stop old mid new before was tree x sound typed at counted_before is left came between settled tick told = record {
+    → IsTakenHere i limit s k (event_of i e) stop from tree meter old new
+taken_one i limit s k e m meter l stop old mid new from before was tree x sound typed at counted_before is left came between settled tick told = record {
   effect = effect;
   takes = takes;
   stops = came.stops;
-  here = record { blocks = here; meter = metered; typed = config.state };
+  here = record { blocks = here; meter = alike_same from (state.meters k.resource) (meter_of meter) metered; typed = config.state };
   counts = its.posted.sends;
   agenda = agenda_is i k (path_of event) o.timer posts old new meter.locals its;
   mail = its.posted.mail;

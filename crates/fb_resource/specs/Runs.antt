@@ -1,18 +1,24 @@
 -- How far a resource has come in a run (this project's profile).
-use Rattle.std.specs.Prelude.{◌≡◌, ◌<◌, ◌≤◌, ℕ, List, map, Some, unwrap_or}
+use Rattle.std.specs.Prelude.{◌≡◌, ◌<◌, ◌≤◌, ◌==◌, ℕ, true, false, List, map, Option, Some, None, unwrap_or}
 use Rattle.fb_types.specs.Cores.{clock_after}
 use Rattle.fb_types.specs.Headline.{Inputs, system_of}
 use Rattle.fb_types.specs.Machines.{Machine, Item, Local, Each, Chain, end, Run, sent_by, lines_of}
+use Rattle.fb_types.specs.Machines as machines
 use Rattle.fb_types.specs.Numbers.{line_of}
-use Rattle.fb_types.specs.Parts.{count_of, machine}
+use Rattle.fb_types.specs.Parts.{count_of, machine, part_of}
+use Rattle.fb_types.specs.States.{State}
 use Rattle.fb_types.specs.declared.key.Key.{Key}
 use Rattle.fb_agenda.specs.Agendas.{waiting}
 use Rattle.fb_types.specs.declared.run.Event.{Event}
+use Rattle.fb_types.specs.declared.value.Reason.{Reason}
+use Rattle.fb_net.specs.declared.resource.Forest.{Forest}
 use Rattle.fb_resource.specs.Counts.{IsMetered}
-use Rattle.fb_resource.specs.Posts.{arriving}
-use Rattle.fb_resource.specs.Takings.{AreReady}
-use Rattle.fb_resource.specs.Resources.{RanTo, StandsFor}
-use Rattle.fb_resource.specs.declared.resource.Inner.{Inner}
+use Rattle.fb_resource.specs.Posts.{CountsAre, arriving}
+use Rattle.fb_resource.specs.Takings.{AreReady, IsHere, Queues, queues_of}
+use Rattle.fb_resource.specs.Waiting.{meaning}
+use Rattle.fb_resource.specs.declared.given.Given.{Given}
+use Rattle.fb_resource.specs.declared.resource.Resource.{Resource}
+use Rattle.fb_resource.specs.declared.tick_counts.TickCounts.{TickCounts}
 
 -- ---- By the definitions alone
 
@@ -38,9 +44,34 @@ module _ (M : Machine) where
 
 -- ---- In code
 
+-- What a resource holds in a run, with the counts of the tick of its last event, and what its takings gave.
+pub record Running : Type 0 where
+  pub tree : Forest
+  pub clock : ℕ
+  pub meter : TickCounts
+  pub queues : Queues
+  pub stopped : Option Reason
+
+abbrev pub in_run : Resource → TickCounts → Given → Running
+in_run x m g = record { tree = x.tree; clock = x.clock; meter = m; queues = queues_of x.agenda x.sent g; stopped = x.stopped }
+
+-- the resource by itself
+abbrev pub at_rest : Running → Resource
+at_rest x = record { tree = x.tree; clock = x.clock; agenda = x.queues.agenda; sent = x.queues.sent; stopped = x.stopped }
+
+-- In a run it stands for one by itself, as at rest, and from its clock on its counts are those of the state.
+pub record Stands (i : Inputs) (limit : ℕ) (l : Local (machine (system_of i) limit)) (x : Running) : Type 0 where
+  pub state : State
+  pub part : l.part ≡ part_of (system_of i) x.tree.resource state
+  pub here : IsHere i state x.tree.resource x.clock x.tree x.meter
+  pub counts : CountsAre x.queues.sent.items state.sent
+  pub own : (j : Key) → (j.class == 2) ≡ true → l.own j ≡ None
+  pub inbox : (j : Key) → (j.class == 2) ≡ false → l.inbox j ≡ None
+  pub waits : (j : Key) → j.resource ≡ x.tree.resource → machines.waiting (machine (system_of i) limit) l j ≡ meaning i x.queues.agenda j
+  pub stop : l.stop ≡ x.stopped
+
 -- A resource of the system, in a run: its own events wait, none before its clock.
-pub record IsRunning (i : Inputs) (limit : ℕ) (x : Inner) : Type 0 where
-  pub numbered : x.number ≡ x.tree.resource
+pub record IsRunning (i : Inputs) (limit : ℕ) (x : Running) : Type 0 where
   pub named : x.tree.resource < count_of (system_of i)
   pub metered : IsMetered limit x.meter
   pub past : unwrap_or x.meter.tick 0 ≤ x.clock
@@ -48,13 +79,7 @@ pub record IsRunning (i : Inputs) (limit : ℕ) (x : Inner) : Type 0 where
   pub home : (j : Key) (e : Event) → waiting x.queues.agenda j ≡ Some e → j.resource ≡ x.tree.resource
 
 -- It stands for what its takings below a tick have made of what stood for it. Their lines and messages are in its queues.
-pub record ComesTo (i : Inputs) (limit r t : ℕ) (from : Local (machine (system_of i) limit)) (x : Inner) : Type 0 where
+pub record ComesTo (i : Inputs) (limit r t : ℕ) (from : Local (machine (system_of i) limit)) (x : Running) : Type 0 where
   pub at : Local (machine (system_of i) limit)
-  pub stands : StandsFor i limit at x
+  pub stands : Stands i limit at x
   pub come : HasCome (machine (system_of i) limit) r t from at (map (line_of (system_of i)) x.queues.outbox.lines.items) (map (arriving i) x.queues.mail.items)
-
--- It has taken all below a tick, or up to its stop. The lines and messages are in its queues.
-abbrev pub HasTakenAll : Inputs → (limit : ℕ) → (old : Inner) → (to : ℕ) → (new : Inner) → Type 0
-HasTakenAll i limit old to new =
-    (l : Local (machine (system_of i) limit)) → StandsFor i limit l old
-    → RanTo i limit l to new new.queues.outbox.lines.items new.queues.mail.items

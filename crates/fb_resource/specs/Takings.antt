@@ -1,4 +1,5 @@
 -- The taking of one event in its resource (this project's profile).
+use Rattle.std.specs.Global.{Vec}
 use Rattle.std.specs.Prelude.{◌≡◌, ◌≤◌, ◌++◌, ℕ, [], All, length, map, Option}
 use Rattle.fb_types.specs.Headline.{Inputs, system_of}
 use Rattle.fb_types.specs.Keys.{changed_to}
@@ -8,26 +9,46 @@ use Rattle.fb_types.specs.States.{State}
 use Rattle.fb_types.specs.States as model
 use Rattle.fb_types.specs.Takes.{Effect, Posts, Takes, timer_change, world_of}
 use Rattle.fb_types.specs.declared.key.Key.{Key}
+use Rattle.fb_types.specs.declared.run.Message.{Message}
 use Rattle.fb_types.specs.declared.run.TimerAsk.{TimerAsk}
 use Rattle.fb_types.specs.declared.run.TimerAsk.TheVariants.{Keep, Clear, At}
 use Rattle.fb_types.specs.declared.value.Reason.{Reason}
 use Rattle.fb_agenda.specs.Agendas.{Contents}
 use Rattle.fb_system.specs.Lines.{BelongsTo}
 use Rattle.fb_net.specs.Worlds.{IsForest}
+use Rattle.fb_net.specs.declared.outbox.Outbox.{Outbox}
 use Rattle.fb_net.specs.declared.resource.Forest.{Forest}
 use Rattle.fb_laws.specs.Typed.{AreTyped}
-use Rattle.fb_resource.specs.Counts.{meter_of}
+use Rattle.fb_resource.specs.Counts.{BeginAlike, meter_of}
 use Rattle.fb_resource.specs.Posts.{ArePosted, CountsAre, IsMessage, arriving}
 use Rattle.fb_resource.specs.Waiting.{IsInOrder, meaning}
+use Rattle.fb_resource.specs.declared.given.Given.{Given}
 use Rattle.fb_resource.specs.declared.tick_counts.TickCounts.{TickCounts}
-use Rattle.fb_resource.specs.declared.queues.Queues.{Queues}
 
 -- ---- Before and after
 
--- The blocks and the counts of a resource are those of a state, all of whose values are of their types.
-pub record IsHere (i : Inputs) (s : State) (r : ℕ) (t : Forest) (x : TickCounts) : Type 0 where
+-- Where the events of takings come from, and where what they give goes.
+pub record Queues : Type 0 where
+  pub agenda : Contents
+  pub sent : Vec ℕ
+  pub mail : Vec Message
+  pub outbox : Outbox
+
+-- an agenda, the counts of the messages that were sent, and what takings gave
+abbrev pub queues_of : Contents → Vec ℕ → Given → Queues
+queues_of a sent g = record { agenda = a; sent = sent; mail = g.mail; outbox = g.outbox }
+
+-- Nothing was given yet, and nothing is asked of a timer.
+pub record IsEmpty (g : Given) : Type 0 where
+  pub mail : g.mail.items ≡ []
+  pub lines : g.outbox.lines.items ≡ []
+  pub none : g.outbox.outs.items ≡ []
+  pub keeps : g.outbox.timer ≡ Keep
+
+-- The blocks of a resource are those of a state, all of whose values are of their types, and from a tick on its counts are the state's too.
+pub record IsHere (i : Inputs) (s : State) (r from : ℕ) (t : Forest) (x : TickCounts) : Type 0 where
   pub blocks : IsForest i t (world_of s r)
-  pub meter : s.meters r ≡ meter_of x
+  pub meter : BeginAlike from (s.meters r) (meter_of x)
   pub typed : (q : ℕ) → AreTyped (system_of i) (world_of s q)
 
 -- From a tick on events may be taken.
@@ -41,11 +62,11 @@ pub record AreReady (i : Inputs) (tick : ℕ) (q : Queues) : Type 0 where
   pub keeps : q.outbox.timer ≡ Keep
 
 -- The event of a key, which had left the agenda, was taken as the model takes it, whether or not its resource stops.
-pub record IsTakenHere (i : Inputs) (limit : ℕ) (s : State) (k : Key) (e : model.Event) (stop : Option Reason) (t : Forest) (x : TickCounts) (old new : Queues) : Type 0 where
+pub record IsTakenHere (i : Inputs) (limit : ℕ) (s : State) (k : Key) (e : model.Event) (stop : Option Reason) (from : ℕ) (t : Forest) (x : TickCounts) (old new : Queues) : Type 0 where
   pub effect : Effect
   pub takes : Takes (system_of i) limit s k e effect
   pub stops : effect.stop ≡ stop
-  pub here : IsHere i effect.state k.resource t x
+  pub here : IsHere i effect.state k.resource from t x
   pub counts : CountsAre new.sent.items effect.state.sent
   pub agenda : (j : Key) → meaning i new.agenda j ≡ changed_to (effect.changes j) (meaning i old.agenda j)
   pub mail : map (arriving i) new.mail.items ≡ map (arriving i) old.mail.items ++ effect.sent

@@ -6,28 +6,24 @@
 //! opening on the agendas (`IsOpened`). A `Resource` runs by itself below a tick, takes messages in between, and answers
 //! when its next event is. What it does is what the resource of the definitions does, so the laws here hold of it.
 //!
-//! Read in this order: `tick_counts`, what is counted in a tick; `queues`, where events come from and go to; `one_taking`,
-//! the taking; `post`, what a taking puts out; `opening`, the agendas before the first event. Then `laws` and `determined`,
-//! what holds of the definitions; `resource`, what a resource holds; `open`, how it begins; `run`, its run below a tick;
+//! Read in this order: `tick_counts`, what is counted in a tick; `given`, what takings give; `one_taking`, the taking;
+//! `post`, what a taking puts out; `opening`, the agendas before the first event. Then `laws` and `determined`, what holds
+//! of the definitions; `resource`, what a resource holds, with `open`, how it begins, `run`, its run below a tick, and
 //! `receive`, how messages come to it.
 #![tactic(auto)]
 
 pub mod determined;
+pub mod given;
 pub mod laws;
 pub mod one_taking;
-pub mod open;
 pub mod opening;
 mod post;
-pub mod queues;
-pub mod receive;
 pub mod resource;
-pub mod run;
 pub mod tick_counts;
 
 pub use determined::{keys_rise, simulation_exists};
+pub use given::Given;
 pub use one_taking::take;
-pub use opening::{open_agenda, open_agendas};
-pub use queues::Queues;
-pub use resource::{Inner, Resource, WindowDone};
-pub use run::Output;
+pub use opening::{open_agenda, open_agendas, open_sent};
+pub use resource::{Output, Resource, WindowDone};
 pub use tick_counts::TickCounts;

@@ -16,11 +16,11 @@ ghost use Rattle.fb_net.specs.Worlds.{IsForest};
 ghost use Rattle.fb_laws.specs.Typed.{AreTyped, IsTypedEvent};
 ghost use Rattle.fb_resource.specs.Counts.{IsMetered, meter_of};
 ghost use Rattle.fb_resource.specs.Posts.{CountsAre, IsMessage, IsPostable};
-ghost use Rattle.fb_resource.specs.Takings.{AreReady, IsHere, IsLater, IsSettled, IsTakenHere};
+ghost use Rattle.fb_resource.specs.Takings.{AreReady, IsHere, IsLater, IsSettled, IsTakenHere, queues_of};
 ghost use Rattle.fb_resource.specs.Waiting.{IsInOrder, meaning};
 
+use crate::given::Given;
 use crate::post::post_all;
-use crate::queues::Queues;
 use crate::tick_counts::TickCounts;
 use fb_agenda::Agenda;
 use fb_net::{Arrival, Outbox, Tree};
@@ -127,44 +127,46 @@ fn set_timer(
 /// Sets the timer of the instance at which an event came and posts what was put out, as its reaction asks. Of the outbox
 /// the lines stay, and the room for what is put out.
 fn settle(
-    queues: &mut Queues,
+    agenda: &mut Agenda,
+    sent: &mut Vec<u128>,
+    given: &mut Given,
     locals: &mut u128,
     system: &System,
     key: &Key,
     event: &Event,
 ) -> Result<(), AllocError>
     requires event { IsEventIn system.now key.now.resource event.now }
-    requires due { length queues.old.agenda.due ≡ length (system_of system.now).paths }
-    requires later { IsLater key.now.tick queues.old.outbox.timer }
-    requires outs { All (IsPostable (system_of system.now) key.now.resource) queues.old.outbox.outs.items }
+    requires due { length agenda.old.due ≡ length (system_of system.now).paths }
+    requires later { IsLater key.now.tick given.old.outbox.timer }
+    requires outs { All (IsPostable (system_of system.now) key.now.resource) given.old.outbox.outs.items }
     requires room { locals.old < 2 ^ 100 }
-    requires counted { length queues.old.sent.items ≡ (system_of system.now).links }
+    requires counted { length sent.old.items ≡ (system_of system.now).links }
     requires early { key.now.tick ≤ 10 ^ 12 }
     requires named { key.now.resource < length (system_of system.now).resource_names }
-    requires order { IsInOrder system.now key.now.tick queues.old.agenda }
-    requires mail { All (IsMessage system.now) queues.old.mail.items }
-    ensures settled { OnOk result ((counts : ℕ → ℕ) → CountsAre queues.old.sent.items counts →
-        IsSettled system.now key.now (path_of (event_of system.now event.now)) queues.old.outbox.timer
-        (takes.post_all (system_of system.now) key.now (map (out_of (system_of system.now)) queues.old.outbox.outs.items) (record { locals = locals.old; sent = counts; raised = []; messages = [] }))
-        queues.old queues.new locals.new) }
+    requires order { IsInOrder system.now key.now.tick agenda.old }
+    requires mail { All (IsMessage system.now) given.old.mail.items }
+    ensures settled { OnOk result ((counts : ℕ → ℕ) → CountsAre sent.old.items counts →
+        IsSettled system.now key.now (path_of (event_of system.now event.now)) given.old.outbox.timer
+        (takes.post_all (system_of system.now) key.now (map (out_of (system_of system.now)) given.old.outbox.outs.items) (record { locals = locals.old; sent = counts; raised = []; messages = [] }))
+        (queues_of agenda.old sent.old given.old) (queues_of agenda.new sent.new given.new) locals.new) }
     ensures few { OnOk result (locals.new ≤ locals.old + 2 ^ 64) }
-    ensures order { OnOk result (IsInOrder system.now key.now.tick queues.new.agenda) }
-    ensures mail { OnOk result (All (IsMessage system.now) queues.new.mail.items) }
-    ensures later { OnOk result (All (λ m. key.now.tick < m.arrives) queues.old.mail.items → All (λ m. key.now.tick < m.arrives) queues.new.mail.items) }
-    ensures due { OnOk result (length queues.new.agenda.due ≡ length queues.old.agenda.due) }
-    ensures counted { OnOk result (length queues.new.sent.items ≡ length queues.old.sent.items) }
-    ensures lines { OnOk result (queues.new.outbox.lines.items ≡ queues.old.outbox.lines.items) }
-    ensures none { OnOk result (queues.new.outbox.outs.items ≡ []) }
-    ensures keeps { OnOk result (queues.new.outbox.timer ≡ Keep) }
+    ensures order { OnOk result (IsInOrder system.now key.now.tick agenda.new) }
+    ensures mail { OnOk result (All (IsMessage system.now) given.new.mail.items) }
+    ensures later { OnOk result (All (λ m. key.now.tick < m.arrives) given.old.mail.items → All (λ m. key.now.tick < m.arrives) given.new.mail.items) }
+    ensures due { OnOk result (length agenda.new.due ≡ length agenda.old.due) }
+    ensures counted { OnOk result (length sent.new.items ≡ length sent.old.items) }
+    ensures lines { OnOk result (given.new.outbox.lines.items ≡ given.old.outbox.lines.items) }
+    ensures none { OnOk result (given.new.outbox.outs.items ≡ []) }
+    ensures keeps { OnOk result (given.new.outbox.timer ≡ Keep) }
 {
-    set_timer(&mut queues.agenda, queues.outbox.timer, system, key, event)?;
-    queues.outbox.timer = TimerAsk::Keep;
-    let _count = queues.outbox.outs.len();
+    set_timer(agenda, given.outbox.timer, system, key, event)?;
+    given.outbox.timer = TimerAsk::Keep;
+    let _count = given.outbox.outs.len();
     post_all(
-        &mut queues.agenda,
-        &mut queues.mail,
-        &mut queues.sent,
-        &mut queues.outbox.outs,
+        agenda,
+        &mut given.mail,
+        sent,
+        &mut given.outbox.outs,
         locals,
         system,
         key,
@@ -175,49 +177,55 @@ fn settle(
 /// for which the resource stops; what was put out before the stop is posted and stands. Messages are put behind the
 /// mail, and lines behind those in the outbox.
 ///
+/// The counts may also be those of a meter that is older than the tick: then the resource counts afresh.
+///
 /// # Errors
 /// When memory runs out, or a link has carried 2^128 messages. Nothing is said of the resource then.
 pub fn take(
     tree: &mut Tree,
-    meter: &mut TickCounts,
-    queues: &mut Queues,
+    counts: &mut TickCounts,
+    agenda: &mut Agenda,
+    sent: &mut Vec<u128>,
+    given: &mut Given,
     system: &System,
     limit: u64,
     key: &Key,
     event: &Event,
 ) -> Result<Option<Reason>, AllocError>
     requires tree { tree.old.resource ≡ key.now.resource }
-    requires meter { IsMetered limit meter.old }
-    requires queues { AreReady system.now key.now.tick queues.old }
-    requires stands { (s : State) × IsHere system.now s key.now.resource tree.old meter.old }
+    requires counts { IsMetered limit counts.old }
+    requires queues { AreReady system.now key.now.tick (queues_of agenda.old sent.old given.old) }
+    requires stands { (s : State) × IsHere system.now s key.now.resource key.now.tick tree.old counts.old }
     requires event { IsEventIn system.now key.now.resource event.now }
     requires own { IsKeyOf key.now event.now }
     requires typed { IsTypedEvent (system_of system.now) (event_of system.now event.now) }
     requires named { key.now.resource < length (system_of system.now).resource_names }
     requires early { key.now.tick ≤ 10 ^ 12 }
     requires few { limit ≤ 10 ^ 7 }
-    ensures taken { IfOk result (λ stop. (s : State) → IsHere system.now s key.now.resource tree.old meter.old → CountsAre queues.old.sent.items s.sent
-        → IsTakenHere system.now limit s key.now (event_of system.now event.now) stop tree.new meter.new queues.old queues.new) }
-    ensures queues { OnOk result (AreReady system.now key.now.tick queues.new) }
-    ensures later { OnOk result (All (λ m. key.now.tick < m.arrives) queues.old.mail.items → All (λ m. key.now.tick < m.arrives) queues.new.mail.items) }
-    ensures meter { OnOk result (IsMetered limit meter.new) }
-    ensures tick { OnOk result (unwrap_or meter.new.tick 0 ≤ max (unwrap_or meter.old.tick 0) key.now.tick) }
-    ensures spent { IfOk result (λ stop. stop ≡ None → (meter.new.tick ≡ Some key.now.tick) × (suc meter.new.left ≤ (begun limit key.now.tick (meter_of meter.old)).left)) }
+    ensures taken { IfOk result (λ stop. (s : State) (from : ℕ) → from ≤ key.now.tick
+        → IsHere system.now s key.now.resource from tree.old counts.old → CountsAre sent.old.items s.sent
+        → IsTakenHere system.now limit s key.now (event_of system.now event.now) stop from tree.new counts.new
+        (queues_of agenda.old sent.old given.old) (queues_of agenda.new sent.new given.new)) }
+    ensures queues { OnOk result (AreReady system.now key.now.tick (queues_of agenda.new sent.new given.new)) }
+    ensures later { OnOk result (All (λ m. key.now.tick < m.arrives) given.old.mail.items → All (λ m. key.now.tick < m.arrives) given.new.mail.items) }
+    ensures counts { OnOk result (IsMetered limit counts.new) }
+    ensures tick { OnOk result (unwrap_or counts.new.tick 0 ≤ max (unwrap_or counts.old.tick 0) key.now.tick) }
+    ensures spent { IfOk result (λ stop. stop ≡ None → (counts.new.tick ≡ Some key.now.tick) × (suc counts.new.left ≤ (begun limit key.now.tick (meter_of counts.old)).left)) }
     ensures tree { tree.new.resource ≡ tree.old.resource }
 {
-    if !meter.step(limit, key.tick) {
+    if !counts.step(limit, key.tick) {
         return Ok(Some(Reason::Steps));
     }
     let stop = take_in(
         tree,
-        &mut meter.left,
-        &mut queues.outbox,
+        &mut counts.left,
+        &mut given.outbox,
         system,
         key,
         event,
     )?;
     system.facts();
     // A reaction that stops posts what it had put out before.
-    settle(queues, &mut meter.locals, system, key, event)?;
+    settle(agenda, sent, given, &mut counts.locals, system, key, event)?;
     Ok(stop)
 }

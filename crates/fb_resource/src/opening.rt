@@ -4,10 +4,11 @@ ghost use Rattle.std.specs.Prelude.{◌≡◌, ◌+◌, ◌<◌, ℕ, length, If
 ghost use Rattle.fb_types.specs.Headline.{system_of};
 ghost use Rattle.fb_types.specs.Keys.{found, or_else};
 ghost use Rattle.fb_types.specs.Numbers.{path_at};
-ghost use Rattle.fb_types.specs.Simulation.{restart_of};
+ghost use Rattle.fb_types.specs.Simulation.{opening_state, restart_of};
 ghost use Rattle.fb_types.specs.declared.key.Key as keys;
 ghost use Rattle.fb_types.specs.declared.run.Event.TheVariants.{Stimulus};
 ghost use Rattle.fb_resource.specs.Openings.{AreOpenedApart, HasRestarts, HasStimuli, HasTimersBelow, IsOpened, IsStimulusKey, OneEach, is_of};
+ghost use Rattle.fb_resource.specs.Posts.{CountsAre};
 ghost use Rattle.fb_resource.specs.Waiting.{IsInOrder, MayWait, meaning};
 
 use fb_agenda::Agenda;
@@ -172,4 +173,15 @@ pub fn open_agendas(alloc: Global, system: &System) -> Result<Vec<Agenda>, Alloc
     put_apart(&mut agendas, system)?;
     start_apart(&mut agendas, system)?;
     Ok(agendas)
+}
+
+/// For each link the count of the messages that were sent on it, before the first event.
+///
+/// # Errors
+/// When memory runs out.
+pub fn open_sent(alloc: Global, system: &System) -> Result<Vec<u128>, AllocError>
+    ensures counted { IfOk result (λ v. length v.items ≡ (system_of system.now).links) }
+    ensures counts { IfOk result (λ v. CountsAre v.items (opening_state (system_of system.now)).sent) }
+{
+    vec![in alloc; 0u128; system.links()]
 }

@@ -7,26 +7,27 @@ use Rattle.fb_net.specs.Events.{IsEventIn, event_of}
 use Rattle.fb_laws.proofs.Accepted.{accepted_typed}
 use Rattle.fb_types.specs.declared.value.Reason.TheVariants.{Steps}
 use Rattle.fb_resource.specs.Counts.{IsMetered, before_step, meter_of}
-use Rattle.fb_resource.specs.Takings.{IsTakenHere}
+use Rattle.fb_resource.specs.Takings.{IsTakenHere, queues_of}
 use Rattle.fb_resource.specs.declared.tick_counts.TickCounts.{TickCounts}
 use Rattle.fb_resource.proofs.ReadyIs.{came_good, metered_after}
 use Rattle.fb_resource.proofs.TakenIs.{taken_none, taken_one}
 use Rattle.fb_resource.proofs.one_taking.take.Goals as goal
 
 pub returns-then-not-step-clause-taken : goal.returns-then-not-step-clause-taken
-returns-then-not-step-clause-taken c s here counts =
+returns-then-not-step-clause-taken c s from le here counts =
     let i = c.args.system.now in
     let k = c.args.key.now in
     let e = event_of i c.args.event.now in
-    let none = taken_none i c.args.limit s k e (begun c.args.limit k.tick (meter_of c.args.meter.now)) c.args.tree.now c.args.meter.now c.args.queues.now
-    (ap (begun c.args.limit k.tick) here.meter) c.if-not-step.ensures.none here counts in
-    subst (λ (m : TickCounts). IsTakenHere i c.args.limit s k e (Some Steps) c.args.tree.now m c.args.queues.now c.args.queues.now) (sym c.if-not-step.ensures.kept) none
+    let q = queues_of c.args.agenda.now c.args.sent.now c.args.given.now in
+    let none = taken_none i c.args.limit s k e (begun c.args.limit k.tick (meter_of c.args.counts.now)) from c.args.tree.now c.args.counts.now q
+    (here.meter c.args.limit k.tick le) c.if-not-step.ensures.none here counts in
+    subst (λ (m : TickCounts). IsTakenHere i c.args.limit s k e (Some Steps) from c.args.tree.now m q q) (sym c.if-not-step.ensures.kept) none
 
 pub returns-then-not-step-clause-queues : goal.returns-then-not-step-clause-queues
 returns-then-not-step-clause-queues c = c.requires.queues
 
-pub returns-then-not-step-clause-meter : goal.returns-then-not-step-clause-meter
-returns-then-not-step-clause-meter c = subst (IsMetered c.args.limit) (sym c.if-not-step.ensures.kept) c.requires.meter
+pub returns-then-not-step-clause-counts : goal.returns-then-not-step-clause-counts
+returns-then-not-step-clause-counts c = subst (IsMetered c.args.limit) (sym c.if-not-step.ensures.kept) c.requires.counts
 
 pub take_in-requires-clause-event : goal.take_in-requires-clause-event
 take_in-requires-clause-event c = subst (λ n. IsEventIn c.args.system.now n c.args.event.now) (sym c.requires.tree) c.requires.event
@@ -57,12 +58,12 @@ settle-requires-clause-outs c =
     (c.in_ok-stop.ensures.came w stands.1.blocks) (subst (λ n. All (IsOut (system_of i) n) c.take_in.new.outbox.outs.items) here c.in_ok-stop.ensures.outs.outs)).0
 
 pub returns-clause-taken : goal.returns-clause-taken
-returns-clause-taken c s here counts =
+returns-clause-taken c s from le here counts =
     let i = c.args.system.now in
     let k = c.args.key.now in
-    taken_one i c.args.limit s k c.args.event.now (before_step c.step.new.self) _ _ _ c.args.queues.now _ _ c.args.tree.now c.args.meter.now c.take_in.new.tree c.take_in.new.outbox
+    taken_one i c.args.limit s k c.args.event.now (before_step c.step.new.self) _ _ _ (queues_of c.args.agenda.now c.args.sent.now c.args.given.now) _ _ from c.args.tree.now c.args.counts.now c.take_in.new.tree c.take_in.new.outbox
     (accepted_typed i c.facts.ensures.accepted).system c.requires.typed
-    here counts (ap (begun c.args.limit k.tick) here.meter ∙ sym c.if-not-step.ensures.used) refl
+    here counts (here.meter c.args.limit k.tick le ∙ sym c.if-not-step.ensures.used) refl
     (c.in_ok-stop.ensures.came (world_of s k.resource) here.blocks) refl c.in_ok-settle.ensures.settled c.if-not-step.ensures.tick c.in_ok-settle.ensures.lines
 
 pub returns-clause-queues : goal.returns-clause-queues
@@ -82,8 +83,8 @@ returns-clause-queues c =
 pub returns-clause-later : goal.returns-clause-later
 returns-clause-later c = c.in_ok-settle.ensures.later
 
-pub returns-clause-meter : goal.returns-clause-meter
-returns-clause-meter c =
+pub returns-clause-counts : goal.returns-clause-counts
+returns-clause-counts c =
     metered_after c.args.limit (before_step c.step.new.self) _ _ c.if-not-step.ensures.metered refl c.in_ok-stop.ensures.fewer c.in_ok-settle.ensures.few
 
 pub returns-clause-spent : goal.returns-clause-spent

@@ -9,17 +9,17 @@ use Rattle.fb_resource.proofs.resource.Resource.open.Goals as goal
 pub returns-clause-of : goal.returns-clause-of
 returns-clause-of c =
     let i = c.args.system.now in
-    IfOk-weaker c.of_agenda.result (λ x. (limit : ℕ) → IsFresh i limit c.args.number x) (λ x. (limit : ℕ) → IsOf i limit x) (λ x fresh limit. (fresh limit).of) c.of_agenda.ensures
+    IfOk-weaker c.of_agenda.result (IsFresh i c.args.number) (IsOf i) (λ x fresh. fresh.of) c.of_agenda.ensures
 
 pub returns-clause-opened : goal.returns-clause-opened
 returns-clause-opened c =
     let i = c.args.system.now in
-    IfOk-weaker c.of_agenda.result (λ x. (limit : ℕ) → IsFresh i limit c.args.number x)
+    IfOk-weaker c.of_agenda.result (IsFresh i c.args.number)
     (λ x. (limit : ℕ) → StandsFor i limit (local_of (system_of i) limit c.args.number (opening (system_of i) (stimuli_of i)) None) x)
-    (λ x fresh limit. (fresh limit).state) c.of_agenda.ensures
+    (λ x fresh. fresh.state) c.of_agenda.ensures
 
 pub returns-clause-fresh : goal.returns-clause-fresh
 returns-clause-fresh c =
     let i = c.args.system.now in
-    IfOk-weaker c.of_agenda.result (λ x. (limit : ℕ) → IsFresh i limit c.args.number x) (λ x. (x.tree.resource ≡ c.args.number) × (x.clock ≡ 0) × (x.stopped ≡ None))
-    (λ x fresh. ((fresh 0).numbered, (fresh 0).clock, (fresh 0).live)) c.of_agenda.ensures
+    IfOk-weaker c.of_agenda.result (IsFresh i c.args.number) (λ x. (x.tree.resource ≡ c.args.number) × (x.clock ≡ 0) × (x.stopped ≡ None))
+    (λ x fresh. (fresh.numbered, fresh.clock, fresh.live)) c.of_agenda.ensures

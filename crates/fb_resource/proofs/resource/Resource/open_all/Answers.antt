@@ -27,7 +27,7 @@ loop-agenda-preserved c =
     let x = c.in_ok-of_agenda.field-0 in
     let items = c.in_ok-push.ensures.items in
     let left = into_iter_items c.next.new.self in
-    let more : AreFresh i (xs ++ x ∷ []) = fresh_more i xs x inv.fresh (λ limit. subst (λ k. IsFresh i limit k x) (inv.number ∙ sym inv.counted) (c.in_ok-of_agenda.ensures limit)) in
+    let more : AreFresh i (xs ++ x ∷ []) = fresh_more i xs x inv.fresh (subst (λ k. IsFresh i k x) (inv.number ∙ sym inv.counted) c.in_ok-of_agenda.ensures) in
     record {
       fresh = subst (AreFresh i) (sym items) more;
       counted = ap length items ∙ omega (arith, length_push xs x, length_push ys a, inv.counted);
@@ -37,9 +37,9 @@ loop-agenda-preserved c =
     }
 
 pub returns : goal.returns
-returns c limit =
+returns c =
     let inv = c.loop-agenda.invariant in
     let ys = c.loop-agenda.yielded in
     let none : into_iter_items c.loop-agenda.agenda-iterator ≡ [] = nil_from_length _ (let done = c.in-None.ensures.steps.0 in omega (arith, inv.len, done)) in
-    all_opened c.args.system.now limit c.loop-agenda.resources.items
+    all_opened c.args.system.now c.loop-agenda.resources.items
     (inv.counted ∙ ap length (sym (append-nil ys) ∙ ap (λ z. ys ++ z) (sym none)) ∙ inv.opened.counted) inv.fresh

@@ -1,48 +1,52 @@
 //! How a resource runs below a tick.
 
-ghost use Rattle.std.specs.Prelude.{◌≡◌, ◌^◌, ◌≤◌, None, IfOk, OnOk};
-ghost use Rattle.fb_resource.specs.Resources.{HasRun, IsOf, mark_of};
-ghost use Rattle.fb_resource.specs.Runs.{HasTakenAll, IsRunning};
+ghost use Rattle.std.specs.Prelude.{◌≡◌, ◌^◌, ◌≤◌, None, IfOk};
+ghost use Rattle.fb_resource.specs.Resources.{HasRun, IsOf};
+ghost use Rattle.fb_resource.specs.Takings.{IsEmpty};
 ghost use Rattle.fb_resource.specs.declared.resource.WindowDone.TheVariants.{Ran};
 
+use crate::given::Given;
 use crate::one_taking::take;
-use crate::resource::{Inner, Resource, WindowDone};
+use crate::resource::{Output, Resource, WindowDone};
+use crate::tick_counts::TickCounts;
 use fb_agenda::Least;
 use fb_system::System;
-use fb_types::{Line, Message, StopMark};
+use fb_types::StopMark;
 use std::alloc::{AllocError, Global};
 use std::mem;
 
-impl Inner {
-    /// Takes all events below a tick, least key first, or up to the stop, which is told with its tick. The lines and
-    /// the messages gather in the queues.
+impl Resource {
+    /// Takes all events below a tick, least key first, or up to the stop, which is returned. The lines and the messages
+    /// gather in what is given. Every event of a later run has a later tick, so that each run counts afresh.
     ///
     /// # Errors
     /// When memory runs out, or a link has carried 2^128 messages.
     fn take_all(
         &mut self,
+        given: &mut Given,
         system: &System,
         to: u64,
         steps: u64,
     ) -> Result<Option<StopMark>, AllocError>
-        requires of { IsOf system.now steps self.old }
+        requires of { IsOf system.now self.old }
+        requires empty { IsEmpty given.old }
         requires live { self.old.stopped ≡ None }
         requires ahead { self.old.clock ≤ to }
         requires early { to ≤ 10 ^ 12 }
         requires few { steps ≤ 10 ^ 7 }
-        ensures running { OnOk result (IsRunning system.now steps self.new) }
-        ensures tree { OnOk result (self.new.tree.resource ≡ self.old.tree.resource) }
-        ensures taken { OnOk result (HasTakenAll system.now steps self.old to self.new) }
-        ensures stop { IfOk result (λ stop. stop ≡ mark_of self.new.tree.resource self.new.clock self.new.stopped) }
+        ensures { IfOk result (λ stop. HasRun system.now steps self.old to (Ran self.new given.new.outbox.lines given.new.mail stop)) }
     {
         system.facts();
+        let mut counts = TickCounts::new();
         let mut least = Least::new();
-        while self.queues.agenda.take_least_into(to, &mut least) {
+        while self.agenda.take_least_into(to, &mut least) {
             self.clock = least.key.tick;
             self.stopped = take(
                 &mut self.tree,
-                &mut self.meter,
-                &mut self.queues,
+                &mut counts,
+                &mut self.agenda,
+                &mut self.sent,
+                given,
                 system,
                 steps,
                 &least.key,
@@ -59,23 +63,10 @@ impl Inner {
         self.clock = to;
         Ok(None)
     }
-}
 
-/// What a resource gave in a run.
-#[derive(Drop)]
-pub struct Output {
-    /// The lines, in its order.
-    pub lines: Vec<Line>,
-    /// The messages that it sent, in its order.
-    pub sent: Vec<Message>,
-    /// Where and why it stopped, if it did.
-    pub stop: Option<StopMark>,
-}
-
-impl Resource {
-    /// Takes all events below a tick, or up to its stop. In each tick it has so many steps.
+    /// Takes all events below a tick, in milliseconds, or up to its stop. In each tick it has so many steps.
     pub fn run_to(mut self, alloc: Global, system: &System, to: u64, steps: u64) -> WindowDone
-        requires of { IsOf system.now steps self }
+        requires of { IsOf system.now self }
         requires live { self.stopped ≡ None }
         requires ahead { self.clock ≤ to }
         requires early { to ≤ 10 ^ 12 }
@@ -93,7 +84,7 @@ impl Resource {
         }
     }
 
-    /// Takes all events below a tick, or up to its stop, where it is. In each tick it has so many steps.
+    /// Takes all events below a tick, in milliseconds, or up to its stop, where it is. In each tick it has so many steps.
     ///
     /// # Errors
     /// When memory runs out, or a link has carried 2^128 messages. Then nothing is said of the resource.
@@ -104,17 +95,17 @@ impl Resource {
         to: u64,
         steps: u64,
     ) -> Result<Output, AllocError>
-        requires of { IsOf system.now steps self.old }
+        requires of { IsOf system.now self.old }
         requires live { self.old.stopped ≡ None }
         requires ahead { self.old.clock ≤ to }
         requires early { to ≤ 10 ^ 12 }
         requires few { steps ≤ 10 ^ 7 }
         ensures { IfOk result (λ o. HasRun system.now steps self.old to (Ran self.new o.lines o.sent o.stop)) }
     {
-        let inner = &mut *self.inner;
-        let stop = inner.take_all(system, to, steps)?;
-        let lines = mem::replace(&mut inner.queues.outbox.lines, Vec::new(alloc));
-        let sent = mem::replace(&mut inner.queues.mail, Vec::new(alloc));
+        let mut given = Given::new(alloc);
+        let stop = self.take_all(&mut given, system, to, steps)?;
+        let lines = mem::replace(&mut given.outbox.lines, Vec::new(alloc));
+        let sent = mem::replace(&mut given.mail, Vec::new(alloc));
         Ok(Output { lines, sent, stop })
     }
 }

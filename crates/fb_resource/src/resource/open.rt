@@ -7,10 +7,8 @@ ghost use Rattle.fb_types.specs.Simulation.{opening};
 ghost use Rattle.fb_resource.specs.Openings.{IsOpened};
 ghost use Rattle.fb_resource.specs.Resources.{AreOpened, IsFresh, IsOf, StandsFor};
 
-use crate::opening::{open_agenda, open_agendas};
-use crate::queues::Queues;
-use crate::resource::{Inner, Resource};
-use crate::tick_counts::TickCounts;
+use crate::opening::{open_agenda, open_agendas, open_sent};
+use crate::resource::Resource;
 use fb_agenda::Agenda;
 use fb_net::Tree;
 use fb_system::System;
@@ -26,20 +24,18 @@ impl Resource {
     ) -> Result<Resource, AllocError>
         requires named { number < length (system_of system.now).resource_names }
         requires agenda { IsOpened system.now (Some number) agenda }
-        ensures { IfOk result (λ x. (limit : ℕ) → IsFresh system.now limit number x) }
+        ensures { IfOk result (IsFresh system.now number) }
     {
         system.facts();
-        let queues = Queues::open(alloc, system, agenda)?;
+        let sent = open_sent(alloc, system)?;
         let tree = Tree::build(alloc, system, number)?;
-        let inner = Inner {
-            number,
+        Ok(Resource {
             tree,
             clock: 0,
-            meter: TickCounts::new(),
-            queues,
+            agenda,
+            sent,
             stopped: None,
-        };
-        Resource::of(alloc, inner)
+        })
     }
 
     /// A resource as it is before the first event. This looks at each stimulus and each instance of the system.
@@ -48,7 +44,7 @@ impl Resource {
     /// When memory runs out.
     pub fn open(alloc: Global, system: &System, number: u32) -> Result<Resource, AllocError>
         requires { number < length (system_of system.now).resource_names }
-        ensures of { IfOk result (λ x. (limit : ℕ) → IsOf system.now limit x) }
+        ensures of { IfOk result (IsOf system.now) }
         ensures opened { IfOk result (λ x. (limit : ℕ) → StandsFor system.now limit (local_of (system_of system.now) limit number (opening (system_of system.now) (stimuli_of system.now)) None) x) }
         ensures fresh { IfOk result (λ x. (x.tree.resource ≡ number) × (x.clock ≡ 0) × (x.stopped ≡ None)) }
     {
@@ -62,7 +58,7 @@ impl Resource {
     /// # Errors
     /// When memory runs out.
     pub fn open_all(alloc: Global, system: &System) -> Result<Vec<Resource>, AllocError>
-        ensures { IfOk result (λ v. (limit : ℕ) → AreOpened system.now limit v.items) }
+        ensures { IfOk result (λ v. AreOpened system.now v.items) }
     {
         system.facts();
         let mut resources = Vec::new(alloc);
