@@ -1,6 +1,7 @@
 -- Lines that are read and told one after another.
 use Rattle.std.proofs.Common.{◌≡◌, ℕ, ◌+◌, ◌<◌, ◌≤◌, List, [], ◌∷◌, ◌++◌, length, map, take, refl, sym, ap, subst, ◌∙◌, arith, append_assoc, append-nil, length-append}
 use Rattle.std.specs.Prelude.{IfSome, Option, None, Some}
+use Rattle.std.specs.Io.BufRead.{take_through}
 use Rattle.std.specs.Io.KnownBytes.{Appends, Consumes, IsAtEnd}
 use Rattle.std.proofs.lemmas.List.Elements.{All-nil, All-push}
 use Rattle.std.proofs.KnownBytes.{Appends-nil, Appends-trans, Consumes-trans}
@@ -11,7 +12,7 @@ use Rattle.fb_types.specs.Numbers.{line_of}
 use Rattle.fb_types.specs.Text.{line_text, lines_text, trace_text}
 use Rattle.fb_types.specs.declared.run.Form.{Form}
 use Rattle.fb_types.specs.declared.run.Line.{Line}
-use Rattle.fb_trace.specs.End.{EndsIn, ending_of}
+use Rattle.fb_trace.specs.End.{ending_of}
 use Rattle.fb_trace.specs.Progress.{bounded}
 use Rattle.fb_trace.specs.declared.last.RunEnd.{RunEnd}
 use Rattle.fb_trace.specs.declared.last.RunEnd.TheVariants.{Horizon, Stop}
@@ -19,8 +20,9 @@ use Rattle.fb_wave.specs.Scopes.{head_text}
 use Rattle.fb_wave.specs.Dumps.{dump_text, end_text, last_tick, ticks_text}
 use Rattle.fb_wave.specs.Writing.{HasTold, IsDump}
 use Rattle.fb_wave.specs.declared.dump.Dump.{Dump}
-use Rattle.fb_wave.specs.Lines.{IsLast, IsLineOf}
-use Rattle.fb_wave.specs.Copying.{IsAfter, IsCopied, IsCutShort, IsFinished, IsFlushed, IsNoWriteFault, IsTaken, IsUnfinished}
+use Rattle.fb_wave.specs.Lines.{IsLast, IsLineOf, IsTextOf}
+use Rattle.fb_wave.specs.Named.{HasNames}
+use Rattle.fb_wave.specs.Copying.{IsAfter, IsCopied, IsCutShort, IsFinished, IsFirstLine, IsFlushed, IsNoWriteFault, IsTaken, IsUnfinished}
 use Rattle.fb_wave.specs.Waves.{AreLinesOf, EndsAfter, FailsWave, IsBegun, IsWave, RiseFrom, WritesFront, WritesPart}
 use Rattle.fb_wave.specs.declared.copy.Progress.{Progress}
 use Rattle.fb_wave.specs.declared.error.WaveError.{WaveError}
@@ -55,11 +57,26 @@ count_kept v w z s t before kept more = rw length-append (omega arith)
 
 -- ---- Steps of the copy
 
+Consumes-none : (a : Option (List ℕ)) → Consumes a a []
+Consumes-none None = tt
+Consumes-none (Some xs) = refl
+
+-- the line that was read next is the first of what was left
+first_next :
+    (input left new : Option (List ℕ)) (text rest before next : List ℕ) → input ≡ Some text → new ≡ Some rest → Consumes input left before → Consumes left new next
+    → IsFirstLine next left → next ≡ take_through 10 (next ++ rest)
+first_next None left new text rest before next known rests gone read one = absurd (cc)
+first_next (Some t) None new text rest before next known rests gone read one = absurd gone
+first_next (Some t) (Some u) None text rest before next known rests gone read one = absurd (cc)
+first_next (Some t) (Some u) (Some v) text rest before next known rests gone read one =
+    let same : v ≡ rest = cc in
+    one ∙ ap (take_through 10) (read ∙ ap (λ (w : List ℕ). next ++ w) same)
+
 -- the lines with one more that was read
 are_one :
-    (sys : System) (form : Form) (x y : Progress) (line : List ℕ) (input left old new : Option (List ℕ)) (is : IsCopied sys form x line input left old new)
+    (sys : System) (form : Form) (number : ℕ) (x y : Progress) (line : List ℕ) (input left old new : Option (List ℕ)) (is : IsCopied sys form number x line input left old new)
     (taken : IsTaken sys form line x y) → AreLinesOf sys (is.lines ++ taken.line ∷ [])
-are_one sys form x y line input left old new is taken =
+are_one sys form number x y line input left old new is taken =
     record {
       each = All-push (IsLineOf sys) is.lines taken.line is.are.each taken.is.line;
       rise = rise-one 0 is.lines taken.line is.are.rise (subst (λ (t : ℕ). t ≤ taken.line.key.tick) is.last taken.rises);
@@ -67,10 +84,10 @@ are_one sys form x y line input left old new is taken =
 
 -- one more line was read and told, some of the text was sent, and the next line was read
 pub copied_one :
-    (sys : System) (form : Form) (x y z : Progress) (line next : List ℕ) (input left new old mid got : Option (List ℕ)) → IsCopied sys form x line input left old mid
-    → IsTaken sys form line x y → z.tick ≡ y.tick → z.dump ≡ y.dump → IsFlushed mid got y.page z.page → Consumes left new next
-    → IsCopied sys form z next input new old got
-copied_one sys form x y z line next input left new old mid got is taken tick dump flushed read =
+    (sys : System) (form : Form) (number : ℕ) (x y z : Progress) (line next : List ℕ) (input left new old mid got : Option (List ℕ)) → IsCopied sys form number x line input left old mid
+    → IsTaken sys form line x y → z.tick ≡ y.tick → z.dump ≡ y.dump → IsFlushed mid got y.page z.page → Consumes left new next → IsFirstLine next left
+    → IsCopied sys form (number + 1) z next input new old got
+copied_one sys form number x y z line next input left new old mid got is taken tick dump flushed read one =
     let l = taken.line in
     let more : List ℕ = lines_text form sys (map (line_of sys) is.lines) in
     let told : HasTold sys (is.lines ++ l ∷ []) (is.sent ++ y.page.text.items) y.dump = taken.told is.lines is.sent is.told in
@@ -82,8 +99,11 @@ copied_one sys form x y z line next input left new old mid got is taken tick dum
     in
     record {
       lines = is.lines ++ l ∷ [];
+      numbered = let before = is.numbered in omega (arith, before, length-append is.lines (l ∷ []));
+      formed = λ names none. absurd (omega (arith, ap length none, length-append is.lines (l ∷ [])));
+      first = λ text rest known rests. first_next input left new text rest (more ++ line) next known rests is.read read one;
       sent = is.sent ++ flushed.sent;
-      are = are_one sys form x y line input left old mid is taken;
+      are = are_one sys form number x y line input left old mid is taken;
       last = tick ∙ taken.tick ∙ sym (last-one 0 is.lines l);
       numbers = subst (IsDump sys) (sym dump) taken.numbers;
       told = told_with sys (is.lines ++ l ∷ []) y z (is.sent ++ y.page.text.items) ((is.sent ++ flushed.sent) ++ z.page.text.items) dump sends told;
@@ -98,11 +118,15 @@ copied_one sys form x y z line next input left new old mid got is taken tick dum
 
 -- before the first line
 pub copied_none :
-    (sys : System) (form : Form) (x : Progress) (next : List ℕ) (input left old : Option (List ℕ)) → x.tick ≡ 0 → IsDump sys x.dump
-    → HasTold sys [] x.page.text.items x.dump → x.page.written ≡ 0 → Consumes input left next → IsCopied sys form x next input left old old
-copied_none sys form x next input left old tick numbers told written read =
+    (sys : System) (form : Form) (number : ℕ) (x : Progress) (next : List ℕ) (input left old : Option (List ℕ)) → x.tick ≡ 0 → IsDump sys x.dump
+    → HasTold sys [] x.page.text.items x.dump → x.page.written ≡ 0 → Consumes input left next → IsFirstLine next input → number ≡ 1
+    → (HasNames sys → (f : Form) (l : Line) → IsTextOf sys f l next → f ≡ form) → IsCopied sys form number x next input left old old
+copied_none sys form number x next input left old tick numbers told written read one counts formed =
     record {
       lines = [];
+      numbered = counts;
+      formed = λ names none. formed names;
+      first = λ text rest known rests. first_next input input left text rest [] next known rests (Consumes-none input) read one;
       sent = [];
       are = record { each = All-nil (IsLineOf sys); rise = tt };
       last = tick;
@@ -113,15 +137,15 @@ copied_none sys form x next input left old tick numbers told written read =
       counted = ap bounded written;
     }
 
-ends_after : (sys : System) (t u : ℕ) (end : RunEnd) → t ≡ u → IsAfter t end → EndsIn sys end → EndsAfter sys u (ending_of end)
-ends_after sys t u (Horizon h) same after ends = subst (λ (k : ℕ). k < h) same after
-ends_after sys t u (Stop m) same after ends = (subst (λ (k : ℕ). k ≤ m.tick) same after, ends)
+pub ends_after : (t u : ℕ) (end : RunEnd) → t ≡ u → IsAfter t end → EndsAfter u (ending_of end)
+ends_after t u (Horizon h) same after = subst (λ (k : ℕ). k < h) same after
+ends_after t u (Stop m) same after = subst (λ (k : ℕ). k ≤ m.tick) same after
 
 -- the end was read and told
 pub copied_all :
-    (sys : System) (form : Form) (x : Progress) (line : List ℕ) (input left old mid new : Option (List ℕ)) (end : RunEnd) → IsCopied sys form x line input left old mid
+    (sys : System) (form : Form) (number : ℕ) (x : Progress) (line : List ℕ) (input left old mid new : Option (List ℕ)) (end : RunEnd) → IsCopied sys form number x line input left old mid
     → IsLast sys line end → IsFinished sys end x left mid new → IfSome input (λ text. IsWave sys text old new)
-copied_all sys form x line input left old mid new end is last finished = by input left is.read finished.over
+copied_all sys form number x line input left old mid new end is last finished = by input left is.read finished.over
   where
     lines : List Line
     lines = is.lines
@@ -134,7 +158,8 @@ copied_all sys form x line input left old mid new end is last finished = by inpu
           end = ending_of end;
           trace = record {
             lines = is.are;
-            ends = ends_after sys x.tick (last_tick 0 lines) end is.last finished.after last.ends;
+            last = last.can;
+            ends = ends_after x.tick (last_tick 0 lines) end is.last finished.after;
             is = parts;
           };
           got = subst (Appends old new) (finished.whole lines is.sent is.told) (Appends-trans old mid new is.sent finished.sent is.got finished.got);
@@ -186,30 +211,30 @@ front_none sys old =
 
 -- where nothing more is sent than was before
 pub front_copied :
-    (sys : System) (form : Form) (x : Progress) (next : List ℕ) (input left old new : Option (List ℕ)) → IsCopied sys form x next input left old new → WritesFront sys old new
-front_copied sys form x next input left old new is =
+    (sys : System) (form : Form) (number : ℕ) (x : Progress) (next : List ℕ) (input left old new : Option (List ℕ)) → IsCopied sys form number x next input left old new → WritesFront sys old new
+front_copied sys form number x next input left old new is =
     record { bytes = is.sent; got = is.got; lines = is.lines; are = is.are; begun = begun_of sys is.lines is.sent x.page.text.items x.dump is.told }
 
 -- a line more was told, and of what waited then a front was sent
 told_cut :
-    (sys : System) (form : Form) (x y : Progress) (line sent rest : List ℕ) (input left old new : Option (List ℕ)) (is : IsCopied sys form x line input left old new)
+    (sys : System) (form : Form) (number : ℕ) (x y : Progress) (line sent rest : List ℕ) (input left old new : Option (List ℕ)) (is : IsCopied sys form number x line input left old new)
     (taken : IsTaken sys form line x y) → y.page.text.items ≡ sent ++ rest → HasTold sys (is.lines ++ taken.line ∷ []) ((is.sent ++ sent) ++ rest) y.dump
-told_cut sys form x y line sent rest input left old new is taken parts =
+told_cut sys form number x y line sent rest input left old new is taken parts =
     subst (λ (t : List ℕ). HasTold sys (is.lines ++ taken.line ∷ []) t y.dump)
     (ap (λ (t : List ℕ). is.sent ++ t) parts ∙ sym (append_assoc is.sent sent rest)) (taken.told is.lines is.sent is.told)
 
 -- a line more was told, some of the text was sent, and no line could be read
 pub front_flushed :
-    (sys : System) (form : Form) (x y : Progress) (after : DumpPage) (line : List ℕ) (input left old mid got : Option (List ℕ)) → IsCopied sys form x line input left old mid
+    (sys : System) (form : Form) (number : ℕ) (x y : Progress) (after : DumpPage) (line : List ℕ) (input left old mid got : Option (List ℕ)) → IsCopied sys form number x line input left old mid
     → IsTaken sys form line x y → IsFlushed mid got y.page after → WritesFront sys old got
-front_flushed sys form x y after line input left old mid got is taken flushed =
+front_flushed sys form number x y after line input left old mid got is taken flushed =
     record {
       bytes = is.sent ++ flushed.sent;
       got = Appends-trans old mid got is.sent flushed.sent is.got flushed.got;
       lines = is.lines ++ taken.line ∷ [];
-      are = are_one sys form x y line input left old mid is taken;
+      are = are_one sys form number x y line input left old mid is taken;
       begun = begun_of sys (is.lines ++ taken.line ∷ []) (is.sent ++ flushed.sent) after.text.items y.dump
-          (told_cut sys form x y line flushed.sent after.text.items input left old mid is taken flushed.parts);
+          (told_cut sys form number x y line flushed.sent after.text.items input left old mid is taken flushed.parts);
     }
 
 -- ---- Failures
@@ -241,29 +266,29 @@ part_of sys ls end old new sent rest n are got parts short counted =
 
 -- a line more was told, and the writer failed before it got all that waited then
 pub fails_taken :
-    (sys : System) (form : Form) (x y : Progress) (line : List ℕ) (input left old mid got : Option (List ℕ)) → IsCopied sys form x line input left old mid
+    (sys : System) (form : Form) (number : ℕ) (x y : Progress) (line : List ℕ) (input left old mid got : Option (List ℕ)) → IsCopied sys form number x line input left old mid
     → IsTaken sys form line x y → (e : WaveError) → IsCutShort mid got y.page e → FailsWave sys old got e
-fails_taken sys form x y line input left old mid got is taken (Write n) cut =
+fails_taken sys form number x y line input left old mid got is taken (Write n) cut =
     let ls : List Line = is.lines ++ taken.line ∷ [] in
     let sent : List ℕ = is.sent ++ cut.sent in
     let on : (more : List ℕ) × (sent ++ (cut.missing ++ more) ≡ dump_text sys ls (AtHorizon 0)) =
-    goes_on sys ls sent cut.missing y.dump (told_cut sys form x y line cut.sent cut.missing input left old mid is taken cut.parts)
+    goes_on sys ls sent cut.missing y.dump (told_cut sys form number x y line cut.sent cut.missing input left old mid is taken cut.parts)
     in
     let some : 0 < length cut.missing = cut.short in
-    part_of sys ls (AtHorizon 0) old got sent (cut.missing ++ on.0) n (are_one sys form x y line input left old mid is taken)
+    part_of sys ls (AtHorizon 0) old got sent (cut.missing ++ on.0) n (are_one sys form number x y line input left old mid is taken)
     (Appends-trans old mid got is.sent cut.sent is.got cut.got) on.1 (rw length-append (omega arith))
     (count_more y.page.written is.sent cut.sent n (ap bounded taken.kept ∙ is.counted) cut.counted)
-fails_taken sys form x y line input left old mid got is taken e cut = absurd cut
+fails_taken sys form number x y line input left old mid got is taken e cut = absurd cut
 
 -- the end was not sent, or not all of it
 pub fails_unfinished :
-    (sys : System) (form : Form) (x : Progress) (line : List ℕ) (input left old mid new : Option (List ℕ)) → IsCopied sys form x line input left old mid
+    (sys : System) (form : Form) (number : ℕ) (x : Progress) (line : List ℕ) (input left old mid new : Option (List ℕ)) → IsCopied sys form number x line input left old mid
     → (e : WaveError) → IsUnfinished sys x mid new e → FailsWave sys old new e
-fails_unfinished sys form x line input left old mid new is (Write n) cut =
+fails_unfinished sys form number x line input left old mid new is (Write n) cut =
     part_of sys is.lines cut.end old new (is.sent ++ cut.sent) cut.missing n is.are (Appends-trans old mid new is.sent cut.sent is.got cut.got)
     (cut.parts is.lines is.sent is.told) cut.short (count_more x.page.written is.sent cut.sent n is.counted cut.counted)
-fails_unfinished sys form x line input left old mid new is e same =
-    fails_front sys old new e tt (subst (WritesFront sys old) (sym same) (front_copied sys form x line input left old mid is))
+fails_unfinished sys form number x line input left old mid new is e same =
+    fails_front sys old new e tt (subst (WritesFront sys old) (sym same) (front_copied sys form number x line input left old mid is))
 
 -- a part of the end is sent
 pub unfinished_part :

@@ -1,6 +1,6 @@
 -- The text of a line, put together from what was read of it.
 use Rattle.std.proofs.Common.{◌≡◌, ℕ, ◌<◌, Bool, true, false, List, [], ◌∷◌, ◌++◌, length, map, get_or, codes, sym, ap, ◌∙◌, append_assoc}
-use Rattle.std.specs.Prelude.{IfOk, IfSome, MatchOption, Ok, Err, Option, Some, None, Result, option_map, slice_get, unwrap_or}
+use Rattle.std.specs.Prelude.{IfNone, IfOk, IfSome, MatchOption, Ok, Err, Option, Some, None, Result, option_map, slice_get, unwrap_or}
 use Rattle.std.proofs.lemmas.List.{length-map}
 use Rattle.std.proofs.lemmas.Option.{slice_get-map, unwrap_or-slice_get}
 use Rattle.fb_types.specs.Blocks.{inputs_with, outputs_with}
@@ -17,7 +17,7 @@ use Rattle.fb_types.specs.declared.value.Reason.{Reason}
 use Rattle.fb_types.specs.declared.value.Value.{Value}
 use Rattle.fb_system.specs.Stands.{ArePlaces}
 use Rattle.fb_wave.specs.Reading.{AreRead, name_at, number_text}
-use Rattle.fb_wave.specs.Lines.{AreValuesOf, IsHead, IsTextOf}
+use Rattle.fb_wave.specs.Lines.{AreValuesOf, IsHead, IsInRange, IsTextOf}
 use Rattle.fb_wave.specs.Ports.{IsPortOf, holder_name, port_text}
 use Rattle.fb_wave.specs.declared.line.Parts.{Parts}
 use Rattle.fb_wave.specs.declared.ports.Port.{Port}
@@ -88,6 +88,12 @@ some_read P Q R (Ok None) f h = tt
 some_read P Q R (Ok (Some v)) f h = f v h
 some_read P Q R (Err e) f h = tt
 
+pub none_read :
+    {V E : Type 0} (P : Type 0) (Q : V → Type 0) (N : Type 0) (r : Result (Option V) E) → (P → N) → IfOk r (λ o. MatchOption o P Q) → IfOk r (λ o. IfNone o N)
+none_read P Q N (Ok None) f h = f h
+none_read P Q N (Ok (Some v)) f h = tt
+none_read P Q N (Err e) f h = tt
+
 -- ---- Ports
 
 -- the text at the place of a port is that of the port
@@ -112,9 +118,9 @@ names_of_resource sys r = unwrap_or (slice_get sys.resource_names r) []
 pub line_read :
     (sys : System) (form : Form) (i e : ℕ) (taken : Bool) (t r : ℕ) (p : Parts) (vs : List Value) (text rest more last : List ℕ)
     → IsHead form text p rest → rest ≡ number_text t ++ more → IsPortOf sys (port_at i e taken) → more ≡ port_text sys (port_at i e taken) ++ last
-    → AreValuesOf sys (port_at i e taken) last vs → r ≡ sys.resource (path_at sys i) → r < length sys.resource_names
+    → AreValuesOf sys (port_at i e taken) last vs → r ≡ sys.resource (path_at sys i) → r < length sys.resource_names → IsInRange (key_with t r p)
     → IsTextOf sys form (line_with (key_with t r p) (port_at i e taken) vs) text
-line_read sys form i e true t r p vs text rest more last head tick is port are held within =
+line_read sys form i e true t r p vs text rest more last head tick is port are held within range =
     let its = ports_at sys (path_at sys i) in
     let n = event_at its.event_inputs e in
     let K = key_text form (key_with t r p) in
@@ -122,6 +128,8 @@ line_read sys form i e true t r p vs text rest more last head tick is port are h
     let V = values_text (pair_up (inputs_with its n) vs) in
     record {
       line = record {
+        range = range;
+        small = is.small;
         belongs = record { instance = is.instance; resource = within; event = is.event; values = are.counted };
         held = held;
         places = are.places;
@@ -136,7 +144,7 @@ line_read sys form i e true t r p vs text rest more last head tick is port are h
           ∙ ap (λ (h : Name). ((((((K ++ (number_text t ++ h)) ++ codes " > ") ++ at) ++ codes ".") ++ n) ++ V) ++ 10 ∷ []) (sym (unwrap_or-slice_get sys.resource_names (sys.resource (path_at sys i)) []))
           ∙ ap (λ (q : ℕ). ((((((K ++ (number_text t ++ names_of_resource sys q)) ++ codes " > ") ++ at) ++ codes ".") ++ n) ++ V) ++ 10 ∷ []) (sym held);
     }
-line_read sys form i e false t r p vs text rest more last head tick is port are held within =
+line_read sys form i e false t r p vs text rest more last head tick is port are held within range =
     let its = ports_at sys (path_at sys i) in
     let n = event_at its.event_outputs e in
     let K = key_text form (key_with t r p) in
@@ -144,6 +152,8 @@ line_read sys form i e false t r p vs text rest more last head tick is port are 
     let V = values_text (pair_up (outputs_with its n) vs) in
     record {
       line = record {
+        range = range;
+        small = is.small;
         belongs = record { instance = is.instance; resource = within; event = is.event; values = are.counted };
         held = held;
         places = are.places;

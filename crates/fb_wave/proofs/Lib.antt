@@ -1,4 +1,5 @@
 pub mod Handing
+pub mod Known
 pub mod Heading
 pub mod Marking
 pub mod Numbering
@@ -15,4 +16,14 @@ pub mod Gluing
 pub mod Cutting
 pub mod Numerals
 pub mod Valued
+pub mod Plain
+pub mod Finding
+pub mod Lining
+pub mod Unlined
+pub mod Forming
+pub mod Porting
+pub mod Refusing
+pub mod Alike
+pub mod Ends
+pub mod Blaming
 pub mod Copied

@@ -18,7 +18,7 @@ use Rattle.fb_wave.specs.Told.{fired, pairs, place_of, told, told_signals, touch
 use Rattle.fb_wave.specs.Writing.{AreFirsts, AreMarks}
 use Rattle.fb_wave.specs.declared.dump.Marks.{Marks}
 use Rattle.fb_wave.proofs.Numbering.{signals_within}
-use Rattle.fb_net.proofs.Writing.{inputs_once, outputs_once}
+use Rattle.fb_wave.proofs.Known.{inputs_once, outputs_once}
 use Rattle.fb_wave.proofs.Placing.{names_told}
 
 pub line_once : (i : Inputs) (l : Line) → AreAccepted i → ¬ (Twice (variable_names (line_side (system_of i) l)))

@@ -2,7 +2,7 @@
 use Rattle.std.proofs.Common.{◌≡◌, ◌≢◌, ℕ, ◌+◌, ◌%◌, ◌^◌, ◌<◌, Bool, true, false, cond, ◌||◌, List, [], ◌∷◌, ◌++◌, length, Option, Some, None, get_or, set, refl, sym, ap, subst, ◌∙◌, arith, inl, inr}
 use Rattle.std.specs.Prelude.{◌==◌, count_by}
 use Rattle.std.proofs.lemmas.Bool.{cases_lt}
-use Rattle.std.proofs.lemmas.List.{get_or-set_other, get_or-set_same, length-set}
+use Rattle.std.proofs.lemmas.List.{get_or-set_other, get_or-set_same, get_or_append_left, get_or_push, length-set, length_push}
 use Rattle.std.proofs.lemmas.List.Folds.{list_any-append}
 use Rattle.std.proofs.lemmas.List.Sums.{sum_by-append}
 use borrow.Author.Tests.{eq-eqb, ne_eqb}
@@ -37,6 +37,34 @@ noted-append b (s ∷ ss) us = noted-append (with_one b s) ss us
 
 pub is_in-more : (ss : List ℕ) (s k : ℕ) → is_in (ss ++ s ∷ []) k ≡ (is_in ss k || ((s == k) || false))
 is_in-more ss s k = list_any-append (λ (j : ℕ). j == k) ss (s ∷ [])
+
+-- ---- One more signal
+
+abbrev fresh : Cell
+fresh = record { shown = Count 0; is_noted = false }
+
+is_fresh : (s : ℕ) → IsCell [] [] [] s fresh
+is_fresh s = record { shown = refl; is_noted = refl }
+
+-- a signal of which no line told
+pub one_more_signal :
+    (n : ℕ) (x y : code.Levels) → AreLevels n [] [] [] x → y.cells.items ≡ x.cells.items ++ fresh ∷ [] → y.noted.items ≡ x.noted.items
+    → AreLevels (n + 1) [] [] [] y
+one_more_signal n x y are more same =
+    let xs = x.cells.items in
+    let counted = are.counted in
+    record {
+      counted = omega (arith, ap length more, length_push xs fresh, counted);
+      cells = subst (λ (cs : List Cell). (s : ℕ) (d : Cell) → s < length cs → IsCell [] [] [] s (get_or cs s d)) (sym more)
+          (λ s d h.
+          elim (cases_lt s (length xs)) [
+            | inl less ↦ subst (IsCell [] [] [] s) (sym (get_or_append_left xs (fresh ∷ []) d s less)) (are.cells s d less)
+            | inr past ↦
+                (let last : length xs ≡ s = omega (arith, h, past, length_push xs fresh) in
+                subst (IsCell [] [] [] s) (sym (get_or_push xs fresh d s last)) (is_fresh s))
+          ]);
+      noted = same ∙ are.noted;
+    }
 
 -- ---- A table with one cell changed
 

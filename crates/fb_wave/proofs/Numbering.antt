@@ -3,7 +3,7 @@ use Rattle.std.proofs.Common.{◌≡◌, ℕ, ◌+◌, ◌^◌, ◌<◌, ◌≤�
 use Rattle.std.proofs.lemmas.Bool.{cases_lt}
 use Rattle.std.proofs.lemmas.Grind.{take_at_read}
 use Rattle.std.proofs.lemmas.Option.{unwrap_or-slice_get}
-use Rattle.std.proofs.lemmas.List.{drop_more, get_or_append_left, get_or_default, get_or_push, length_push, take_all}
+use Rattle.std.proofs.lemmas.List.{drop_more, get_or_append_left, get_or_push, length_push, take_all}
 use Rattle.fb_types.specs.Names.{Path}
 use Rattle.fb_types.specs.Systems.{System}
 use Rattle.fb_types.specs.Numbers.{path_at, ports_at}
@@ -82,14 +82,3 @@ signals_fit sys firsts i within are =
     let first = are.each i (omega (arith, within)) in
     let small = are.small in
     omega (arith, all, first, small)
-
--- how many signals there are stands behind the first ones
-pub count_is : (sys : System) (firsts : List ℕ) → AreFirsts sys firsts → get_or firsts (length sys.paths) 0 ≡ sizes_of sys sys.paths
-count_is sys firsts are = are.each (length sys.paths) (omega arith) ∙ first_signal-all sys (length sys.paths) (omega arith)
-
--- a number that was read there
-pub count_read :
-    (sys : System) (firsts : List ℕ) (k n : ℕ) → AreFirsts sys firsts → k ≡ length sys.paths → n ≡ get_or firsts k n → n ≡ sizes_of sys sys.paths
-count_read sys firsts k n are end is =
-    let counted = are.counted in
-    is ∙ ap (λ (j : ℕ). get_or firsts j n) end ∙ get_or_default firsts (length sys.paths) n 0 (omega (arith, counted)) ∙ count_is sys firsts are

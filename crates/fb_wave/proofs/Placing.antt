@@ -4,16 +4,11 @@ use Rattle.std.specs.Prelude.{All, Option, Some, option_map, slice_get, unwrap_o
 use Rattle.std.proofs.lemmas.List.Elements.{All-head, All-tail}
 use Rattle.std.proofs.lemmas.Option.{slice_get-map}
 use Rattle.fb_types.specs.Blocks.{variable_names}
-use Rattle.fb_types.specs.Headline.{AreAccepted, Inputs, system_of}
-use Rattle.fb_types.specs.Flat.{instance_at}
-use Rattle.fb_types.specs.Names.{Name, Path}
-use Rattle.fb_types.specs.Numbers.{path_at}
+use Rattle.fb_types.specs.Names.{Name}
 use Rattle.fb_types.specs.Repeated.{Twice}
-use Rattle.fb_types.specs.declared.library.Instance.{Instance}
 use Rattle.fb_types.specs.declared.library.Variable.{Variable}
 use Rattle.fb_types.proofs.Positions.{position_of_once}
 use Rattle.fb_system.specs.Stands.{ArePlaces, variable_at}
-use Rattle.fb_net.proofs.Known.{stood}
 use Rattle.fb_wave.specs.Told.{place_of}
 
 name_of : Variable → Name
@@ -45,11 +40,3 @@ pub names_told :
     → map (λ k. first + k) ks ≡ map (λ n. first + place_of vs n) names
 names_told vs first names ks once are =
     sym (ap (map (λ (n : Name). first + place_of vs n)) (sym are.named) ∙ places_told vs first ks once are.within)
-
--- no path is empty
-pub path_some : (i : Inputs) → AreAccepted i → (k : ℕ) → k < length (system_of i).paths → 0 < length (path_at (system_of i) k)
-path_some i accepted k h = let s = stood i k accepted h in of (path_at (system_of i) k) s.instance s.is_instance
-  where
-    of : (p : Path) (x : Instance) → instance_at i.library p ≡ Some x → 0 < length p
-    of [] x e = absurd (cc)
-    of (n ∷ p) x e = omega arith

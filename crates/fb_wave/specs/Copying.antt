@@ -1,5 +1,6 @@
 -- How a dump is copied from a trace, line by line (this project's profile).
-use Rattle.std.specs.Prelude.{◌≡◌, ◌<◌, ◌≤◌, ℕ, ◌+◌, List, [], ◌∷◌, ◌++◌, length, map, Option}
+use Rattle.std.specs.Prelude.{◌≡◌, ◌<◌, ◌≤◌, ◌⊎◌, ℕ, ◌+◌, List, [], ◌∷◌, ◌++◌, length, map, IfSome, Option, Some}
+use Rattle.std.specs.Io.BufRead.{take_through}
 use Rattle.std.specs.Io.KnownBytes.{Appends, Consumes, IsAtEnd}
 use Rattle.fb_types.specs.Systems.{System}
 use Rattle.fb_types.specs.Simulation.{Ending}
@@ -14,6 +15,7 @@ use Rattle.fb_trace.specs.declared.last.RunEnd.TheVariants.{Horizon, Stop}
 use Rattle.fb_wave.specs.Dumps.{dump_text, last_tick}
 use Rattle.fb_wave.specs.Writing.{HasTold, IsDump}
 use Rattle.fb_wave.specs.Lines.{IsTextOf}
+use Rattle.fb_wave.specs.Named.{HasNames}
 use Rattle.fb_wave.specs.Waves.{AreLinesOf}
 use Rattle.fb_wave.specs.declared.copy.Progress.{Progress}
 use Rattle.fb_wave.specs.declared.error.WaveError.{WaveError}
@@ -24,6 +26,33 @@ use Rattle.fb_wave.specs.declared.page.DumpPage.{DumpPage}
 abbrev pub IsAfter : ℕ → RunEnd → Type 0
 IsAfter t (Horizon h) = t < h
 IsAfter t (Stop m) = t ≤ m.tick
+
+-- ---- Refusals
+
+-- The text is that of no line of the system from a tick on.
+abbrev pub IsNoLineFrom : (sys : System) (form : Form) (tick : ℕ) → List ℕ → Type 0
+IsNoLineFrom sys form t text = (l : Line) → IsTextOf sys form l text → t ≤ l.key.tick → ⊥
+
+-- A line of that number is refused only where it is no line from the tick on.
+abbrev pub RefusesLine : (sys : System) (form : Form) (tick number : ℕ) → List ℕ → WaveError → Type 0
+RefusesLine sys form t number text (Refused n) = (n ≡ number) × IsNoLineFrom sys form t text
+RefusesLine sys form t number text Names = ⊥
+RefusesLine sys form t number text Memory = Unit {0}
+RefusesLine sys form t number text Read = Unit {0}
+RefusesLine sys form t number text (Write n) = Unit {0}
+
+-- An end in the line of that number is refused only where it comes too early, and the next line only where there is one.
+abbrev pub RefusesEnd : RunEnd → (tick number : ℕ) → (left : Option (List ℕ)) → WaveError → Type 0
+RefusesEnd end t number left (Refused n) =
+    ((n ≡ number) × ¬ (IsAfter t end)) ⊎ ((n ≡ number + 1) × IsAfter t end × IfSome left (λ rest. 0 < length rest))
+RefusesEnd end t number left Names = ⊥
+RefusesEnd end t number left Memory = Unit {0}
+RefusesEnd end t number left Read = Unit {0}
+RefusesEnd end t number left (Write n) = Unit {0}
+
+-- the line is all up to the first line feed of the text, which it has too
+abbrev pub IsFirstLine : (line : List ℕ) → (text : Option (List ℕ)) → Type 0
+IsFirstLine line text = IfSome text (λ bytes. line ≡ take_through 10 bytes)
 
 -- the writer did not fail
 abbrev pub IsNoWriteFault : WaveError → Type 0
@@ -91,8 +120,11 @@ IsUnfinished sys before old new Read = new ≡ old
 IsUnfinished sys before old new (Write n) = IsCutOff sys before old new n
 
 -- Lines of a trace were read and told, and the next was read. A part of the dump was sent, and counted, and a part waits.
-pub record IsCopied (sys : System) (form : Form) (x : Progress) (next : List ℕ) (input left old new : Option (List ℕ)) : Type 0 where
+pub record IsCopied (sys : System) (form : Form) (number : ℕ) (x : Progress) (next : List ℕ) (input left old new : Option (List ℕ)) : Type 0 where
   pub lines : List Line
+  pub numbered : number ≡ length lines + 1
+  pub formed : HasNames sys → lines ≡ [] → (f : Form) (l : Line) → IsTextOf sys f l next → f ≡ form
+  pub first : (text rest : List ℕ) → input ≡ Some text → left ≡ Some rest → next ≡ take_through 10 (next ++ rest)
   pub sent : List ℕ
   pub are : AreLinesOf sys lines
   pub last : x.tick ≡ last_tick 0 lines

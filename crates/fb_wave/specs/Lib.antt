@@ -9,6 +9,8 @@ pub mod Ports
 pub mod Tables
 pub mod Lines
 pub mod Words
+pub mod Named
 pub mod Reading
 pub mod Waves
+pub mod Refusals
 pub mod Copying

@@ -9,7 +9,7 @@ use Rattle.fb_types.specs.declared.run.Form.{Form}
 use Rattle.fb_types.specs.declared.run.Line.{Line}
 use Rattle.fb_trace.specs.Progress.{IsPartWritten}
 use Rattle.fb_wave.specs.Dumps.{dump_text, last_tick}
-use Rattle.fb_wave.specs.Lines.{IsLineOf}
+use Rattle.fb_wave.specs.Lines.{IsEndOf, IsLineOf}
 use Rattle.fb_wave.specs.declared.error.WaveError.{WaveError}
 use Rattle.fb_wave.specs.declared.error.WaveError.TheVariants.{Refused, Names, Memory, Read, Write}
 
@@ -21,9 +21,9 @@ RiseFrom t [] = Unit {0}
 RiseFrom t (l ∷ ls) = (t ≤ l.key.tick) × RiseFrom l.key.tick ls
 
 -- What may come behind a last line of that tick: a horizon after it, or a stop in it or after it.
-abbrev pub EndsAfter : System → ℕ → Ending → Type 0
-EndsAfter sys t (AtHorizon h) = t < h
-EndsAfter sys t (AtStop k r reason) = (t ≤ k) × (r < length sys.resource_names)
+abbrev pub EndsAfter : ℕ → Ending → Type 0
+EndsAfter t (AtHorizon h) = t < h
+EndsAfter t (AtStop k r reason) = t ≤ k
 
 -- Lines that a trace of the system can begin with.
 pub record AreLinesOf (sys : System) (ls : List Line) : Type 0 where
@@ -33,7 +33,8 @@ pub record AreLinesOf (sys : System) (ls : List Line) : Type 0 where
 -- The text is a trace of the system, in this form: that of these lines and this end.
 pub record IsTraceOf (sys : System) (form : Form) (text : List ℕ) (ls : List Line) (end : Ending) : Type 0 where
   pub lines : AreLinesOf sys ls
-  pub ends : EndsAfter sys (last_tick 0 ls) end
+  pub last : IsEndOf sys end
+  pub ends : EndsAfter (last_tick 0 ls) end
   pub is : text ≡ trace_text form sys (map (line_of sys) ls) end
 
 -- ---- Outcomes

@@ -1,13 +1,17 @@
 //! From the lines of a trace to its dump.
 
-ghost use Rattle.std.specs.Prelude.{◌≡◌, [], ◌++◌, IfErr, IfOk, IfSome, OnOk, IsTrue};
+ghost use Rattle.std.specs.Prelude.{◌≡◌, ◌<◌, ◌↔◌, ℕ, ◌+◌, ◌^◌, List, [], ◌∷◌, ◌++◌, true, false, length, if◌then◌else◌, IfErr, IfOk, IfSome, OnOk, IsTrue};
 ghost use Rattle.std.specs.Io.KnownBytes.{Consumes, IsAtEnd};
 ghost use Rattle.fb_types.specs.Headline.{system_of};
 ghost use Rattle.fb_wave.specs.Lines.{IsLast};
 ghost use Rattle.fb_wave.specs.Tables.{IsTable};
 ghost use Rattle.fb_wave.specs.Writing.{HasTold, IsDump};
-ghost use Rattle.fb_wave.specs.Copying.{IsAfter, IsFinished, IsNoWriteFault, IsTaken, IsUnfinished};
+ghost use Rattle.fb_wave.specs.Copying.{IsAfter, IsFinished, IsFirstLine, IsNoWriteFault, IsTaken, IsUnfinished, RefusesEnd, RefusesLine};
+ghost use Rattle.fb_wave.specs.Named as named;
+ghost use Rattle.fb_wave.specs.Named.{HasNames};
+ghost use Rattle.fb_wave.specs.Refusals.{Blames};
 ghost use Rattle.fb_wave.specs.Waves.{FailsWave, IsWave};
+ghost use Rattle.fb_wave.specs.Words.{is_word};
 
 use crate::dump::Dump;
 use crate::error::WaveError;
@@ -15,7 +19,7 @@ use crate::last::read_last;
 use crate::line::read_line;
 use crate::page::DumpPage;
 use crate::table::{Guess, PortTable};
-use crate::words::cut;
+use crate::words::{cut, is_digit};
 use fb_system::System;
 use fb_trace::RunEnd;
 use fb_types::Form;
@@ -25,6 +29,7 @@ use std::io::{BufRead, Write};
 /// Reads the next line into a buffer, with its line feed. It is empty where there is none.
 fn next_line<R: BufRead>(input: &mut R, line: &mut Vec<u8>) -> Result<(), WaveError>
     ensures read { OnOk result (Consumes (R.remaining input.old) (R.remaining input.new) line.new.items) }
+    ensures line { OnOk result (IsFirstLine line.new.items (R.remaining input.old)) }
     ensures end { OnOk result (line.new.items ≡ [] → IsAtEnd (R.remaining input.old)) }
     ensures fault { IfErr result (λ e. e ≡ WaveError.Read) }
 {
@@ -35,18 +40,31 @@ fn next_line<R: BufRead>(input: &mut R, line: &mut Vec<u8>) -> Result<(), WaveEr
     }
 }
 
+/// The form of a line by what stands behind its first word.
+fn form_behind(rest: &[u8]) -> Form
+    ensures { (b : ℕ) (more : List ℕ) → rest.now ≡ 32 ∷ (b ∷ more) → result ≡ (if named.is_digit b then Form.Two else Form.One) }
+{
+    match rest {
+        [_, first, ..] if is_digit(*first) => Form::Two,
+        _ => Form::One,
+    }
+}
+
 /// The form of the lines of a trace that begins with this one. In form two the second word is a number, and in form one
 /// it is a name.
-fn form_of(line: &[u8]) -> Form {
+fn form_of(line: &[u8]) -> Form
+    ensures { (word rest : List ℕ) (b : ℕ) → is_word word ≡ true → line.now ≡ word ++ 32 ∷ (b ∷ rest)
+        → result ≡ (if named.is_digit b then Form.Two else Form.One) }
+{
     match cut(line) {
-        Some((_, [_, first, ..])) if first.is_ascii_digit() => Form::Two,
-        _ => Form::One,
+        Some(parts) => form_behind(parts.1),
+        None => Form::One,
     }
 }
 
 /// Whether a trace whose last line is of a tick can end so.
 fn can_end(tick: u64, end: RunEnd) -> bool
-    ensures { IsTrue result → IsAfter tick end }
+    ensures { IsTrue result ↔ IsAfter tick end }
 {
     match end {
         RunEnd::Horizon(horizon) => tick < horizon,
@@ -57,6 +75,7 @@ fn can_end(tick: u64, end: RunEnd) -> bool
 /// Whether nothing is left to read.
 fn is_over<R: BufRead>(input: &mut R, line: &mut Vec<u8>) -> Result<bool, WaveError>
     ensures over { IfOk result (λ over. IsTrue over → IsAtEnd (R.remaining input.old)) }
+    ensures more { IfOk result (λ over. over ≡ false → IfSome (R.remaining input.old) (λ rest. 0 < length rest)) }
     ensures fault { IfErr result (λ e. e ≡ WaveError.Read) }
 {
     next_line(input, line)?;
@@ -87,6 +106,8 @@ impl Progress {
         requires dump { IsDump (system_of table.now.system.now) self.old.dump }
         ensures taken { OnOk result (IsTaken (system_of table.now.system.now) form line.now self.old self.new) }
         ensures fault { IfErr result IsNoWriteFault }
+        ensures refused { HasNames (system_of table.now.system.now)
+            → IfErr result (RefusesLine (system_of table.now.system.now) form self.old.tick number line.now) }
     {
         let Some(line) = read_line(alloc, table, &mut self.guess, form, line)? else {
             return Err(WaveError::Refused(number));
@@ -110,16 +131,18 @@ impl Progress {
         out: &mut W,
     ) -> Result<(), WaveError>
         requires dump { IsDump (system_of system.now) self.old.dump }
+        requires number { number + 1 < 2 ^ 64 }
         requires end { IsLast (system_of system.now) line.old.items end }
         ensures whole { OnOk result (IsFinished (system_of system.now) end self.old (R.remaining input.old) (W.contents out.old) (W.contents out.new)) }
         ensures part { IfErr result (IsUnfinished (system_of system.now) self.old (W.contents out.old) (W.contents out.new)) }
+        ensures refused { IfErr result (RefusesEnd end self.old.tick number (R.remaining input.old)) }
     {
         if !can_end(self.tick, end) {
             return Err(WaveError::Refused(number));
         }
         self.dump.end(system, end, &mut self.page.text)?;
         if !is_over(input, line)? {
-            return Err(WaveError::Refused(number.saturating_add(1)));
+            return Err(WaveError::Refused(number + 1));
         }
         self.page.flush(out)
     }
@@ -141,6 +164,8 @@ impl Progress {
         requires written { self.old.page.written ≡ 0 }
         ensures whole { OnOk result (IfSome (R.remaining input.old) (λ text. IsWave (system_of table.now.system.now) text (W.contents out.old) (W.contents out.new))) }
         ensures part { IfErr result (FailsWave (system_of table.now.system.now) (W.contents out.old) (W.contents out.new)) }
+        ensures refused { HasNames (system_of table.now.system.now)
+            → IfErr result (Blames (system_of table.now.system.now) (R.remaining input.old)) }
     {
         next_line(input, line)?;
         let form = form_of(line.as_slice());

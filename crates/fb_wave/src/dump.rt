@@ -169,9 +169,9 @@ impl Dump {
         ensures numbers { IfOk result (IsDump (system_of system.now)) }
         ensures told { text.old.items ≡ [] → IfOk result (HasTold (system_of system.now) [] text.new.items) }
     {
-        let firsts = firsts_of(alloc, system)?;
+        let mut levels = Levels::new(alloc);
+        let firsts = firsts_of(alloc, system, &mut levels)?;
         put_head(text, system, firsts.as_slice())?;
-        let levels = Levels::new(alloc, firsts[system.count()])?;
         Ok(Dump {
             firsts,
             levels,

@@ -9,10 +9,11 @@ use thiserror::Error;
 /// Why a trace has no dump, or no whole one.
 #[derive(Debug, Drop, Error)]
 pub enum WaveError {
-    /// The line, from 1, at which it shows first that the text is no trace of the system.
+    /// The line, from 1, that no trace of the system has after the lines before it.
     #[error("refused trace line {0}")]
     Refused(u64),
-    /// Two ports are written alike, so that lines do not tell them. No declaration that was read from a text has such names.
+    /// Two ports are written alike, so that lines do not tell them. That is never so where names are letters, digits and
+    /// underscores, as in every declaration and deployment that was read from a text.
     #[error("names of the declaration do not tell its ports")]
     Names,
     #[error("out of memory")]

@@ -1,46 +1,43 @@
 //! The numbers of the first signals of instances.
 
-ghost use Rattle.std.specs.Prelude.{◌≡◌, ◌<◌, ◌+◌, ◌^◌, IfOk};
+ghost use Rattle.std.specs.Prelude.{◌≡◌, ℕ, ◌+◌, [], IfOk, OnOk};
 ghost use Rattle.fb_types.specs.Headline.{system_of};
+ghost use Rattle.fb_wave.specs.Levels.{AreLevels};
 ghost use Rattle.fb_wave.specs.Signals as spec;
 ghost use Rattle.fb_wave.specs.Writing.{AreFirsts};
 
+use crate::levels::Levels;
 use fb_system::System;
 use fb_types::Ports;
 use std::alloc::{AllocError, Global};
 
-/// The sum of two numbers of signals. One that is too great counts as want of memory, which keeps each signal.
-fn sum(a: usize, b: usize) -> Result<usize, AllocError>
-    ensures sum { IfOk result (λ n. n ≡ a + b) }
-    ensures fits { IfOk result (λ n. n < 2 ^ 64) }
+/// Adds the signals of an interface.
+fn add_ports(levels: &mut Levels, ports: &Ports) -> Result<(), AllocError>
+    ensures { (n : ℕ) → AreLevels n [] [] [] levels.old → OnOk result (AreLevels (n + spec.size_of ports.now) [] [] [] levels.new) }
 {
-    match a.checked_add(b) {
-        Some(n) => Ok(n),
-        None => Err(AllocError),
-    }
+    levels.add(ports.event_inputs.len())?;
+    levels.add(ports.event_outputs.len())?;
+    levels.add(ports.inputs.len())?;
+    levels.add(ports.outputs.len())
 }
 
-/// How many signals an instance of an interface has.
-fn size_of(ports: &Ports) -> Result<usize, AllocError>
-    ensures { IfOk result (λ n. n ≡ spec.size_of ports.now) }
-{
-    let events = sum(ports.event_inputs.len(), ports.event_outputs.len())?;
-    sum(sum(events, ports.inputs.len())?, ports.outputs.len())
-}
-
-/// The number of the first signal of each instance, and behind them how many signals there are.
-pub(crate) fn firsts_of(alloc: Global, system: &System) -> Result<Vec<usize>, AllocError>
-    ensures { IfOk result (λ v. AreFirsts (system_of system.now) v.items) }
+/// Adds the signals of all instances where there are none yet. The answer is the number of the first signal of each
+/// instance, and behind them how many signals there are.
+pub(crate) fn firsts_of(
+    alloc: Global,
+    system: &System,
+    levels: &mut Levels,
+) -> Result<Vec<usize>, AllocError>
+    requires { AreLevels 0 [] [] [] levels.old }
+    ensures firsts { IfOk result (λ v. AreFirsts (system_of system.now) v.items) }
+    ensures levels { OnOk result (AreLevels (spec.sizes_of (system_of system.now) (system_of system.now).paths) [] [] [] levels.new) }
 {
     system.facts();
     let mut firsts = Vec::new(alloc);
-    let mut first = 0;
     for instance in 0..system.count() {
-        firsts.push(first)?;
-        let size = size_of(system.ports(instance as u32))?;
-        let next = sum(first, size)?;
-        first = next;
+        firsts.push(levels.count())?;
+        add_ports(levels, system.ports(instance as u32))?;
     }
-    firsts.push(first)?;
+    firsts.push(levels.count())?;
     Ok(firsts)
 }

@@ -1,10 +1,11 @@
 //! The last line of a trace.
 
-ghost use Rattle.std.specs.Prelude.{◌≡◌, ◌<◌, ◌++◌, [], ◌∷◌, IfSome, length, slice_index_or, codes, decimal};
+ghost use Rattle.std.specs.Prelude.{◌≡◌, ◌<◌, ◌^◌, ℕ, ◌++◌, [], ◌∷◌, IfNone, IfSome, MatchOption, length, slice_index_or, codes, decimal};
 ghost use Rattle.fb_types.specs.Headline.{system_of};
 ghost use Rattle.fb_types.specs.Simulation.{AtStop};
 ghost use Rattle.fb_types.specs.Text.{last_line, place_text, reason_text};
-ghost use Rattle.fb_wave.specs.Lines.{IsLast, IsStop};
+ghost use Rattle.fb_wave.specs.Lines.{IsLast, IsNoLast, IsNoStop, IsStop};
+ghost use Rattle.fb_wave.specs.Named.{HasNames};
 
 use crate::number::{magnitude, tick};
 use crate::words::{behind, cut};
@@ -16,13 +17,13 @@ use fb_types::{Reason, StopMark};
 fn resource_of(system: &System, name: &[u8]) -> Option<u32>
     ensures within { IfSome result (λ r. r < length (system_of system.now).resource_names) }
     ensures named { IfSome result (λ r. name.now ≡ slice_index_or (system_of system.now).resource_names r []) }
+    ensures none { IfNone result ((r : ℕ) → r < length (system_of system.now).resource_names
+        → name.now ≡ slice_index_or (system_of system.now).resource_names r [] → ⊥) }
 {
+    system.facts();
     for resource in 0..system.resources() {
         if system.resource_name(resource) == name {
-            return match u32::try_from(resource) {
-                Ok(number) => Some(number),
-                Err(_) => None,
-            };
+            return Some(resource as u32);
         }
     }
     None
@@ -30,7 +31,7 @@ fn resource_of(system: &System, name: &[u8]) -> Option<u32>
 
 /// The reason that a text tells behind a blank, with its line feed.
 fn reason_of(text: &[u8]) -> Option<Reason>
-    ensures { IfSome result (λ r. text.now ≡ codes " " ++ reason_text r ++ 10 ∷ []) }
+    ensures { MatchOption result ((r : Reason) → text.now ≡ codes " " ++ reason_text r ++ 10 ∷ [] → ⊥) (λ r. text.now ≡ codes " " ++ reason_text r ++ 10 ∷ []) }
 {
     if text == b" steps\n".as_slice() {
         return Some(Reason::Steps);
@@ -46,7 +47,7 @@ fn reason_of(text: &[u8]) -> Option<Reason>
 
 /// The tick that a text tells, with its line feed.
 fn horizon_of(text: &[u8]) -> Option<u64>
-    ensures { IfSome result (λ h. text.now ≡ decimal h ++ 10 ∷ []) }
+    ensures { MatchOption result ((h : ℕ) → h < 2 ^ 64 → text.now ≡ decimal h ++ 10 ∷ [] → ⊥) (λ h. text.now ≡ decimal h ++ 10 ∷ []) }
 {
     let parts = cut(text)?;
     if parts.1 != b"\n".as_slice() {
@@ -57,7 +58,8 @@ fn horizon_of(text: &[u8]) -> Option<u64>
 
 /// The stop of a resource that a text tells, with its line feed.
 fn stop_of(system: &System, text: &[u8]) -> Option<StopMark>
-    ensures { IfSome result (IsStop (system_of system.now) text.now) }
+    ensures stop { IfSome result (IsStop (system_of system.now) text.now) }
+    ensures none { HasNames (system_of system.now) → IfNone result (IsNoStop (system_of system.now) text.now) }
 {
     let tick = tick(text)?;
     let name = cut(tick.1)?;
@@ -72,7 +74,8 @@ fn stop_of(system: &System, text: &[u8]) -> Option<StopMark>
 
 /// The end that a text tells, with its line feed.
 pub(crate) fn read_last(system: &System, text: &[u8]) -> Option<RunEnd>
-    ensures { IfSome result (IsLast (system_of system.now) text.now) }
+    ensures last { IfSome result (IsLast (system_of system.now) text.now) }
+    ensures none { HasNames (system_of system.now) → IfNone result (IsNoLast (system_of system.now) text.now) }
 {
     // With a number begins the line of an event.
     if let Some(b'0'..=b'9') = text.first() {

@@ -1,6 +1,6 @@
 //! What signals show, as far as a trace was read.
 
-ghost use Rattle.std.specs.Prelude.{◌≡◌, ◌<◌, ℕ, List, ◌++◌, [], ◌∷◌, All, IfOk, OnOk, length};
+ghost use Rattle.std.specs.Prelude.{◌≡◌, ◌<◌, ℕ, ◌+◌, ◌^◌, List, ◌++◌, [], ◌∷◌, All, OnOk, length};
 ghost use Rattle.fb_wave.specs.Levels as spec;
 ghost use Rattle.fb_wave.specs.Levels.{AreLevels};
 
@@ -45,21 +45,37 @@ fn after_event(shown: Level) -> Level
 }
 
 impl Levels {
-    /// So many signals, of which no line told.
-    pub(crate) fn new(alloc: Global, count: usize) -> Result<Levels, AllocError>
-        ensures { IfOk result (AreLevels count [] [] []) }
+    /// No signals.
+    pub(crate) fn new(alloc: Global) -> Levels
+        ensures { AreLevels 0 [] [] [] result }
     {
-        let mut cells = Vec::new(alloc);
-        while cells.len() < count {
-            cells.push(Cell {
+        Levels {
+            cells: Vec::new(alloc),
+            noted: Vec::new(alloc),
+        }
+    }
+
+    /// How many signals there are.
+    pub(crate) fn count(&self) -> usize
+        ensures counted { result ≡ length self.now.cells.items }
+        ensures fits { result < 2 ^ 64 }
+    {
+        self.cells.len()
+    }
+
+    /// Adds a number of signals to those of which no line told yet.
+    pub(crate) fn add(&mut self, count: usize) -> Result<(), AllocError>
+        ensures { (n : ℕ) → AreLevels n [] [] [] self.old → OnOk result (AreLevels (n + count) [] [] [] self.new) }
+    {
+        let mut left = count;
+        while left > 0 {
+            self.cells.push(Cell {
                 shown: Level::Count(0),
                 is_noted: false,
             })?;
+            left -= 1;
         }
-        Ok(Levels {
-            cells,
-            noted: Vec::new(alloc),
-        })
+        Ok(())
     }
 
     /// Notes that a line of this tick told of a signal.

@@ -2,7 +2,8 @@
 //!
 //! Guarantees to callers: where a text was shown, it is the trace of some lines of the system with an end behind them, in one of
 //! the two forms, and the writer got exactly the dump that the definitions have of these, as a function of the whole list. Where it
-//! is refused or fails, the writer got the first bytes of a dump.
+//! is refused, the line is the first that no trace of the system has after the lines before it. Where it is refused or fails, the
+//! writer got the first bytes of a dump.
 //!
 //! Read in this order: `wave`, the entry, with `error`; `copy`, which goes line by line, and `page`, where text waits. Then
 //! how lines are read: `words`, what parts a line; `number` and `values`, what words stand for; `ports`, the event ports of a

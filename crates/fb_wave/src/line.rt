@@ -1,10 +1,11 @@
 //! Lines of a trace.
 
-ghost use Rattle.std.specs.Prelude.{◌≡◌, ◌++◌, IfOk, IfSome};
-ghost use Rattle.fb_types.specs.Headline.{system_of};
+ghost use Rattle.std.specs.Prelude.{◌≡◌, ◌≤◌, ◌^◌, ◌++◌, IfNone, IfOk, IfSome, MatchOption};
+ghost use Rattle.fb_types.specs.Headline.{AreAccepted, system_of};
 ghost use Rattle.fb_types.specs.Numbers.{event_at, path_at, ports_at};
 ghost use Rattle.fb_types.specs.Text.{key_text};
-ghost use Rattle.fb_wave.specs.Lines.{AreValuesOf, IsHead, IsTextOf};
+ghost use Rattle.fb_wave.specs.Lines.{AreInRange, AreNoValuesOf, AreValuesOf, HasNoHead, IsHead, IsNoTextOf, IsTextOf};
+ghost use Rattle.fb_wave.specs.Named.{HasNames};
 ghost use Rattle.fb_wave.specs.Ports.{IsPortOf};
 ghost use Rattle.fb_wave.specs.Tables.{IsTable};
 
@@ -24,9 +25,21 @@ struct Parts {
     b: u128,
 }
 
+/// The class in 8 bits, where it has no more.
+fn class_of(number: u128) -> Option<u8>
+    ensures { MatchOption result (2 ^ 8 ≤ number) (λ class. class ≡ number) }
+{
+    if number < 1 << 8 {
+        Some(number as u8)
+    } else {
+        None
+    }
+}
+
 /// What a line begins with in a form, and what stands behind it.
 fn parts_of(form: Form, text: &[u8]) -> Option<(Parts, &[u8])>
-    ensures { IfSome result (λ p. IsHead form text.now p.0 p.1.now) }
+    ensures head { MatchOption result (HasNoHead form text.now) (λ p. IsHead form text.now p.0 p.1.now) }
+    ensures range { IfSome result (λ p. AreInRange p.0) }
 {
     match form {
         Form::One => Some((
@@ -42,7 +55,7 @@ fn parts_of(form: Form, text: &[u8]) -> Option<(Parts, &[u8])>
             let a = number(class.1)?;
             let b = number(a.1)?;
             let parts = Parts {
-                class: u8::try_from(class.0).ok()?,
+                class: class_of(class.0)?,
                 a: a.0,
                 b: b.0,
             };
@@ -59,7 +72,8 @@ fn port_values(
     text: &[u8],
 ) -> Result<Option<Values>, AllocError>
     requires { IsPortOf (system_of system.now) port }
-    ensures { IfOk result (λ o. IfSome o (AreValuesOf (system_of system.now) port text.now)) }
+    ensures values { IfOk result (λ o. IfSome o (AreValuesOf (system_of system.now) port text.now)) }
+    ensures none { AreAccepted system.now → IfOk result (λ o. IfNone o (AreNoValuesOf (system_of system.now) port text.now)) }
 {
     let ports = system.ports(port.instance);
     if port.taken {
@@ -80,7 +94,8 @@ pub(crate) fn read_line(
     text: &[u8],
 ) -> Result<Option<Line>, AllocError>
     requires { IsTable table.now }
-    ensures { IfOk result (λ o. IfSome o (λ l. IsTextOf (system_of table.now.system.now) form l text.now)) }
+    ensures line { IfOk result (λ o. IfSome o (λ l. IsTextOf (system_of table.now.system.now) form l text.now)) }
+    ensures none { HasNames (system_of table.now.system.now) → IfOk result (λ o. IfNone o (IsNoTextOf (system_of table.now.system.now) form text.now)) }
 {
     let Some(head) = parts_of(form, text) else {
         return Ok(None);

@@ -1,6 +1,6 @@
 //! Numbers of a line.
 
-ghost use Rattle.std.specs.Prelude.{◌≡◌, ◌+◌, ◌-◌, ◌*◌, ◌^◌, ◌<◌, ◌≤◌, ◌++◌, decimal, MatchOption};
+ghost use Rattle.std.specs.Prelude.{◌≡◌, ◌+◌, ◌-◌, ◌*◌, ◌^◌, ◌<◌, ◌≤◌, ◌++◌, decimal, IfSome, MatchOption};
 ghost use Rattle.fb_wave.specs.Reading.{HasNoNumber, IsGrown, IsNoNumber, IsWide, number_text};
 
 use crate::words::{behind, cut};
@@ -49,7 +49,8 @@ pub(crate) fn magnitude(text: &[u8]) -> Option<u64>
 
 /// A number before a blank, and what stands behind the blank.
 pub(crate) fn number(text: &[u8]) -> Option<(u128, &[u8])>
-    ensures { MatchOption result (HasNoNumber (2 ^ 128) text.now) (λ p. text.now ≡ number_text p.0 ++ p.1.now) }
+    ensures number { MatchOption result (HasNoNumber (2 ^ 128) text.now) (λ p. text.now ≡ number_text p.0 ++ p.1.now) }
+    ensures range { IfSome result (λ p. p.0 < 2 ^ 128) }
 {
     let parts = cut(text)?;
     Some((natural(parts.0)?, behind(parts.1, b" ")?))
@@ -57,7 +58,8 @@ pub(crate) fn number(text: &[u8]) -> Option<(u128, &[u8])>
 
 /// A number of 64 bits before a blank, and what stands behind the blank.
 pub(crate) fn tick(text: &[u8]) -> Option<(u64, &[u8])>
-    ensures { MatchOption result (HasNoNumber (2 ^ 64) text.now) (λ p. text.now ≡ number_text p.0 ++ p.1.now) }
+    ensures tick { MatchOption result (HasNoNumber (2 ^ 64) text.now) (λ p. text.now ≡ number_text p.0 ++ p.1.now) }
+    ensures range { IfSome result (λ p. p.0 < 2 ^ 64) }
 {
     let parts = number(text)?;
     Some((narrow(parts.0)?, parts.1))

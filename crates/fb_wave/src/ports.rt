@@ -1,11 +1,12 @@
 //! The event ports of a system.
 
-ghost use Rattle.std.specs.Prelude.{◌≡◌, ◌<◌, All, IfOk, OnOk, length, codes, if◌then◌else◌};
+ghost use Rattle.std.specs.Prelude.{◌≡◌, ◌<◌, ◌^◌, All, Contains, IfOk, OnOk, length, codes, if◌then◌else◌};
 ghost use Rattle.fb_types.specs.Headline.{system_of};
 ghost use Rattle.fb_types.specs.Numbers.{event_at, path_at, ports_at};
+ghost use Rattle.fb_types.specs.Repeated.{Twice};
 ghost use Rattle.fb_types.specs.Systems.{System as Flat};
 ghost use Rattle.fb_wave.specs.Ports as spec;
-ghost use Rattle.fb_wave.specs.Ports.{IsPortOf};
+ghost use Rattle.fb_wave.specs.Ports.{AreAdded, HasNone, IsPortOf};
 
 use fb_system::System;
 use fb_types::{EventPort, Name, Ports};
@@ -21,16 +22,8 @@ pub(crate) struct Port {
     pub(crate) taken: bool,
 }
 
-/// A place as a number. One beyond all numbers would be that of one of more than memory holds, so it counts as want of
-/// memory.
-fn number_of(place: usize) -> Result<u32, AllocError>
-    ensures { IfOk result (λ n. n ≡ place) }
-{
-    match u32::try_from(place) {
-        Ok(number) => Ok(number),
-        Err(_) => Err(AllocError),
-    }
-}
+/// Lines have room for the numbers of so many events of one interface.
+const MOST_EVENTS: usize = 1 << 32;
 
 /// Adds the event inputs of an instance, or its event outputs, of which there are so many.
 fn push_events(
@@ -39,13 +32,17 @@ fn push_events(
     taken: bool,
     count: usize,
 ) -> Result<(), AllocError>
-    ensures { (sys : Flat) → instance < length sys.paths → count ≡ length (spec.side sys instance taken) → All (IsPortOf sys) all.old.items
+    ensures are { (sys : Flat) → instance < length sys.paths → count ≡ length (spec.side sys instance taken) → All (IsPortOf sys) all.old.items
         → OnOk result (All (IsPortOf sys) all.new.items) }
+    ensures kept { OnOk result ((p : Port) → Contains all.old.items p → Contains all.new.items p) }
+    ensures pushed { OnOk result ((p : Port) → p.instance ≡ instance → p.taken ≡ taken → p.event < count → p.event < 2 ^ 32 → Contains all.new.items p) }
+    ensures added { OnOk result (AreAdded all.old.items all.new.items instance taken) }
+    ensures once { ¬ (Twice all.old.items) → HasNone all.old.items instance taken → OnOk result (¬ (Twice all.new.items)) }
 {
-    for event in 0..count {
+    for event in 0..count.min(MOST_EVENTS) {
         all.push(Port {
             instance,
-            event: number_of(event)?,
+            event: event as u32,
             taken,
         })?;
     }
@@ -54,11 +51,14 @@ fn push_events(
 
 /// All event ports of a system.
 pub(crate) fn ports_of(alloc: Global, system: &System) -> Result<Vec<Port>, AllocError>
-    ensures { IfOk result (λ v. All (IsPortOf (system_of system.now)) v.items) }
+    ensures are { IfOk result (λ v. All (IsPortOf (system_of system.now)) v.items) }
+    ensures all { IfOk result (λ v. (p : Port) → IsPortOf (system_of system.now) p → Contains v.items p) }
+    ensures once { IfOk result (λ v. ¬ (Twice v.items)) }
 {
+    system.facts();
     let mut all = Vec::new(alloc);
     for place in 0..system.count() {
-        let instance = number_of(place)?;
+        let instance = place as u32;
         let ports = system.ports(instance);
         push_events(&mut all, instance, true, ports.event_inputs.len())?;
         push_events(&mut all, instance, false, ports.event_outputs.len())?;

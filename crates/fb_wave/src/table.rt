@@ -1,14 +1,17 @@
 //! The ports of a system by what lines have of them.
 
-ghost use Rattle.std.specs.Prelude.{◌≡◌, ◌≤◌, ◌++◌, All, IfOk, IfSome, length, map};
+ghost use Rattle.std.specs.Prelude.{◌≡◌, ◌≤◌, ℕ, List, ◌++◌, All, Contains, IfNone, IfOk, IfSome, MatchOption, Some, slice_get, length, map};
 ghost use Rattle.fb_types.specs.Headline.{system_of};
+ghost use Rattle.fb_types.specs.Repeated.{Twice};
 ghost use Rattle.fb_check_names.specs.Places.{names_in};
 ghost use Rattle.fb_wave.specs.Ports as spec;
-ghost use Rattle.fb_wave.specs.Ports.{IsPortOf};
+ghost use Rattle.fb_wave.specs.Named.{HasNames};
+ghost use Rattle.fb_wave.specs.Ports.{BeginsWith, HasNoPort, IsPortOf};
 ghost use Rattle.fb_wave.specs.Tables.{IsTable};
+ghost use Rattle.fb_wave.specs.Words.{HasNoThree, HasThree, is_ended};
 
 use crate::ports::{Port, port_text};
-use crate::words::{behind, is_end};
+use crate::words::{behind, cut, is_end};
 use fb_check_names::{Places, place_of, places_of};
 use fb_system::System;
 use fb_types::Name;
@@ -62,8 +65,13 @@ impl Guess {
 }
 
 /// Whether a word ends before this text.
-fn ends_word(rest: &[u8]) -> bool {
-    matches!(rest.first(), Some(b' ' | b'\n'))
+fn ends_word(rest: &[u8]) -> bool
+    ensures { result ≡ is_ended rest.now }
+{
+    match rest.first() {
+        Some(byte) => is_end(*byte),
+        None => false,
+    }
 }
 
 /// The texts of ports, each at the place of its port.
@@ -94,18 +102,13 @@ fn names_of(alloc: Global, texts: &[Name]) -> Result<Vec<&Name>, AllocError>
 
 /// How long the text of a port is that a text begins with: it ends where its third word ends.
 fn port_len(text: &[u8]) -> Option<usize>
-    ensures { IfSome result (λ n. n ≤ length text.now) }
+    ensures three { MatchOption result (HasNoThree text.now) (HasThree text.now) }
+    ensures within { IfSome result (λ n. n ≤ length text.now) }
 {
-    let mut words: usize = 0;
-    for place in 0..text.len() {
-        if is_end(text[place]) {
-            words += 1;
-            if words == 3 {
-                return Some(place);
-            }
-        }
-    }
-    None
+    let resource = cut(text)?;
+    let sign = cut(behind(resource.1, b" ")?)?;
+    let event = cut(behind(sign.1, b" ")?)?;
+    Some(text.len() - event.1.len())
 }
 
 impl<'a> PortTable<'a> {
@@ -117,9 +120,12 @@ impl<'a> PortTable<'a> {
         texts: &'a [Name],
     ) -> Result<Option<PortTable<'a>>, AllocError>
         requires ports { All (IsPortOf (system_of system.now)) ports.now }
+        requires all { (p : Port) → IsPortOf (system_of system.now) p → Contains ports.now p }
         requires texts { texts.now ≡ map (spec.port_text (system_of system.now)) ports.now }
-        ensures { IfOk result (λ o. IfSome o (λ t. IsTable t × (t.system.now ≡ system.now))) }
+        ensures table { IfOk result (λ o. IfSome o (λ t. IsTable t × (t.system.now ≡ system.now))) }
+        ensures alike { IfOk result (λ o. IfNone o (Twice texts.now)) }
     {
+        system.facts();
         let names = names_of(alloc, texts)?;
         match places_of(alloc, names.as_slice())? {
             Some(places) => Ok(Some(PortTable {
@@ -135,8 +141,9 @@ impl<'a> PortTable<'a> {
     /// The port at a place, if a text begins with its text, and what stands behind it.
     fn at<'b>(&self, place: usize, text: &'b [u8]) -> Option<(Port, &'b [u8])>
         requires { IsTable self.now }
-        ensures port { IfSome result (λ p. IsPortOf (system_of self.now.system.now) p.0) }
-        ensures text { IfSome result (λ p. text.now ≡ spec.port_text (system_of self.now.system.now) p.0 ++ p.1.now) }
+        ensures found { IfSome result (λ p. BeginsWith (system_of self.now.system.now) text.now p.0 p.1.now) }
+        ensures none { IfNone result ((p : Port) (rest : List ℕ) → slice_get self.now.ports.now place ≡ Some p
+            → BeginsWith (system_of self.now.system.now) text.now p rest → ⊥) }
     {
         let port = self.ports.get(place)?;
         let name = self.texts.get(place)?;
@@ -151,8 +158,8 @@ impl<'a> PortTable<'a> {
     /// guess is wrong.
     pub(crate) fn find<'b>(&self, guess: &mut Guess, text: &'b [u8]) -> Option<(Port, &'b [u8])>
         requires { IsTable self.now }
-        ensures port { IfSome result (λ p. IsPortOf (system_of self.now.system.now) p.0) }
-        ensures text { IfSome result (λ p. text.now ≡ spec.port_text (system_of self.now.system.now) p.0 ++ p.1.now) }
+        ensures found { IfSome result (λ p. BeginsWith (system_of self.now.system.now) text.now p.0 p.1.now) }
+        ensures none { HasNames (system_of self.now.system.now) → IfNone result (HasNoPort (system_of self.now.system.now) text.now) }
     {
         let guessed = guess.place();
         if let Some(found) = self.at(guessed, text) {

@@ -2,6 +2,8 @@
 
 ghost use Rattle.std.specs.Prelude.{IfErr, IfSome, OnOk};
 ghost use Rattle.fb_types.specs.Headline.{system_of};
+ghost use Rattle.fb_wave.specs.Named.{HasNames};
+ghost use Rattle.fb_wave.specs.Refusals.{Blames};
 ghost use Rattle.fb_wave.specs.Waves.{FailsWave, IsWave};
 
 use crate::copy::Progress;
@@ -21,9 +23,9 @@ use std::io::{BufRead, Write};
 /// of a line, and of a page.
 ///
 /// # Errors
-/// `Refused` with the first line at which it shows that the text is no trace of the system. What was written then is a
-/// beginning of a dump that ends at a line, as it is where the reader fails or memory wants. Where the writer fails it has
-/// as many bytes as the error says, but not all.
+/// `Refused` with the number of the first line that no trace of the system has behind the lines before it. So no trace is
+/// refused. What was written then is the beginning of a dump and ends at a line. The same holds where the reader fails or
+/// memory runs out. Where the writer fails it got as many bytes as the error says, but not all.
 pub fn write_wave<R: BufRead, W: Write>(
     alloc: Global,
     system: &System,
@@ -32,7 +34,9 @@ pub fn write_wave<R: BufRead, W: Write>(
 ) -> Result<(), WaveError>
     ensures whole { OnOk result (IfSome (R.remaining input.old) (λ text. IsWave (system_of system.now) text (W.contents out.old) (W.contents out.new))) }
     ensures part { IfErr result (FailsWave (system_of system.now) (W.contents out.old) (W.contents out.new)) }
+    ensures refused { HasNames (system_of system.now) → IfErr result (Blames (system_of system.now) (R.remaining input.old)) }
 {
+    system.facts();
     let ports = ports_of(alloc, system)?;
     let texts = texts_of(alloc, system, ports.as_slice())?;
     let Some(table) = PortTable::of(alloc, system, ports.as_slice(), texts.as_slice())? else {

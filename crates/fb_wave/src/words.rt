@@ -1,6 +1,7 @@
 //! Words of a line.
 
 ghost use Rattle.std.specs.Prelude.{◌≡◌, ℕ, List, ◌++◌, true, MatchOption};
+ghost use Rattle.fb_wave.specs.Named as named;
 ghost use Rattle.fb_wave.specs.Words as spec;
 ghost use Rattle.fb_wave.specs.Words.{IsCut};
 
@@ -9,6 +10,13 @@ pub(crate) fn is_end(byte: u8) -> bool
     ensures { result ≡ spec.is_end byte }
 {
     byte == b' ' || byte == b'\n'
+}
+
+/// Whether a byte is a decimal digit.
+pub(crate) fn is_digit(byte: u8) -> bool
+    ensures { result ≡ named.is_digit byte }
+{
+    byte.is_ascii_digit()
 }
 
 /// The bytes before the first that ends a word, and the rest from that one on.

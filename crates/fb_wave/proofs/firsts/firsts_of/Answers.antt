@@ -1,28 +1,33 @@
-use Rattle.std.proofs.Common.{◌<◌, ℕ, ◌+◌, length, sym, ap, ◌∙◌, arith}
+use Rattle.std.proofs.Common.{◌≡◌, ◌<◌, ℕ, ◌+◌, [], length, sym, ap, subst, ◌∙◌, arith}
 use Rattle.fb_types.specs.Headline.{system_of}
 use Rattle.fb_types.specs.Numbers.{path_at, ports_at}
-use Rattle.fb_wave.specs.Signals.{size_of}
-use Rattle.fb_wave.proofs.Numbering.{first_signal-next, firsts-all, firsts-more}
+use Rattle.fb_wave.specs.Levels.{AreLevels}
+use Rattle.fb_wave.specs.Signals.{first_signal, size_of}
+use Rattle.fb_wave.proofs.Numbering.{first_signal-all, first_signal-next, firsts-all, firsts-more}
 use Rattle.fb_wave.proofs.firsts.firsts_of.Goals as goal
 
 pub loop-instance-preserved : goal.loop-instance-preserved
 loop-instance-preserved c =
     let sys = system_of c.args.system.now in
     let i = c.loop-instance.instance in
-    let first = c.loop-instance.first in
     let within : i < length sys.paths = omega arith in
     let before = c.loop-instance.invariant in
+    let next : first_signal sys i + size_of c.ports.result.now ≡ first_signal sys (i + 1) =
+    ap (λ its. first_signal sys i + size_of its) c.ports.ensures ∙ sym (first_signal-next sys i within)
+    in
     record {
-      first =
-          c.in_ok-next.ensures.sum ∙ ap (λ (k : ℕ). first + k) (c.in_ok-size.ensures ∙ ap size_of c.ports.ensures)
-          ∙ ap (λ (k : ℕ). k + size_of (ports_at sys (path_at sys i))) before.first ∙ sym (first_signal-next sys i within);
-      small = c.in_ok-next.ensures.fits;
-      before = firsts-more sys i first c.loop-instance.firsts.items _ before.before before.first c.in_ok-push.ensures.items;
+      levels = subst (λ (n : ℕ). AreLevels n [] [] [] c.add_ports.new.levels) next (c.in_ok-add_ports.ensures (first_signal sys i) before.levels);
+      before = firsts-more sys i c.count.result c.loop-instance.firsts.items _ before.before (c.count.ensures.counted ∙ before.levels.counted) c.in_ok-push.ensures.items;
     }
 
-pub returns : goal.returns
-returns c =
+pub returns-clause-firsts : goal.returns-clause-firsts
+returns-clause-firsts c =
     let sys = system_of c.args.system.now in
     let before = c.loop-instance.invariant in
-    firsts-all sys c.loop-instance.instance c.loop-instance.first c.loop-instance.firsts.items _ before.before before.first before.small c.in_ok-push-2.ensures.items
-    (omega arith)
+    firsts-all sys c.loop-instance.instance c.count-2.result c.loop-instance.firsts.items _ before.before (c.count-2.ensures.counted ∙ before.levels.counted) c.count-2.ensures.fits
+    c.in_ok-push-2.ensures.items (omega arith)
+
+pub returns-clause-levels : goal.returns-clause-levels
+returns-clause-levels c =
+    let sys = system_of c.args.system.now in
+    subst (λ (n : ℕ). AreLevels n [] [] [] c.loop-instance.levels) (first_signal-all sys c.loop-instance.instance (omega arith)) c.loop-instance.invariant.levels

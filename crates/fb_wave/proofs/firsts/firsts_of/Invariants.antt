@@ -1,12 +1,12 @@
-use Rattle.std.proofs.Common.{◌≡◌, ◌<◌, ◌^◌}
+use Rattle.std.proofs.Common.{[]}
 use Rattle.fb_types.specs.Headline.{system_of}
+use Rattle.fb_wave.specs.Levels.{AreLevels}
 use Rattle.fb_wave.specs.Signals.{first_signal}
 use Rattle.fb_wave.proofs.Numbering.{AreFirstsBefore}
 use Rattle.fb_wave.proofs.firsts.firsts_of.Given as goal
 
 abbrev pub invariant-loop-instance : goal.invariant-loop-instance
 invariant-loop-instance l = record {
-  first : l.first ≡ first_signal (system_of l.system) l.instance;
-  small : l.first < 2 ^ 64;
+  levels : AreLevels (first_signal (system_of l.system) l.instance) [] [] [] l.levels;
   before : AreFirstsBefore (system_of l.system) l.instance l.firsts.items;
 }

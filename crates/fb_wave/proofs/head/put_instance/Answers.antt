@@ -5,7 +5,7 @@ use Rattle.fb_types.specs.Numbers.{path_at, ports_at}
 use Rattle.fb_types.specs.declared.library.Ports.{Ports}
 use Rattle.fb_wave.specs.Scopes.{closed, opened, own_name, ports_declared}
 use Rattle.fb_wave.proofs.Heading.{route_length}
-use Rattle.fb_wave.proofs.Placing.{path_some}
+use Rattle.fb_wave.proofs.Known.{path_some}
 use Rattle.fb_wave.proofs.head.put_instance.Goals as goal
 
 regroup : (t c o p : List ℕ) → ((t ++ c) ++ o) ++ p ≡ t ++ ((c ++ o) ++ p)
@@ -21,7 +21,7 @@ returns-clause-text c =
     let p = path_at sys c.args.instance in
     let text = c.args.text.now.items in
     let height : length c.route-height.result.now ≡ length p = ap length c.route-height.ensures ∙ route_length c.args.system.now.library p in
-    let some : 0 < length p = path_some c.args.system.now c.facts.ensures.accepted c.args.instance c.requires.instance in
+    let some : 0 < length p = path_some c.args.system.now c.args.instance c.requires.instance in
     let ended : c.saturating_sub-ended.result ≡ c.args.depth + 1 - length p =
     omega (arith, height, some, c.saturating_sub-outside.ensures, c.saturating_sub-ended.ensures)
     in

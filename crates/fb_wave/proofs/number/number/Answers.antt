@@ -1,11 +1,11 @@
 use Rattle.fb_wave.proofs.Numerals.{numbered, unnumbered, unblanked}
 use Rattle.fb_wave.proofs.number.number.Goals as goal
 
-pub returns-in_err-natural : goal.returns-in_err-natural
-returns-in_err-natural c = rw c.from_residual-in_err-natural.ensures (unnumbered c.args.text.now _ _ c.in_ok-parts.ensures c.in_err-natural.ensures)
+pub returns-in_err-natural-clause-number : goal.returns-in_err-natural-clause-number
+returns-in_err-natural-clause-number c = rw c.from_residual-in_err-natural.ensures (unnumbered c.args.text.now _ _ c.in_ok-parts.ensures c.in_err-natural.ensures)
 
-pub returns-in_err-behind : goal.returns-in_err-behind
-returns-in_err-behind c = rw c.from_residual-in_err-behind.ensures (unblanked c.args.text.now _ _ c.in_ok-parts.ensures c.in_err-behind.ensures)
+pub returns-in_err-behind-clause-number : goal.returns-in_err-behind-clause-number
+returns-in_err-behind-clause-number c = rw c.from_residual-in_err-behind.ensures (unblanked c.args.text.now _ _ c.in_ok-parts.ensures c.in_err-behind.ensures)
 
-pub returns : goal.returns
-returns c = numbered c.args.text.now _ _ _ _ c.in_ok-parts.ensures c.in_ok-natural.ensures c.in_ok-behind.ensures
+pub returns-clause-number : goal.returns-clause-number
+returns-clause-number c = numbered c.args.text.now _ _ _ _ c.in_ok-parts.ensures c.in_ok-natural.ensures c.in_ok-behind.ensures

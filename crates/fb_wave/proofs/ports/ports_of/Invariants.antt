@@ -1,7 +1,14 @@
 use Rattle.std.specs.Prelude.{All}
 use Rattle.fb_types.specs.Headline.{system_of}
+use Rattle.fb_types.specs.Repeated.{Twice}
 use Rattle.fb_wave.specs.Ports.{IsPortOf}
+use Rattle.fb_wave.proofs.Porting.{AreBelow, HasBelow}
 use Rattle.fb_wave.proofs.ports.ports_of.Given as goal
 
 abbrev pub invariant-loop-place : goal.invariant-loop-place
-invariant-loop-place l = All (IsPortOf (system_of l.system)) l.all.items
+invariant-loop-place l = record {
+  are : All (IsPortOf (system_of l.system)) l.all.items;
+  has : HasBelow (system_of l.system) l.all.items l.place;
+  below : AreBelow l.all.items l.place;
+  once : ¬ (Twice l.all.items);
+}

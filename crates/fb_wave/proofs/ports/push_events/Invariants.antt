@@ -1,10 +1,18 @@
-use Rattle.std.proofs.Common.{◌≡◌, ◌<◌, length}
+use Rattle.std.proofs.Common.{◌≡◌, ◌<◌, length, Contains}
 use Rattle.std.specs.Prelude.{All}
+use Rattle.fb_types.specs.Repeated.{Twice}
 use Rattle.fb_types.specs.Systems.{System}
-use Rattle.fb_wave.specs.Ports.{IsPortOf, side}
+use Rattle.fb_wave.specs.Ports.{HasNone, IsPortOf, side}
+use Rattle.fb_wave.specs.declared.ports.Port.{Port}
+use Rattle.fb_wave.proofs.Porting.{AddsUpTo, HasUpTo}
 use Rattle.fb_wave.proofs.ports.push_events.Given as goal
 
 abbrev pub invariant-loop-event : goal.invariant-loop-event
-invariant-loop-event l =
-    (sys : System) → l.instance < length sys.paths → l.count ≡ length (side sys l.instance l.taken) → All (IsPortOf sys) l.initial.all.items
-    → All (IsPortOf sys) l.all.items
+invariant-loop-event l = record {
+  are : (sys : System) → l.instance < length sys.paths → l.count ≡ length (side sys l.instance l.taken) → All (IsPortOf sys) l.initial.all.items
+      → All (IsPortOf sys) l.all.items;
+  kept : (p : Port) → Contains l.initial.all.items p → Contains l.all.items p;
+  pushed : HasUpTo l.all.items l.instance l.taken l.event;
+  adds : AddsUpTo l.initial.all.items l.all.items l.instance l.taken l.event;
+  once : ¬ (Twice l.initial.all.items) → HasNone l.initial.all.items l.instance l.taken → ¬ (Twice l.all.items);
+}

@@ -1,10 +1,16 @@
-use Rattle.std.proofs.Common.{◌≡◌, [], Option, Some, sym, subst}
-use Rattle.std.specs.Prelude.{IfErr, IfSome, OnOk}
+use Rattle.std.proofs.Common.{◌≡◌, List, [], map, Option, Some, ap, sym, subst, ◌∙◌}
+use Rattle.std.specs.Prelude.{IfErr, IfNone, IfSome, OnOk}
 use Rattle.fb_types.specs.Headline.{Inputs, system_of}
+use Rattle.fb_types.specs.Names.{Name}
+use Rattle.fb_types.specs.Repeated.{Twice}
+use Rattle.fb_wave.specs.Ports.{port_text}
 use Rattle.fb_wave.specs.Writing.{HasTold, IsDump}
 use Rattle.fb_wave.specs.Tables.{IsTable}
 use Rattle.fb_wave.specs.declared.table.PortTable.{PortTable}
+use Rattle.fb_wave.specs.Named.{HasNames}
+use Rattle.fb_wave.specs.Refusals.{Blames}
 use Rattle.fb_wave.specs.Waves.{FailsWave, IsWave}
+use Rattle.fb_wave.proofs.Alike.{texts_differ}
 use Rattle.fb_wave.proofs.Copied.{front_none}
 use Rattle.fb_wave.proofs.Handing.{on_passed}
 use Rattle.fb_wave.proofs.wave.write_wave.Goals as goal
@@ -14,11 +20,11 @@ of_table o t s is are = (subst (λ (o : Option PortTable). IfSome o (λ t. IsTab
 
 pub copy-requires-clause-dump : goal.copy-requires-clause-dump
 copy-requires-clause-dump g c =
-    subst (λ (s : Inputs). IsDump (system_of s) c.in_ok-dump.dump) (sym (of_table _ c.in-Some.table c.args.system.now c.in-Some.is c.in_ok-table.ensures)) c.in_ok-dump.ensures.numbers
+    subst (λ (s : Inputs). IsDump (system_of s) c.in_ok-dump.dump) (sym (of_table _ c.in-Some.table c.args.system.now c.in-Some.is c.in_ok-table.ensures.table)) c.in_ok-dump.ensures.numbers
 
 pub copy-requires-clause-told : goal.copy-requires-clause-told
 copy-requires-clause-told g c =
-    subst (λ (s : Inputs). HasTold (system_of s) [] c.begin.new.text.items c.in_ok-dump.dump) (sym (of_table _ c.in-Some.table c.args.system.now c.in-Some.is c.in_ok-table.ensures))
+    subst (λ (s : Inputs). HasTold (system_of s) [] c.begin.new.text.items c.in_ok-dump.dump) (sym (of_table _ c.in-Some.table c.args.system.now c.in-Some.is c.in_ok-table.ensures.table))
     (c.in_ok-dump.ensures.told c.new-page.ensures.empty)
 
 pub returns-clause-whole : goal.returns-clause-whole
@@ -27,13 +33,13 @@ returns-clause-whole g c =
     (λ (s : Inputs).
     OnOk c.copy.result
     (IfSome (g.R.Read.remaining c.args.input.now) (λ text. IsWave (system_of s) text (g.W.Write.contents c.args.out.now) (g.W.Write.contents c.copy.new.out))))
-    (of_table _ c.in-Some.table c.args.system.now c.in-Some.is c.in_ok-table.ensures) c.copy.ensures.whole
+    (of_table _ c.in-Some.table c.args.system.now c.in-Some.is c.in_ok-table.ensures.table) c.copy.ensures.whole
 
 pub returns-clause-part : goal.returns-clause-part
 returns-clause-part g c =
     subst
     (λ (s : Inputs). IfErr c.copy.result (FailsWave (system_of s) (g.W.Write.contents c.args.out.now) (g.W.Write.contents c.copy.new.out)))
-    (of_table _ c.in-Some.table c.args.system.now c.in-Some.is c.in_ok-table.ensures) c.copy.ensures.part
+    (of_table _ c.in-Some.table c.args.system.now c.in-Some.is c.in_ok-table.ensures.table) c.copy.ensures.part
 
 pub returns-in_err-ports-clause-part : goal.returns-in_err-ports-clause-part
 returns-in_err-ports-clause-part g c = on_passed _ _ _ c.from_residual.ensures.1 (front_none _ _)
@@ -52,3 +58,32 @@ returns-in_err-guess-clause-part g c = on_passed _ _ _ c.from_residual-in_err-gu
 
 pub returns-in_err-dump-clause-part : goal.returns-in_err-dump-clause-part
 returns-in_err-dump-clause-part g c = on_passed _ _ _ c.from_residual-in_err-dump.ensures.1 (front_none _ _)
+
+pub returns-clause-refused : goal.returns-clause-refused
+returns-clause-refused g c =
+    subst
+    (λ (s : Inputs).
+    HasNames (system_of s) → IfErr c.copy.result (Blames (system_of s) (g.R.Read.remaining c.args.input.now)))
+    (of_table _ c.in-Some.table c.args.system.now c.in-Some.is c.in_ok-table.ensures.table) c.copy.ensures.refused
+
+pub returns-in_err-ports-clause-refused : goal.returns-in_err-ports-clause-refused
+returns-in_err-ports-clause-refused g c names = on_passed _ _ (Blames (system_of c.args.system.now) (g.R.Read.remaining c.args.input.now)) c.from_residual.ensures.1 tt
+
+pub returns-in_err-texts-clause-refused : goal.returns-in_err-texts-clause-refused
+returns-in_err-texts-clause-refused g c names = on_passed _ _ (Blames (system_of c.args.system.now) (g.R.Read.remaining c.args.input.now)) c.from_residual-in_err-texts.ensures.1 tt
+
+pub returns-in_err-table-clause-refused : goal.returns-in_err-table-clause-refused
+returns-in_err-table-clause-refused g c names = on_passed _ _ (Blames (system_of c.args.system.now) (g.R.Read.remaining c.args.input.now)) c.from_residual-in_err-table.ensures.1 tt
+
+pub returns-in_err-guess-clause-refused : goal.returns-in_err-guess-clause-refused
+returns-in_err-guess-clause-refused g c names = on_passed _ _ (Blames (system_of c.args.system.now) (g.R.Read.remaining c.args.input.now)) c.from_residual-in_err-guess.ensures.1 tt
+
+pub returns-in_err-dump-clause-refused : goal.returns-in_err-dump-clause-refused
+returns-in_err-dump-clause-refused g c names = on_passed _ _ (Blames (system_of c.args.system.now) (g.R.Read.remaining c.args.input.now)) c.from_residual-in_err-dump.ensures.1 tt
+
+pub returns-in_default-clause-refused : goal.returns-in_default-clause-refused
+returns-in_default-clause-refused g c names =
+    let i = c.args.system.now in
+    let twice : Twice c.as_slice-3.result.now = subst (λ (o : Option PortTable). IfNone o (Twice c.as_slice-3.result.now)) c.in_default.is c.in_ok-table.ensures.alike in
+    texts_differ i c.facts.ensures.accepted c.facts.ensures.numbered names c.in_ok-ports.ports.items c.in_ok-ports.ensures.are c.in_ok-ports.ensures.once
+    (subst (λ (ns : List Name). Twice ns) (c.as_slice-3.ensures.value ∙ c.in_ok-texts.ensures ∙ ap (map (port_text (system_of i))) c.as_slice.ensures.value) twice)

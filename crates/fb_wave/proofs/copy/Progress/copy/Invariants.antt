@@ -4,4 +4,4 @@ use Rattle.fb_wave.proofs.copy.Progress.copy.Given as goal
 
 abbrev pub invariant-loop-number : goal.invariant-loop-number
 invariant-loop-number g l =
-    IsCopied (system_of l.table.system.now) l.form l.self l.line.items (g.R.Read.remaining l.fn.input) (g.R.Read.remaining l.input) (g.W.Write.contents l.fn.out) (g.W.Write.contents l.out)
+    IsCopied (system_of l.table.system.now) l.form l.number l.self l.line.items (g.R.Read.remaining l.fn.input) (g.R.Read.remaining l.input) (g.W.Write.contents l.fn.out) (g.W.Write.contents l.out)

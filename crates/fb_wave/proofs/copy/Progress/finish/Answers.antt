@@ -10,7 +10,7 @@ returns-clause-whole g c =
     on_ok c.flush.result _ _ c.flush.ensures.whole
     (λ got.
     record {
-      after = c.if-not-can_end.ensures refl;
+      after = c.if-not-can_end.ensures.0 refl;
       over = c.in_ok-is_over.ensures.over c.if-not-branch.false;
       sent = c.end.new.text.items;
       got = got;

@@ -1,0 +1,124 @@
+-- What keeps a text from being the last line of a trace, and which ends have one text.
+use Rattle.std.proofs.Common.{◌≡◌, ℕ, zero, suc, ◌+◌, ◌<◌, ◌≤◌, ◌^◌, true, false, List, [], ◌∷◌, ◌++◌, length, get_or, codes, decimal, refl, sym, ap, subst, ◌∙◌, arith, append_assoc}
+use Rattle.std.specs.Prelude.{slice_get, unwrap_or}
+use Rattle.std.proofs.lemmas.List.{append_cancel_left}
+use Rattle.std.proofs.lemmas.Option.{unwrap_or-slice_get}
+use Rattle.fb_types.specs.Names.{Name}
+use Rattle.fb_types.specs.Simulation.{Ending, AtHorizon, AtStop}
+use Rattle.fb_types.specs.Systems.{System}
+use Rattle.fb_types.specs.Text.{last_line, place_text, reason_text}
+use Rattle.fb_types.specs.declared.value.Reason.{Reason}
+use Rattle.fb_trace.specs.End.{ending_of}
+use Rattle.fb_trace.specs.declared.last.RunEnd.{RunEnd}
+use Rattle.fb_trace.specs.declared.last.RunEnd.TheVariants.{Horizon, Stop}
+use Rattle.fb_wave.specs.Copying.{IsAfter}
+use Rattle.fb_wave.specs.Lines.{IsEndOf, IsNoLast, IsNoStop, stop_text}
+use Rattle.fb_wave.specs.Named.{HasNames}
+use Rattle.fb_wave.specs.Reading.{HasNoNumber, number_text}
+use Rattle.fb_wave.specs.Waves.{EndsAfter}
+use Rattle.fb_wave.specs.Words.{IsCut, is_ended, is_word}
+use Rattle.fb_wave.proofs.Cutting.{cut_once, uncut, word_once}
+use Rattle.fb_wave.proofs.Known.{there}
+use Rattle.fb_wave.proofs.Lining.{last_first}
+use Rattle.fb_wave.proofs.Numerals.{decimal_once, digits_of, number_once}
+use Rattle.fb_wave.proofs.Plain.{name_word}
+
+-- ---- Horizons
+
+pub other_end : (text w r : List ℕ) → IsCut text w r → (r ≡ 10 ∷ [] → ⊥) → (h : ℕ) → h < 2 ^ 64 → text ≡ decimal h ++ 10 ∷ [] → ⊥
+other_end text w r cut other h small e =
+    other (cut_once text w r (decimal h) (10 ∷ []) cut (digits_of h (omega (arith, small))).word refl e).1
+
+-- ---- Stops
+
+abbrev name_at : System → ℕ → Name
+name_at sys r = unwrap_or (slice_get sys.resource_names r) []
+
+abbrev behind_name : Reason → List ℕ
+behind_name reason = codes " " ++ (reason_text reason ++ 10 ∷ [])
+
+stop_parts : (n h b r l : List ℕ) → (((n ++ h) ++ b) ++ r) ++ l ≡ n ++ (h ++ (b ++ (r ++ l)))
+stop_parts n h b r l = simp append_assoc
+
+stop_is : (sys : System) (k r : ℕ) (reason : Reason) → stop_text sys k r reason ≡ number_text k ++ (name_at sys r ++ behind_name reason)
+stop_is sys k r reason = stop_parts (number_text k) (name_at sys r) (codes " ") (reason_text reason) (10 ∷ [])
+
+pub no_tick : (sys : System) (text : List ℕ) → HasNoNumber (2 ^ 64) text → IsNoStop sys text
+no_tick sys text none k r reason small within e = none k _ small (e ∙ stop_is sys k r reason)
+
+module _ (sys : System) (text rest : List ℕ) (t : ℕ) (small : t < 2 ^ 64) (tick : text ≡ number_text t ++ rest) where
+  rest_is : (k r : ℕ) (reason : Reason) → k < 2 ^ 64 → text ≡ stop_text sys k r reason → rest ≡ name_at sys r ++ behind_name reason
+  rest_is k r reason little e =
+      (number_once t k rest _ (omega (arith, small)) (omega (arith, little)) (sym tick ∙ e ∙ stop_is sys k r reason)).1
+
+  pub no_word : is_word rest ≡ true → IsNoStop sys text
+  no_word word k r reason little within e = uncut rest (name_at sys r) (behind_name reason) word (rest_is k r reason little e) refl
+
+  module _ (w more : List ℕ) (cut : IsCut rest w more) (names : HasNames sys) where
+    cut_is : (k r : ℕ) (reason : Reason) → k < 2 ^ 64 → r < length sys.resource_names → text ≡ stop_text sys k r reason → (w ≡ name_at sys r) × (more ≡ behind_name reason)
+    cut_is k r reason little within e =
+        cut_once rest w more (name_at sys r) (behind_name reason) cut (name_word (name_at sys r) (names.resources (name_at sys r) (there sys.resource_names r [] within))) refl
+        (rest_is k r reason little e)
+
+    pub no_resource : ((r : ℕ) → r < length sys.resource_names → w ≡ get_or sys.resource_names r [] → ⊥) → IsNoStop sys text
+    no_resource none k r reason little within e = none r within ((cut_is k r reason little within e).0 ∙ unwrap_or-slice_get sys.resource_names r [])
+
+    pub no_reason : ((reason : Reason) → more ≡ (codes " " ++ reason_text reason) ++ 10 ∷ [] → ⊥) → IsNoStop sys text
+    no_reason none k r reason little within e =
+        none reason ((cut_is k r reason little within e).1 ∙ sym (append_assoc (codes " ") (reason_text reason) (10 ∷ [])))
+
+-- ---- The last line
+
+last_parts : (s n b r l : List ℕ) → (((s ++ n) ++ b) ++ r) ++ l ≡ s ++ (((n ++ b) ++ r) ++ l)
+last_parts s n b r l = simp append_assoc
+
+horizon_is : (sys : System) (h : ℕ) → last_line sys (AtHorizon h) ≡ codes "end " ++ (decimal h ++ 10 ∷ [])
+horizon_is sys h = append_assoc (codes "end ") (decimal h) (10 ∷ [])
+
+last_is : (sys : System) (k r : ℕ) (reason : Reason) → last_line sys (AtStop k r reason) ≡ codes "stop " ++ stop_text sys k r reason
+last_is sys k r reason = last_parts (codes "stop ") (place_text sys k r) (codes " ") (reason_text reason) (10 ∷ [])
+
+-- with a digit begins no end
+pub digit_first : (sys : System) (text : List ℕ) → get_or text 0 0 < 58 → IsNoLast sys text
+digit_first sys text low end can e =
+    let high = last_first sys end in let same = ap (λ (t : List ℕ). get_or t 0 0) e in omega (arith, low, high, same)
+
+pub neither : (sys : System) (text : List ℕ) → ((rest : List ℕ) → text ≡ codes "end " ++ rest → ⊥) → ((rest : List ℕ) → text ≡ codes "stop " ++ rest → ⊥) → IsNoLast sys text
+neither sys text no_end no_stop (AtHorizon h) can e = no_end _ (e ∙ horizon_is sys h)
+neither sys text no_end no_stop (AtStop k r reason) can e = no_stop _ (e ∙ last_is sys k r reason)
+
+apart : (t u : List ℕ) → codes "end " ++ t ≡ codes "stop " ++ u → ⊥
+apart t u e = let first : 101 ≡ 115 = ap (λ (l : List ℕ). get_or l 0 0) e in omega (arith, first)
+
+pub no_horizon : (sys : System) (text rest : List ℕ) → text ≡ codes "end " ++ rest → ((h : ℕ) → h < 2 ^ 64 → rest ≡ decimal h ++ 10 ∷ [] → ⊥) → IsNoLast sys text
+no_horizon sys text rest is none (AtHorizon h) can e = none h can (append_cancel_left (codes "end ") rest (decimal h ++ 10 ∷ []) (sym is ∙ e ∙ horizon_is sys h))
+no_horizon sys text rest is none (AtStop k r reason) can e = apart rest (stop_text sys k r reason) (sym is ∙ e ∙ last_is sys k r reason)
+
+pub no_stop : (sys : System) (text rest : List ℕ) → text ≡ codes "stop " ++ rest → IsNoStop sys rest → IsNoLast sys text
+no_stop sys text rest is none (AtHorizon h) can e = apart (decimal h ++ 10 ∷ []) rest (sym (horizon_is sys h) ∙ sym e ∙ is)
+no_stop sys text rest is none (AtStop k r reason) can e =
+    none k r reason can.0 can.1 (append_cancel_left (codes "stop ") rest (stop_text sys k r reason) (sym is ∙ e ∙ last_is sys k r reason))
+
+-- ---- Ends with one text come after the same ticks
+
+pub after_once :
+    (sys : System) (t u : ℕ) (end : RunEnd) (other : Ending) → t ≡ u → IsEndOf sys (ending_of end) → IsEndOf sys other → last_line sys (ending_of end) ≡ last_line sys other
+    → EndsAfter u other → IsAfter t end
+after_once sys t u (Horizon h) (AtHorizon k) tick can also e after =
+    let words = word_once (decimal h) (decimal k) (10 ∷ []) (10 ∷ []) (digits_of h (omega (arith, can))).word (digits_of k (omega (arith, also))).word refl refl
+    (append_cancel_left (codes "end ") (decimal h ++ 10 ∷ []) (decimal k ++ 10 ∷ []) (sym (horizon_is sys h) ∙ e ∙ horizon_is sys k))
+    in
+    let same = decimal_once h k (omega (arith, can)) (omega (arith, also)) words.0 in
+    omega (arith, same, tick, after)
+after_once sys t u (Horizon h) (AtStop k r reason) tick can also e after =
+    absurd (apart (decimal h ++ 10 ∷ []) (stop_text sys k r reason) (sym (horizon_is sys h) ∙ e ∙ last_is sys k r reason))
+after_once sys t u (Stop m) (AtHorizon k) tick can also e after =
+    absurd (apart (decimal k ++ 10 ∷ []) (stop_text sys m.tick m.resource m.reason) (sym (horizon_is sys k) ∙ sym e ∙ last_is sys m.tick m.resource m.reason))
+after_once sys t u (Stop m) (AtStop k r reason) tick can also e after =
+    let small = can.0 in
+    let little = also.0 in
+    let texts = append_cancel_left (codes "stop ") (stop_text sys m.tick m.resource m.reason) (stop_text sys k r reason)
+    (sym (last_is sys m.tick m.resource m.reason) ∙ e ∙ last_is sys k r reason)
+    in
+    let same = (number_once m.tick k _ _ (omega (arith, small)) (omega (arith, little)) (sym (stop_is sys m.tick m.resource m.reason) ∙ texts ∙ stop_is sys k r reason)).0 in
+    omega (arith, same, tick, after)

@@ -1,0 +1,7 @@
+use Rattle.std.proofs.Common.{refl}
+use Rattle.fb_wave.proofs.Cutting.{cut_once, uncut}
+use Rattle.fb_wave.proofs.copy.form_of.Goals as goal
+
+pub returns-in-Some : goal.returns-in-Some
+returns-in-Some c word rest b whole parts =
+    c.form_behind.ensures b rest (cut_once c.args.line.now _ _ word _ c.in-Some.ensures whole refl parts).1

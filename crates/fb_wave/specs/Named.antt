@@ -1,0 +1,33 @@
+-- Names as a declaration and a deployment have them, in upper case (IEC 61131-3, 6.1.2; upper case is this project's profile).
+use Rattle.std.specs.Prelude.{◌≡◌, ℕ, List, [], ◌∷◌, ◌++◌, Bool, true, false, ◌&&◌, ◌||◌, ◌==◌, nat_le, Contains}
+use Rattle.std.specs.List.{list_all}
+use Rattle.fb_types.specs.Blocks.{event_names, variable_names}
+use Rattle.fb_types.specs.Names.{Name, Path}
+use Rattle.fb_types.specs.Numbers.{ports_at}
+use Rattle.fb_types.specs.Systems.{System}
+use Rattle.fb_types.specs.declared.library.Ports.{Ports}
+
+abbrev pub is_digit : ℕ → Bool
+is_digit b = nat_le 48 b && nat_le b 57
+
+-- a letter in upper case, or an underscore
+abbrev pub is_letter : ℕ → Bool
+is_letter b = (nat_le 65 b && nat_le b 90) || b == 95
+
+-- A name begins with a letter or an underscore, and goes on with letters, digits and underscores.
+abbrev pub is_name : Name → Bool
+is_name [] = false
+is_name (b ∷ bs) = is_letter b && list_all (λ c. is_letter c || is_digit c) bs
+
+abbrev pub AreNames : List Name → Type 0
+AreNames ns = (n : Name) → Contains ns n → is_name n ≡ true
+
+-- the names that lines have of an interface
+abbrev pub port_names : Ports → List Name
+port_names its = event_names its.event_inputs ++ event_names its.event_outputs ++ variable_names its.inputs ++ variable_names its.outputs
+
+-- The resources of a system, its instances and their ports have names.
+pub record HasNames (sys : System) : Type 0 where
+  pub resources : AreNames sys.resource_names
+  pub paths : (p : Path) → Contains sys.paths p → AreNames p
+  pub ports : (p : Path) → AreNames (port_names (ports_at sys p))
