@@ -12,7 +12,7 @@ use Rattle.fb_types.specs.Parts.{machine, count_of}
 use Rattle.fb_types.specs.Schedules.{IsSchedule}
 use Rattle.fb_types.specs.declared.run.Line as run
 use Rattle.fb_system.specs.Lines.{BelongsTo}
-use Rattle.fb_resource.specs.declared.resource.Inner.{Inner}
+use Rattle.fb_resource.specs.declared.resource.Resource.{Resource}
 use Rattle.fb_resource.specs.declared.resource.WindowDone.{WindowDone}
 use Rattle.fb_laws.specs.Finality.{HasHanded, HasKept, core_of}
 use Rattle.fb_window.specs.Jobs.{AreOf, Does, JobModel, MayLeave, jobs_of}
@@ -94,8 +94,8 @@ module _ (i : Inputs) (limit horizon : ℕ) (core : Core) (h : HasCome i limit h
       (se.2, se.0.counted)
 
   -- the core has the resources of its system
-  pub are_of : AreOf core.system core.steps core.resources.items
-  are_of = at_core (λ j l. AreOf j l core.resources.items) core.system i core.steps limit h.inputs h.steps (record {
+  pub are_of : AreOf core.system core.resources.items
+  are_of = subst (λ (j : Inputs). AreOf j core.resources.items) (sym h.inputs) (record {
     counted = h.at.counted;
     numbered = λ r x at. (h.at.each r x at).number;
     of = λ r x at. (h.at.each r x at).of;
@@ -128,7 +128,7 @@ module _ (i : Inputs) (limit horizon : ℕ) (core : Core) (h : HasCome i limit h
       -- What settling says of what was away.
       abbrev Says : Inputs → ℕ → ℕ → List (List run.Line) → Settled → Type 0
       Says j l u before s =
-          (xs : List Inner) (bounds : List ℕ) (es : List (CoreStep (machine (system_of j) l))) (workers : ℕ → ℕ)
+          (xs : List Resource) (bounds : List ℕ) (es : List (CoreStep (machine (system_of j) l))) (workers : ℕ → ℕ)
           → HasLeft xs bounds away
           → IsSchedule (machine (system_of j) l) u (opening_core (system_of j) (stimuli_of j) l) es
           → IsAt j l (core_of j l es) xs

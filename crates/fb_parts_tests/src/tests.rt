@@ -1,6 +1,6 @@
 //! What no run of the program shows of the parts that it is made of: blocks, agendas and the data that all crates share, each by
 //! itself; resources that run by themselves, rounds made by hand, lines and inputs that no run has, worked out by hand. Each test ends
-//! the process where memory is wanting. What holds a system or resources is let go by `fb_window`, and what holds other things is
+//! the process where memory runs out. What holds a system or resources is dropped by `fb_window`, and what holds other things is
 //! forgotten: whoever drops it, or only could, proves how each of its parts is dropped.
 
 mod agendas;

@@ -214,7 +214,7 @@ module _ (i : Inputs) (o : Options) (first out quiet err : Option (List ℕ)) (n
   goes_here s t tick mid m r at is goes =
       subst (λ (z : Session). GoesOn z t next out mid n m r) at (subst (λ (k : ℕ). GoesOn s t k out mid n m r) is goes)
 
-  -- the run goes on to the next hundredth, and that is told
+  -- the run goes on to the next hundredth, and that is reported
   pub came_more : (t : Session) (mid : Option (List ℕ)) (m : ReportTally) (k : ℕ) (heard : Bool) (new : Option (List ℕ)) → now < next
       → GoesOn (session i o now) t next out mid n m (Ok (End k)) → (IsTrue heard → Appends err new (report_text o.horizon next m.lines))
       → Comes i o t first mid quiet new (suc count) (record m { is_heard = heard && m.is_heard }) (Ok (End next))

@@ -61,7 +61,7 @@ module _ (i : Inputs) (o : Options) (first mid quiet err : Option (List ℕ)) (n
     all = λ t. refl;
   }
 
--- nothing more is told where a run has not come to its horizon
+-- nothing more is reported where a run has not come to its horizon
 some_told : (i : Inputs) (o : Options) (quiet err : Option (List ℕ)) (heard : Bool) → HasTold i o quiet err heard → Tells i o quiet err heard false
 some_told i o quiet err heard told = record { told = told; all = λ t. untrue t }
 

@@ -12,7 +12,7 @@ use Rattle.fb_types.specs.declared.value.Reason.{Reason}
 use Rattle.fb_types.proofs.Lookups.{none_some, option_cases}
 use Rattle.fb_laws.specs.Sound.{AreGood}
 use Rattle.fb_laws.proofs.Accepting.{sound_of}
-use Rattle.fb_resource.specs.declared.resource.Inner.{Inner}
+use Rattle.fb_resource.specs.declared.resource.Resource.{Resource}
 use Rattle.fb_laws.specs.Worlds.{World}
 use Rattle.fb_laws.proofs.Bridge.{world_of}
 use Rattle.fb_laws.proofs.OwnPart.{lawful}
@@ -84,10 +84,10 @@ module _ (M : Machine) (c : Core M) where
 
 module _ (i : Inputs) (good : AreGood i) (limit horizon : ℕ) (es : List (CoreStep (machine (system_of i) limit)))
     (sc : IsSchedule (machine (system_of i) limit) horizon (opening_core (system_of i) (stimuli_of i) limit) es)
-    (xs : List Inner) (at : IsAt i limit (core_of i limit es) xs) (cap : ℕ) (bounds : List ℕ) (greatest : AreGreatest (system_of i) limit horizon cap (core_of i limit es) bounds)
+    (xs : List Resource) (at : IsAt i limit (core_of i limit es) xs) (cap : ℕ) (bounds : List ℕ) (greatest : AreGreatest (system_of i) limit horizon cap (core_of i limit es) bounds)
     (workers : ℕ → ℕ) (turns : ℕ → Option (Turn (machine (system_of i) limit))) (t : AreTurns i limit horizon (core_of i limit es) bounds workers turns)
     (fs : List (CoreStep (machine (system_of i) limit))) (phase : IsPhase (machine (system_of i) limit) turns fs)
-    (ys : List Inner) (back : IsAt i limit (core_of i limit (after_phase i limit es fs)) ys)
+    (ys : List Resource) (back : IsAt i limit (core_of i limit (after_phase i limit es fs)) ys)
     (unended : IsAtHorizon (machine (system_of i) limit) (count_of (system_of i)) horizon (core_of i limit (after_phase i limit es fs)) → ⊥)
     (goes : (s : ℕ) (reason : Reason) → IsLeastStop (machine (system_of i) limit) (count_of (system_of i)) (core_of i limit (after_phase i limit es fs)) s reason → ⊥)
     (risen : HasRisen i limit (core_of i limit es) (core_of i limit (after_phase i limit es fs)) bounds) where

@@ -17,7 +17,7 @@ use Rattle.fb_laws.specs.Sound.{AreGood}
 use Rattle.fb_system.specs.Lines.{BelongsTo}
 use Rattle.fb_laws.proofs.Accepting.{sound_of}
 use Rattle.fb_laws.proofs.Existence.{there_is}
-use Rattle.fb_resource.specs.declared.resource.Inner.{Inner}
+use Rattle.fb_resource.specs.declared.resource.Resource.{Resource}
 use Rattle.fb_window.specs.Bounding.{AreGreatest}
 use Rattle.fb_laws.specs.Finality.{HasHanded, HasKept, core_of}
 use Rattle.fb_laws.specs.ScheduleLaw.{lines_to}
@@ -71,7 +71,7 @@ module _ (i : Inputs) (good : AreGood i) (limit horizon : ℕ) where
         ending = ap (λ t. AtStop t s reason) (sym at) ∙ sym (told.ending x.0 x.1);
       }
 
-  module _ (es : List (CoreStep (machine (system_of i) limit))) (xs : List Inner) (before : List (List run.Line)) (ls : List Line)
+  module _ (es : List (CoreStep (machine (system_of i) limit))) (xs : List Resource) (before : List (List run.Line)) (ls : List Line)
       (sc : IsSchedule (machine (system_of i) limit) horizon (opening_core (system_of i) (stimuli_of i) limit) es) (at : IsAt i limit (core_of i limit es) xs)
       (left : HasKept i limit horizon (core_of i limit es) before ls)
       (cap : ℕ) (bounds : List ℕ) (greatest : AreGreatest (system_of i) limit horizon cap (core_of i limit es) bounds) (workers : ℕ → ℕ) where

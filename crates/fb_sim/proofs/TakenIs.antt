@@ -18,10 +18,9 @@ use Rattle.fb_system.specs.Ports.{variable_of}
 use Rattle.fb_net.specs.Worlds.{IsForest, SeatedAt, StandsAt}
 use Rattle.fb_net.specs.declared.resource.Forest.{Forest}
 use Rattle.fb_resource.specs.Posts.{arriving}
-use Rattle.fb_resource.specs.Takings.{IsHere, IsTakenHere}
+use Rattle.fb_resource.specs.Takings.{IsHere, IsTakenHere, Queues, queues_of}
 use Rattle.fb_resource.specs.Waiting.{meaning}
 use Rattle.fb_resource.specs.declared.tick_counts.TickCounts as counted
-use Rattle.fb_resource.specs.declared.queues.Queues.{Queues}
 use Rattle.fb_resource.proofs.Lists.{set_apart, set_here}
 use Rattle.fb_sim.specs.Machines.{IsAt, IsTaken}
 use Rattle.fb_sim.specs.declared.one_agenda.machine.Machine.{Machine}
@@ -78,11 +77,11 @@ elsewhere sys limit s k e x q other h = let m = begun limit k.tick (s.meters k.r
 pub taken_at : (i : Inputs) (limit : ℕ) (s : State) (a : Agenda) (k : Key) (e : AnEvent) (stop : Option Reason) (old new : Machine) (mid : Queues) (tree : Forest) (meter : counted.TickCounts)
     → ((q : ℕ) (t : Forest) → slice_get old.trees.items q ≡ Some t → t.resource ≡ q)
     → k.resource < length old.trees.items → k.resource < length old.meters.items → (system_of i).resource (path_of e) ≡ k.resource
-    → IsAt i s (without k a) old → old.queues.mail.items ≡ []
-    → IsTakenHere i limit s k e stop tree meter old.queues mid
-    → ((j : Key) → meaning i new.queues.agenda j ≡ or_else (found j (map (arriving i) mid.mail.items)) (meaning i mid.agenda j))
+    → IsAt i s (without k a) old → old.given.mail.items ≡ []
+    → IsTakenHere i limit s k e stop 0 tree meter (queues_of old.agenda old.sent old.given) mid
+    → ((j : Key) → meaning i new.agenda j ≡ or_else (found j (map (arriving i) mid.mail.items)) (meaning i mid.agenda j))
     → new.trees.items ≡ slice_set old.trees.items k.resource tree → new.meters.items ≡ slice_set old.meters.items k.resource meter
-    → new.queues.sent.items ≡ mid.sent.items → new.queues.outbox.lines.items ≡ mid.outbox.lines.items
+    → new.sent.items ≡ mid.sent.items → new.given.outbox.lines.items ≡ mid.outbox.lines.items
     → IsTaken i limit s a k e stop old new
 taken_at i limit s a k e stop old new mid tree meter ours has_tree has_meter home at none taken put trees meters sent lines = record {
   effect = effect;
@@ -109,15 +108,15 @@ taken_at i limit s a k e stop old new mid tree meter ours has_tree has_meter hom
     mail : map (arriving i) mid.mail.items ≡ effect.sent
     mail = taken.mail ∙ ap (λ ms. map (arriving i) ms ++ effect.sent) none
 
-    same : (q : ℕ) (t : Forest) (x : counted.TickCounts) → slice_get new.trees.items q ≡ Some t → slice_get new.meters.items q ≡ Some x → q ≡ k.resource → IsHere i effect.state q t x
+    same : (q : ℕ) (t : Forest) (x : counted.TickCounts) → slice_get new.trees.items q ≡ Some t → slice_get new.meters.items q ≡ Some x → q ≡ k.resource → IsHere i effect.state q 0 t x
     same q t x its_tree its_meter is =
         let t_at : slice_get (slice_set old.trees.items k.resource tree) k.resource ≡ Some t = sym (ap (λ ts. slice_get ts k.resource) trees) ∙ ap (slice_get new.trees.items) (sym is) ∙ its_tree in
         let x_at : slice_get (slice_set old.meters.items k.resource meter) k.resource ≡ Some x = sym (ap (λ ms. slice_get ms k.resource) meters) ∙ ap (slice_get new.meters.items) (sym is) ∙ its_meter in
-        subst (λ n. IsHere i effect.state n t x) (sym is)
-        (subst (λ z. IsHere i effect.state k.resource z x) (set_here old.trees.items k.resource tree t has_tree t_at)
-        (subst (λ z. IsHere i effect.state k.resource tree z) (set_here old.meters.items k.resource meter x has_meter x_at) taken.here))
+        subst (λ n. IsHere i effect.state n 0 t x) (sym is)
+        (subst (λ z. IsHere i effect.state k.resource 0 z x) (set_here old.trees.items k.resource tree t has_tree t_at)
+        (subst (λ z. IsHere i effect.state k.resource 0 tree z) (set_here old.meters.items k.resource meter x has_meter x_at) taken.here))
 
-    apart : (q : ℕ) (t : Forest) (x : counted.TickCounts) → slice_get new.trees.items q ≡ Some t → slice_get new.meters.items q ≡ Some x → q ≢ k.resource → IsHere i effect.state q t x
+    apart : (q : ℕ) (t : Forest) (x : counted.TickCounts) → slice_get new.trees.items q ≡ Some t → slice_get new.meters.items q ≡ Some x → q ≢ k.resource → IsHere i effect.state q 0 t x
     apart q t x its_tree its_meter other =
         let had : slice_get old.trees.items q ≡ Some t = set_apart old.trees.items k.resource q tree t other (sym (ap (λ ts. slice_get ts q) trees) ∙ its_tree) in
         let had_meter : slice_get old.meters.items q ≡ Some x = set_apart old.meters.items k.resource q meter x other (sym (ap (λ ms. slice_get ms q) meters) ∙ its_meter) in
@@ -125,6 +124,6 @@ taken_at i limit s a k e stop old new mid tree meter ours has_tree has_meter hom
         let stays = elsewhere sys limit s k e effect q other taken.takes in
         record {
           blocks = other_world i k e (world_of s q) (world_of effect.state q) t was.blocks (λ mine. other (sym (ours q t had) ∙ mine)) home stays.blocks stays.held;
-          meter = stays.meter ∙ was.meter;
+          meter = λ l t le. ap (begun l t) stays.meter ∙ was.meter l t le;
           typed = taken.here.typed;
         }

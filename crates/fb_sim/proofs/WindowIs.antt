@@ -16,7 +16,7 @@ use Rattle.fb_types.specs.Schedules.{IsSchedule}
 use Rattle.fb_types.specs.declared.run.Line as run
 use Rattle.fb_laws.specs.Sound.{AreGood}
 use Rattle.fb_system.specs.Lines.{BelongsTo}
-use Rattle.fb_resource.specs.declared.resource.Inner.{Inner}
+use Rattle.fb_resource.specs.declared.resource.Resource.{Resource}
 use Rattle.fb_resource.specs.declared.resource.WindowDone.{WindowDone}
 use Rattle.fb_trace.specs.Progress.{IsPartWritten, bounded}
 use Rattle.fb_window.specs.Bounding.{AreGreatest}
@@ -45,8 +45,8 @@ at_core P j i l limit e f h = subst (λ (x : Inputs). P x l) (sym e) (subst (λ 
 
 module _ (i : Inputs) (limit horizon : ℕ) (core : Core) (ls : List Line) (h : IsOnItsWay i limit horizon core ls) where
   -- the core has the resources of its system
-  pub are_of : AreOf core.system core.steps core.resources.items
-  are_of = at_core (λ j l. AreOf j l core.resources.items) core.system i core.steps limit h.of.inputs h.of.steps (record {
+  pub are_of : AreOf core.system core.resources.items
+  are_of = subst (λ (j : Inputs). AreOf j core.resources.items) (sym h.of.inputs) (record {
     counted = h.at.counted;
     numbered = λ r x at. (h.at.each r x at).number;
     of = λ r x at. (h.at.each r x at).of;
@@ -86,7 +86,7 @@ module _ (i : Inputs) (limit horizon : ℕ) (core : Core) (ls : List Line) (h : 
       -- What settling says of what was away.
       abbrev Says : Inputs → ℕ → ℕ → List (List run.Line) → Settled → Type 0
       Says j l u before s =
-          (xs : List Inner) (bounds : List ℕ) (es : List (CoreStep (machine (system_of j) l))) (workers : ℕ → ℕ)
+          (xs : List Resource) (bounds : List ℕ) (es : List (CoreStep (machine (system_of j) l))) (workers : ℕ → ℕ)
           → HasLeft xs bounds away
           → IsSchedule (machine (system_of j) l) u (opening_core (system_of j) (stimuli_of j) l) es
           → IsAt j l (core_of j l es) xs
@@ -198,7 +198,7 @@ module _ (i : Inputs) (o : Options) (c : model_cores.Core (machine (system_of i)
   counted_failed good s BadOption h part = absurd part
   counted_failed good s Failed h part = absurd part
 
-  -- memory that was wanting before anything was written
+  -- memory that ran out before anything was written
   pub counted_wanting : (e : RunError) → e ≡ Memory → new ≡ old → CountedRounds i o c ls old new (Err e)
   counted_wanting e is same = subst (λ (f : RunError). CountedRounds i o c ls old new (Err f)) (sym is) same
 

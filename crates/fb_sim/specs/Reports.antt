@@ -1,4 +1,4 @@
--- How far a run is, as it is told, and what it has written then (this project's profile).
+-- The progress of a run, as it is reported, and what it has written then (this project's profile).
 use Rattle.std.specs.Prelude.{◌≡◌, ◌==◌, ◌⊎◌, ℕ, zero, suc, ◌+◌, ◌*◌, ◌/◌, ◌≤◌, ◌<◌, List, [], ◌++◌, length, count_by, Bool, true, false, IsTrue, Option, Result, Ok, Err, codes, decimal}
 use Rattle.std.specs.Io.KnownBytes.{Appends}
 use Rattle.fb_types.specs.Headline.{Inputs, IsTrace, system_of, stimuli_of}
@@ -45,23 +45,23 @@ pub record HasCome (i : Inputs) (o : Options) (to : ℕ) (text : List ℕ) : Typ
   pub goes_on : ending_of to takings ≡ AtHorizon to
   pub text_is : text ≡ lines_text o.form (system_of i) (lines_of takings)
 
--- It is told that the simulation has come to this tick, and how many lines it has so far.
+-- The report says that the simulation has come to this tick, and how many lines it has so far.
 pub record IsReport (i : Inputs) (o : Options) (to : ℕ) (report : List ℕ) : Type 0 where
   pub text : List ℕ
   pub come : HasCome i o to text
   pub is : report ≡ report_text o.horizon to (bounded (feeds text))
 
--- at a hundredth nothing is told where its tick is that of the one before
+-- at a hundredth nothing is reported where its tick is that of the one before
 abbrev pub TellsAt : Inputs → Options → (before now : ℕ) → List ℕ → Type 0
 TellsAt i o before now report = ((now ≤ before) × (report ≡ [])) ⊎ ((before < now) × IsReport i o now report)
 
--- what is told at the first hundredths
+-- what is reported at the first hundredths
 abbrev pub TellsTo : Inputs → Options → (count : ℕ) → List ℕ → Type 0
 TellsTo i o zero reports = reports ≡ []
 TellsTo i o (suc n) reports =
     (first : List ℕ) × (next : List ℕ) × TellsTo i o n first × TellsAt i o (hundredth o.horizon n) (hundredth o.horizon (suc n)) next × (reports ≡ first ++ next)
 
--- Where a run of these inputs begins, it is told at the first so many hundredths, and where it comes to its horizon at all of them.
+-- Where a run of these inputs begins, the first so many hundredths are reported, and where it comes to its horizon all of them.
 pub record Reports (given : Given) (o : Options) (is_all : Bool) (reports : List ℕ) : Type 0 where
   pub inputs : Inputs
   pub declared : Declares given inputs
@@ -70,7 +70,7 @@ pub record Reports (given : Given) (o : Options) (is_all : Bool) (reports : List
   pub all : IsTrue is_all → count ≡ 100
   pub told : TellsTo inputs o count reports
 
--- where no run begins, nothing is told
+-- where no run begins, nothing is reported
 abbrev pub AreReports : Given → Options → (is_all : Bool) → List ℕ → Type 0
 AreReports given o is_all reports = Reports given o is_all reports ⊎ ((is_all ≡ false) × (reports ≡ []))
 
@@ -86,7 +86,7 @@ is_at_end (Err e) = false
 abbrev pub Counted : (n m : ReportTally) → (text : List ℕ) → Type 0
 Counted n m text = (m.bytes ≡ bounded (n.bytes + length text)) × (m.lines ≡ bounded (n.lines + feeds text)) × (m.is_heard ≡ n.is_heard)
 
--- The text of the way to the later tick was written, or a part of it, or memory was wanting.
+-- The text of the way to the later tick was written, or a part of it, or memory ran out.
 abbrev pub GoesOn : (s t : Session) (to : ℕ) → (old new : Option (List ℕ)) → (n m : ReportTally) → Result Outcome RunError → Type 0
 GoesOn s t to old new n m (Ok o) =
     (text : List ℕ) × IsNext s to text (serial.ending_of o) × Appends old new text × (t ≡ record s { to = to; stage = stage_after o }) × Counted n m text
@@ -96,7 +96,7 @@ GoesOn s t to old new n m (Err (Refused r)) = ⊥
 GoesOn s t to old new n m (Err BadOption) = ⊥
 GoesOn s t to old new n m (Err Failed) = ⊥
 
--- where the writer that a simulation writes to is memory, memory was wanting
+-- where the writer that a simulation writes to is memory, memory ran out
 abbrev pub in_memory : RunError → RunError
 in_memory (Write n) = Memory
 in_memory (Refused r) = Refused r
@@ -118,7 +118,7 @@ pub record HasTold (i : Inputs) (o : Options) (quiet err : Option (List ℕ)) (h
   pub told : TellsTo i o count reports
   pub hears : Hears heard quiet err reports
 
--- The run has come to the tick of so many hundredths and goes on; so much was written and told.
+-- The run has come to the tick of so many hundredths and goes on; so much was written and reported.
 pub record Came (i : Inputs) (o : Options) (first out quiet err : Option (List ℕ)) (count : ℕ) (n : ReportTally) : Type 0 where
   pub text : List ℕ
   pub come : HasCome i o (hundredth o.horizon count) text

@@ -185,7 +185,7 @@ pub record WritesFront (given : Given) (o : Options) (old new : Option (List ℕ
   pub got : Appends old new bytes
   pub trace : AreTrace given o (bytes ++ rest) end
 
--- What a writer has where a run with workers failed. Options out of their range come before all else. Memory may be wanting before a round, when the lines of those before it are written.
+-- What a writer has where a run with workers failed. Options out of their range come before all else. Memory may run out before a round, when the lines of those before it are written.
 abbrev pub FailsRun : Given → Options → (old new : Option (List ℕ)) → RunError → Type 0
 FailsRun given o old new BadOption = (AreWithin o → ⊥) × (new ≡ old)
 FailsRun given o old new (Write n) = WritesPart given o old new n

@@ -73,7 +73,7 @@ fn stimuli_of(
 
 /// What was found, beside what is read next.
 ///
-/// A value of a type parameter is dropped by one call, so what was found is let go here where the next reading fails, and no
+/// A value of a type parameter is dropped by one call, so what was found is dropped here where the next reading fails, and no
 /// reading is followed by the drop of all that was read before.
 fn beside<A: Drop, B: Drop>(found: A, read: Result<B, RunError>) -> Result<(A, B), RunError>
     ensures found { IfOk result (λ both. both.0 ≡ found) }
@@ -148,7 +148,7 @@ pub fn open(alloc: Global, inputs: &Inputs<'_>) -> Result<System, RunError>
     }
 }
 
-/// Lets a system go. What it owns is proved to be let go here, and so not once more in a crate above.
+/// Drops a system. What it owns is proved to be dropped here, and so not once more in a crate above.
 pub fn let_go(system: System) {
     drop(system);
 }

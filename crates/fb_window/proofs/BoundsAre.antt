@@ -14,7 +14,7 @@ use Rattle.fb_types.proofs.Lookups.{none_some, none_since}
 use Rattle.fb_laws.specs.Sound.{AreGood, IsSound}
 use Rattle.fb_laws.proofs.Accepting.{sound_of}
 use Rattle.fb_net.specs.Events.{event_of}
-use Rattle.fb_resource.specs.declared.resource.Inner.{Inner}
+use Rattle.fb_resource.specs.declared.resource.Resource.{Resource}
 use Rattle.fb_laws.proofs.OwnPart.{lawful}
 use Rattle.fb_laws.proofs.Bridge.{world_of}
 use Rattle.fb_laws.proofs.Opening.{is_opening}
@@ -34,7 +34,7 @@ use Rattle.fb_laws.proofs.Phasing.{IsRound, is_round}
 use Rattle.fb_laws.proofs.FloorsRise.{rises}
 use Rattle.fb_laws.proofs.Reached.{inv_after, runs_after}
 
-module _ (i : Inputs) (limit : ℕ) (c : Core (machine (system_of i) limit)) (xs : List Inner) (at : IsAt i limit c xs) where
+module _ (i : Inputs) (limit : ℕ) (c : Core (machine (system_of i) limit)) (xs : List Resource) (at : IsAt i limit c xs) where
   pub core_is : IsCoreOf clock_of stop_of Rests (system_of i) limit c xs
   core_is = record {
     counted = at.counted;
@@ -77,7 +77,7 @@ module _ (i : Inputs) (good : AreGood i) (limit horizon : ℕ) (es : List (CoreS
   pub kept_by : Inv M horizon w (core_of i limit es) (runs_after M es)
   kept_by = inv_after M (lawful (system_of i) sound limit) w horizon es (is_opening (system_of i) sound limit (stimuli_of i)) sc
 
-  module _ (xs : List Inner) (at : IsAt i limit (core_of i limit es) xs) where
+  module _ (xs : List Resource) (at : IsAt i limit (core_of i limit es) xs) where
     at_home : (r : ℕ) → (core_of i limit es r).out ≡ None
     at_home = home i limit (core_of i limit es) xs at
 

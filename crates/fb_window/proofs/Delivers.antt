@@ -18,7 +18,7 @@ use Rattle.fb_link.specs.Exchanges.{keyed}
 use Rattle.fb_laws.specs.Facts.{IsLawful}
 use Rattle.fb_laws.specs.Worlds.{World}
 use Rattle.fb_resource.specs.Resources.{HasReceived, IsFor, IsOf, StandsFor, with_messages}
-use Rattle.fb_resource.specs.declared.resource.Inner.{Inner}
+use Rattle.fb_resource.specs.declared.resource.Resource.{Resource}
 use Rattle.fb_window.specs.Standing.{IsQuiet, Sits}
 use Rattle.fb_laws.proofs.AtHome.{arrives_at_clock, outbox_sends}
 use Rattle.fb_laws.proofs.Keeps.{Inv}
@@ -79,12 +79,14 @@ found_keyed i (m ∷ ms) j = step (found j (map (arriving i) ms)) (found j (keye
 
 -- ---- What a resource stands for
 
-pub stands_alike : (i : Inputs) (limit : ℕ) (l n : Local (machine (system_of i) limit)) (x : Inner) → StandsFor i limit l x → n.part ≡ l.part → n.stop ≡ l.stop → ((j : Key) → n.own j ≡ l.own j)
+pub stands_alike : (i : Inputs) (limit : ℕ) (l n : Local (machine (system_of i) limit)) (x : Resource) → StandsFor i limit l x → n.part ≡ l.part → n.stop ≡ l.stop → ((j : Key) → n.own j ≡ l.own j)
     → ((j : Key) → j.resource ≡ x.tree.resource → n.inbox j ≡ l.inbox j) → ((j : Key) → (j.class == 2) ≡ false → n.inbox j ≡ None) → StandsFor i limit n x
 stands_alike i limit l n x s part stop own inbox class = record {
   state = s.state;
   part = part ∙ s.part;
-  here = s.here;
+  blocks = s.blocks;
+  typed = s.typed;
+  unused = s.unused;
   counts = s.counts;
   own = λ j e. own j ∙ s.own j e;
   inbox = class;
@@ -95,9 +97,9 @@ stands_alike i limit l n x s part stop own inbox class = record {
 -- ---- The exchange
 
 -- The resource at a place is what a member of the core has there, which may have an outbox that is not empty.
-pub record IsBackAs (i : Inputs) (limit : ℕ) (m : Member (machine (system_of i) limit)) (r : ℕ) (y : Inner) : Type 0 where
+pub record IsBackAs (i : Inputs) (limit : ℕ) (m : Member (machine (system_of i) limit)) (r : ℕ) (y : Resource) : Type 0 where
   pub number : y.tree.resource ≡ r
-  pub of : IsOf i limit y
+  pub of : IsOf i y
   pub state : StandsFor i limit m.state y
   pub clock : m.clock ≡ y.clock
 
@@ -111,7 +113,7 @@ module _ (i : Inputs) (limit horizon : ℕ) (d : Core (machine (system_of i) lim
 
   -- a message may come to its receiver
   pub fits : (s : ℕ) (m : Message) (x : model.Event) → found (arriving i m).0 (d s).outbox ≡ Some x → IsMessage i m
-      → (r : ℕ) (y : Inner) → y.tree.resource ≡ r → (d r).clock ≡ y.clock → receiver_of (system_of i) m ≡ r → IsFor i y m
+      → (r : ℕ) (y : Resource) → y.tree.resource ≡ r → (d r).clock ≡ y.clock → receiver_of (system_of i) m ≡ r → IsFor i y m
   fits s m x f message r y number clock to =
       let late : (d (arriving i m).0.resource).clock ≤ (arriving i m).0.tick =
       arrives_at_clock M law horizon w d runs v s (arriving i m).0 x (home (arriving i m).0.resource) f in
@@ -122,11 +124,11 @@ module _ (i : Inputs) (limit horizon : ℕ) (d : Core (machine (system_of i) lim
   inbox_is : (r : ℕ) (j : Key) → (exchanged M d r).state.inbox j ≡ or_else (found j (map (arriving i) all)) ((d r).state.inbox j)
   inbox_is r j = ap (λ o. or_else o ((d r).state.inbox j)) (out_found j)
 
-  inbox_class : (r : ℕ) (y : Inner) → StandsFor i limit (d r).state y → (j : Key) → (j.class == 2) ≡ false → (exchanged M d r).state.inbox j ≡ None
+  inbox_class : (r : ℕ) (y : Resource) → StandsFor i limit (d r).state y → (j : Key) → (j.class == 2) ≡ false → (exchanged M d r).state.inbox j ≡ None
   inbox_class r y s j e = inbox_is r j ∙ or_else_nones _ _ (found_class i all j e) (s.inbox j e)
 
   -- where nothing is on its way
-  pub sits_still : (r : ℕ) (y : Inner) → IsBackAs i limit (d r) r y → all ≡ [] → Sits i limit (exchanged M d r) r y
+  pub sits_still : (r : ℕ) (y : Resource) → IsBackAs i limit (d r) r y → all ≡ [] → Sits i limit (exchanged M d r) r y
   sits_still r y b none = record {
     number = b.number;
     of = b.of;
@@ -138,17 +140,17 @@ module _ (i : Inputs) (limit horizon : ℕ) (d : Core (machine (system_of i) lim
   }
 
   -- who has received these messages, under whose keys stands what stands there of all
-  pub sits_received : (r : ℕ) (y u : Inner) (ms : List Message) → IsBackAs i limit (d r) r y → All (IsFor i y) ms
+  pub sits_received : (r : ℕ) (y u : Resource) (ms : List Message) → IsBackAs i limit (d r) r y → All (IsFor i y) ms
       → ((j : Key) → j.resource ≡ r → found j (map (arriving i) ms) ≡ found j (map (arriving i) all)) → HasReceived ms y u → Sits i limit (exchanged M d r) r u
   sits_received r y u ms b fit last g =
-      let there : u.tree.resource ≡ y.tree.resource = ap (λ (q : Inner). q.tree.resource) g.besides in
+      let there : u.tree.resource ≡ y.tree.resource = ap (λ (q : Resource). q.tree.resource) g.besides in
       record {
         number = there ∙ b.number;
-        of = g.of i limit b.of fit;
+        of = g.of i b.of fit;
         state = stands_alike i limit (with_messages i limit ms (d r).state) (exchanged M d r).state u (g.stands i limit b.of fit (d r).state b.state) refl refl (λ j. refl)
             (λ j e. inbox_is r j ∙ ap (λ o. or_else o ((d r).state.inbox j)) (sym (last j (e ∙ there ∙ b.number))))
             (inbox_class r y b.state);
-        clock = b.clock ∙ ap (λ (q : Inner). q.clock) (sym g.besides);
+        clock = b.clock ∙ ap (λ (q : Resource). q.clock) (sym g.besides);
         home = home r;
         posted = refl;
       }

@@ -10,7 +10,7 @@ use Rattle.fb_types.specs.declared.run.Message.{Message}
 use Rattle.fb_types.specs.declared.run.StopMark.{StopMark}
 use Rattle.fb_types.specs.declared.value.Reason.{Reason}
 use Rattle.fb_types.proofs.Lookups.{none_some}
-use Rattle.fb_resource.specs.declared.resource.Inner.{Inner}
+use Rattle.fb_resource.specs.declared.resource.Resource.{Resource}
 use Rattle.fb_resource.specs.declared.resource.WindowDone.{WindowDone}
 use Rattle.fb_resource.specs.declared.resource.WindowDone.TheVariants.{Ran}
 use Rattle.fb_window.specs.Jobs.{Does, JobModel, job_of, jobs_of, resting_of}
@@ -19,28 +19,28 @@ use Rattle.fb_window.specs.declared.home.Home.{Home}
 use Rattle.fb_laws.proofs.Places.{push_here, push_before, push_counted, drop_at, drop_none}
 
 -- what rested had stopped, and what had not stopped left
-pub resting_some : (x y : Inner) → resting_of x ≡ Some y → (reason : Reason) × (x.stopped ≡ Some reason) × (y ≡ x)
+pub resting_some : (x y : Resource) → resting_of x ≡ Some y → (reason : Reason) × (x.stopped ≡ Some reason) × (y ≡ x)
 resting_some x y e = go x.stopped refl e
   where
-    go : (o : Option Reason) → x.stopped ≡ o → elim o as (λ _. Option Inner) [ None ↦ None | Some reason ↦ Some x ] ≡ Some y → (reason : Reason) × (x.stopped ≡ Some reason) × (y ≡ x)
+    go : (o : Option Reason) → x.stopped ≡ o → elim o as (λ _. Option Resource) [ None ↦ None | Some reason ↦ Some x ] ≡ Some y → (reason : Reason) × (x.stopped ≡ Some reason) × (y ≡ x)
     go None q f = absurd (let g : None ≡ Some y = f in cc)
     go (Some reason) q f = let g : Some x ≡ Some y = f in let h : y ≡ x = cc in (reason, q, h)
 
-pub resting_none : (x : Inner) → resting_of x ≡ None → x.stopped ≡ None
+pub resting_none : (x : Resource) → resting_of x ≡ None → x.stopped ≡ None
 resting_none x e = go x.stopped refl e
   where
-    go : (o : Option Reason) → x.stopped ≡ o → elim o as (λ _. Option Inner) [ None ↦ None | Some reason ↦ Some x ] ≡ None → x.stopped ≡ None
+    go : (o : Option Reason) → x.stopped ≡ o → elim o as (λ _. Option Resource) [ None ↦ None | Some reason ↦ Some x ] ≡ None → x.stopped ≡ None
     go None q f = q
     go (Some reason) q f = absurd (let g : Some x ≡ None = f in cc)
 
 -- one more was put behind what was there
-pub record IsPushed (y : Inner) (lines : Vec Line) (sent : Vec Message) (old new : Home) : Type 0 where
+pub record IsPushed (y : Resource) (lines : Vec Line) (sent : Vec Message) (old new : Home) : Type 0 where
   pub resources : new.resources.items ≡ old.resources.items ++ y ∷ []
   pub pending : new.pending.items ≡ old.pending.items ++ lines ∷ []
   pub outboxes : new.outboxes.items ≡ old.outboxes.items ++ sent ∷ []
 
-module _ (i : Inputs) (limit : ℕ) (bounds : List ℕ) (xs : List Inner) (lists : List (Vec Line)) where
-  kept_at : (r : ℕ) (y : Inner) (lines : Vec Line) (sent : Vec Message) (old new : Home) → IsPushed y lines sent old new → IsHomeAt i limit bounds xs lists r old → IsHomeAt i limit bounds xs lists r new
+module _ (i : Inputs) (limit : ℕ) (bounds : List ℕ) (xs : List Resource) (lists : List (Vec Line)) where
+  kept_at : (r : ℕ) (y : Resource) (lines : Vec Line) (sent : Vec Message) (old new : Home) → IsPushed y lines sent old new → IsHomeAt i limit bounds xs lists r old → IsHomeAt i limit bounds xs lists r new
   kept_at r y lines sent old new p h = record {
     old = h.old;
     kept = h.kept;
@@ -63,7 +63,7 @@ module _ (i : Inputs) (limit : ℕ) (bounds : List ℕ) (xs : List Inner) (lists
       go (Some z) q = let f : k ∷ ks ≡ z ∷ drop (place + 1) lists = e ∙ drop_at lists place z q in let g : z ≡ k = cc in let t : ks ≡ drop (place + 1) lists = cc in (q ∙ ap Some g, t)
       go None q = absurd (let f : k ∷ ks ≡ [] = e ∙ drop_none lists place q in cc)
 
-  home_push : (place : ℕ) (x y : Inner) (k lines : Vec Line) (sent : Vec Message) (ks : List (Vec Line)) (ds es : List WindowDone) (old new : Home)
+  home_push : (place : ℕ) (x y : Resource) (k lines : Vec Line) (sent : Vec Message) (ks : List (Vec Line)) (ds es : List WindowDone) (old new : Home)
       → slice_get xs place ≡ Some x → IsHomeTo i limit bounds xs lists place (k ∷ ks) ds old → IsPushed y lines sent old new
       → HasCome i limit (slice_index_or bounds place 0) x k.items y lines.items sent
       → AllZip Does (jobs_of i limit bounds (place + 1) (drop (place + 1) xs)) es
@@ -93,12 +93,12 @@ module _ (i : Inputs) (limit : ℕ) (bounds : List ℕ) (xs : List Inner) (lists
       }
 
   -- the jobs that are left, from a resource on
-  jobs_left : (place : ℕ) (x : Inner) (ds : List WindowDone) → slice_get xs place ≡ Some x → AllZip Does (jobs_of i limit bounds place (drop place xs)) ds
+  jobs_left : (place : ℕ) (x : Resource) (ds : List WindowDone) → slice_get xs place ≡ Some x → AllZip Does (jobs_of i limit bounds place (drop place xs)) ds
       → AllZip Does (job_of i limit (slice_index_or bounds place 0) x ++ jobs_of i limit bounds (place + 1) (drop (place + 1) xs)) ds
-  jobs_left place x ds at h = subst (λ (z : List Inner). AllZip Does (jobs_of i limit bounds place z) ds) (drop_at xs place x at) h
+  jobs_left place x ds at h = subst (λ (z : List Resource). AllZip Does (jobs_of i limit bounds place z) ds) (drop_at xs place x at) h
 
   -- a resource that has stopped
-  pub home_rested : (place : ℕ) (x : Inner) (k : Vec Line) (sent : Vec Message) (ks : List (Vec Line)) (ds : List WindowDone) (old new : Home) (reason : Reason)
+  pub home_rested : (place : ℕ) (x : Resource) (k : Vec Line) (sent : Vec Message) (ks : List (Vec Line)) (ds : List WindowDone) (old new : Home) (reason : Reason)
       → slice_get xs place ≡ Some x → x.stopped ≡ Some reason → IsHomeTo i limit bounds xs lists place (k ∷ ks) ds old → IsPushed x k sent old new → sent.items ≡ []
       → IsHomeTo i limit bounds xs lists (place + 1) ks ds new
   home_rested place x k sent ks ds old new reason at stop h p none =
@@ -112,7 +112,7 @@ module _ (i : Inputs) (limit : ℕ) (bounds : List ℕ) (xs : List Inner) (lists
       no_job (Some q) e = refl
 
   -- and one that ran
-  pub home_ran : (place : ℕ) (x y : Inner) (k new_lines lines : Vec Line) (sent : Vec Message) (stop : Option StopMark) (ks : List (Vec Line)) (ds : List WindowDone) (old new : Home)
+  pub home_ran : (place : ℕ) (x y : Resource) (k new_lines lines : Vec Line) (sent : Vec Message) (stop : Option StopMark) (ks : List (Vec Line)) (ds : List WindowDone) (old new : Home)
       → slice_get xs place ≡ Some x → x.stopped ≡ None → IsHomeTo i limit bounds xs lists place (k ∷ ks) (Ran y new_lines sent stop ∷ ds) old → IsPushed y lines sent old new
       → lines.items ≡ k.items ++ new_lines.items
       → IsHomeTo i limit bounds xs lists (place + 1) ks ds new
@@ -128,7 +128,7 @@ module _ (i : Inputs) (limit : ℕ) (bounds : List ℕ) (xs : List Inner) (lists
       one_job (Some q) e = absurd (let f : Some q ≡ None = e in cc)
 
 -- none has come home yet
-pub home_none : (i : Inputs) (limit : ℕ) (bounds : List ℕ) (xs : List Inner) (lists : List (Vec Line)) (ds : List WindowDone) (h : Home)
+pub home_none : (i : Inputs) (limit : ℕ) (bounds : List ℕ) (xs : List Resource) (lists : List (Vec Line)) (ds : List WindowDone) (h : Home)
     → AllZip Does (jobs_of i limit bounds 0 xs) ds → h.resources.items ≡ [] → h.pending.items ≡ [] → h.outboxes.items ≡ [] → IsHomeTo i limit bounds xs lists 0 lists ds h
 home_none i limit bounds xs lists ds h done a b c = record {
   resources = ap length a;
@@ -140,7 +140,7 @@ home_none i limit bounds xs lists ds h done a b c = record {
 }
 
 -- all have
-pub home_all : (i : Inputs) (limit : ℕ) (bounds : List ℕ) (xs : List Inner) (lists : List (Vec Line)) (place : ℕ) (ks : List (Vec Line)) (ds : List WindowDone) (h : Home)
+pub home_all : (i : Inputs) (limit : ℕ) (bounds : List ℕ) (xs : List Resource) (lists : List (Vec Line)) (place : ℕ) (ks : List (Vec Line)) (ds : List WindowDone) (h : Home)
     → IsHomeTo i limit bounds xs lists place ks ds h → place ≡ length xs → AreHome i limit bounds xs lists h
 home_all i limit bounds xs lists place ks ds h a e = record {
   resources = a.resources ∙ e;

@@ -2,12 +2,12 @@
 use Rattle.std.proofs.Common.{◌≡◌, ℕ, ◌+◌, ◌≤◌, true, Option, Some, None, List, [], ◌∷◌, ◌++◌, length, map, refl, sym, ap, ◌∙◌, arith, append_assoc, append-nil}
 use Rattle.fb_types.specs.Headline.{Inputs}
 use Rattle.fb_types.specs.declared.value.Reason.{Reason}
-use Rattle.fb_resource.specs.declared.resource.Inner.{Inner}
+use Rattle.fb_resource.specs.declared.resource.Resource.{Resource}
 use Rattle.fb_window.specs.Jobs.{JobModel, job_of, jobs_of, resting_of}
 use Rattle.std.specs.Prelude.{slice_index_or, is_some}
 
 -- the jobs of one resource more
-pub jobs_push : (i : Inputs) (limit : ℕ) (bounds : List ℕ) (first place : ℕ) (xs : List Inner) (x : Inner) → first + length xs ≡ place
+pub jobs_push : (i : Inputs) (limit : ℕ) (bounds : List ℕ) (first place : ℕ) (xs : List Resource) (x : Resource) → first + length xs ≡ place
     → jobs_of i limit bounds first (xs ++ x ∷ []) ≡ jobs_of i limit bounds first xs ++ job_of i limit (slice_index_or bounds place 0) x
 jobs_push i limit bounds first place [] x e =
     let f : first ≡ place = omega arith in
@@ -17,7 +17,7 @@ jobs_push i limit bounds first place (y ∷ ys) x e =
     ap (λ z. job_of i limit (slice_index_or bounds first 0) y ++ z) (jobs_push i limit bounds (first + 1) place ys x f)
     ∙ sym (append_assoc (job_of i limit (slice_index_or bounds first 0) y) (jobs_of i limit bounds (first + 1) ys) (job_of i limit (slice_index_or bounds place 0) x))
 
-job_few : (i : Inputs) (limit to : ℕ) (x : Inner) → length (job_of i limit to x) ≤ 1
+job_few : (i : Inputs) (limit to : ℕ) (x : Resource) → length (job_of i limit to x) ≤ 1
 job_few i limit to x = go x.stopped
   where
     go : (o : Option Reason)
@@ -30,7 +30,7 @@ length_join [] ys = omega arith
 length_join (x ∷ xs) ys = let e = length_join xs ys in omega arith
 
 -- no more jobs than resources
-pub jobs_few : (i : Inputs) (limit : ℕ) (bounds : List ℕ) (first : ℕ) (xs : List Inner) → length (jobs_of i limit bounds first xs) ≤ length xs
+pub jobs_few : (i : Inputs) (limit : ℕ) (bounds : List ℕ) (first : ℕ) (xs : List Resource) → length (jobs_of i limit bounds first xs) ≤ length xs
 jobs_few i limit bounds first [] = omega arith
 jobs_few i limit bounds first (x ∷ xs) =
     let a = job_few i limit (slice_index_or bounds first 0) x in
@@ -41,25 +41,25 @@ jobs_few i limit bounds first (x ∷ xs) =
 -- ---- One resource
 
 -- one that has not stopped has a job, and none rests at its place
-pub job_none : (i : Inputs) (limit to : ℕ) (x : Inner) → x.stopped ≡ None → job_of i limit to x ≡ record { inputs = i; steps = limit; resource = x; to = to } ∷ []
+pub job_none : (i : Inputs) (limit to : ℕ) (x : Resource) → x.stopped ≡ None → job_of i limit to x ≡ record { inputs = i; steps = limit; resource = x; to = to } ∷ []
 job_none i limit to x e =
     ap (λ (o : Option Reason). elim o as (λ _. List JobModel) [ None ↦ record { inputs = i; steps = limit; resource = x; to = to } ∷ [] | Some q ↦ [] ]) e
 
-pub resting_none : (x : Inner) → x.stopped ≡ None → resting_of x ≡ None
-resting_none x e = ap (λ (o : Option Reason). elim o as (λ _. Option Inner) [ None ↦ None | Some q ↦ Some x ]) e
+pub resting_none : (x : Resource) → x.stopped ≡ None → resting_of x ≡ None
+resting_none x e = ap (λ (o : Option Reason). elim o as (λ _. Option Resource) [ None ↦ None | Some q ↦ Some x ]) e
 
 -- and one that has stopped rests, without a job
-pub job_some : (i : Inputs) (limit to : ℕ) (x : Inner) → is_some x.stopped ≡ true → job_of i limit to x ≡ []
+pub job_some : (i : Inputs) (limit to : ℕ) (x : Resource) → is_some x.stopped ≡ true → job_of i limit to x ≡ []
 job_some i limit to x e = go x.stopped e
   where
     go : (o : Option Reason) → is_some o ≡ true → elim o as (λ _. List JobModel) [ None ↦ record { inputs = i; steps = limit; resource = x; to = to } ∷ [] | Some q ↦ [] ] ≡ []
     go None f = cc
     go (Some q) f = refl
 
-pub resting_some : (x : Inner) → is_some x.stopped ≡ true → resting_of x ≡ Some x
+pub resting_some : (x : Resource) → is_some x.stopped ≡ true → resting_of x ≡ Some x
 resting_some x e = go x.stopped e
   where
-    go : (o : Option Reason) → is_some o ≡ true → elim o as (λ _. Option Inner) [ None ↦ None | Some q ↦ Some x ] ≡ Some x
+    go : (o : Option Reason) → is_some o ≡ true → elim o as (λ _. Option Resource) [ None ↦ None | Some q ↦ Some x ] ≡ Some x
     go None f = cc
     go (Some q) f = refl
 

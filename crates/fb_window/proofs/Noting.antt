@@ -9,7 +9,7 @@ use Rattle.fb_types.specs.declared.run.Message.{Message}
 use Rattle.fb_agenda.specs.Agendas.{IsNext, waiting}
 use Rattle.fb_resource.proofs.Lists.{set_apart, set_here}
 use Rattle.fb_resource.specs.Posts.{receiver_of}
-use Rattle.fb_resource.specs.declared.resource.Inner.{Inner}
+use Rattle.fb_resource.specs.declared.resource.Resource.{Resource}
 use Rattle.fb_window.specs.Mails.{AreGiven}
 use Rattle.fb_window.specs.Noting.{AreNoted, IsHanded, IsNoted}
 use Rattle.fb_laws.proofs.Places.{has_at, is_at, one_at, push_before, push_counted, push_here}
@@ -17,17 +17,17 @@ use Rattle.fb_window.proofs.Receives.{given_more, given_none}
 
 -- ---- Of so many resources
 
-pub record AreNotedTo (horizon : ℕ) (xs : List Inner) (count : ℕ) (ticks : List ℕ) : Type 0 where
+pub record AreNotedTo (horizon : ℕ) (xs : List Resource) (count : ℕ) (ticks : List ℕ) : Type 0 where
   pub counted : length ticks ≡ count
-  pub each : (r : ℕ) (x : Inner) (tick : ℕ) → slice_get xs r ≡ Some x → slice_get ticks r ≡ Some tick → IsNoted horizon x tick
+  pub each : (r : ℕ) (x : Resource) (tick : ℕ) → slice_get xs r ≡ Some x → slice_get ticks r ≡ Some tick → IsNoted horizon x tick
 
-pub noted_none : (horizon : ℕ) (xs : List Inner) (ticks : List ℕ) → ticks ≡ [] → AreNotedTo horizon xs 0 ticks
+pub noted_none : (horizon : ℕ) (xs : List Resource) (ticks : List ℕ) → ticks ≡ [] → AreNotedTo horizon xs 0 ticks
 noted_none horizon xs ticks e = record {
   counted = ap (λ z. length z) e;
   each = λ r x tick f g. let h = is_at ticks r tick g in let n : length ticks ≡ 0 = ap (λ z. length z) e in absurd (omega arith);
 }
 
-pub noted_more : (horizon : ℕ) (xs : List Inner) (count : ℕ) (old new : List ℕ) (x : Inner) (tick : ℕ) → AreNotedTo horizon xs count old → slice_get xs count ≡ Some x
+pub noted_more : (horizon : ℕ) (xs : List Resource) (count : ℕ) (old new : List ℕ) (x : Resource) (tick : ℕ) → AreNotedTo horizon xs count old → slice_get xs count ≡ Some x
     → IsNoted horizon x tick → new ≡ old ++ tick ∷ [] → AreNotedTo horizon xs (count + 1) new
 noted_more horizon xs count old new x tick h at here e = record {
   counted = ap (λ z. length z) e ∙ push_counted old tick count h.counted;
@@ -46,18 +46,18 @@ noted_more horizon xs count old new x tick h at here e = record {
       (cases_lt r count);
 }
   where
-    last : (r : ℕ) → count ≡ r → (y : Inner) (t : ℕ) → slice_get xs r ≡ Some y → slice_get (old ++ tick ∷ []) r ≡ Some t → IsNoted horizon y t
+    last : (r : ℕ) → count ≡ r → (y : Resource) (t : ℕ) → slice_get xs r ≡ Some y → slice_get (old ++ tick ∷ []) r ≡ Some t → IsNoted horizon y t
     last r q y t f put =
         let same : tick ≡ t = one_at (old ++ tick ∷ []) r tick t (push_here old tick r (h.counted ∙ q)) put in
         let one : x ≡ y = one_at xs r x y (subst (λ (n : ℕ). slice_get xs n ≡ Some x) q at) f in
-        subst (λ (z : Inner). IsNoted horizon z t) one (subst (λ (n : ℕ). IsNoted horizon x n) same here)
+        subst (λ (z : Resource). IsNoted horizon z t) one (subst (λ (n : ℕ). IsNoted horizon x n) same here)
 
-pub noted_all : (horizon : ℕ) (xs : List Inner) (count : ℕ) (ticks : List ℕ) → AreNotedTo horizon xs count ticks → count ≡ length xs → AreNoted horizon xs ticks
+pub noted_all : (horizon : ℕ) (xs : List Resource) (count : ℕ) (ticks : List ℕ) → AreNotedTo horizon xs count ticks → count ≡ length xs → AreNoted horizon xs ticks
 noted_all horizon xs count ticks h e = record { counted = h.counted ∙ e; each = h.each }
 
 -- ---- One of them again
 
-pub noted_set : (horizon : ℕ) (xs : List Inner) (ticks : List ℕ) (place : ℕ) (x : Inner) (tick : ℕ) → AreNoted horizon xs ticks → place < length ticks → IsNoted horizon x tick
+pub noted_set : (horizon : ℕ) (xs : List Resource) (ticks : List ℕ) (place : ℕ) (x : Resource) (tick : ℕ) → AreNoted horizon xs ticks → place < length ticks → IsNoted horizon x tick
     → AreNoted horizon (slice_set xs place x) (slice_set ticks place tick)
 noted_set horizon xs ticks place x tick h within here = record {
   counted = length-set ticks place tick ∙ h.counted ∙ sym (length-set xs place x);
@@ -67,11 +67,11 @@ noted_set horizon xs ticks place x tick h within here = record {
     inside : place < length xs
     inside = let c = h.counted in omega arith
 
-    same : (r : ℕ) → r ≡ place → (y : Inner) (t : ℕ) → slice_get (slice_set xs place x) r ≡ Some y → slice_get (slice_set ticks place tick) r ≡ Some t → IsNoted horizon y t
+    same : (r : ℕ) → r ≡ place → (y : Resource) (t : ℕ) → slice_get (slice_set xs place x) r ≡ Some y → slice_get (slice_set ticks place tick) r ≡ Some t → IsNoted horizon y t
     same r q y t f g =
         let one : x ≡ y = set_here xs place x y inside (subst (λ (n : ℕ). slice_get (slice_set xs place x) n ≡ Some y) q f) in
         let number : tick ≡ t = set_here ticks place tick t within (subst (λ (n : ℕ). slice_get (slice_set ticks place tick) n ≡ Some t) q g) in
-        subst (λ (z : Inner). IsNoted horizon z t) one (subst (λ (n : ℕ). IsNoted horizon x n) number here)
+        subst (λ (z : Resource). IsNoted horizon z t) one (subst (λ (n : ℕ). IsNoted horizon x n) number here)
 
 -- ---- The least
 
@@ -108,8 +108,8 @@ least_tick_more horizon ticks count first least tick h at b = record {
   there = h.there;
 }
 
-pub low_since : (horizon : ℕ) (xs : List Inner) (ticks : List ℕ) (least : ℕ) → ((r tick : ℕ) → slice_get ticks r ≡ Some tick → least ≤ tick) → AreNoted horizon xs ticks
-    → (r : ℕ) (x : Inner) (j : Key) → slice_get xs r ≡ Some x → j.tick < least → waiting x.queues.agenda j ≡ None
+pub low_since : (horizon : ℕ) (xs : List Resource) (ticks : List ℕ) (least : ℕ) → ((r tick : ℕ) → slice_get ticks r ≡ Some tick → least ≤ tick) → AreNoted horizon xs ticks
+    → (r : ℕ) (x : Resource) (j : Key) → slice_get xs r ≡ Some x → j.tick < least → waiting x.agenda j ≡ None
 low_since horizon xs ticks least low h r x j e b =
     let counted = h.counted in
     let within = is_at xs r x e in
@@ -117,8 +117,8 @@ low_since horizon xs ticks least low h r x j e b =
     let over = low r t.0 t.1 in
     (h.each r x t.0 e t.1).rests j (omega arith)
 
-pub there_since : (horizon : ℕ) (xs : List Inner) (ticks : List ℕ) (first least : ℕ) → slice_get ticks first ≡ Some least → AreNoted horizon xs ticks → least < horizon
-    → (x : Inner) × (slice_get xs first ≡ Some x) × IsNext x.queues.agenda least
+pub there_since : (horizon : ℕ) (xs : List Resource) (ticks : List ℕ) (first least : ℕ) → slice_get ticks first ≡ Some least → AreNoted horizon xs ticks → least < horizon
+    → (x : Resource) × (slice_get xs first ≡ Some x) × IsNext x.agenda least
 there_since horizon xs ticks first least at h b =
     let counted = h.counted in
     let within = is_at ticks first least at in
@@ -127,12 +127,12 @@ there_since horizon xs ticks first least at h b =
 
 -- ---- Messages for one of them
 
-pub given_handed : (sys : System) (ms : List Message) (m : Message) (xs ys zs : List Inner) (r : ℕ) → AreGiven sys ms xs ys → receiver_of sys m ≡ r → IsHanded r (m ∷ []) ys zs
+pub given_handed : (sys : System) (ms : List Message) (m : Message) (xs ys zs : List Resource) (r : ℕ) → AreGiven sys ms xs ys → receiver_of sys m ≡ r → IsHanded r (m ∷ []) ys zs
     → AreGiven sys (ms ++ m ∷ []) xs zs
 given_handed sys ms m xs ys zs r g to h =
-    subst (λ (us : List Inner). AreGiven sys (ms ++ m ∷ []) xs us) (sym h.set) (given_more sys ms m xs ys r h.before h.after g h.was to h.received)
+    subst (λ (us : List Resource). AreGiven sys (ms ++ m ∷ []) xs us) (sym h.set) (given_more sys ms m xs ys r h.before h.after g h.was to h.received)
 
-pub given_only : (sys : System) (m : Message) (xs zs : List Inner) (r : ℕ) → receiver_of sys m ≡ r → IsHanded r (m ∷ []) xs zs → AreGiven sys (m ∷ []) xs zs
+pub given_only : (sys : System) (m : Message) (xs zs : List Resource) (r : ℕ) → receiver_of sys m ≡ r → IsHanded r (m ∷ []) xs zs → AreGiven sys (m ∷ []) xs zs
 given_only sys m xs zs r to h = given_handed sys [] m xs xs zs r (given_none sys xs) to h
 
 pub only_of : {X : Type 0} (xs : List X) (x : X) → length xs ≡ 1 → slice_get xs 0 ≡ Some x → xs ≡ x ∷ []

@@ -14,7 +14,7 @@ use Rattle.fb_laws.specs.Sound.{AreGood}
 use Rattle.fb_laws.proofs.Accepting.{sound_of}
 use Rattle.fb_laws.proofs.Opening.{is_counted}
 use Rattle.fb_resource.specs.Resources.{AreOpened}
-use Rattle.fb_resource.specs.declared.resource.Inner.{Inner}
+use Rattle.fb_resource.specs.declared.resource.Resource.{Resource}
 use Rattle.fb_laws.specs.Finality.{Edge, until, HasHanded, core_of, lines_in}
 use Rattle.fb_window.specs.Settling.{lists_of}
 use Rattle.fb_window.specs.Standing.{IsAt}
@@ -25,13 +25,13 @@ nothing_waits true a e = e
 nothing_waits false a e = rw e refl
 
 -- The resources as they are opened are where the opening core is.
-pub opened_at : (i : Inputs) (limit : ℕ) (xs : List Inner) → AreGood i → AreOpened i limit xs → IsAt i limit (core_of i limit []) xs
+pub opened_at : (i : Inputs) (limit : ℕ) (xs : List Resource) → AreGood i → AreOpened i xs → IsAt i limit (core_of i limit []) xs
 opened_at i limit xs good o = record {
   counted = o.counted;
   each = λ r x e. record {
     number = o.numbered r x e;
     of = o.of r x e;
-    state = o.state r x e;
+    state = o.state limit r x e;
     clock = sym (o.clock r x e);
     home = refl;
     posted = refl;

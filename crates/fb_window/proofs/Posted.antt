@@ -19,7 +19,7 @@ use Rattle.fb_link.specs.Exchanges.{AreFor, all_of, goes_to}
 use Rattle.fb_laws.specs.Facts.{IsLawful}
 use Rattle.fb_laws.specs.Worlds.{World}
 use Rattle.fb_resource.specs.Resources.{IsFor}
-use Rattle.fb_resource.specs.declared.resource.Inner.{Inner}
+use Rattle.fb_resource.specs.declared.resource.Resource.{Resource}
 use Rattle.fb_window.specs.Mails.{ArePosted}
 use Rattle.fb_laws.specs.Phases.{turned}
 use Rattle.fb_window.specs.Standing.{IsAt, IsQuiet, Sits}
@@ -35,7 +35,7 @@ use Rattle.fb_window.proofs.Turns.{AreBack}
 
 -- ---- The exchange
 
-module _ (i : Inputs) (limit horizon : ℕ) (c : Core (machine (system_of i) limit)) (bounds : List ℕ) (workers : ℕ → ℕ) (xs : List Inner) (lists : List (Vec Line)) (h : Home)
+module _ (i : Inputs) (limit horizon : ℕ) (c : Core (machine (system_of i) limit)) (bounds : List ℕ) (workers : ℕ → ℕ) (xs : List Resource) (lists : List (Vec Line)) (h : Home)
     (at : IsAt i limit c xs) (b : AreBack i limit horizon c bounds workers xs lists h) (counted : length h.resources.items ≡ count_of (system_of i)) (boxed : length h.outboxes.items ≡ count_of (system_of i))
     (law : IsLawful (machine (system_of i) limit)) (w : World (machine (system_of i) limit)) (runs : ℕ → List (Item (machine (system_of i) limit)))
     (v : Inv (machine (system_of i) limit) horizon w (all_turned (machine (system_of i) limit) c b.turns) runs)
@@ -90,7 +90,7 @@ module _ (i : Inputs) (limit horizon : ℕ) (c : Core (machine (system_of i) lim
   as_back r l = let it = (b.each r l).back in record { number = it.number; of = it.of; state = it.state; clock = it.clock }
 
   -- each message may come to its receiver
-  due : (r : ℕ) (y : Inner) → y.tree.resource ≡ r → (d r).clock ≡ y.clock → All (λ m. receiver_of (system_of i) m ≡ r → IsFor i y m) all
+  due : (r : ℕ) (y : Resource) → y.tree.resource ≡ r → (d r).clock ≡ y.clock → All (λ m. receiver_of (system_of i) m ≡ r → IsFor i y m) all
   due r y number clock =
       all_flat (λ m. receiver_of (system_of i) m ≡ r → IsFor i y m) (λ (a : Vec Message). a.items) h.outboxes.items
       (λ s a e. all_by_place (λ m. receiver_of (system_of i) m ≡ r → IsFor i y m) a.items
@@ -102,7 +102,7 @@ module _ (i : Inputs) (limit horizon : ℕ) (c : Core (machine (system_of i) lim
       fits i limit horizon d all law w runs v home out_found s m x.0 (ap (λ z. found (arriving i m).0 z) (box_is s a e) ∙ x.1)
       (all_at (IsMessage i) a.items n m (subst (λ (z : Vec Message). All (IsMessage i) z.items) same it.back.messages) f) r y number clock to))
 
-  due_to : (r : ℕ) (y : Inner) (ms : List Message) → y.tree.resource ≡ r → (d r).clock ≡ y.clock → AreFor (system_of i) r all ms → All (IsFor i y) ms
+  due_to : (r : ℕ) (y : Resource) (ms : List Message) → y.tree.resource ≡ r → (d r).clock ≡ y.clock → AreFor (system_of i) r all ms → All (IsFor i y) ms
   due_to r y ms number clock f =
       All-permutation (IsFor i y) (filter (goes_to (system_of i) r) all) ms f.those
       (all_filter (IsFor i y) (goes_to (system_of i) r) all
@@ -112,16 +112,16 @@ module _ (i : Inputs) (limit horizon : ℕ) (c : Core (machine (system_of i) lim
           → All (λ m. receiver_of (system_of i) m ≡ r → IsFor i y m) ms → All (λ m. goes_to (system_of i) r m ≡ true → IsFor i y m) ms
       all_map ms g a k x l = g (slice_index_or ms k x) (a k x l)
 
-  sits : (zs : List Inner) → ArePosted (system_of i) all h.resources.items zs → (r : ℕ) (z : Inner) → slice_get zs r ≡ Some z → Sits i limit (exchanged M d r) r z
+  sits : (zs : List Resource) → ArePosted (system_of i) all h.resources.items zs → (r : ℕ) (z : Resource) → slice_get zs r ≡ Some z → Sits i limit (exchanged M d r) r z
   sits zs posted r z e =
       let l : r < count_of (system_of i) = let f = is_at zs r z e in let g = posted.counted in omega arith in
       let it = b.each r l in
       let y = it.at.new in
       let p = posted.each r y it.at.new_at in
       let same : p.0 ≡ z = one_at zs r p.0 z p.1 e in
-      subst (λ (u : Inner). Sits i limit (exchanged M d r) r u) same
+      subst (λ (u : Resource). Sits i limit (exchanged M d r) r u) same
       (⊎_elim
-      (λ q. subst (λ (u : Inner). Sits i limit (exchanged M d r) r u) (sym q.1) (sits_still i limit horizon d all law w runs v home out_found r y (as_back r l) q.0))
+      (λ q. subst (λ (u : Resource). Sits i limit (exchanged M d r) r u) (sym q.1) (sits_still i limit horizon d all law w runs v home out_found r y (as_back r l) q.0))
       (λ q.
       sits_received i limit horizon d all law w runs v home out_found r y p.0 q.0 (as_back r l) (due_to r y q.0 it.back.number it.back.clock q.1)
       (λ j f. found_keyed i q.0 j ∙ ap (λ o. option_map (λ m. (arriving i m).1) o) (q.1.last j f) ∙ sym (found_keyed i all j)) q.2)
@@ -131,5 +131,5 @@ module _ (i : Inputs) (limit horizon : ℕ) (c : Core (machine (system_of i) lim
   is_quiet r l = still_quiet i limit horizon d all law w runs v home out_found links r l (subst (λ (s : Member M). IsQuiet M s r) (sym (quiet r l)) (at.others r l))
 
   -- The resources are where the core is after the exchange.
-  pub is_posted : (zs : List Inner) → ArePosted (system_of i) all h.resources.items zs → IsAt i limit (exchanged M d) zs
+  pub is_posted : (zs : List Resource) → ArePosted (system_of i) all h.resources.items zs → IsAt i limit (exchanged M d) zs
   is_posted zs posted = record { counted = posted.counted ∙ counted; each = sits zs posted; others = is_quiet }

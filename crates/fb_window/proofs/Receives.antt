@@ -18,7 +18,7 @@ use Rattle.fb_link.specs.Exchanges.{goes_to}
 use Rattle.fb_link.proofs.Dealt.{goes, stays}
 use Rattle.fb_resource.proofs.Lists.{set_here, set_apart}
 use Rattle.fb_resource.specs.Resources.{HasReceived, IsFor, StandsFor, with_messages}
-use Rattle.fb_resource.specs.declared.resource.Inner.{Inner}
+use Rattle.fb_resource.specs.declared.resource.Resource.{Resource}
 use Rattle.fb_window.specs.Mails.{AreGiven}
 use Rattle.fb_window.proofs.Delivers.{map_append}
 use Rattle.fb_laws.proofs.Places.{has_at, is_at, one_at}
@@ -26,8 +26,8 @@ use Rattle.fb_laws.proofs.Places.{has_at, is_at, one_at}
 -- ---- One resource
 
 -- where none come, it is as it was
-received_none : (x : Inner) → HasReceived [] x x
-received_none x = record { besides = refl; of = λ i limit of fit. of; stands = λ i limit of fit l s. s }
+received_none : (x : Resource) → HasReceived [] x x
+received_none x = record { besides = refl; of = λ i of fit. of; stands = λ i limit of fit l s. s }
 
 all_front : {X : Type 0} (P : X → Type 0) (xs ys : List X) → All P (xs ++ ys) → All P xs
 all_front P [] ys h = All-nil P
@@ -38,13 +38,13 @@ all_back P [] ys h = h
 all_back P (x ∷ xs) ys h = all_back P xs ys (All-tail P x (xs ++ ys) h)
 
 -- and of one more behind the others
-received_more : (ms : List Message) (m : Message) (x y z : Inner) → HasReceived ms x y → HasReceived (m ∷ []) y z → HasReceived (ms ++ m ∷ []) x z
+received_more : (ms : List Message) (m : Message) (x y z : Resource) → HasReceived ms x y → HasReceived (m ∷ []) y z → HasReceived (ms ++ m ∷ []) x z
 received_more ms m x y z f g = record {
-  besides = g.besides ∙ ap (λ (u : Inner). record u { queues = record u.queues { agenda = z.queues.agenda } }) f.besides;
-  of = λ i limit of fit. g.of i limit (f.of i limit of (front i fit)) (last i fit);
+  besides = g.besides ∙ ap (λ (u : Resource). record u { agenda = z.agenda }) f.besides;
+  of = λ i of fit. g.of i (f.of i of (front i fit)) (last i fit);
   stands = λ i limit of fit l s.
       subst (λ (n : Local (machine (system_of i) limit)). StandsFor i limit n z) (joined i limit l)
-      (g.stands i limit (f.of i limit of (front i fit)) (last i fit) (with_messages i limit ms l) (f.stands i limit of (front i fit) l s));
+      (g.stands i limit (f.of i of (front i fit)) (last i fit) (with_messages i limit ms l) (f.stands i limit of (front i fit) l s));
 }
   where
     front : (i : Inputs) → All (IsFor i x) (ms ++ m ∷ []) → All (IsFor i x) ms
@@ -56,8 +56,8 @@ received_more ms m x y z f g = record {
         All-cons (IsFor i y) m []
         (record {
           message = it.message;
-          here = it.here ∙ sym (ap (λ (u : Inner). u.tree.resource) f.besides);
-          later = let same = ap (λ (u : Inner). u.clock) f.besides in let late = it.later in omega arith;
+          here = it.here ∙ sym (ap (λ (u : Resource). u.tree.resource) f.besides);
+          later = let same = ap (λ (u : Resource). u.clock) f.besides in let late = it.later in omega arith;
         })
         (All-nil (IsFor i y))
 
@@ -72,7 +72,7 @@ received_more ms m x y z f g = record {
 
 -- ---- All of them
 
-pub given_none : (sys : System) (xs : List Inner) → AreGiven sys [] xs xs
+pub given_none : (sys : System) (xs : List Resource) → AreGiven sys [] xs xs
 given_none sys xs = record { counted = refl; each = λ r x e. (x, e, received_none x) }
 
 -- what is at another place of a list in which one element was set
@@ -90,21 +90,21 @@ set_same xs i x b =
     f.1 ∙ ap (λ z. Some z) (sym (set_here xs i x f.0 b f.1))
 
 -- one more message comes to its receiver
-pub given_more : (sys : System) (ms : List Message) (m : Message) (xs ys : List Inner) (r : ℕ) (y z : Inner) → AreGiven sys ms xs ys → slice_get ys r ≡ Some y → receiver_of sys m ≡ r
+pub given_more : (sys : System) (ms : List Message) (m : Message) (xs ys : List Resource) (r : ℕ) (y z : Resource) → AreGiven sys ms xs ys → slice_get ys r ≡ Some y → receiver_of sys m ≡ r
     → HasReceived (m ∷ []) y z → AreGiven sys (ms ++ m ∷ []) xs (slice_set ys r z)
 given_more sys ms m xs ys r y z g at to h = record {
   counted = length-set ys r z ∙ g.counted;
   each = λ q x e. go q x e (cases_eq q r);
 }
   where
-    go : (q : ℕ) (x : Inner) → slice_get xs q ≡ Some x → ((q ≡ r) ⊎ (q ≢ r)) → (u : Inner) × (slice_get (slice_set ys r z) q ≡ Some u) × HasReceived (filter (goes_to sys q) (ms ++ m ∷ [])) x u
+    go : (q : ℕ) (x : Resource) → slice_get xs q ≡ Some x → ((q ≡ r) ⊎ (q ≢ r)) → (u : Resource) × (slice_get (slice_set ys r z) q ≡ Some u) × HasReceived (filter (goes_to sys q) (ms ++ m ∷ [])) x u
     go q x e (inl same) =
         let p = g.each q x e in
         let was : p.0 ≡ y = one_at ys r p.0 y (subst (λ (n : ℕ). slice_get ys n ≡ Some p.0) same p.1) at in (
           z,
           subst (λ (n : ℕ). slice_get (slice_set ys r z) n ≡ Some z) (sym same) (set_same ys r z (is_at ys r y at)),
           subst (λ (ns : List Message). HasReceived ns x z) (sym (goes sys ms m q (same ∙ sym to)))
-              (received_more (filter (goes_to sys q) ms) m x y z (subst (λ (u : Inner). HasReceived (filter (goes_to sys q) ms) x u) was p.2) h),
+              (received_more (filter (goes_to sys q) ms) m x y z (subst (λ (u : Resource). HasReceived (filter (goes_to sys q) ms) x u) was p.2) h),
         )
     go q x e (inr apart) =
         let p = g.each q x e in (

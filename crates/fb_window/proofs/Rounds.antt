@@ -29,7 +29,7 @@ use Rattle.fb_laws.specs.Worlds.{World, IsCounted, IsOpening}
 use Rattle.fb_laws.proofs.Bridge.{world_of}
 use Rattle.fb_laws.proofs.Opening.{is_counted, is_opening}
 use Rattle.fb_laws.proofs.OwnPart.{lawful}
-use Rattle.fb_resource.specs.declared.resource.Inner.{Inner}
+use Rattle.fb_resource.specs.declared.resource.Resource.{Resource}
 use Rattle.fb_resource.specs.declared.resource.WindowDone.{WindowDone}
 use Rattle.fb_laws.specs.Finality.{Edge, until, HasHanded, HasKept, IsEdge, IsLeastTick, core_of}
 use Rattle.fb_window.specs.Frontiers.{AreCut, IsEnd, IsFirstStop, IsFrontier, AreAllPast, AreAtHorizon}
@@ -63,13 +63,13 @@ use Rattle.fb_window.proofs.Turns.{AreBack, are_back, back_turns}
 use Rattle.fb_laws.proofs.Lines.{merge_same}
 
 -- What is found when all have come home.
-pub record HasFound (i : Inputs) (horizon : ℕ) (h : Home) (zs : List Inner) (fronts rests : List (Vec Line)) (out : List Line) (end : End) : Type 0 where
+pub record HasFound (i : Inputs) (horizon : ℕ) (h : Home) (zs : List Resource) (fronts rests : List (Vec Line)) (out : List Line) (end : End) : Type 0 where
   pub least : ℕ
   pub edge : Edge
   pub posted : ArePosted (system_of i) (all_of h.outboxes.items) h.resources.items zs
   pub cap : least ≤ horizon
-  pub low : (r : ℕ) (x : Inner) (j : Key) → slice_get zs r ≡ Some x → j.tick < least → waiting x.queues.agenda j ≡ None
-  pub there : least < horizon → (r : ℕ) × (x : Inner) × (slice_get zs r ≡ Some x) × IsNext x.queues.agenda least
+  pub low : (r : ℕ) (x : Resource) (j : Key) → slice_get zs r ≡ Some x → j.tick < least → waiting x.agenda j ≡ None
+  pub there : least < horizon → (r : ℕ) × (x : Resource) × (slice_get zs r ≡ Some x) × IsNext x.agenda least
   pub frontier : IsFrontier least zs edge
   pub cut : AreCut edge h.pending.items fronts rests
   pub merged : AreRising fronts → AreMerged fronts out
@@ -85,9 +85,9 @@ merge_as i limit count lists ls out news e h = subst (λ (z : List Line). IsMerg
 
 module _ (i : Inputs) (good : AreGood i) (limit horizon : ℕ) (es : List (CoreStep (machine (system_of i) limit)))
     (sc : IsSchedule (machine (system_of i) limit) horizon (opening_core (system_of i) (stimuli_of i) limit) es)
-    (xs : List Inner) (bounds : List ℕ) (workers : ℕ → ℕ) (before : List (Vec Line)) (h : Home)
+    (xs : List Resource) (bounds : List ℕ) (workers : ℕ → ℕ) (before : List (Vec Line)) (h : Home)
     (at : IsAt i limit (core_of i limit es) xs) (legal : AreLegal i limit horizon (core_of i limit es) bounds) (home : AreHome i limit bounds xs before h)
-    (zs : List Inner) (fronts rests : List (Vec Line)) (out : List Line) (end : End) (found : HasFound i horizon h zs fronts rests out end) where
+    (zs : List Resource) (fronts rests : List (Vec Line)) (out : List Line) (end : End) (found : HasFound i horizon h zs fronts rests out end) where
   abbrev M : Machine
   M = machine (system_of i) limit
 
@@ -234,7 +234,7 @@ module _ (i : Inputs) (good : AreGood i) (limit horizon : ℕ) (es : List (CoreS
       is_kept = record {
         inputs = inputs;
         steps = steps;
-        at = subst (λ (z : List Inner). IsAt i limit d z) (sym resources) is_at;
+        at = subst (λ (z : List Resource). IsAt i limit d z) (sym resources) is_at;
         left = λ ls left. subst (λ (z : List (Vec Line)). HasHanded i limit horizon d (lists_of z) (ls ++ map (line_of sys) out)) (sym pending) (handed ls left);
         belong = belong;
         kept = subst (λ (z : List (Vec Line)). All (λ (p : Vec Line). All (BelongsTo sys) p.items) z) (sym pending) belongs;
@@ -295,16 +295,16 @@ module _ (i : Inputs) (good : AreGood i) (limit horizon : ℕ) (es : List (CoreS
 -- ---- What settling comes to
 
 -- What was done when all came home, whatever they left with.
-pub record HasGathered (i : Inputs) (limit horizon : ℕ) (resting : List (Option Inner)) (before : List (Vec Line)) (dones : List WindowDone) (h : Home) (zs : List Inner) (fronts rests : List (Vec Line)) (out : List Line) (end : End) : Type 0 where
+pub record HasGathered (i : Inputs) (limit horizon : ℕ) (resting : List (Option Resource)) (before : List (Vec Line)) (dones : List WindowDone) (h : Home) (zs : List Resource) (fronts rests : List (Vec Line)) (out : List Line) (end : End) : Type 0 where
   pub good : AreGood i
-  pub home : (bounds : List ℕ) (xs : List Inner) → resting ≡ map resting_of xs → AllZip Does (jobs_of i limit bounds 0 xs) dones → AreHome i limit bounds xs before h
+  pub home : (bounds : List ℕ) (xs : List Resource) → resting ≡ map resting_of xs → AllZip Does (jobs_of i limit bounds 0 xs) dones → AreHome i limit bounds xs before h
   pub found : HasFound i horizon h zs fronts rests out end
   pub belong : All (BelongsTo (system_of i)) out
   pub belongs : All (λ (p : Vec Line). All (BelongsTo (system_of i)) p.items) rests
 
-module _ (a : Away) (dones : List WindowDone) (done : AllZip Does a.jobs.value.items dones) (h : Home) (zs : List Inner) (fronts rests : List (Vec Line)) (out : List Line) (end : End)
+module _ (a : Away) (dones : List WindowDone) (done : AllZip Does a.jobs.value.items dones) (h : Home) (zs : List Resource) (fronts rests : List (Vec Line)) (out : List Line) (end : End)
     (x : HasGathered a.system a.steps a.horizon a.resting.items a.pending.items dones h zs fronts rests out end)
-    (xs : List Inner) (bounds : List ℕ) (es : List (CoreStep (machine (system_of a.system) a.steps))) (workers : ℕ → ℕ) (left : HasLeft xs bounds a)
+    (xs : List Resource) (bounds : List ℕ) (es : List (CoreStep (machine (system_of a.system) a.steps))) (workers : ℕ → ℕ) (left : HasLeft xs bounds a)
     (sc : IsSchedule (machine (system_of a.system) a.steps) a.horizon (opening_core (system_of a.system) (stimuli_of a.system) a.steps) es)
     (at : IsAt a.system a.steps (core_of a.system a.steps es) xs) (legal : AreLegal a.system a.steps a.horizon (core_of a.system a.steps es) bounds) where
   came : AreHome a.system a.steps bounds xs a.pending.items h

@@ -35,7 +35,7 @@ use Rattle.fb_laws.specs.Worlds.{World, IsCounted, IsOpening}
 use Rattle.fb_laws.proofs.Bridge.{world_of}
 use Rattle.fb_laws.proofs.Opening.{is_counted, is_opening}
 use Rattle.fb_laws.proofs.OwnPart.{lawful}
-use Rattle.fb_resource.specs.declared.resource.Inner.{Inner}
+use Rattle.fb_resource.specs.declared.resource.Resource.{Resource}
 use Rattle.fb_resource.specs.declared.resource.WindowDone.TheVariants.{Ran}
 use Rattle.fb_laws.specs.Finality.{HasKept, core_of, lines_in}
 use Rattle.fb_window.specs.Mails.{AreGiven}
@@ -62,22 +62,22 @@ use Rattle.fb_window.proofs.Standings.{is_least}
 use Rattle.fb_laws.proofs.Start as start
 
 -- what waits does not wait below the clock
-pub clock_before : (i : Inputs) (limit m : ℕ) (x : Inner) → IsOf i limit x → IsNext x.queues.agenda m → x.clock ≤ m
-clock_before i limit m x of next =
+pub clock_before : (i : Inputs) (m : ℕ) (x : Resource) → IsOf i x → IsNext x.agenda m → x.clock ≤ m
+clock_before i m x of next =
     let j = next.waits in
-    let e = some_from_is_some (waiting x.queues.agenda j.0) j.2 in
-    let late : x.clock ≤ j.0.tick = (of.ready.order.waits j.0 e.0 e.1).later in
+    let e = some_from_is_some (waiting x.agenda j.0) j.2 in
+    let late : x.clock ≤ j.0.tick = (of.order.waits j.0 e.0 e.1).later in
     let at_it : j.0.tick ≡ m = j.1 in
     omega arith
 
 module _ (i : Inputs) (good : AreGood i) (limit horizon : ℕ) (es : List (CoreStep (machine (system_of i) limit)))
     (sc : IsSchedule (machine (system_of i) limit) horizon (opening_core (system_of i) (stimuli_of i) limit) es)
-    (xs : List Inner) (at : IsAt i limit (core_of i limit es) xs)
-    (live : (q : ℕ) (z : Inner) → slice_get xs q ≡ Some z → z.stopped ≡ None)
-    (m : ℕ) (early : m < horizon) (low : (q : ℕ) (z : Inner) (j : Key) → slice_get xs q ≡ Some z → j.tick < m → waiting z.queues.agenda j ≡ None)
-    (r : ℕ) (x : Inner) (x_at : slice_get xs r ≡ Some x) (next : IsNext x.queues.agenda m)
-    (y : Inner) (new : Vec Line) (sent : Vec Message) (stop : Option StopMark) (ran : HasRun i limit x (m + 1) (Ran y new sent stop))
-    (zs : List Inner) (given : AreGiven (system_of i) sent.items (slice_set xs r y) zs) where
+    (xs : List Resource) (at : IsAt i limit (core_of i limit es) xs)
+    (live : (q : ℕ) (z : Resource) → slice_get xs q ≡ Some z → z.stopped ≡ None)
+    (m : ℕ) (early : m < horizon) (low : (q : ℕ) (z : Resource) (j : Key) → slice_get xs q ≡ Some z → j.tick < m → waiting z.agenda j ≡ None)
+    (r : ℕ) (x : Resource) (x_at : slice_get xs r ≡ Some x) (next : IsNext x.agenda m)
+    (y : Resource) (new : Vec Line) (sent : Vec Message) (stop : Option StopMark) (ran : HasRun i limit x (m + 1) (Ran y new sent stop))
+    (zs : List Resource) (given : AreGiven (system_of i) sent.items (slice_set xs r y) zs) where
   abbrev M : Machine
   M = machine (system_of i) limit
 
@@ -159,7 +159,7 @@ module _ (i : Inputs) (good : AreGood i) (limit horizon : ℕ) (es : List (CoreS
       home = at_home r;
       live = core_live r;
       legal = legal;
-      not_back = let f = sits.clock in let g = clock_before i limit m x sits.of next in omega arith;
+      not_back = let f = sits.clock in let g = clock_before i m x sits.of next in omega arith;
       in_range = omega arith;
     };
     run = run;
@@ -169,7 +169,7 @@ module _ (i : Inputs) (good : AreGood i) (limit horizon : ℕ) (es : List (CoreS
   some : it.items ≡ [] → ⊥
   some none =
       let j = next.waits in
-      let e = some_from_is_some (waiting x.queues.agenda j.0) j.2 in
+      let e = some_from_is_some (waiting x.agenda j.0) j.2 in
       let own : j.0.resource ≡ x.tree.resource = sits.of.home j.0 e.0 e.1 in
       let at_it : j.0.tick ≡ m = j.1 in
       let rests = subst (λ (is : List (Item M)). machines.Rests M r (m + 1) (end M (c r).state is)) none run.rests in
@@ -246,13 +246,13 @@ module _ (i : Inputs) (good : AreGood i) (limit horizon : ℕ) (es : List (CoreS
   out_found : (k : Key) → found k (back ((machine (system_of i) limit).sender k)).outbox ≡ found k (map (arriving i) sent.items)
   out_found k = out_at (M.sender k) k refl (cases_eq (M.sender k) r)
 
-  as_back : (q : ℕ) (u : Inner) → slice_get (slice_set xs r y) q ≡ Some u → IsBackAs i limit (back q) q u
+  as_back : (q : ℕ) (u : Resource) → slice_get (slice_set xs r y) q ≡ Some u → IsBackAs i limit (back q) q u
   as_back =
       set_each (λ q u. IsBackAs i limit (back q) q u) xs r y within
       (subst (λ (s : Member M). IsBackAs i limit s r y) (sym (back_at r refl)) (record { number = number; of = ran.0; state = it.stands; clock = sym it.clock }))
       (λ q u n e. subst (λ (s : Member M). IsBackAs i limit s q u) (sym (back_other q n)) (let s = at.each q u e in record { number = s.number; of = s.of; state = s.state; clock = s.clock }))
 
-  due : (q : ℕ) (u : Inner) → IsBackAs i limit (back q) q u → All (IsFor i u) (filter (goes_to (system_of i) q) sent.items)
+  due : (q : ℕ) (u : Resource) → IsBackAs i limit (back q) q u → All (IsFor i u) (filter (goes_to (system_of i) q) sent.items)
   due q u b =
       all_filter (IsFor i u) (goes_to sys q) sent.items
       (all_by_place (λ p. goes_to sys q p ≡ true → IsFor i u p) sent.items
@@ -277,7 +277,7 @@ module _ (i : Inputs) (good : AreGood i) (limit horizon : ℕ) (es : List (CoreS
         let u = has_at (slice_set xs r y) q (omega arith) in
         let p = given.each q u.0 u.1 in
         let b = as_back q u.0 u.1 in
-        subst (λ (o : Inner). Sits i limit (d q) q o) (one_at zs q p.0 z p.1 e)
+        subst (λ (o : Resource). Sits i limit (d q) q o) (one_at zs q p.0 z p.1 e)
         (sits_received i limit horizon back sent.items law w (runs_after M (es ++ fs)) back_inv round.home out_found q u.0 p.0 (filter (goes_to sys q) sent.items) b (due q u.0 b) (last q) p.2);
     others = λ q l.
         let n = at.counted in
@@ -373,7 +373,7 @@ module _ (i : Inputs) (good : AreGood i) (limit horizon : ℕ) (es : List (CoreS
       record {
         singles = (is_single, tt);
         schedule = schedule;
-        at = subst (λ (z : List Inner). IsAt i limit (core_of i limit after) z) (sym b_is) stands;
+        at = subst (λ (z : List Resource). IsAt i limit (core_of i limit after) z) (sym b_is) stands;
         left = λ ls h.
             subst (λ (z : List (Vec Line)). HasKept i limit horizon (core_of i limit after) (lists_of z) ls) (sym b_keeps)
             (kept ls (subst (λ (z : List (Vec Line)). HasKept i limit horizon (core_of i limit es) (lists_of z) ls) a_keeps h));

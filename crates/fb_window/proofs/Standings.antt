@@ -16,31 +16,31 @@ use Rattle.fb_types.proofs.Lookups.{none_some}
 use Rattle.fb_agenda.specs.Agendas.{IsNext, waiting}
 use Rattle.fb_types.specs.declared.run.Event.{Event}
 use Rattle.fb_net.specs.Events.{event_of}
-use Rattle.fb_resource.specs.declared.resource.Inner.{Inner}
+use Rattle.fb_resource.specs.declared.resource.Resource.{Resource}
 use Rattle.fb_laws.specs.Finality.{Edge, IsEdge, IsLeastTick}
 use Rattle.fb_window.specs.Frontiers.{AreAllPast, AreAtHorizon, IsFirstStop, IsFrontier, floor_at}
 use Rattle.fb_window.specs.Standing.{IsAt}
 use Rattle.fb_laws.proofs.Places.{has_at, is_at}
 
-module _ (i : Inputs) (limit : ℕ) (c : Core (machine (system_of i) limit)) (xs : List Inner) (at : IsAt i limit c xs) where
+module _ (i : Inputs) (limit : ℕ) (c : Core (machine (system_of i) limit)) (xs : List Resource) (at : IsAt i limit c xs) where
   abbrev M : Machine
   M = machine (system_of i) limit
 
-  has : (r : ℕ) → r < count_of (system_of i) → (x : Inner) × (slice_get xs r ≡ Some x)
+  has : (r : ℕ) → r < count_of (system_of i) → (x : Resource) × (slice_get xs r ≡ Some x)
   has r b = let n = at.counted in has_at xs r (omega arith)
 
-  counted : (r : ℕ) (x : Inner) → slice_get xs r ≡ Some x → r < count_of (system_of i)
+  counted : (r : ℕ) (x : Resource) → slice_get xs r ≡ Some x → r < count_of (system_of i)
   counted r x e = let n = at.counted in let b = is_at xs r x e in omega arith
 
-  stop_is : (r : ℕ) (x : Inner) → slice_get xs r ≡ Some x → (c r).state.stop ≡ x.stopped
+  stop_is : (r : ℕ) (x : Resource) → slice_get xs r ≡ Some x → (c r).state.stop ≡ x.stopped
   stop_is r x e = (at.each r x e).state.stop
 
-  clock_is : (r : ℕ) (x : Inner) → slice_get xs r ≡ Some x → (c r).clock ≡ x.clock
+  clock_is : (r : ℕ) (x : Resource) → slice_get xs r ≡ Some x → (c r).clock ≡ x.clock
   clock_is r x e = (at.each r x e).clock
 
   -- ---- The edge
 
-  floor_is : (m r : ℕ) (x : Inner) → slice_get xs r ≡ Some x → floor M c m r ≡ floor_at m x
+  floor_is : (m r : ℕ) (x : Resource) → slice_get xs r ≡ Some x → floor M c m r ≡ floor_at m x
   floor_is m r x e = ap (λ o. floor_of o (c r).clock m) (stop_is r x e) ∙ ap (λ t. floor_of x.stopped t m) (clock_is r x e)
 
   pub is_edge : (m : ℕ) (e : Edge) → 0 < count_of (system_of i) → IsFrontier m xs e → IsEdge M (count_of (system_of i)) c m e
@@ -59,8 +59,8 @@ module _ (i : Inputs) (limit : ℕ) (c : Core (machine (system_of i) limit)) (xs
       }
 
   -- Nothing waits before the least tick of all agendas.
-  pub is_least : (m horizon : ℕ) → m ≤ horizon → ((r : ℕ) (x : Inner) (j : Key) → slice_get xs r ≡ Some x → j.tick < m → waiting x.queues.agenda j ≡ None)
-      → (m < horizon → (r : ℕ) × (x : Inner) × (slice_get xs r ≡ Some x) × IsNext x.queues.agenda m) → IsLeastTick M horizon c m
+  pub is_least : (m horizon : ℕ) → m ≤ horizon → ((r : ℕ) (x : Resource) (j : Key) → slice_get xs r ≡ Some x → j.tick < m → waiting x.agenda j ≡ None)
+      → (m < horizon → (r : ℕ) × (x : Resource) × (slice_get xs r ≡ Some x) × IsNext x.agenda m) → IsLeastTick M horizon c m
   is_least m horizon cap low there = record {
     is_floor = λ s k b. (λ e. ⊎_elim (λ l. waits s k b e l) (λ l. (at.others s l).waits k e) (cases_lt s (count_of (system_of i))), posted s k);
     most = most;
@@ -89,7 +89,7 @@ module _ (i : Inputs) (limit : ℕ) (c : Core (machine (system_of i) limit)) (xs
           (λ (g : m < n).
           let t = there l in
           let j = t.3.waits in
-          let e = some_of (waiting t.1.queues.agenda j.0) j.2 in
+          let e = some_of (waiting t.1.agenda j.0) j.2 in
           let sits = at.each t.0 t.1 t.2 in
           let own : j.0.resource ≡ t.1.tree.resource = sits.of.home j.0 e.0 e.1 in
           let tick : j.0.tick ≡ m = j.1 in

@@ -10,7 +10,7 @@ use Rattle.fb_types.specs.declared.run.Message.{Message}
 use Rattle.fb_types.proofs.Lookups.{option_cases}
 use Rattle.fb_system.specs.Lines.{BelongsTo}
 use Rattle.fb_resource.specs.Posts.{IsMessage}
-use Rattle.fb_resource.specs.declared.resource.Inner.{Inner}
+use Rattle.fb_resource.specs.declared.resource.Resource.{Resource}
 use Rattle.fb_trace.specs.Merging.{flat}
 use Rattle.fb_trace.proofs.Together.{kept}
 use Rattle.fb_window.specs.Frontiers.{AreCut}
@@ -32,7 +32,7 @@ all_back : {X : Type 0} (P : X → Type 0) (xs ys : List X) → All P (xs ++ ys)
 all_back P [] ys h = h
 all_back P (x ∷ xs) ys h = all_back P xs ys (All-tail P x (xs ++ ys) h)
 
-module _ (i : Inputs) (limit : ℕ) (bounds : List ℕ) (xs : List Inner) (before : List (Vec Line)) (h : Home) (home : AreHome i limit bounds xs before h) where
+module _ (i : Inputs) (limit : ℕ) (bounds : List ℕ) (xs : List Resource) (before : List (Vec Line)) (h : Home) (home : AreHome i limit bounds xs before h) where
   -- the messages go to instances of the system
   pub targets_in : All (λ (box : Vec Message). All (λ m. m.target.instance < length (system_of i).paths) box.items) h.outboxes.items
   targets_in =

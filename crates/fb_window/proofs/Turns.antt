@@ -15,7 +15,7 @@ use Rattle.fb_types.specs.declared.value.Reason.{Reason}
 use Rattle.fb_types.proofs.Lookups.{none_some, option_cases}
 use Rattle.fb_resource.specs.Posts.{IsMessage, arriving}
 use Rattle.fb_resource.specs.Resources.{IsOf, StandsFor, RanTo}
-use Rattle.fb_resource.specs.declared.resource.Inner.{Inner}
+use Rattle.fb_resource.specs.declared.resource.Resource.{Resource}
 use Rattle.fb_window.specs.Homes.{HasCome, IsHomeAt, AreHome}
 use Rattle.fb_laws.specs.Phases.{Turn, MayTurn, turned}
 use Rattle.fb_window.specs.Settling.{AreLegal, AreTurns}
@@ -27,12 +27,12 @@ module _ (i : Inputs) (limit horizon : ℕ) (c : Core (machine (system_of i) lim
   M = machine (system_of i) limit
 
   -- What came home is what the member is after its turn, if it had one.
-  pub record IsBack (r bound worker : ℕ) (x : Inner) (kept : List Line) (y : Inner) (lines : List Line) (sent : List Message) (turn : Option (Turn (machine (system_of i) limit))) : Type 0 where
+  pub record IsBack (r bound worker : ℕ) (x : Resource) (kept : List Line) (y : Resource) (lines : List Line) (sent : List Message) (turn : Option (Turn (machine (system_of i) limit))) : Type 0 where
     pub live : x.stopped ≡ None → (run : List (Item (machine (system_of i) limit))) × (turn ≡ Some (record { worker = worker; bound = bound; run = run }))
     pub stopped : (reason : Reason) → x.stopped ≡ Some reason → turn ≡ None
     pub may : (t : Turn (machine (system_of i) limit)) → turn ≡ Some t → MayTurn (machine (system_of i) limit) horizon c r t
     pub number : y.tree.resource ≡ r
-    pub of : IsOf i limit y
+    pub of : IsOf i y
     pub state : StandsFor i limit (turned (machine (system_of i) limit) (c r) turn).state y
     pub clock : (turned (machine (system_of i) limit) (c r) turn).clock ≡ y.clock
     pub home : (turned (machine (system_of i) limit) (c r) turn).out ≡ None
@@ -48,11 +48,11 @@ module _ (i : Inputs) (limit horizon : ℕ) (c : Core (machine (system_of i) lim
     pub not_back : (c r).clock ≤ bound
     pub in_range : bound ≤ horizon
 
-  record Came (r bound worker : ℕ) (x : Inner) (kept : List Line) (y : Inner) (lines : List Line) (sent : List Message) : Type 0 where
+  record Came (r bound worker : ℕ) (x : Resource) (kept : List Line) (y : Resource) (lines : List Line) (sent : List Message) : Type 0 where
     turn : Option (Turn (machine (system_of i) limit))
     is_back : IsBack r bound worker x kept y lines sent turn
 
-  came_back : (r bound worker : ℕ) (x : Inner) (kept : List Line) (y : Inner) (lines : List Line) (sent : Vec Message)
+  came_back : (r bound worker : ℕ) (x : Resource) (kept : List Line) (y : Resource) (lines : List Line) (sent : Vec Message)
       → Sits i limit (c r) r x → (x.stopped ≡ None → MayLeaveWith r bound) → HasCome i limit bound x kept y lines sent → Came r bound worker x kept y lines sent.items
   came_back r bound worker x kept y lines sent sits may come = ⊎_elim ran rested (option_cases x.stopped)
     where
@@ -98,10 +98,10 @@ module _ (i : Inputs) (limit horizon : ℕ) (c : Core (machine (system_of i) lim
               live = λ e. absurd (none_some _ _ e q.1);
               stopped = λ reason e. refl;
               may = λ u e. absurd (let f : None ≡ Some u = e in cc);
-              number = ap (λ (z : Inner). z.tree.resource) h.0 ∙ sits.number;
-              of = subst (λ (z : Inner). IsOf i limit z) same sits.of;
-              state = subst (λ (z : Inner). StandsFor i limit (c r).state z) same sits.state;
-              clock = sits.clock ∙ ap (λ (z : Inner). z.clock) same;
+              number = ap (λ (z : Resource). z.tree.resource) h.0 ∙ sits.number;
+              of = subst (λ (z : Resource). IsOf i z) same sits.of;
+              state = subst (λ (z : Resource). StandsFor i limit (c r).state z) same sits.state;
+              clock = sits.clock ∙ ap (λ (z : Resource). z.clock) same;
               home = sits.home;
               posted = sits.posted ∙ ap (λ z. map (arriving i) z) (sym h.2);
               messages = subst (λ (z : List Message). All (IsMessage i) z) (sym h.2) (All-nil (IsMessage i));
@@ -112,17 +112,17 @@ module _ (i : Inputs) (limit horizon : ℕ) (c : Core (machine (system_of i) lim
           }
 
   -- What came home at a place.
-  pub record IsBackAt (bounds : List ℕ) (workers : ℕ → ℕ) (xs : List Inner) (lists : List (Vec Line)) (h : Home) (r : ℕ) (turn : Option (Turn (machine (system_of i) limit))) : Type 0 where
+  pub record IsBackAt (bounds : List ℕ) (workers : ℕ → ℕ) (xs : List Resource) (lists : List (Vec Line)) (h : Home) (r : ℕ) (turn : Option (Turn (machine (system_of i) limit))) : Type 0 where
     pub at : IsHomeAt i limit bounds xs lists r h
     pub back : IsBack r (slice_index_or bounds r 0) (workers r) at.old at.kept.items at.new at.lines.items at.sent.items turn
 
   -- All of it, with the turns.
-  pub record AreBack (bounds : List ℕ) (workers : ℕ → ℕ) (xs : List Inner) (lists : List (Vec Line)) (h : Home) : Type 0 where
+  pub record AreBack (bounds : List ℕ) (workers : ℕ → ℕ) (xs : List Resource) (lists : List (Vec Line)) (h : Home) : Type 0 where
     pub turns : ℕ → Option (Turn (machine (system_of i) limit))
     pub each : (r : ℕ) → r < count_of (system_of i) → IsBackAt bounds workers xs lists h r (turns r)
     pub others : (r : ℕ) → count_of (system_of i) ≤ r → turns r ≡ None
 
-  pub are_back : (bounds : List ℕ) (workers : ℕ → ℕ) (xs : List Inner) (lists : List (Vec Line)) (h : Home)
+  pub are_back : (bounds : List ℕ) (workers : ℕ → ℕ) (xs : List Resource) (lists : List (Vec Line)) (h : Home)
       → IsAt i limit c xs → AreLegal i limit horizon c bounds → AreHome i limit bounds xs lists h → AreBack bounds workers xs lists h
   are_back bounds workers xs lists h at legal home = record {
     turns = λ r. turn_of r (cases_lt r (count_of (system_of i)));
@@ -153,7 +153,7 @@ module _ (i : Inputs) (limit horizon : ℕ) (c : Core (machine (system_of i) lim
       none r b (inr l) = refl
 
   -- These are the turns of the phase.
-  pub back_turns : (bounds : List ℕ) (workers : ℕ → ℕ) (xs : List Inner) (lists : List (Vec Line)) (h : Home)
+  pub back_turns : (bounds : List ℕ) (workers : ℕ → ℕ) (xs : List Resource) (lists : List (Vec Line)) (h : Home)
       → IsAt i limit c xs → (b : AreBack bounds workers xs lists h) → AreTurns i limit horizon c bounds workers b.turns
   back_turns bounds workers xs lists h at b = record {
     live = λ r l e. let it = b.each r l in it.back.live (sym (at.each r it.at.old it.at.old_at).state.stop ∙ e);

@@ -19,7 +19,7 @@ use Rattle.fb_resource.proofs.Lists.{set_each}
 use Rattle.fb_laws.specs.Sound.{AreGood}
 use Rattle.fb_system.specs.Lines.{BelongsTo}
 use Rattle.fb_resource.specs.Resources.{IsOf, mark_of}
-use Rattle.fb_resource.specs.declared.resource.Inner.{Inner}
+use Rattle.fb_resource.specs.declared.resource.Resource.{Resource}
 use Rattle.fb_laws.specs.Finality.{core_of}
 use Rattle.fb_window.specs.Frontiers.{AreLive}
 use Rattle.fb_window.specs.Standing.{IsAt}
@@ -63,13 +63,13 @@ module _ (i : Inputs) (limit horizon : ℕ) (first : Core) where
       (h.0, h.1, subst (λ (n : ℕ). IsWalked i limit horizon most (core_of i limit (after_walk i limit es h.0)) n) (sym h.2) (f (core_of i limit (after_walk i limit es h.0)) h.1.at))
 
   -- a resource has stopped
-  pub by_stop : (most k r : ℕ) (core : Core) (x : Inner) (reason : Reason) → slice_get core.resources.items r ≡ Some x → x.stopped ≡ Some reason → HasGone i limit horizon first core k → Walks i limit horizon most first core
+  pub by_stop : (most k r : ℕ) (core : Core) (x : Resource) (reason : Reason) → slice_get core.resources.items r ≡ Some x → x.stopped ≡ Some reason → HasGone i limit horizon first core k → Walks i limit horizon most first core
   by_stop most k r core x reason e s g =
       walks_of most k core g
       (λ d at. let b = is_at core.resources.items r x e in let n = at.counted in inr (inl (r, omega arith, reason, (at.each r x e).state.stop ∙ s)))
 
   -- nothing comes before the horizon
-  pub by_horizon : (most k : ℕ) (core : Core) → ((r : ℕ) (x : Inner) (j : Key) → slice_get core.resources.items r ≡ Some x → j.tick < horizon → waiting x.queues.agenda j ≡ None)
+  pub by_horizon : (most k : ℕ) (core : Core) → ((r : ℕ) (x : Resource) (j : Key) → slice_get core.resources.items r ≡ Some x → j.tick < horizon → waiting x.agenda j ≡ None)
       → HasGone i limit horizon first core k → Walks i limit horizon most first core
   by_horizon most k core low g =
       walks_of most k core g (λ d at. inr (inr (is_least i limit d core.resources.items at horizon horizon (omega arith) low (λ b. absurd (omega arith))).is_floor))
@@ -84,17 +84,17 @@ module _ (i : Inputs) (limit horizon : ℕ) (first : Core) where
     pub all_counted : length core.resources.items ≡ count_of (system_of i)
     all_counted = let h = gone.leads come.0 come.1 come.2 in h.1.at.counted
 
-    pub each_of : (r : ℕ) (x : Inner) → slice_get core.resources.items r ≡ Some x → IsOf i limit x
+    pub each_of : (r : ℕ) (x : Resource) → slice_get core.resources.items r ≡ Some x → IsOf i x
     each_of r x e = let h = gone.leads come.0 come.1 come.2 in (h.1.at.each r x e).of
 
   -- ---- One turn more
 
   module _ (good : AreGood i) (k : ℕ) (old : Core) (live : AreLive old.resources.items) (gone : HasGone i limit horizon first old k)
-      (m : ℕ) (early : m < horizon) (low : (q : ℕ) (z : Inner) (j : Key) → slice_get old.resources.items q ≡ Some z → j.tick < m → waiting z.queues.agenda j ≡ None)
-      (place : ℕ) (x : Inner) (x_at : slice_get old.resources.items place ≡ Some x) (next : IsNext x.queues.agenda m)
+      (m : ℕ) (early : m < horizon) (low : (q : ℕ) (z : Resource) (j : Key) → slice_get old.resources.items q ≡ Some z → j.tick < m → waiting z.agenda j ≡ None)
+      (place : ℕ) (x : Resource) (x_at : slice_get old.resources.items place ≡ Some x) (next : IsNext x.agenda m)
       (new : Core) (stop : Option StopMark) (turned : HasTurned i limit place (m + 1) old new stop) (system : new.system ≡ old.system) (steps : new.steps ≡ old.steps) where
-    next_of : IsNext turned.before.queues.agenda m
-    next_of = subst (λ (z : Inner). IsNext z.queues.agenda m) (one_at old.resources.items place x turned.before x_at turned.was) next
+    next_of : IsNext turned.before.agenda m
+    next_of = subst (λ (z : Resource). IsNext z.agenda m) (one_at old.resources.items place x turned.before x_at turned.was) next
 
     within : place < length old.pending.items
     within = is_at old.pending.items place turned.kept turned.kept_was
@@ -125,13 +125,13 @@ module _ (i : Inputs) (limit horizon : ℕ) (first : Core) where
     }
 
     -- what the resource is when its messages have been delivered
-    after_at : (y : Inner) × (slice_get new.resources.items place ≡ Some y) × (y.stopped ≡ turned.after.stopped)
+    after_at : (y : Resource) × (slice_get new.resources.items place ≡ Some y) × (y.stopped ≡ turned.after.stopped)
     after_at =
         let was = is_at old.resources.items place turned.before turned.was in
         let p = turned.given.each place turned.after (set_same old.resources.items place turned.after was) in
-        (p.0, p.1, ap (λ (z : Inner). z.stopped) p.2.besides)
+        (p.0, p.1, ap (λ (z : Resource). z.stopped) p.2.besides)
 
-    pub stopped_at : (mark : StopMark) → stop ≡ Some mark → (y : Inner) × (reason : Reason) × (slice_get new.resources.items place ≡ Some y) × (y.stopped ≡ Some reason)
+    pub stopped_at : (mark : StopMark) → stop ≡ Some mark → (y : Resource) × (reason : Reason) × (slice_get new.resources.items place ≡ Some y) × (y.stopped ≡ Some reason)
     stopped_at mark e =
         let a = after_at in
         ⊎_elim
@@ -145,8 +145,8 @@ module _ (i : Inputs) (limit horizon : ℕ) (first : Core) where
         let b = is_at new.resources.items q z f in
         let u = has_at (slice_set old.resources.items place turned.after) q (omega arith) in
         let p = turned.given.each q u.0 u.1 in
-        ap (λ (o : Inner). o.stopped) (sym (one_at new.resources.items q p.0 z p.1 f) ∙ p.2.besides)
-        ∙ set_each (λ k (o : Inner). o.stopped ≡ None) old.resources.items place turned.after (is_at old.resources.items place turned.before turned.was) here (λ k o apart g. live k o g) q u.0 u.1
+        ap (λ (o : Resource). o.stopped) (sym (one_at new.resources.items q p.0 z p.1 f) ∙ p.2.besides)
+        ∙ set_each (λ k (o : Resource). o.stopped ≡ None) old.resources.items place turned.after (is_at old.resources.items place turned.before turned.was) here (λ k o apart g. live k o g) q u.0 u.1
       where
         here : turned.after.stopped ≡ None
         here =
@@ -161,8 +161,8 @@ pub record HasStepped (i : Inputs) (limit horizon : ℕ) (first : Core) (k : ℕ
   pub ends : (mark : StopMark) → stop ≡ Some mark → (most : ℕ) → Walks i limit horizon most first new
 
 pub stepped : (i : Inputs) (limit horizon : ℕ) (first : Core) → AreGood i → (k : ℕ) (old : Core) → AreLive old.resources.items → HasGone i limit horizon first old k
-    → (m : ℕ) → m < horizon → ((q : ℕ) (z : Inner) (j : Key) → slice_get old.resources.items q ≡ Some z → j.tick < m → waiting z.queues.agenda j ≡ None)
-    → (place : ℕ) (x : Inner) → slice_get old.resources.items place ≡ Some x → IsNext x.queues.agenda m
+    → (m : ℕ) → m < horizon → ((q : ℕ) (z : Resource) (j : Key) → slice_get old.resources.items q ≡ Some z → j.tick < m → waiting z.agenda j ≡ None)
+    → (place : ℕ) (x : Resource) → slice_get old.resources.items place ≡ Some x → IsNext x.agenda m
     → (new : Core) (stop : Option StopMark) → HasTurned old.system old.steps place (m + 1) old new stop → new.system ≡ old.system → new.steps ≡ old.steps
     → HasStepped i limit horizon first k new stop
 stepped i limit horizon first good k old live gone m early low place x x_at next new stop turned system steps =

@@ -16,7 +16,7 @@ use Rattle.fb_types.specs.declared.value.Reason.{Reason}
 use Rattle.fb_types.proofs.EachLaws.{each_map}
 use Rattle.fb_types.proofs.Lookups.{none_some}
 use Rattle.fb_resource.specs.Resources.{HasReceived}
-use Rattle.fb_resource.specs.declared.resource.Inner.{Inner}
+use Rattle.fb_resource.specs.declared.resource.Resource.{Resource}
 use Rattle.fb_laws.proofs.Lines.{filter_all, filter_in, filter_nothing, filter_out}
 use Rattle.fb_link.specs.Exchanges.{AreFor, all_of}
 use Rattle.fb_trace.specs.Merging.{Rises, tick_of}
@@ -27,12 +27,12 @@ use Rattle.fb_laws.proofs.Places.{is_at, one_at, push_before, push_counted, push
 
 -- ---- The frontier
 
-module _ (m : ℕ) (xs : List Inner) where
+module _ (m : ℕ) (xs : List Resource) where
   pub frontier_none : (e : Edge) → IsFrontierTo m xs 0 e
   frontier_none e = record { least = λ r x b f. absurd (omega arith); there = λ b. absurd (omega arith) }
 
   -- the next resource has the least floor
-  pub frontier_new : (n : ℕ) (e new : Edge) (x : Inner) → slice_get xs n ≡ Some x → IsFrontierTo m xs n e → (n ≡ 0) ⊎ (floor_at m x < e.tick)
+  pub frontier_new : (n : ℕ) (e new : Edge) (x : Resource) → slice_get xs n ≡ Some x → IsFrontierTo m xs n e → (n ≡ 0) ⊎ (floor_at m x < e.tick)
       → new.tick ≡ floor_at m x → new.resource ≡ n → new.within ≡ is_some x.stopped → IsFrontierTo m xs (n + 1) new
   frontier_new n e new x at f less tick place within = record {
     least = λ r y b g.
@@ -48,7 +48,7 @@ module _ (m : ℕ) (xs : List Inner) where
   }
 
   -- it has not
-  pub frontier_old : (n : ℕ) (e : Edge) (x : Inner) → slice_get xs n ≡ Some x → IsFrontierTo m xs n e → 0 < n → e.tick ≤ floor_at m x → IsFrontierTo m xs (n + 1) e
+  pub frontier_old : (n : ℕ) (e : Edge) (x : Resource) → slice_get xs n ≡ Some x → IsFrontierTo m xs n e → 0 < n → e.tick ≤ floor_at m x → IsFrontierTo m xs (n + 1) e
   frontier_old n e x at f some low =
       let t = f.there some in
       let placed : e.resource < n = t.1 in
@@ -65,50 +65,50 @@ module _ (m : ℕ) (xs : List Inner) where
 -- ---- Stops
 
 -- the least stop of the first so many, if one of them has stopped
-abbrev pub FirstOf : List Inner → (n : ℕ) → Option StopMark → Type 0
-FirstOf xs n None = (r : ℕ) (x : Inner) → r < n → slice_get xs r ≡ Some x → x.stopped ≡ None
+abbrev pub FirstOf : List Resource → (n : ℕ) → Option StopMark → Type 0
+FirstOf xs n None = (r : ℕ) (x : Resource) → r < n → slice_get xs r ≡ Some x → x.stopped ≡ None
 FirstOf xs n (Some m) = IsFirstStop xs n m
 
-module _ (xs : List Inner) where
-  pub first_live : (n : ℕ) (o : Option StopMark) (x : Inner) → slice_get xs n ≡ Some x → x.stopped ≡ None → FirstOf xs n o → FirstOf xs (n + 1) o
+module _ (xs : List Resource) where
+  pub first_live : (n : ℕ) (o : Option StopMark) (x : Resource) → slice_get xs n ≡ Some x → x.stopped ≡ None → FirstOf xs n o → FirstOf xs (n + 1) o
   first_live n None x at live f = λ r y b g.
       ⊎_elim (λ (l : r < n). f r y l g)
-      (λ (l : n ≤ r). let q : r ≡ n = omega arith in ap (λ (z : Inner). z.stopped) (one_at xs r y x g (subst (λ (z : ℕ). slice_get xs z ≡ Some x) (sym q) at)) ∙ live)
+      (λ (l : n ≤ r). let q : r ≡ n = omega arith in ap (λ (z : Resource). z.stopped) (one_at xs r y x g (subst (λ (z : ℕ). slice_get xs z ≡ Some x) (sym q) at)) ∙ live)
       (cases_lt r n)
   first_live n (Some m) x at live f = record {
     there = f.there;
     least = λ r y reason b g e.
         ⊎_elim (λ (l : r < n). f.least r y reason l g e)
-        (λ (l : n ≤ r). let q : r ≡ n = omega arith in absurd (none_some _ _ (ap (λ (z : Inner). z.stopped) (one_at xs r y x g (subst (λ (z : ℕ). slice_get xs z ≡ Some x) (sym q) at)) ∙ live) e))
+        (λ (l : n ≤ r). let q : r ≡ n = omega arith in absurd (none_some _ _ (ap (λ (z : Resource). z.stopped) (one_at xs r y x g (subst (λ (z : ℕ). slice_get xs z ≡ Some x) (sym q) at)) ∙ live) e))
         (cases_lt r n);
   }
 
-  first_old : (n : ℕ) (m : StopMark) (x : Inner) → slice_get xs n ≡ Some x → IsFirstStop xs n m → m.tick ≤ x.clock → m.resource ≤ n → IsFirstStop xs (n + 1) m
+  first_old : (n : ℕ) (m : StopMark) (x : Resource) → slice_get xs n ≡ Some x → IsFirstStop xs n m → m.tick ≤ x.clock → m.resource ≤ n → IsFirstStop xs (n + 1) m
   first_old n m x at f low placed = record {
     there = f.there;
     least = λ r y reason b g e.
         ⊎_elim (λ (l : r < n). f.least r y reason l g e)
-        (λ (l : n ≤ r). let q : r ≡ n = omega arith in let clock : y.clock ≡ x.clock = ap (λ (z : Inner). z.clock) (one_at xs r y x g (subst (λ (z : ℕ). slice_get xs z ≡ Some x) (sym q) at)) in
+        (λ (l : n ≤ r). let q : r ≡ n = omega arith in let clock : y.clock ≡ x.clock = ap (λ (z : Resource). z.clock) (one_at xs r y x g (subst (λ (z : ℕ). slice_get xs z ≡ Some x) (sym q) at)) in
         ⊎_elim (λ (k : m.tick < x.clock). inl (omega arith)) (λ (k : x.clock ≤ m.tick). inr (omega arith, omega arith)) (cases_lt m.tick x.clock))
         (cases_lt r n);
   }
 
   -- one that has stopped, at the mark that is its own
-  pub first_new : (n : ℕ) (o : Option StopMark) (m : StopMark) (x : Inner) → slice_get xs n ≡ Some x → x.stopped ≡ Some m.reason → x.clock ≡ m.tick → m.resource ≡ n
+  pub first_new : (n : ℕ) (o : Option StopMark) (m : StopMark) (x : Resource) → slice_get xs n ≡ Some x → x.stopped ≡ Some m.reason → x.clock ≡ m.tick → m.resource ≡ n
       → FirstOf xs n o → ((old : StopMark) → o ≡ Some old → m.tick < old.tick) → IsFirstStop xs (n + 1) m
   first_new n o m x at stop clock place f less = record {
     there = (x, subst (λ (z : ℕ). slice_get xs z ≡ Some x) (sym place) at, stop, clock);
     least = λ r y reason b g e.
         ⊎_elim (λ (l : r < n). inl (before r y reason l g e o f less))
-        (λ (l : n ≤ r). let q : r ≡ n = omega arith in let same : y.clock ≡ x.clock = ap (λ (z : Inner). z.clock) (one_at xs r y x g (subst (λ (z : ℕ). slice_get xs z ≡ Some x) (sym q) at)) in inr (omega arith, omega arith))
+        (λ (l : n ≤ r). let q : r ≡ n = omega arith in let same : y.clock ≡ x.clock = ap (λ (z : Resource). z.clock) (one_at xs r y x g (subst (λ (z : ℕ). slice_get xs z ≡ Some x) (sym q) at)) in inr (omega arith, omega arith))
         (cases_lt r n);
   }
     where
-      before : (r : ℕ) (y : Inner) (reason : Reason) → r < n → slice_get xs r ≡ Some y → y.stopped ≡ Some reason → (p : Option StopMark) → FirstOf xs n p → ((old : StopMark) → p ≡ Some old → m.tick < old.tick) → m.tick < y.clock
+      before : (r : ℕ) (y : Resource) (reason : Reason) → r < n → slice_get xs r ≡ Some y → y.stopped ≡ Some reason → (p : Option StopMark) → FirstOf xs n p → ((old : StopMark) → p ≡ Some old → m.tick < old.tick) → m.tick < y.clock
       before r y reason l g e None h k = absurd (none_some _ _ (h r y l g) e)
       before r y reason l g e (Some old) h k = let low = k old refl in ⊎_elim (λ a. omega arith) (λ a. let b = a.0 in omega arith) (h.least r y reason l g e)
 
-  pub first_kept : (n : ℕ) (m : StopMark) (x : Inner) → slice_get xs n ≡ Some x → IsFirstStop xs n m → m.tick ≤ x.clock → m.resource < n → IsFirstStop xs (n + 1) m
+  pub first_kept : (n : ℕ) (m : StopMark) (x : Resource) → slice_get xs n ≡ Some x → IsFirstStop xs n m → m.tick ≤ x.clock → m.resource < n → IsFirstStop xs (n + 1) m
   first_kept n m x at f low placed = first_old n m x at f low (omega arith)
 
   -- two least stops are at one tick
@@ -129,7 +129,7 @@ module _ (xs : List Inner) where
   stopped_open horizon m f h = let t = f.there in none_some _ _ (h m.resource t.0 t.1).0 t.2
 
   -- nor is there a least stop that all are past, where one that has not stopped is not past the least
-  pub behind_open : (m : StopMark) → IsFirstStop xs (length xs) m → (r : ℕ) (x : Inner) → slice_get xs r ≡ Some x → x.stopped ≡ None → x.clock ≤ m.tick
+  pub behind_open : (m : StopMark) → IsFirstStop xs (length xs) m → (r : ℕ) (x : Resource) → slice_get xs r ≡ Some x → x.stopped ≡ None → x.clock ≤ m.tick
       → (n : StopMark) → IsFirstStop xs (length xs) n → AreAllPast n.tick xs → ⊥
   behind_open m f r x at live low n g past = let e = first_tick m n f g in let b : n.tick < x.clock = past r x at live in absurd (omega arith)
 
@@ -272,15 +272,15 @@ cut_every e lists n befores froms h same = record {
 -- ---- Messages that were delivered
 
 -- the first so many resources have received
-pub record AreDeliveredTo (xs : List Inner) (boxes : List (Vec Message)) (n : ℕ) (ys : List Inner) : Type 0 where
+pub record AreDeliveredTo (xs : List Resource) (boxes : List (Vec Message)) (n : ℕ) (ys : List Resource) : Type 0 where
   pub counted : length ys ≡ n
-  pub each : (r : ℕ) (x : Inner) → r < n → slice_get xs r ≡ Some x
-      → (box : Vec Message) × (y : Inner) × (slice_get boxes r ≡ Some box) × (slice_get ys r ≡ Some y) × HasReceived box.items x y
+  pub each : (r : ℕ) (x : Resource) → r < n → slice_get xs r ≡ Some x
+      → (box : Vec Message) × (y : Resource) × (slice_get boxes r ≡ Some box) × (slice_get ys r ≡ Some y) × HasReceived box.items x y
 
-pub delivered_none : (xs : List Inner) (boxes : List (Vec Message)) → AreDeliveredTo xs boxes 0 []
+pub delivered_none : (xs : List Resource) (boxes : List (Vec Message)) → AreDeliveredTo xs boxes 0 []
 delivered_none xs boxes = record { counted = refl; each = λ r x b f. absurd (omega arith) }
 
-pub delivered_more : (xs : List Inner) (boxes : List (Vec Message)) (n : ℕ) (ys news : List Inner) (x y : Inner) (box : Vec Message) → AreDeliveredTo xs boxes n ys → slice_get xs n ≡ Some x
+pub delivered_more : (xs : List Resource) (boxes : List (Vec Message)) (n : ℕ) (ys news : List Resource) (x y : Resource) (box : Vec Message) → AreDeliveredTo xs boxes n ys → slice_get xs n ≡ Some x
     → slice_get boxes n ≡ Some box → HasReceived box.items x y → news ≡ ys ++ y ∷ [] → AreDeliveredTo xs boxes (n + 1) news
 delivered_more xs boxes n ys news x y box h at box_at received p = record {
   counted = ap length p ∙ push_counted ys y n h.counted;
@@ -288,14 +288,14 @@ delivered_more xs boxes n ys news x y box h at box_at received p = record {
       ⊎_elim
       (λ (k : r < n). let t = h.each r z k f in (t.0, t.1, t.2, ap (λ l. slice_get l r) p ∙ push_before ys y r t.1 t.3, t.4))
       (λ (k : n ≤ r). let g : n ≡ r = omega arith in
-      subst (λ (q : ℕ). (z : Inner) → slice_get xs q ≡ Some z → (b : Vec Message) × (u : Inner) × (slice_get boxes q ≡ Some b) × (slice_get news q ≡ Some u) × HasReceived b.items z u) g here z f)
+      subst (λ (q : ℕ). (z : Resource) → slice_get xs q ≡ Some z → (b : Vec Message) × (u : Resource) × (slice_get boxes q ≡ Some b) × (slice_get news q ≡ Some u) × HasReceived b.items z u) g here z f)
       (cases_lt r n);
 }
   where
-    here : (z : Inner) → slice_get xs n ≡ Some z → (b : Vec Message) × (u : Inner) × (slice_get boxes n ≡ Some b) × (slice_get news n ≡ Some u) × HasReceived b.items z u
-    here z f = (box, y, box_at, ap (λ l. slice_get l n) p ∙ push_here ys y n h.counted, subst (λ (q : Inner). HasReceived box.items q y) (one_at xs n x z at f) received)
+    here : (z : Resource) → slice_get xs n ≡ Some z → (b : Vec Message) × (u : Resource) × (slice_get boxes n ≡ Some b) × (slice_get news n ≡ Some u) × HasReceived b.items z u
+    here z f = (box, y, box_at, ap (λ l. slice_get l n) p ∙ push_here ys y n h.counted, subst (λ (q : Resource). HasReceived box.items q y) (one_at xs n x z at f) received)
 
-pub delivered_all : (xs : List Inner) (boxes : List (Vec Message)) (n : ℕ) (ys : List Inner) → AreDeliveredTo xs boxes n ys → n ≡ length xs → AreDelivered xs boxes ys
+pub delivered_all : (xs : List Resource) (boxes : List (Vec Message)) (n : ℕ) (ys : List Resource) → AreDeliveredTo xs boxes n ys → n ≡ length xs → AreDelivered xs boxes ys
 delivered_all xs boxes n ys h e = record { counted = h.counted ∙ e; each = λ r x f. let b = is_at xs r x f in h.each r x (omega arith) f }
 
 pub no_length : {X : Type 0} (xs : List X) → length xs ≡ 0 → xs ≡ []
@@ -316,12 +316,12 @@ if_ok P Q (Ok a) f h = f a h
 if_ok P Q (Err e) f h = tt
 
 -- Each has received what is for it.
-pub posted_of : (sys : System) (all : List Message) (xs ys : List Inner) (boxes : List (Vec Message)) → ((r : ℕ) (box : Vec Message) → slice_get boxes r ≡ Some box → AreFor sys r all box.items)
+pub posted_of : (sys : System) (all : List Message) (xs ys : List Resource) (boxes : List (Vec Message)) → ((r : ℕ) (box : Vec Message) → slice_get boxes r ≡ Some box → AreFor sys r all box.items)
     → AreDelivered xs boxes ys → ArePosted sys all xs ys
 posted_of sys all xs ys boxes each h = record {
   counted = h.counted;
   each = λ r x e. let t = h.each r x e in (t.1, t.3, inr (t.0.items, each r t.0 t.2, t.4));
 }
 
-pub posted_none : (sys : System) (all : List Message) (xs : List Inner) → all ≡ [] → ArePosted sys all xs xs
+pub posted_none : (sys : System) (all : List Message) (xs : List Resource) → all ≡ [] → ArePosted sys all xs xs
 posted_none sys all xs none = record { counted = refl; each = λ r x e. (x, e, inl (none, refl)) }

@@ -5,7 +5,7 @@ use Rattle.fb_types.specs.Cores.{floor_of}
 use Rattle.fb_types.specs.declared.run.Line.{Line}
 use Rattle.fb_types.specs.declared.run.StopMark.{StopMark}
 use Rattle.fb_types.specs.declared.value.Reason.{Reason}
-use Rattle.fb_resource.specs.declared.resource.Inner.{Inner}
+use Rattle.fb_resource.specs.declared.resource.Resource.{Resource}
 use Rattle.fb_trace.specs.Merging.{Rises, tick_of}
 use Rattle.fb_laws.specs.Finality.{Edge, until}
 use Rattle.fb_window.specs.declared.ends.End.{End}
@@ -16,16 +16,16 @@ abbrev pub edge_of : Frontier → Edge
 edge_of f = record { tick = f.tick; resource = f.resource; within = f.within }
 
 -- no event of a resource comes before the least tick: then it sends nothing more before this one
-abbrev pub floor_at : (least : ℕ) → Inner → ℕ
+abbrev pub floor_at : (least : ℕ) → Resource → ℕ
 floor_at least x = floor_of x.stopped x.clock least
 
 -- The edge is at the least floor of the first so many resources, and at the first resource that has it.
-pub record IsFrontierTo (m : ℕ) (xs : List Inner) (n : ℕ) (e : Edge) : Type 0 where
-  pub least : (r : ℕ) (x : Inner) → r < n → slice_get xs r ≡ Some x → (e.tick < floor_at m x) ⊎ ((e.tick ≡ floor_at m x) × (e.resource ≤ r))
-  pub there : 0 < n → (x : Inner) × (e.resource < n) × (slice_get xs e.resource ≡ Some x) × (floor_at m x ≡ e.tick) × (e.within ≡ is_some x.stopped)
+pub record IsFrontierTo (m : ℕ) (xs : List Resource) (n : ℕ) (e : Edge) : Type 0 where
+  pub least : (r : ℕ) (x : Resource) → r < n → slice_get xs r ≡ Some x → (e.tick < floor_at m x) ⊎ ((e.tick ≡ floor_at m x) × (e.resource ≤ r))
+  pub there : 0 < n → (x : Resource) × (e.resource < n) × (slice_get xs e.resource ≡ Some x) × (floor_at m x ≡ e.tick) × (e.within ≡ is_some x.stopped)
 
 -- so of all
-abbrev pub IsFrontier : (least : ℕ) → List Inner → Edge → Type 0
+abbrev pub IsFrontier : (least : ℕ) → List Resource → Edge → Type 0
 IsFrontier least xs e = IsFrontierTo least xs (length xs) e
 
 -- ---- Lines
@@ -46,24 +46,24 @@ pub record AreCut (e : Edge) (lists befores froms : List (Vec Line)) : Type 0 wh
 -- ---- The end
 
 -- all are at the horizon, and none has stopped
-abbrev pub AreAtHorizon : (horizon : ℕ) → List Inner → Type 0
-AreAtHorizon horizon xs = (r : ℕ) (x : Inner) → slice_get xs r ≡ Some x → (x.stopped ≡ None) × (x.clock ≡ horizon)
+abbrev pub AreAtHorizon : (horizon : ℕ) → List Resource → Type 0
+AreAtHorizon horizon xs = (r : ℕ) (x : Resource) → slice_get xs r ≡ Some x → (x.stopped ≡ None) × (x.clock ≡ horizon)
 
 -- The least of the stops, by tick, then resource.
-pub record IsFirstStop (xs : List Inner) (n : ℕ) (m : StopMark) : Type 0 where
-  pub there : (x : Inner) × (slice_get xs m.resource ≡ Some x) × (x.stopped ≡ Some m.reason) × (x.clock ≡ m.tick)
-  pub least : (r : ℕ) (x : Inner) (reason : Reason) → r < n → slice_get xs r ≡ Some x → x.stopped ≡ Some reason → (m.tick < x.clock) ⊎ ((m.tick ≡ x.clock) × (m.resource ≤ r))
+pub record IsFirstStop (xs : List Resource) (n : ℕ) (m : StopMark) : Type 0 where
+  pub there : (x : Resource) × (slice_get xs m.resource ≡ Some x) × (x.stopped ≡ Some m.reason) × (x.clock ≡ m.tick)
+  pub least : (r : ℕ) (x : Resource) (reason : Reason) → r < n → slice_get xs r ≡ Some x → x.stopped ≡ Some reason → (m.tick < x.clock) ⊎ ((m.tick ≡ x.clock) × (m.resource ≤ r))
 
 -- all that have not stopped are past a tick
-abbrev pub AreAllPast : (tick : ℕ) → List Inner → Type 0
-AreAllPast tick xs = (r : ℕ) (x : Inner) → slice_get xs r ≡ Some x → x.stopped ≡ None → tick < x.clock
+abbrev pub AreAllPast : (tick : ℕ) → List Resource → Type 0
+AreAllPast tick xs = (r : ℕ) (x : Resource) → slice_get xs r ≡ Some x → x.stopped ≡ None → tick < x.clock
 
 -- no one has stopped
-abbrev pub AreLive : List Inner → Type 0
-AreLive xs = (r : ℕ) (x : Inner) → slice_get xs r ≡ Some x → x.stopped ≡ None
+abbrev pub AreLive : List Resource → Type 0
+AreLive xs = (r : ℕ) (x : Resource) → slice_get xs r ≡ Some x → x.stopped ≡ None
 
 -- How far resources are.
-abbrev pub IsEnd : (horizon : ℕ) → List Inner → End → Type 0
+abbrev pub IsEnd : (horizon : ℕ) → List Resource → End → Type 0
 IsEnd horizon xs Open =
     (AreAtHorizon horizon xs → ⊥) × ((m : StopMark) → IsFirstStop xs (length xs) m → AreAllPast m.tick xs → ⊥)
 IsEnd horizon xs Horizon = AreAtHorizon horizon xs

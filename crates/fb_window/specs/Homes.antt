@@ -8,22 +8,22 @@ use Rattle.fb_types.specs.declared.run.Message.{Message}
 use Rattle.fb_types.specs.declared.run.StopMark.{StopMark}
 use Rattle.fb_types.specs.declared.value.Reason.{Reason}
 use Rattle.fb_resource.specs.Resources.{HasRun}
-use Rattle.fb_resource.specs.declared.resource.Inner.{Inner}
+use Rattle.fb_resource.specs.declared.resource.Resource.{Resource}
 use Rattle.fb_resource.specs.declared.resource.WindowDone.{WindowDone}
 use Rattle.fb_resource.specs.declared.resource.WindowDone.TheVariants.{Ran}
 use Rattle.fb_window.specs.Jobs.{Does, jobs_of}
 use Rattle.fb_window.specs.declared.home.Home.{Home}
 
 -- A resource that ran comes back from below its bound, its lines behind those that were kept; one that has stopped is as it was.
-pub record HasCome (i : Inputs) (limit bound : ℕ) (x : Inner) (kept : List Line) (y : Inner) (lines : List Line) (sent : Vec Message) : Type 0 where
+pub record HasCome (i : Inputs) (limit bound : ℕ) (x : Resource) (kept : List Line) (y : Resource) (lines : List Line) (sent : Vec Message) : Type 0 where
   pub ran : x.stopped ≡ None → (new : Vec Line) × (stop : Option StopMark) × HasRun i limit x bound (Ran y new sent stop) × (lines ≡ kept ++ new.items)
   pub rested : (reason : Reason) → x.stopped ≡ Some reason → (y ≡ x) × (lines ≡ kept) × (sent.items ≡ [])
 
 -- what is at a place, of all lists
-pub record IsHomeAt (i : Inputs) (limit : ℕ) (bounds : List ℕ) (xs : List Inner) (lists : List (Vec Line)) (place : ℕ) (h : Home) : Type 0 where
-  pub old : Inner
+pub record IsHomeAt (i : Inputs) (limit : ℕ) (bounds : List ℕ) (xs : List Resource) (lists : List (Vec Line)) (place : ℕ) (h : Home) : Type 0 where
+  pub old : Resource
   pub kept : Vec Line
-  pub new : Inner
+  pub new : Resource
   pub lines : Vec Line
   pub sent : Vec Message
   pub old_at : slice_get xs place ≡ Some old
@@ -34,7 +34,7 @@ pub record IsHomeAt (i : Inputs) (limit : ℕ) (bounds : List ℕ) (xs : List In
   pub come : HasCome i limit (slice_index_or bounds place 0) old kept.items new lines.items sent
 
 -- The resources below a place have come home, and of the others the lists and the jobs' done values are left.
-pub record IsHomeTo (i : Inputs) (limit : ℕ) (bounds : List ℕ) (xs : List Inner) (lists : List (Vec Line)) (place : ℕ) (kept : List (Vec Line)) (dones : List WindowDone) (h : Home) : Type 0 where
+pub record IsHomeTo (i : Inputs) (limit : ℕ) (bounds : List ℕ) (xs : List Resource) (lists : List (Vec Line)) (place : ℕ) (kept : List (Vec Line)) (dones : List WindowDone) (h : Home) : Type 0 where
   pub resources : length h.resources.items ≡ place
   pub pending : length h.pending.items ≡ place
   pub outboxes : length h.outboxes.items ≡ place
@@ -43,7 +43,7 @@ pub record IsHomeTo (i : Inputs) (limit : ℕ) (bounds : List ℕ) (xs : List In
   pub each : (r : ℕ) → r < place → IsHomeAt i limit bounds xs lists r h
 
 -- All are home.
-pub record AreHome (i : Inputs) (limit : ℕ) (bounds : List ℕ) (xs : List Inner) (lists : List (Vec Line)) (h : Home) : Type 0 where
+pub record AreHome (i : Inputs) (limit : ℕ) (bounds : List ℕ) (xs : List Resource) (lists : List (Vec Line)) (h : Home) : Type 0 where
   pub resources : length h.resources.items ≡ length xs
   pub pending : length h.pending.items ≡ length xs
   pub outboxes : length h.outboxes.items ≡ length xs

@@ -6,7 +6,7 @@ use Rattle.fb_types.specs.Systems.{System}
 use Rattle.fb_laws.specs.Sound.{AreGood}
 use Rattle.fb_window.specs.declared.links.LinkRow.{LinkRow}
 
--- The row has the ends of a link, and tells when what is sent on it arrives.
+-- The row has the ends of a link, and says when what is sent on it arrives.
 pub record IsLink (sys : System) (link : ℕ) (row : LinkRow) : Type 0 where
   pub from : row.from ≡ sys.sender link
   pub to : row.to ≡ sys.receiver link

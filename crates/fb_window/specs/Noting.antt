@@ -4,22 +4,22 @@ use Rattle.fb_types.specs.declared.key.Key.{Key}
 use Rattle.fb_types.specs.declared.run.Message.{Message}
 use Rattle.fb_agenda.specs.Agendas.{IsNext, waiting}
 use Rattle.fb_resource.specs.Resources.{HasReceived}
-use Rattle.fb_resource.specs.declared.resource.Inner.{Inner}
+use Rattle.fb_resource.specs.declared.resource.Resource.{Resource}
 
 -- The tick is that of the resource's next event where it is below the horizon; nothing waits below it.
-pub record IsNoted (horizon : ℕ) (x : Inner) (tick : ℕ) : Type 0 where
-  pub rests : (j : Key) → j.tick < tick → waiting x.queues.agenda j ≡ None
-  pub next : tick < horizon → IsNext x.queues.agenda tick
+pub record IsNoted (horizon : ℕ) (x : Resource) (tick : ℕ) : Type 0 where
+  pub rests : (j : Key) → j.tick < tick → waiting x.agenda j ≡ None
+  pub next : tick < horizon → IsNext x.agenda tick
 
 -- So it is for each resource.
-pub record AreNoted (horizon : ℕ) (xs : List Inner) (ticks : List ℕ) : Type 0 where
+pub record AreNoted (horizon : ℕ) (xs : List Resource) (ticks : List ℕ) : Type 0 where
   pub counted : length ticks ≡ length xs
-  pub each : (r : ℕ) (x : Inner) (tick : ℕ) → slice_get xs r ≡ Some x → slice_get ticks r ≡ Some tick → IsNoted horizon x tick
+  pub each : (r : ℕ) (x : Resource) (tick : ℕ) → slice_get xs r ≡ Some x → slice_get ticks r ≡ Some tick → IsNoted horizon x tick
 
 -- One resource has received messages, and all others are as they were.
-pub record IsHanded (place : ℕ) (ms : List Message) (xs ys : List Inner) : Type 0 where
-  pub before : Inner
-  pub after : Inner
+pub record IsHanded (place : ℕ) (ms : List Message) (xs ys : List Resource) : Type 0 where
+  pub before : Resource
+  pub after : Resource
   pub was : slice_get xs place ≡ Some before
   pub received : HasReceived ms before after
   pub set : ys ≡ slice_set xs place after

@@ -4,12 +4,12 @@ use Rattle.fb_types.specs.Headline.{Inputs, system_of, stimuli_of}
 use Rattle.fb_types.specs.Parts.{machine}
 use Rattle.fb_types.specs.Cores.{Core, CoreStep, opening_core}
 use Rattle.fb_types.specs.Schedules.{IsSchedule}
-use Rattle.fb_resource.specs.declared.resource.Inner.{Inner}
+use Rattle.fb_resource.specs.declared.resource.Resource.{Resource}
 use Rattle.fb_laws.specs.Finality.{core_of}
 use Rattle.fb_window.specs.Standing.{IsAt}
 
 -- Said of every core that a schedule has brought to these resources.
-abbrev pub OfEachCore : (i : Inputs) (limit horizon : ℕ) → List Inner → (Core (machine (system_of i) limit) → Type 0) → Type 0
+abbrev pub OfEachCore : (i : Inputs) (limit horizon : ℕ) → List Resource → (Core (machine (system_of i) limit) → Type 0) → Type 0
 OfEachCore i limit horizon xs P =
     (es : List (CoreStep (machine (system_of i) limit)))
     → IsSchedule (machine (system_of i) limit) horizon (opening_core (system_of i) (stimuli_of i) limit) es

@@ -13,7 +13,7 @@ use Rattle.fb_types.specs.Schedules.{IsSchedule, IsAtHorizon, IsLeastStop}
 use Rattle.fb_types.specs.declared.run.Line.{Line}
 use Rattle.fb_types.specs.declared.value.Reason.{Reason}
 use Rattle.fb_system.specs.Lines.{BelongsTo}
-use Rattle.fb_resource.specs.declared.resource.Inner.{Inner}
+use Rattle.fb_resource.specs.declared.resource.Resource.{Resource}
 use Rattle.fb_laws.specs.ScheduleLaw.{lines_to}
 use Rattle.fb_laws.specs.Phases.{Turn, IsPhase, MayTurn}
 use Rattle.fb_laws.specs.Finality.{HasHanded, HasKept, core_of}
@@ -25,9 +25,9 @@ use Rattle.fb_window.specs.declared.cores.Settled.{Settled}
 use Rattle.fb_window.specs.declared.cores.Settled.TheVariants.{Going, Ended, Stopped}
 
 -- What is away has left these resources with these bounds: each that has not stopped is a job, and each other stayed at its place.
-pub record HasLeft (xs : List Inner) (bounds : List ℕ) (a : Away) : Type 0 where
+pub record HasLeft (xs : List Resource) (bounds : List ℕ) (a : Away) : Type 0 where
   pub counted : length xs ≡ count_of (system_of a.system)
-  pub numbered : (r : ℕ) (x : Inner) → slice_get xs r ≡ Some x → x.tree.resource ≡ r
+  pub numbered : (r : ℕ) (x : Resource) → slice_get xs r ≡ Some x → x.tree.resource ≡ r
   pub jobs : a.jobs.value.items ≡ jobs_of a.system a.steps bounds 0 xs
   pub resting : a.resting.items ≡ map resting_of xs
 
@@ -38,7 +38,7 @@ pub record AreLegal (i : Inputs) (limit horizon : ℕ) (c : model_cores.Core (ma
   pub in_range : (r : ℕ) → r < count_of (system_of i) → (c r).state.stop ≡ None → slice_index_or bounds r 0 ≤ horizon
 
 -- The run is under way: these steps have brought the core to these resources, these lines were handed out, and the others are kept.
-pub record IsUnderWay (i : Inputs) (limit horizon : ℕ) (es : List (CoreStep (machine (system_of i) limit))) (xs : List Inner) (pending : List (List Line)) (ls : List model.Line) : Type 0 where
+pub record IsUnderWay (i : Inputs) (limit horizon : ℕ) (es : List (CoreStep (machine (system_of i) limit))) (xs : List Resource) (pending : List (List Line)) (ls : List model.Line) : Type 0 where
   pub schedule : IsSchedule (machine (system_of i) limit) horizon (opening_core (system_of i) (stimuli_of i) limit) es
   pub at : IsAt i limit (core_of i limit es) xs
   pub left : HasHanded i limit horizon (core_of i limit es) pending ls

@@ -6,12 +6,12 @@ use Rattle.fb_types.specs.Parts.{machine, count_of}
 use Rattle.fb_types.specs.Cores.{Core, Member}
 use Rattle.fb_types.specs.declared.key.Key.{Key}
 use Rattle.fb_resource.specs.Resources.{IsOf, StandsFor}
-use Rattle.fb_resource.specs.declared.resource.Inner.{Inner}
+use Rattle.fb_resource.specs.declared.resource.Resource.{Resource}
 
 -- The resource at a place is what a member of the core has there: at home, with an empty outbox.
-pub record Sits (i : Inputs) (limit : ℕ) (m : Member (machine (system_of i) limit)) (r : ℕ) (x : Inner) : Type 0 where
+pub record Sits (i : Inputs) (limit : ℕ) (m : Member (machine (system_of i) limit)) (r : ℕ) (x : Resource) : Type 0 where
   pub number : x.tree.resource ≡ r
-  pub of : IsOf i limit x
+  pub of : IsOf i x
   pub state : StandsFor i limit m.state x
   pub clock : m.clock ≡ x.clock
   pub home : m.out ≡ None
@@ -25,7 +25,7 @@ pub record IsQuiet (M : Machine) (m : Member M) (r : ℕ) : Type 0 where
   pub waits : (k : Key) → k.resource ≡ r → waiting M m.state k ≡ None
 
 -- The resources are where the core is.
-pub record IsAt (i : Inputs) (limit : ℕ) (c : Core (machine (system_of i) limit)) (xs : List Inner) : Type 0 where
+pub record IsAt (i : Inputs) (limit : ℕ) (c : Core (machine (system_of i) limit)) (xs : List Resource) : Type 0 where
   pub counted : length xs ≡ count_of (system_of i)
-  pub each : (r : ℕ) (x : Inner) → slice_get xs r ≡ Some x → Sits i limit (c r) r x
+  pub each : (r : ℕ) (x : Resource) → slice_get xs r ≡ Some x → Sits i limit (c r) r x
   pub others : (r : ℕ) → count_of (system_of i) ≤ r → IsQuiet (machine (system_of i) limit) (c r) r

@@ -13,7 +13,7 @@ use Rattle.fb_types.specs.declared.run.Message.{Message}
 use Rattle.fb_types.specs.declared.run.StopMark.{StopMark}
 use Rattle.fb_types.specs.declared.value.Reason.{Reason}
 use Rattle.fb_resource.specs.Resources.{HasRun}
-use Rattle.fb_resource.specs.declared.resource.Inner.{Inner}
+use Rattle.fb_resource.specs.declared.resource.Resource.{Resource}
 use Rattle.fb_resource.specs.declared.resource.WindowDone.TheVariants.{Ran}
 use Rattle.fb_laws.specs.Finality.{HasKept, core_of}
 use Rattle.fb_window.specs.Mails.{AreGiven}
@@ -80,8 +80,8 @@ Walks i limit horizon most before after =
 
 -- A resource has run below a tick by itself. Its lines stand behind those that were kept, its messages were delivered, and nothing else has changed.
 pub record HasTurned (i : Inputs) (limit place to : ℕ) (old new : Core) (stop : Option StopMark) : Type 0 where
-  pub before : Inner
-  pub after : Inner
+  pub before : Resource
+  pub after : Resource
   pub told : Vec Line
   pub sent : Vec Message
   pub was : slice_get old.resources.items place ≡ Some before

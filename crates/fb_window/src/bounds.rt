@@ -2,7 +2,7 @@
 
 ghost use Rattle.std.specs.Prelude.{◌≡◌, ◌^◌, ◌<◌, ◌≤◌, ℕ, Some, None, length, slice_get, slice_index};
 ghost use Rattle.fb_agenda.specs.Agendas.{IsNext, waiting};
-ghost use Rattle.fb_resource.specs.declared.resource.Inner.{Inner};
+ghost use Rattle.fb_resource.specs.declared.resource.Resource.{Resource};
 ghost use Rattle.fb_types.specs.Cores.{floor_of};
 ghost use Rattle.fb_types.specs.Headline.{system_of};
 ghost use Rattle.fb_types.specs.Parts.{count_of};
@@ -16,8 +16,8 @@ ghost use Rattle.fb_window.specs.Settling.{AreLegal};
 use crate::cores::{Bounds, Core};
 use crate::links::SystemLinks;
 use fb_link::earliest;
-use fb_types::MOST_RESOURCES;
 use fb_resource::Resource;
+use fb_types::MOST_RESOURCES;
 
 impl Core {
     /// How far each resource may run, in ticks (milliseconds): to the greatest bound below which no later message can
@@ -25,7 +25,7 @@ impl Core {
     /// clock where that is greater. A resource that has stopped has its bound too, though it gets no job. This takes no
     /// memory: the links were copied when the core was opened.
     pub fn bounds(&self, horizon: u64, cap: u64) -> Bounds
-        requires resources { AreOf self.now.system self.now.steps self.now.resources.items }
+        requires resources { AreOf self.now.system self.now.resources.items }
         requires early { horizon ≤ 10 ^ 12 }
         requires cap { 1 ≤ cap }
         ensures horizon { result.horizon ≡ horizon }
@@ -49,8 +49,8 @@ impl Core {
 /// The least tick of all events that wait, or the horizon where that is less.
 pub(crate) fn least_next(resources: &[Resource], horizon: u64) -> u64
     ensures cap { result ≤ horizon }
-    ensures low { (r : ℕ) (x : Inner) (j : Key) → slice_get resources.now r ≡ Some x → j.tick < result → waiting x.queues.agenda j ≡ None }
-    ensures there { result < horizon → (r : ℕ) × (x : Inner) × (slice_get resources.now r ≡ Some x) × IsNext x.queues.agenda result }
+    ensures low { (r : ℕ) (x : Resource) (j : Key) → slice_get resources.now r ≡ Some x → j.tick < result → waiting x.agenda j ≡ None }
+    ensures there { result < horizon → (r : ℕ) × (x : Resource) × (slice_get resources.now r ≡ Some x) × IsNext x.agenda result }
 {
     let mut least = horizon;
     for resource in resources {
@@ -63,7 +63,7 @@ pub(crate) fn least_next(resources: &[Resource], horizon: u64) -> u64
 
 /// The tick after the least stop, or the horizon where that is less.
 fn last_tick(resources: &[Resource], horizon: u64) -> u64
-    ensures { IsCut (StopAllows (λ (x : Inner). x.clock) (λ (x : Inner). x.stopped) resources.now) horizon (length resources.now) result }
+    ensures { IsCut (StopAllows (λ (x : Resource). x.clock) (λ (x : Resource). x.stopped) resources.now) horizon (length resources.now) result }
 {
     let mut last = horizon;
     for resource in resources {
@@ -94,7 +94,7 @@ fn arrivals(
     requires counted { length resources.now ≡ count_of (system_of system.now) }
     requires early { top ≤ 10 ^ 12 }
     ensures long { length result ≡ 256 }
-    ensures cut { (r : ℕ) → r < 256 → IsCut (LinkAllows (λ (x : Inner). x.clock) (λ (x : Inner). x.stopped) (system_of system.now) resources.now least r) top (system_of system.now).links (slice_index result r) }
+    ensures cut { (r : ℕ) → r < 256 → IsCut (LinkAllows (λ (x : Resource). x.clock) (λ (x : Resource). x.stopped) (system_of system.now) resources.now least r) top (system_of system.now).links (slice_index result r) }
 {
     let mut all = [top; MOST_RESOURCES];
     for link in system.rows() {

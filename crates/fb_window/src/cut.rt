@@ -34,7 +34,7 @@ fn cut(
 }
 
 /// Puts what is final of each list of lines behind the fronts, and the others behind the rests. These are lent here, so
-/// that no exit of the loop lets them go.
+/// that no exit of the loop drops them.
 fn cut_each(
     alloc: Global,
     lists: Vec<Vec<Line>>,

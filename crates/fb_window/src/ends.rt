@@ -1,7 +1,7 @@
 //! Whether anything is left to do.
 
 ghost use Rattle.std.specs.Prelude.{◌≡◌, ◌≤◌, ℕ, false, true, IfNone, IfSome, None, Some, length, slice_get};
-ghost use Rattle.fb_resource.specs.declared.resource.Inner.{Inner};
+ghost use Rattle.fb_resource.specs.declared.resource.Resource.{Resource};
 ghost use Rattle.fb_window.specs.Frontiers.{AreAllPast, AreLive, IsEnd, IsFirstStop};
 
 use fb_resource::Resource;
@@ -46,8 +46,8 @@ pub(crate) fn first_stop(resources: &[Resource]) -> Option<StopMark>
 
 /// Whether all clocks are at a tick.
 fn are_at(resources: &[Resource], tick: u64) -> bool
-    ensures yes { result ≡ true → (r : ℕ) (x : Inner) → slice_get resources.now r ≡ Some x → x.clock ≡ tick }
-    ensures no { result ≡ false → (r : ℕ) × (x : Inner) × (slice_get resources.now r ≡ Some x) × (x.clock ≡ tick → ⊥) }
+    ensures yes { result ≡ true → (r : ℕ) (x : Resource) → slice_get resources.now r ≡ Some x → x.clock ≡ tick }
+    ensures no { result ≡ false → (r : ℕ) × (x : Resource) × (slice_get resources.now r ≡ Some x) × (x.clock ≡ tick → ⊥) }
 {
     for resource in resources {
         if resource.clock() != tick {
@@ -60,7 +60,7 @@ fn are_at(resources: &[Resource], tick: u64) -> bool
 /// Whether the clock of each that has not stopped is past a tick.
 fn are_past(resources: &[Resource], tick: u64) -> bool
     ensures yes { result ≡ true → AreAllPast tick resources.now }
-    ensures no { result ≡ false → (r : ℕ) × (x : Inner) × (slice_get resources.now r ≡ Some x) × (x.stopped ≡ None) × (x.clock ≤ tick) }
+    ensures no { result ≡ false → (r : ℕ) × (x : Resource) × (slice_get resources.now r ≡ Some x) × (x.stopped ≡ None) × (x.clock ≤ tick) }
 {
     for resource in resources {
         if resource.stopped().is_none() && resource.clock() <= tick {

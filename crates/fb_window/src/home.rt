@@ -6,7 +6,7 @@ ghost use Rattle.std.specs.Global.{Vec};
 ghost use Rattle.std.specs.Vec.Iter.{into_iter_items};
 ghost use Rattle.fb_types.specs.Headline.{Inputs};
 ghost use Rattle.fb_types.specs.declared.run.Line.{Line};
-ghost use Rattle.fb_resource.specs.declared.resource.Inner.{Inner};
+ghost use Rattle.fb_resource.specs.declared.resource.Resource.{Resource};
 ghost use Rattle.fb_window.specs.Homes.{AreHome, IsHomeTo};
 ghost use Rattle.fb_window.specs.Jobs.{Does, jobs_of, resting_of};
 
@@ -71,7 +71,7 @@ impl Home {
         pending: &mut IntoIter<Vec<Line>>,
         dones: &mut IntoIter<WindowDone>,
     ) -> Result<(), Failed>
-        ensures { OnOk result ((i : Inputs) (limit : ℕ) (bounds : List ℕ) (xs : List Inner) (lists : List (Vec Line)) (place : ℕ) (x : Inner)
+        ensures { OnOk result ((i : Inputs) (limit : ℕ) (bounds : List ℕ) (xs : List Resource) (lists : List (Vec Line)) (place : ℕ) (x : Resource)
             → slice_get xs place ≡ Some x → rested ≡ resting_of x
             → IsHomeTo i limit bounds xs lists place (into_iter_items pending.old) (into_iter_items dones.old) self.old
             → IsHomeTo i limit bounds xs lists (place + 1) (into_iter_items pending.new) (into_iter_items dones.new) self.new) }
@@ -107,7 +107,7 @@ impl Home {
         pending: &mut IntoIter<Vec<Line>>,
         dones: &mut IntoIter<WindowDone>,
     ) -> Result<(), Failed>
-        ensures { OnOk result ((i : Inputs) (limit : ℕ) (bounds : List ℕ) (xs : List Inner) (lists : List (Vec Line))
+        ensures { OnOk result ((i : Inputs) (limit : ℕ) (bounds : List ℕ) (xs : List Resource) (lists : List (Vec Line))
             → resting.items ≡ map resting_of xs
             → IsHomeTo i limit bounds xs lists 0 (into_iter_items pending.old) (into_iter_items dones.old) self.old
             → AreHome i limit bounds xs lists self.new) }
@@ -129,7 +129,7 @@ pub(crate) fn come_home(
     pending: Vec<Vec<Line>>,
     dones: Vec<WindowDone>,
 ) -> Result<Home, Failed>
-    ensures { IfOk result (λ h. (i : Inputs) (limit : ℕ) (bounds : List ℕ) (xs : List Inner)
+    ensures { IfOk result (λ h. (i : Inputs) (limit : ℕ) (bounds : List ℕ) (xs : List Resource)
         → resting.items ≡ map resting_of xs → AllZip Does (jobs_of i limit bounds 0 xs) dones.items
         → AreHome i limit bounds xs pending.items h) }
 {

@@ -34,7 +34,7 @@ impl Model for Job {
 impl Job {
     /// The job to run a resource below a tick.
     pub fn new(system: System, steps: u64, resource: Resource, to: u64) -> Job
-        requires of { IsOf system steps resource }
+        requires of { IsOf system resource }
         requires live { resource.stopped ≡ None }
         requires ahead { resource.clock ≤ to }
         requires early { to ≤ 10 ^ 12 }

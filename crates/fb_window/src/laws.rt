@@ -1,4 +1,4 @@
-//! What every schedule of core steps comes to.
+//! What every schedule of core steps leads to.
 
 ghost use Rattle.fb_laws.specs.Phases.{HasPhases};
 ghost use Rattle.fb_laws.specs.ScheduleLaw.{OfEachSchedule, HasStates, HasMessages, HasEnd, HasStop, HasFinalLines};
@@ -10,7 +10,7 @@ ghost use Rattle.fb_laws.specs.ScheduleLaw.{OfEachSchedule, HasStates, HasMessag
 /// then resource, are those of the simulation, which ends there. At the least stop, which all that have not stopped
 /// are past, the simulation stops, and its lines are those of the core, cut after the stop. The final lines of a core
 /// are what the lines of the simulation begin with. Resources that may leave together may do so, and come back, in any
-/// order, and all orders come to one core.
+/// order, and all orders lead to one core.
 ///
 /// This holds of every schedule of accepted inputs, with any number of workers. This function does nothing when it
 /// runs, and no program calls it: it is there for its contract.

@@ -2,7 +2,7 @@
 
 ghost use Rattle.std.specs.Prelude.{◌≡◌, ◌^◌, ◌≤◌, ◌++◌, ℕ, [], ◌∷◌, IfOk, None, OnOk, Some, length, map, slice_get, vec_len};
 ghost use Rattle.fb_resource.specs.Resources.{IsOf};
-ghost use Rattle.fb_resource.specs.declared.resource.Inner.{Inner};
+ghost use Rattle.fb_resource.specs.declared.resource.Resource.{Resource};
 ghost use Rattle.fb_window.specs.Jobs.{AreOf, MayLeave, job_of, jobs_of, resting_of};
 ghost use Rattle.fb_window.specs.Settling.{HasLeft};
 
@@ -22,7 +22,7 @@ fn leave(
     resource: Resource,
     to: u64,
 ) -> Result<(), AllocError>
-    requires of { IsOf system.now steps resource }
+    requires of { IsOf system.now resource }
     requires may { resource.stopped ≡ None → (resource.clock ≤ to) × (to ≤ 10 ^ 12) }
     requires steps { (1 ≤ steps) × (steps ≤ 10 ^ 7) }
     ensures jobs { OnOk result (jobs.new.items ≡ jobs.old.items ++ job_of system.now steps to resource) }
@@ -40,7 +40,7 @@ fn leave(
 
 impl Core {
     /// Sends each resource out with the bound at its place, or lets it rest. What has left is lent here, so that no exit of
-    /// the loop lets it go.
+    /// the loop drops it.
     fn leave_all(
         jobs: &mut Vec<Job>,
         resting: &mut Vec<Option<Resource>>,
@@ -49,7 +49,7 @@ impl Core {
         resources: Vec<Resource>,
         bounds: &Bounds,
     ) -> Result<(), AllocError>
-        requires of { (r : ℕ) (x : Inner) → slice_get resources.items r ≡ Some x → IsOf system.now steps x }
+        requires of { (r : ℕ) (x : Resource) → slice_get resources.items r ≡ Some x → IsOf system.now x }
         requires few { length resources.items ≤ 256 }
         requires bounds { MayLeave bounds.now.all resources.items }
         requires steps { (1 ≤ steps) × (steps ≤ 10 ^ 7) }
@@ -77,7 +77,7 @@ impl Core {
         bounds: Bounds,
     ) -> Result<(Away, Vec<Job>), Failed>
         requires system { system.now ≡ self.system }
-        requires resources { AreOf self.system self.steps self.resources.items }
+        requires resources { AreOf self.system self.resources.items }
         requires bounds { MayLeave bounds.all self.resources.items }
         requires some_steps { 1 ≤ self.steps }
         requires few_steps { self.steps ≤ 10 ^ 7 }

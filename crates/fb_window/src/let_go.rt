@@ -1,28 +1,28 @@
-//! Values that are wanted no more. What they own is proved to be let go here, where each is dropped anyway, and so not once more in a
-//! crate above that calls these in place of dropping its own.
+//! Drops of values that are no longer needed. What they own is proved to be dropped here, where each is dropped anyway. So a crate
+//! above that calls these functions need not prove it again.
 
 use crate::cores::Core;
 use crate::job::Job;
 use fb_resource::Resource;
 use fb_system::System;
 
-/// Lets a system go.
+/// Drops a system.
 pub fn let_system_go(system: System) {
     drop(system);
 }
 
-/// Lets a resource go.
+/// Drops a resource.
 pub fn let_resource_go(resource: Resource) {
     drop(resource);
 }
 
-/// Lets jobs go, as those of a round that has none.
+/// Drops jobs, as those of a round that has none.
 pub fn let_jobs_go(jobs: Vec<Job>) {
     drop(jobs);
 }
 
 impl Core {
-    /// Lets all go that is at home, as when a run is over.
+    /// Drops all that is at home, as when a run is over.
     pub fn let_go(self) {
         drop(self);
     }

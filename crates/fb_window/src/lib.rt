@@ -2,8 +2,8 @@
 //!
 //! A run goes on in rounds. In each the core says how far each resource may run (`bounds`), and is taken apart into
 //! jobs (`leave`), which workers may do in any order (`job`). When all are done it is put together again, messages are
-//! exchanged, and the lines that have become final are handed out (`settle`). What the rounds come to is told by the
-//! law of schedules (`laws`), which knows nothing of this code.
+//! exchanged, and the lines that have become final are handed out (`settle`). The law of schedules (`laws`), which
+//! knows nothing of this code, says what the rounds lead to.
 //!
 //! Read in this order: `laws`; `cores`, `links` and `open`, what a core is; `bounds`; `leave` and `job`; `settle`, with
 //! `home`, `post`, `frontier`, `cut`, `ends` and `beside`; `walk`, with `nexts`; `let_go`.

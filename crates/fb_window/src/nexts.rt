@@ -2,7 +2,7 @@
 
 ghost use Rattle.std.specs.Prelude.{◌≡◌, ◌<◌, ◌≤◌, ℕ, List, None, Some, IfOk, length, slice_get, slice_set};
 ghost use Rattle.fb_agenda.specs.Agendas.{IsNext, waiting};
-ghost use Rattle.fb_resource.specs.declared.resource.Inner.{Inner};
+ghost use Rattle.fb_resource.specs.declared.resource.Resource.{Resource};
 ghost use Rattle.fb_types.specs.declared.key.Key.{Key};
 ghost use Rattle.fb_window.specs.Noting.{AreNoted, IsNoted};
 
@@ -70,7 +70,7 @@ impl Nexts {
     pub(crate) fn note(&mut self, place: usize, resource: &Resource)
         requires { place < length self.old.ticks.items }
         ensures horizon { self.new.horizon ≡ self.old.horizon }
-        ensures noted { (xs : List Inner) → AreNoted self.old.horizon xs self.old.ticks.items
+        ensures noted { (xs : List Resource) → AreNoted self.old.horizon xs self.old.ticks.items
             → AreNoted self.new.horizon (slice_set xs place resource.now) self.new.ticks.items }
     {
         self.ticks[place] = next_of(resource, self.horizon);
@@ -80,10 +80,10 @@ impl Nexts {
     /// comes before it.
     pub(crate) fn least(&self) -> (usize, u64)
         ensures cap { result.1 ≤ self.now.horizon }
-        ensures low { (xs : List Inner) → AreNoted self.now.horizon xs self.now.ticks.items
-            → (r : ℕ) (x : Inner) (j : Key) → slice_get xs r ≡ Some x → j.tick < result.1 → waiting x.queues.agenda j ≡ None }
-        ensures there { (xs : List Inner) → AreNoted self.now.horizon xs self.now.ticks.items
-            → result.1 < self.now.horizon → (x : Inner) × (slice_get xs result.0 ≡ Some x) × IsNext x.queues.agenda result.1 }
+        ensures low { (xs : List Resource) → AreNoted self.now.horizon xs self.now.ticks.items
+            → (r : ℕ) (x : Resource) (j : Key) → slice_get xs r ≡ Some x → j.tick < result.1 → waiting x.agenda j ≡ None }
+        ensures there { (xs : List Resource) → AreNoted self.now.horizon xs self.now.ticks.items
+            → result.1 < self.now.horizon → (x : Resource) × (slice_get xs result.0 ≡ Some x) × IsNext x.agenda result.1 }
     {
         first_least(&self.ticks, self.horizon)
     }

@@ -36,7 +36,7 @@ impl Core {
         resources: Vec<Resource>,
         steps: u64,
     ) -> Result<Core, AllocError>
-        requires opened { AreOpened system.now steps resources.items }
+        requires opened { AreOpened system.now resources.items }
         requires some_steps { 1 ≤ steps }
         requires few_steps { steps ≤ 10 ^ 7 }
         ensures system { IfOk result (λ c. c.system ≡ system.now) }

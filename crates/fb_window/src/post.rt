@@ -7,7 +7,7 @@ ghost use Rattle.fb_types.specs.Headline.{system_of};
 ghost use Rattle.fb_types.specs.declared.run.Message as model;
 ghost use Rattle.fb_link.specs.Exchanges.{all_of};
 ghost use Rattle.fb_resource.specs.Resources.{HasReceived};
-ghost use Rattle.fb_resource.specs.declared.resource.Inner.{Inner};
+ghost use Rattle.fb_resource.specs.declared.resource.Resource.{Resource};
 ghost use Rattle.fb_window.specs.Mails.{AreDelivered, ArePosted};
 
 use fb_link::exchange;
@@ -23,7 +23,7 @@ fn deliver_next(
     mut resource: Resource,
     lists: &mut IntoIter<Vec<Message>>,
 ) -> Result<(), AllocError>
-    ensures { OnOk result ((box : Vec model.Message) × (y : Inner) × (into_iter_items lists.old ≡ box ∷ into_iter_items lists.new)
+    ensures { OnOk result ((box : Vec model.Message) × (y : Resource) × (into_iter_items lists.old ≡ box ∷ into_iter_items lists.new)
         × HasReceived box.items resource y × (delivered.new.items ≡ delivered.old.items ++ y ∷ [])) }
 {
     let Some(messages) = lists.next() else {
@@ -39,7 +39,7 @@ fn deliver_next(
 }
 
 /// Puts messages on the agendas of the resources, for each those in the next list. What is delivered is lent here, so that
-/// no exit of the loop lets it go.
+/// no exit of the loop drops it.
 fn deliver_each(
     delivered: &mut Vec<Resource>,
     resources: Vec<Resource>,

@@ -7,7 +7,7 @@ ghost use Rattle.fb_types.specs.Headline.{stimuli_of, system_of};
 ghost use Rattle.fb_types.specs.Parts.{machine};
 ghost use Rattle.fb_types.specs.Schedules.{IsSchedule};
 ghost use Rattle.fb_system.specs.Lines.{BelongsTo};
-ghost use Rattle.fb_resource.specs.declared.resource.Inner.{Inner};
+ghost use Rattle.fb_resource.specs.declared.resource.Resource.{Resource};
 ghost use Rattle.fb_laws.specs.Finality.{core_of};
 ghost use Rattle.fb_window.specs.Jobs.{Does};
 ghost use Rattle.fb_window.specs.Settling.{AreLegal, HasLeft, Settles, lists_of};
@@ -38,10 +38,10 @@ impl Away {
         dones: Vec<WindowDone>,
     ) -> Result<Settled, Failed>
         requires system { system.now ≡ self.system }
-        requires left { (xs : List Inner) × (bounds : List ℕ) × HasLeft xs bounds self }
+        requires left { (xs : List Resource) × (bounds : List ℕ) × HasLeft xs bounds self }
         requires pending { All (λ p. All (BelongsTo (system_of self.system)) p.items) self.pending.items }
         requires done { AllZip Does self.jobs.value.items dones.items }
-        ensures { IfOk result (λ s. (xs : List Inner) (bounds : List ℕ) (es : List (CoreStep (machine (system_of self.system) self.steps))) (workers : ℕ → ℕ)
+        ensures { IfOk result (λ s. (xs : List Resource) (bounds : List ℕ) (es : List (CoreStep (machine (system_of self.system) self.steps))) (workers : ℕ → ℕ)
             → HasLeft xs bounds self
             → IsSchedule (machine (system_of self.system) self.steps) self.horizon (opening_core (system_of self.system) (stimuli_of self.system) self.steps) es
             → IsAt self.system self.steps (core_of self.system self.steps es) xs

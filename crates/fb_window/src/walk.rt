@@ -2,7 +2,7 @@
 
 ghost use Rattle.std.specs.Prelude.{◌≡◌, ◌^◌, ◌<◌, ◌≤◌, ℕ, List, None, Some, All, IfOk, OnOk, length, slice_get};
 ghost use Rattle.fb_resource.specs.Resources.{IsOf};
-ghost use Rattle.fb_resource.specs.declared.resource.Inner.{Inner};
+ghost use Rattle.fb_resource.specs.declared.resource.Resource.{Resource};
 ghost use Rattle.fb_types.specs.Cores.{CoreStep, opening_core};
 ghost use Rattle.fb_types.specs.Headline.{stimuli_of, system_of};
 ghost use Rattle.fb_types.specs.Parts.{count_of, machine};
@@ -109,9 +109,9 @@ impl Core {
         requires counted { length self.old.resources.items ≡ count_of (system_of self.old.system) }
         requires pending { length self.old.pending.items ≡ length self.old.resources.items }
         requires place { place < length self.old.resources.items }
-        requires of { (x : Inner) → slice_get self.old.resources.items place ≡ Some x → IsOf self.old.system self.old.steps x }
-        requires live { (x : Inner) → slice_get self.old.resources.items place ≡ Some x → x.stopped ≡ None }
-        requires ahead { (x : Inner) → slice_get self.old.resources.items place ≡ Some x → x.clock ≤ to }
+        requires of { (x : Resource) → slice_get self.old.resources.items place ≡ Some x → IsOf self.old.system x }
+        requires live { (x : Resource) → slice_get self.old.resources.items place ≡ Some x → x.stopped ≡ None }
+        requires ahead { (x : Resource) → slice_get self.old.resources.items place ≡ Some x → x.clock ≤ to }
         requires early { to ≤ 10 ^ 12 }
         requires few_steps { self.old.steps ≤ 10 ^ 7 }
         requires noted { AreNoted nexts.old.horizon self.old.resources.items nexts.old.ticks.items }
@@ -129,7 +129,7 @@ impl Core {
         Ok(output.stop)
     }
 
-    /// Up to so many turns, each of the first resource that has the least event of all: it takes what it has at the
+    /// Up to `most` turns, each of the first resource that has the least event of all: it takes what it has at the
     /// tick of this event, and its messages are delivered. All is done on this thread, and no line is handed out. The
     /// walk ends early where a resource has stopped, or no event comes before the horizon. Ticks are milliseconds.
     ///
@@ -169,7 +169,7 @@ impl Core {
     }
 }
 
-/// The turns of a walk where no resource has stopped. The core is lent here, so that no exit of the loop lets it go.
+/// The turns of a walk where no resource has stopped. The core is lent here, so that no exit of the loop drops it.
 fn take_turns(
     core: &mut Core,
     nexts: &mut Nexts,

@@ -62,9 +62,9 @@ pub fn accepted(
 
 /// The resource of a number as it is before the first event. No message waits at it.
 pub fn opened(rt: &impl Abort, alloc: Global, system: &System, number: u32) -> Resource
-    ensures of { (limit : ℕ) → IsOf system.now limit result }
+    ensures of { IsOf system.now result }
     ensures number { result.tree.resource ≡ number }
-    ensures unheard { (j : Key) → j.class ≡ 2 → j.resource ≡ result.tree.resource → waiting result.queues.agenda j ≡ None }
+    ensures unheard { (j : Key) → j.class ≡ 2 → j.resource ≡ result.tree.resource → waiting result.agenda j ≡ None }
 {
     assert!(rt; (number as usize) < system.resources());
     system.facts();
@@ -94,7 +94,7 @@ pub fn run(
     to: u64,
     steps: u64,
 ) -> Ran
-    requires { IsOf system.now steps resource }
+    requires { IsOf system.now resource }
     ensures lines { All (BelongsTo (system_of system.now)) result.lines.items }
     ensures sent { All (IsMessage system.now) result.sent.items }
 {
@@ -203,11 +203,11 @@ pub fn deliver_first(
     system: &System,
     messages: Vec<Message>,
 ) -> Resource
-    requires of { IsOf system.now 1000000 resource }
+    requires of { IsOf system.now resource }
     requires number { resource.tree.resource ≡ number }
-    requires unheard { (j : Key) → j.class ≡ 2 → j.resource ≡ resource.tree.resource → waiting resource.queues.agenda j ≡ None }
+    requires unheard { (j : Key) → j.class ≡ 2 → j.resource ≡ resource.tree.resource → waiting resource.agenda j ≡ None }
     requires messages { All (IsMessage system.now) messages.items }
-    ensures { IsOf system.now 1000000 result }
+    ensures { IsOf system.now result }
 {
     if !are_for(&resource, number, system, messages.as_slice()) {
         panic!(rt; "messages for another resource");

@@ -15,16 +15,19 @@ ghost use Rattle.fb_sim.specs.Runs.{IsSpent};
 
 use crate::one_agenda::deliver::deliver;
 use crate::one_agenda::pause::Pause;
-use fb_agenda::Least;
+use fb_agenda::{Agenda, Least};
 use fb_net::Tree;
-use fb_resource::{Queues, TickCounts, take};
+use fb_resource::{Given, TickCounts, take};
 use fb_system::System;
 use fb_types::{Event, Key, Line, Reason, StopMark};
 use std::alloc::AllocError;
 
-/// The one agenda of all resources, with what takings give, and the blocks and the counts of each.
+/// The one agenda of all resources, with the counts of their messages and what takings give, and the blocks and the counts
+/// of each.
 pub(crate) struct Machine {
-    pub(super) queues: Queues,
+    pub(super) agenda: Agenda,
+    pub(super) sent: Vec<u128>,
+    pub(super) given: Given,
     pub(super) trees: Vec<Tree>,
     pub(super) meters: Vec<TickCounts>,
 }
@@ -33,7 +36,9 @@ pub(crate) struct Machine {
 impl Drop for Machine {
     fn drop(self) {
         let Machine {
-            queues: _,
+            agenda: _,
+            sent: _,
+            given: _,
             trees: _,
             meters: _,
         } = self;
@@ -67,13 +72,15 @@ impl Machine {
         let stop = take(
             &mut self.trees[resource],
             &mut self.meters[resource],
-            &mut self.queues,
+            &mut self.agenda,
+            &mut self.sent,
+            &mut self.given,
             system,
             limit,
             key,
             event,
         )?;
-        deliver(&mut self.queues.agenda, &mut self.queues.mail, system)?;
+        deliver(&mut self.agenda, &mut self.given.mail, system)?;
         Ok(stop)
     }
 
@@ -98,7 +105,7 @@ impl Machine {
         ensures sooner { IfOk result (IsSooner horizon limit self.old self.new) }
     {
         let mut least = Least::new();
-        while self.queues.agenda.take_least_into(horizon, &mut least) {
+        while self.agenda.take_least_into(horizon, &mut least) {
             if let Some(reason) = self.take(system, limit, &least.key, &least.event)? {
                 return Ok(Pause::Stop(StopMark {
                     tick: least.key.tick,
@@ -106,7 +113,7 @@ impl Machine {
                     reason,
                 }));
             }
-            if self.queues.outbox.lines.len() >= many {
+            if self.given.outbox.lines.len() >= many {
                 return Ok(Pause::Lines);
             }
         }
@@ -115,18 +122,18 @@ impl Machine {
 
     /// The lines that are there.
     pub(super) fn lines(&self) -> &[Line]
-        ensures { result.now ≡ self.now.queues.outbox.lines.items }
+        ensures { result.now ≡ self.now.given.outbox.lines.items }
     {
-        self.queues.outbox.lines.as_slice()
+        self.given.outbox.lines.as_slice()
     }
 
     /// Drops the lines, and nothing else. Their memory is kept for the next ones.
     pub(super) fn clear_lines(&mut self)
-        ensures none { self.new.queues.outbox.lines.items ≡ [] }
+        ensures none { self.new.given.outbox.lines.items ≡ [] }
         ensures at { (i : Inputs) (s : State) (a : model.Agenda) → IsAt i s a self.old → IsAt i s a self.new }
         ensures ready { (i : Inputs) (limit tick : ℕ) → IsReady i limit tick self.old → IsReady i limit tick self.new }
         ensures meters { self.new.meters ≡ self.old.meters }
     {
-        self.queues.outbox.lines.clear();
+        self.given.outbox.lines.clear();
     }
 }

@@ -1,7 +1,7 @@
 use Rattle.std.proofs.Common.{◌≡◌, Some, refl, sym, ◌∙◌, arith}
 use Rattle.std.specs.Prelude.{slice_get}
 use Rattle.std.proofs.lemmas.Option.{slice_get_read, slice_get_within}
-use Rattle.fb_resource.specs.declared.resource.Inner.{Inner}
+use Rattle.fb_resource.specs.declared.resource.Resource.{Resource}
 use Rattle.fb_laws.proofs.Scans.{holds_more}
 use Rattle.fb_window.proofs.ends.are_at.Goals as goal
 
@@ -19,7 +19,7 @@ loop-resource-preserved c =
     let n = c.loop-resource.resource-index in
     let x = c.resource-item.result in
     let at : slice_get xs n ≡ Some x = slice_get_read xs _ n x refl c.loop-resource-test.true c.resource-item.is in
-    holds_more (λ (y : Inner). y.clock ≡ c.args.tick) xs n x at (sym c.clock.ensures ∙ c.if-clock-tick.false) c.loop-resource.invariant
+    holds_more (λ (y : Resource). y.clock ≡ c.args.tick) xs n x at (sym c.clock.ensures ∙ c.if-clock-tick.false) c.loop-resource.invariant
 
 pub returns-clause-yes : goal.returns-clause-yes
 returns-clause-yes c = λ e r x at.

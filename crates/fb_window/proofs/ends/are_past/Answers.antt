@@ -2,7 +2,7 @@ use Rattle.std.proofs.Common.{◌≡◌, ◌<◌, ◌≤◌, Some, None, not, re
 use Rattle.std.specs.Prelude.{is_some, slice_get}
 use Rattle.std.proofs.lemmas.Option.{slice_get_read, slice_get_within}
 use Rattle.fb_types.proofs.Lookups.{none_some}
-use Rattle.fb_resource.specs.declared.resource.Inner.{Inner}
+use Rattle.fb_resource.specs.declared.resource.Resource.{Resource}
 use Rattle.fb_types.proofs.Options.{none_from_is_some, some_from_is_some}
 use Rattle.fb_laws.proofs.Scans.{holds_more}
 use Rattle.fb_window.proofs.ends.are_past.Goals as goal
@@ -24,7 +24,7 @@ loop-resource-preserved c =
     let n = c.loop-resource.resource-index in
     let x = c.resource-item.result in
     let at : slice_get xs n ≡ Some x = slice_get_read xs _ n x refl c.loop-resource-test.true c.resource-item.is in
-    holds_more (λ (y : Inner). y.stopped ≡ None → c.args.tick < y.clock) xs n x at
+    holds_more (λ (y : Resource). y.stopped ≡ None → c.args.tick < y.clock) xs n x at
     (λ live. elim c.else-is_none.branch [
       | else-is_none-via-then-is_none+else-clock-tick w ↦ omega (arith, w.if-clock-tick.false, w.clock.ensures)
       | else-is_none-via-else-is_none w ↦

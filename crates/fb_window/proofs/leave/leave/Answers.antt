@@ -18,7 +18,7 @@ returns-then-is_some-clause-resting c =
     ∙ ap (λ o. c.args.resting.now.items ++ o ∷ []) (sym (resting_some c.args.resource (ap is_some (sym c.stopped.ensures) ∙ sym c.is_some.ensures ∙ c.if-is_some.true)))
 
 pub new-job-requires-clause-of : goal.new-job-requires-clause-of
-new-job-requires-clause-of c = subst (λ (i : Inputs). IsOf i c.args.steps c.args.resource) (sym c.in_ok-share.ensures) c.requires.of
+new-job-requires-clause-of c = subst (λ (i : Inputs). IsOf i c.args.resource) (sym c.in_ok-share.ensures) c.requires.of
 
 pub new-job-requires-clause-live : goal.new-job-requires-clause-live
 new-job-requires-clause-live c = sym c.stopped.ensures ∙ none_from_is_some c.stopped.result (sym c.is_some.ensures ∙ c.if-is_some.false)

@@ -7,7 +7,7 @@ use Rattle.fb_types.specs.declared.run.StopMark.{StopMark}
 use Rattle.fb_laws.specs.Sound.{AreGood}
 use Rattle.fb_agenda.specs.Agendas.{IsNext, waiting}
 use Rattle.fb_resource.specs.Resources.{IsOf}
-use Rattle.fb_resource.specs.declared.resource.Inner.{Inner}
+use Rattle.fb_resource.specs.declared.resource.Resource.{Resource}
 use Rattle.fb_window.specs.Walking.{HasTurned}
 use Rattle.fb_window.specs.declared.cores.Core.{Core}
 use Rattle.fb_types.proofs.Options.{none_from_is_some, some_from_is_some}
@@ -29,17 +29,17 @@ loop-init c =
 
 -- ---- What is known at the first resource that has the least event
 
-low_of : (c : After-least-place) (r : ℕ) (x : Inner) (j : Key) → slice_get c.loop.core.resources.items r ≡ Some x → j.tick < c.least-place.result.1 → waiting x.queues.agenda j ≡ None
+low_of : (c : After-least-place) (r : ℕ) (x : Resource) (j : Key) → slice_get c.loop.core.resources.items r ≡ Some x → j.tick < c.least-place.result.1 → waiting x.agenda j ≡ None
 low_of c = c.least-place.ensures.low c.loop.core.resources.items c.loop.invariant.noted
 
 early_of : (c : After-least-place) → (c.least-place.result.1 ≡ c.args.horizon → ⊥) → c.least-place.result.1 < c.args.horizon
 early_of c n = let cap = c.least-place.ensures.cap in let same = c.loop.invariant.same in omega (arith, cap, same, n)
 
 there_of : (c : After-least-place) → (c.least-place.result.1 ≡ c.args.horizon → ⊥)
-    → (x : Inner) × (slice_get c.loop.core.resources.items c.least-place.result.0 ≡ Some x) × IsNext x.queues.agenda c.least-place.result.1
+    → (x : Resource) × (slice_get c.loop.core.resources.items c.least-place.result.0 ≡ Some x) × IsNext x.agenda c.least-place.result.1
 there_of c n = let early = early_of c n in let same = c.loop.invariant.same in c.least-place.ensures.there c.loop.core.resources.items c.loop.invariant.noted (omega (arith, early, same))
 
-of_at : (c : After-least-place) (r : ℕ) (x : Inner) → slice_get c.loop.core.resources.items r ≡ Some x → IsOf c.args.core.now.system c.args.core.now.steps x
+of_at : (c : After-least-place) (r : ℕ) (x : Resource) → slice_get c.loop.core.resources.items r ≡ Some x → IsOf c.args.core.now.system x
 of_at c r x e = each_of c.args.core.now.system c.args.core.now.steps c.args.horizon c.args.core.now c.loop.counter c.loop.core c.loop.invariant.gone c.requires.come r x e
 
 step : (c : After-least-place) → (c.least-place.result.1 ≡ c.args.horizon → ⊥) → (new : Core) (stop : Option StopMark)
@@ -76,16 +76,15 @@ turn-requires-clause-place c =
 pub turn-requires-clause-of : goal.turn-requires-clause-of
 turn-requires-clause-of c = λ x e.
     let gone = c.loop.invariant.gone in
-    subst (λ (z : Inputs). IsOf z c.loop.core.steps x) (sym gone.system)
-    (subst (λ (n : ℕ). IsOf c.args.core.now.system n x) (sym gone.steps) (of_at (goal.at.turn-requires-clause-of c).After-least-place c.least-place.result.0 x e))
+    subst (λ (z : Inputs). IsOf z x) (sym gone.system) (of_at (goal.at.turn-requires-clause-of c).After-least-place c.least-place.result.0 x e)
 
 pub turn-requires-clause-ahead : goal.turn-requires-clause-ahead
 turn-requires-clause-ahead c = λ x e.
     let d = (goal.at.turn-requires-clause-ahead c).After-least-place in
     let m = c.least-place.result.1 in
     let t = there_of d c.if-tick-horizon.false in
-    let next : IsNext x.queues.agenda m = subst (λ (z : Inner). IsNext z.queues.agenda m) (one_at c.loop.core.resources.items c.least-place.result.0 t.0 x t.1 e) t.2 in
-    let late : x.clock ≤ m = clock_before c.args.core.now.system c.args.core.now.steps m x (of_at d c.least-place.result.0 x e) next in
+    let next : IsNext x.agenda m = subst (λ (z : Resource). IsNext z.agenda m) (one_at c.loop.core.resources.items c.least-place.result.0 t.0 x t.1 e) t.2 in
+    let late : x.clock ≤ m = clock_before c.args.core.now.system m x (of_at d c.least-place.result.0 x e) next in
     omega (arith, late)
 
 pub returns-then-is_some-clause-pending : goal.returns-then-is_some-clause-pending

@@ -6,7 +6,7 @@ use Rattle.fb_parts_tests.proofs.tests.chain.deliver_first.Goals as goal
 
 pub returns-in-Ok : goal.returns-in-Ok
 returns-in-Ok g c =
-    c.in-Ok.ensures.received.of c.args.system.now 1000000 c.requires.of
+    c.in-Ok.ensures.received.of c.args.system.now c.requires.of
     (subst (λ ms. All (IsFor c.args.system.now c.args.resource) ms) c.as_slice.ensures.value (c.if-not-are_for.ensures refl))
 
 pub returns-in-Ok-receive : goal.returns-in-Ok-receive
@@ -14,8 +14,8 @@ returns-in-Ok-receive g c =
     let i = c.args.system.now in
     let old = c.args.resource in
     let same : IsSame old c.receive.new.self =
-    c.in-Err.ensures.err (are_new old.number c.args.messages.items old.queues.agenda (λ j two here. c.requires.unheard j two (here ∙ c.requires.of.numbered))) in
-    c.in-Ok-receive.ensures.received.of i 1000000 (still_of i 1000000 old c.receive.new.self same c.requires.of)
+    c.in-Err.ensures.err (are_new old.tree.resource c.args.messages.items old.agenda c.requires.unheard) in
+    c.in-Ok-receive.ensures.received.of i (still_of i old c.receive.new.self same c.requires.of)
     (subst (λ ms. All (IsFor i c.receive.new.self) ms) (sym c.in-Err.ensures.back)
     (still_for i old c.receive.new.self c.args.messages.items same
     (subst (λ ms. All (IsFor i old) ms) c.as_slice.ensures.value (c.if-not-are_for.ensures refl))))

@@ -11,7 +11,7 @@ use Rattle.fb_agenda.specs.Agendas.{IsNext, waiting}
 use Rattle.fb_system.specs.Lines.{BelongsTo}
 use Rattle.fb_link.specs.Exchanges.{all_of}
 use Rattle.fb_laws.specs.Sound.{AreGood}
-use Rattle.fb_resource.specs.declared.resource.Inner.{Inner}
+use Rattle.fb_resource.specs.declared.resource.Resource.{Resource}
 use Rattle.fb_window.specs.Homes.{AreHome}
 use Rattle.fb_window.specs.Jobs.{Does}
 use Rattle.fb_trace.specs.Merging.{AreMerged, AreRising, flat}
@@ -45,8 +45,8 @@ end_of-end-requires c =
     } in
     let few = few_resources a.system good in
     let posted = made_ok _ c.post-posted.result c.in_ok-kept.resources c.in_ok-kept.ensures.made c.post-posted.ensures in
-    let same = ap (λ (ys : List Inner). length ys) c.deref-3.ensures.value in
-    let found = ap (λ (v : Vec Inner). length v.items) (c.in_ok-resources.ensures.kept) in
+    let same = ap (λ (ys : List Resource). length ys) c.deref-3.ensures.value in
+    let found = ap (λ (v : Vec Resource). length v.items) (c.in_ok-resources.ensures.kept) in
     omega (arith, few, same, found, posted.counted, home.resources, left.2.counted)
 
 -- what was posted, to the resources that have come home
@@ -96,12 +96,12 @@ gathered c =
         edge = edge;
         posted = posted c;
         cap = c.least_next-least.ensures.cap;
-        low = subst (λ (ys : List Inner). (r : ℕ) (x : Inner) (j : Key) → slice_get ys r ≡ Some x → j.tick < least → waiting x.queues.agenda j ≡ None) c.deref.ensures.value c.least_next-least.ensures.low;
-        there = subst (λ (ys : List Inner). least < a.horizon → (r : ℕ) × (x : Inner) × (slice_get ys r ≡ Some x) × IsNext x.queues.agenda least) c.deref.ensures.value c.least_next-least.ensures.there;
-        frontier = subst (λ (ys : List Inner). IsFrontier least ys edge) c.deref-2.ensures.value c.frontier_of-frontier.ensures;
+        low = subst (λ (ys : List Resource). (r : ℕ) (x : Resource) (j : Key) → slice_get ys r ≡ Some x → j.tick < least → waiting x.agenda j ≡ None) c.deref.ensures.value c.least_next-least.ensures.low;
+        there = subst (λ (ys : List Resource). least < a.horizon → (r : ℕ) × (x : Resource) × (slice_get ys r ≡ Some x) × IsNext x.agenda least) c.deref.ensures.value c.least_next-least.ensures.there;
+        frontier = subst (λ (ys : List Resource). IsFrontier least ys edge) c.deref-2.ensures.value c.frontier_of-frontier.ensures;
         cut = f.1;
         merged = f.2;
-        ends = subst (λ (ys : List Inner). IsEnd a.horizon ys c.end_of-end.result) (c.deref-3.ensures.value ∙ ap (λ (v : Vec Inner). v.items) c.in_ok-resources.ensures.kept) c.end_of-end.ensures;
+        ends = subst (λ (ys : List Resource). IsEnd a.horizon ys c.end_of-end.result) (c.deref-3.ensures.value ∙ ap (λ (v : Vec Resource). v.items) c.in_ok-resources.ensures.kept) c.end_of-end.ensures;
       };
       belong = merged_in (BelongsTo (system_of a.system)) edge h.pending.items fronts rests f.1 belong out f.3;
       belongs = rests_in (BelongsTo (system_of a.system)) edge h.pending.items fronts rests f.1 belong;
@@ -111,13 +111,13 @@ pub returns-in-Open : goal.returns-in-Open
 returns-in-Open c = λ xs bounds es workers left sc at legal.
     let d = (goal.at.returns-in-Open c).After-end_of-end in
     settle_going c.args.self c.args.dones.items c.requires.done c.in_ok-home.home c.in_ok-kept.resources.items (found d).0 c.in_ok-resources.cut.1.items c.in_ok-resources.cut.0.items
-    c.end_of-end.result (gathered d) xs bounds es workers left sc at legal _ _ c.in-Open.is refl refl (ap (λ (v : Vec Inner). v.items) c.in_ok-resources.ensures.kept) refl refl
+    c.end_of-end.result (gathered d) xs bounds es workers left sc at legal _ _ c.in-Open.is refl refl (ap (λ (v : Vec Resource). v.items) c.in_ok-resources.ensures.kept) refl refl
 
 pub returns-in-Horizon : goal.returns-in-Horizon
 returns-in-Horizon c = λ xs bounds es workers left sc at legal.
     let d = (goal.at.returns-in-Horizon c).After-end_of-end in
     settle_ended c.args.self c.args.dones.items c.requires.done c.in_ok-home.home c.in_ok-kept.resources.items (found d).0 c.in_ok-resources.cut.1.items c.in_ok-resources.cut.0.items
-    c.end_of-end.result (gathered d) xs bounds es workers left sc at legal _ _ c.in-Horizon.is refl refl (ap (λ (v : Vec Inner). v.items) c.in_ok-resources.ensures.kept) refl refl
+    c.end_of-end.result (gathered d) xs bounds es workers left sc at legal _ _ c.in-Horizon.is refl refl (ap (λ (v : Vec Resource). v.items) c.in_ok-resources.ensures.kept) refl refl
 
 pub returns : goal.returns
 returns c = λ xs bounds es workers left sc at legal.

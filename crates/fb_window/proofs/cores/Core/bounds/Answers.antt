@@ -4,7 +4,7 @@ use Rattle.fb_types.specs.Headline.{system_of}
 use Rattle.fb_types.specs.Parts.{count_of}
 use Rattle.fb_laws.specs.Sound.{AreGood}
 use Rattle.fb_types.specs.Systems.{System}
-use Rattle.fb_resource.specs.declared.resource.Inner.{Inner}
+use Rattle.fb_resource.specs.declared.resource.Resource.{Resource}
 use Rattle.fb_laws.specs.Cuts.{IsCut, LinkAllows, StopAllows}
 use Rattle.fb_window.proofs.Bounding.{AreComputed}
 use Rattle.fb_window.proofs.BoundsAre.{are_greatest, are_legal, may_leave}
@@ -31,7 +31,7 @@ loop-number-preserved c =
     let before = c.arrivals-all.result in
     let same = c.deref-resource-items.ensures.value in
     let at : slice_get xs n ≡ Some x =
-    subst (λ (ys : List Inner). slice_get ys n ≡ Some x) same (slice_get_read c.deref-resource-items.result.now _ n x refl c.loop-number-test.true c.resource-item.is) in
+    subst (λ (ys : List Resource). slice_get ys n ≡ Some x) same (slice_get_read c.deref-resource-items.result.now _ n x refl c.loop-number-test.true c.resource-item.is) in
     let inside = slice_get_within xs n x at in
     let full : length before ≡ 256 = c.arrivals-all.ensures.long in
     let long : length all ≡ length before = c.loop-number.invariant.long in
@@ -53,18 +53,18 @@ returns c =
     let top = c.min-top.result in
     let before = c.arrivals-all.result in
     let least : IsLeastOf xs (length xs) horizon m =
-    subst (λ (ys : List Inner). IsLeastOf ys (length ys) horizon m) c.deref.ensures.value
+    subst (λ (ys : List Resource). IsLeastOf ys (length ys) horizon m) c.deref.ensures.value
     (least_of c.deref.result.now horizon m c.least_next-least.ensures.cap c.least_next-least.ensures.low c.least_next-least.ensures.there) in
     let stops : IsCut (StopAllows clock_of stop_of xs) horizon (length xs) last =
-    subst (λ (ys : List Inner). IsCut (StopAllows clock_of stop_of ys) horizon (length ys) last) c.deref-2.ensures.value c.last_tick-last.ensures in
+    subst (λ (ys : List Resource). IsCut (StopAllows clock_of stop_of ys) horizon (length ys) last) c.deref-2.ensures.value c.last_tick-last.ensures in
     let far : last ≤ horizon = stops.within in
     let early : horizon ≤ 10 ^ 12 = c.requires.early in
     let is : top ≡ min last (m + c.args.cap) = omega (arith, c.min-top.ensures, c.saturating_add.ensures) in
     let cuts : (r : ℕ) → r < 256 → IsCut (LinkAllows clock_of stop_of sys xs m r) (min last (m + c.args.cap)) sys.links (slice_index before r) =
     subst (λ (t : ℕ). (r : ℕ) → r < 256 → IsCut (LinkAllows clock_of stop_of sys xs m r) t sys.links (slice_index before r)) is
-    (subst (λ (ys : List Inner). (r : ℕ) → r < 256 → IsCut (LinkAllows clock_of stop_of sys ys m r) top sys.links (slice_index before r)) c.deref-3.ensures.value c.arrivals-all.ensures.cut) in
+    (subst (λ (ys : List Resource). (r : ℕ) → r < 256 → IsCut (LinkAllows clock_of stop_of sys ys m r) top sys.links (slice_index before r)) c.deref-3.ensures.value c.arrivals-all.ensures.cut) in
     let count : length xs ≡ count_of sys = c.requires.resources.counted in
-    let passed : length xs ≤ c.loop-number.number = omega (arith, c.loop-number-test.false, ap (λ (ys : List Inner). length ys) c.deref-resource-items.ensures.value) in
+    let passed : length xs ≤ c.loop-number.number = omega (arith, c.loop-number-test.false, ap (λ (ys : List Resource). length ys) c.deref-resource-items.ensures.value) in
     let computed : AreComputed clock_of stop_of Rests sys horizon c.args.cap xs c.loop-number.all =
     record {
       last = last;

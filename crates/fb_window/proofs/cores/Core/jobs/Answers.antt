@@ -8,7 +8,7 @@ use Rattle.fb_window.proofs.Passes.{few_resources}
 use Rattle.fb_window.proofs.cores.Core.jobs.Goals as goal
 
 pub leave_all-requires-clause-of : goal.leave_all-requires-clause-of
-leave_all-requires-clause-of c = λ r x e. subst (λ (i : Inputs). IsOf i c.args.self.steps x) (sym c.requires.system) (c.requires.resources.of r x e)
+leave_all-requires-clause-of c = λ r x e. subst (λ (i : Inputs). IsOf i x) (sym c.requires.system) (c.requires.resources.of r x e)
 
 pub leave_all-requires-clause-few : goal.leave_all-requires-clause-few
 leave_all-requires-clause-few c =

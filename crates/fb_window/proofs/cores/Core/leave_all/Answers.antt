@@ -2,7 +2,7 @@ use Rattle.std.proofs.Common.{◌≡◌, ◌^◌, ◌≤◌, ◌++◌, ℕ, List
 use Rattle.std.specs.Prelude.{slice_index_or}
 use Rattle.std.specs.Vec.Iter.{into_iter_items}
 use Rattle.std.proofs.lemmas.List.{length-map}
-use Rattle.fb_resource.specs.declared.resource.Inner.{Inner}
+use Rattle.fb_resource.specs.declared.resource.Resource.{Resource}
 use Rattle.fb_window.specs.Jobs.{job_of, jobs_of, resting_of}
 use Rattle.fb_window.proofs.Leaves.{jobs_push, map_push, no_more}
 use Rattle.fb_laws.proofs.Places.{middle_at}
@@ -50,10 +50,10 @@ pub returns-clause-jobs : goal.returns-clause-jobs
 returns-clause-jobs c =
     let inv = c.loop-resource.invariant in
     let all = no_more c.loop-resource.yielded (into_iter_items c.loop-resource.resource-iterator) c.args.resources.items inv.rest (let end = c.in-None.ensures.steps in omega (arith, inv.len, end.0)) in
-    inv.jobs ∙ ap (λ (xs : List Inner). jobs_of c.args.system.now c.args.steps c.args.bounds.now.all 0 xs) all
+    inv.jobs ∙ ap (λ (xs : List Resource). jobs_of c.args.system.now c.args.steps c.args.bounds.now.all 0 xs) all
 
 pub returns-clause-resting : goal.returns-clause-resting
 returns-clause-resting c =
     let inv = c.loop-resource.invariant in
     let all = no_more c.loop-resource.yielded (into_iter_items c.loop-resource.resource-iterator) c.args.resources.items inv.rest (let end = c.in-None.ensures.steps in omega (arith, inv.len, end.0)) in
-    inv.resting ∙ ap (λ (xs : List Inner). map resting_of xs) all
+    inv.resting ∙ ap (λ (xs : List Resource). map resting_of xs) all

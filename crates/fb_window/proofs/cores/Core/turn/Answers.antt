@@ -5,7 +5,7 @@ use Rattle.std.proofs.lemmas.Option.{slice_get_read}
 use Rattle.fb_types.specs.Headline.{Inputs, system_of}
 use Rattle.fb_resource.specs.Resources.{HasRun}
 use Rattle.fb_resource.specs.declared.resource.WindowDone.TheVariants.{Ran}
-use Rattle.fb_resource.specs.declared.resource.Inner.{Inner}
+use Rattle.fb_resource.specs.declared.resource.Resource.{Resource}
 use Rattle.fb_window.specs.Mails.{AreGiven}
 use Rattle.fb_window.specs.Noting.{AreNoted}
 use Rattle.fb_laws.proofs.Places.{one_at}
@@ -27,7 +27,7 @@ pub give-requires-clause-noted : goal.give-requires-clause-noted
 give-requires-clause-noted c =
     let d = (goal.at.give-requires-clause-noted c).After-index in
     let xs = c.args.self.now.resources.items in
-    subst (λ (z : Inner). AreNoted c.note.new.self.horizon (slice_set xs c.args.place z) c.note.new.self.ticks.items) (looked d) (c.note.ensures.noted xs c.requires.noted)
+    subst (λ (z : Resource). AreNoted c.note.new.self.horizon (slice_set xs c.args.place z) c.note.new.self.ticks.items) (looked d) (c.note.ensures.noted xs c.requires.noted)
 
 pub returns-clause-horizon : goal.returns-clause-horizon
 returns-clause-horizon c = c.in_ok-give.ensures.horizon ∙ c.note.ensures.horizon

@@ -2,7 +2,7 @@ use Rattle.std.proofs.Common.{◌≡◌, ◌++◌, List, [], ◌∷◌, None, So
 use Rattle.std.specs.Global.{Vec}
 use Rattle.std.specs.Vec.Iter.{into_iter_items}
 use Rattle.fb_types.specs.declared.run.Line.{Line}
-use Rattle.fb_resource.specs.declared.resource.Inner.{Inner}
+use Rattle.fb_resource.specs.declared.resource.Resource.{Resource}
 use Rattle.fb_resource.specs.declared.resource.WindowDone.{WindowDone}
 use Rattle.fb_resource.specs.declared.resource.WindowDone.TheVariants.{Ran}
 use Rattle.fb_window.specs.Homes.{IsHomeTo}
@@ -19,7 +19,7 @@ returns-in-Some-rested c = λ i limit bounds xs lists place x at rested home.
     at stop.1
     (subst (λ (z : List (Vec Line)). IsHomeTo i limit bounds xs lists place z (into_iter_items c.args.dones.now) c.args.self.now) first home)
     (record {
-      resources = c.in_ok-push.ensures.resources ∙ ap (λ (z : Inner). c.args.self.now.resources.items ++ z ∷ []) stop.2;
+      resources = c.in_ok-push.ensures.resources ∙ ap (λ (z : Resource). c.args.self.now.resources.items ++ z ∷ []) stop.2;
       pending = c.in_ok-push.ensures.pending;
       outboxes = c.in_ok-push.ensures.outboxes;
     })

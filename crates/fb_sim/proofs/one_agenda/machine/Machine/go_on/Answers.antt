@@ -40,9 +40,9 @@ returns-in-Some-clause-pauses c start is =
     let d = comes.0 in
     let at = at_left i k d c.loop-self.self _ comes.2 found.left in
     let taken = c.in_ok-reason.ensures.taken d.state d.agenda at in
-    let least = takes_least i c.args.limit d k e _ c.loop-self.self.queues.agenda _ c.take.new.self comes.2.agenda found.found found.least taken in (
+    let least = takes_least i c.args.limit d k e _ c.loop-self.self.agenda _ c.take.new.self comes.2.agenda found.found found.least taken in (
       (c.loop-self.invariant.ready.1.queues.order.waits k e found.found).resource,
-      completes_after i c.args.horizon c.args.limit start d comes.1 _ c.loop-self.self.queues.outbox.lines.items _ _ comes.3 comes.4
+      completes_after i c.args.horizon c.args.limit start d comes.1 _ c.loop-self.self.given.outbox.lines.items _ _ comes.3 comes.4
           (completes_stop i c.args.horizon c.args.limit d _ c.in-Some.reason _ _ least (taken.stops ∙ c.in-Some.is) found.below taken.lines),
     )
 
@@ -55,7 +55,7 @@ returns-then-len-many-clause-pauses c start is =
     let comes = c.loop-self.invariant.comes start is in
     let d = comes.0 in
     let taken = c.in_ok-reason.ensures.taken d.state d.agenda (at_left i k d c.loop-self.self _ comes.2 found.left) in
-    let least = takes_least i c.args.limit d k e _ c.loop-self.self.queues.agenda _ c.take.new.self comes.2.agenda found.found found.least taken in
+    let least = takes_least i c.args.limit d k e _ c.loop-self.self.agenda _ c.take.new.self comes.2.agenda found.found found.least taken in
     let t : Taken = record { key = k; event = event_of i e; effect = taken.effect } in (
       after d t,
       comes.1 ++ t ∷ [],
@@ -108,7 +108,7 @@ loop-self-preserved c =
           let comes = inv.comes start is in
           let d = comes.0 in
           let taken = c.in_ok-reason.ensures.taken d.state d.agenda (at_left i k d c.loop-self.self _ comes.2 found.left) in
-          let least = takes_least i c.args.limit d k e _ c.loop-self.self.queues.agenda _ c.take.new.self comes.2.agenda found.found found.least taken in
+          let least = takes_least i c.args.limit d k e _ c.loop-self.self.agenda _ c.take.new.self comes.2.agenda found.found found.least taken in
           let t : Taken = record { key = k; event = event_of i e; effect = taken.effect } in (
             after d t,
             comes.1 ++ t ∷ [],
@@ -122,5 +122,5 @@ loop-self-preserved c =
 pub returns-clause-pauses : goal.returns-clause-pauses
 returns-clause-pauses c start is =
     let comes = c.loop-self.invariant.comes start is in
-    completes_after c.args.system.now c.args.horizon c.args.limit start comes.0 comes.1 _ c.loop-self.self.queues.outbox.lines.items _ _ comes.3 comes.4
-    (completes_rest c.args.system.now c.args.horizon c.args.limit comes.0 c.loop-self.self.queues.agenda c.loop-self.self.queues.outbox.lines.items comes.2.agenda c.loop-self-test.ensures.none)
+    completes_after c.args.system.now c.args.horizon c.args.limit start comes.0 comes.1 _ c.loop-self.self.given.outbox.lines.items _ _ comes.3 comes.4
+    (completes_rest c.args.system.now c.args.horizon c.args.limit comes.0 c.loop-self.self.agenda c.loop-self.self.given.outbox.lines.items comes.2.agenda c.loop-self-test.ensures.none)

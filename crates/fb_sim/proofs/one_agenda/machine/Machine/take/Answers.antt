@@ -4,6 +4,8 @@ use Rattle.std.proofs.lemmas.Option.{slice_get_read}
 use Rattle.fb_types.specs.declared.run.Message.{Message}
 use Rattle.fb_net.specs.Events.{event_of}
 use Rattle.fb_resource.specs.Posts.{IsMessage}
+use Rattle.fb_resource.specs.Takings.{queues_of}
+use Rattle.fb_resource.proofs.Meters.{here_later}
 use Rattle.fb_sim.proofs.ReadyIs.{ready_after}
 use Rattle.fb_sim.proofs.TakenIs.{taken_at}
 use Rattle.fb_sim.proofs.one_agenda.machine.Machine.take.Goals as goal
@@ -18,8 +20,8 @@ take-requires-clause-tree c =
     let tree = c.index_mut.result.now in
     c.requires.ready.trees r tree (slice_get_read trees (length trees) r tree refl within c.index_mut.ensures.value)
 
-pub take-requires-clause-meter : goal.take-requires-clause-meter
-take-requires-clause-meter c =
+pub take-requires-clause-counts : goal.take-requires-clause-counts
+take-requires-clause-counts c =
     let meters = c.args.self.now.meters.items in
     let counted = c.requires.ready.meters_counted in
     let named = c.requires.named in
@@ -41,7 +43,9 @@ take-requires-clause-stands c =
     let tree = c.index_mut.result.now in
     let meter = c.index_mut-2.result.now in
     let stands = c.requires.stands in
-    (stands.0, stands.2.here r tree meter (slice_get_read trees (length trees) r tree refl has_tree c.index_mut.ensures.value) (slice_get_read meters (length meters) r meter refl has_meter c.index_mut-2.ensures.value))
+    let here =
+    stands.2.here r tree meter (slice_get_read trees (length trees) r tree refl has_tree c.index_mut.ensures.value) (slice_get_read meters (length meters) r meter refl has_meter c.index_mut-2.ensures.value) in
+    (stands.0, here_later c.args.system.now stands.0 r 0 c.args.key.now.tick tree meter (omega arith) here)
 
 pub returns-clause-taken : goal.returns-clause-taken
 returns-clause-taken c s a at =
@@ -60,9 +64,9 @@ returns-clause-taken c s a at =
     let meter = c.index_mut-2.result.now in
     let was = slice_get_read trees (length trees) r tree refl has_tree c.index_mut.ensures.value in
     let had = slice_get_read meters (length meters) r meter refl has_meter c.index_mut-2.ensures.value in
-    taken_at i c.args.limit s a k (event_of i c.args.event.now) _ c.args.self.now _ c.take.new.queues c.take.new.tree c.take.new.meter
+    taken_at i c.args.limit s a k (event_of i c.args.event.now) _ c.args.self.now _ (queues_of c.take.new.agenda c.take.new.sent c.take.new.given) c.take.new.tree c.take.new.counts
     ready.trees has_tree has_meter c.requires.event.here at ready.delivered
-    (c.in_ok-stop.ensures.taken s (at.here r tree meter was had) at.sent) c.in_ok-deliver.ensures.put refl refl refl refl
+    (c.in_ok-stop.ensures.taken s 0 (omega arith) (at.here r tree meter was had) at.sent) c.in_ok-deliver.ensures.put refl refl refl refl
 
 pub returns-clause-ready : goal.returns-clause-ready
 returns-clause-ready c =
@@ -85,7 +89,7 @@ returns-clause-ready c =
     let put = c.in_ok-deliver.ensures in
     let Later = λ (m : Message). k.tick < m.arrives in
     let later = taken.later (subst (All Later) (sym ready.delivered) (All-nil Later)) in
-    ready_after i c.args.limit k c.args.self.now _ c.take.new.tree meter c.take.new.meter ready has_tree has_meter had taken.meter taken.tick (c.take.ensures.tree ∙ ready.trees r tree was) refl refl
+    ready_after i c.args.limit k c.args.self.now _ c.take.new.tree meter c.take.new.counts ready has_tree has_meter had taken.counts taken.tick (c.take.ensures.tree ∙ ready.trees r tree was) refl refl
     (record {
       order = put.order k.tick taken.queues.order later;
       due = ap length put.due ∙ taken.queues.due;
