@@ -59,6 +59,7 @@ module _ (b next : ℕ) where
           (here e, λ i m h. ⊎_elim (λ p. omega (arith, p.1)) (λ s. omega (arith, some.1 i m s, leb-true n (length w) le)) (nearer w j all i m h))
       both e k n some false lt =
           (further (w, j) all k n some.0, λ i m h. ⊎_elim (λ p. omega (arith, p.1, leb-false n (length w) lt)) (λ s. some.1 i m s) (nearer w j all i m h))
+
       go : (t : Bool) → begins b next w ≡ t → (o : Option (Mark × ℕ)) → IsLongest all b next o → IsLongest ((w, j) ∷ all) b next (cond t (longer j (length w) o) o)
       go false e o is = not_first e o is
       go true e None none = (here e, λ i m h. ⊎_elim (λ p. omega (arith, p.1)) (λ s. absurd (none i m s)) (nearer w j all i m h))
