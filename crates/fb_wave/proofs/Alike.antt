@@ -18,6 +18,7 @@ use Rattle.fb_types.specs.declared.library.EventPort.{EventPort}
 use Rattle.fb_types.proofs.ByPlace.{all_at, place_of_element}
 use Rattle.fb_types.proofs.Elements.{Contains-cons_cases, Contains-here, map-Contains}
 use Rattle.fb_wave.specs.Named.{AreNames, HasNames, is_digit, is_letter, is_name}
+use Rattle.fb_wave.specs.Nested.{AreNumbered}
 use Rattle.fb_wave.specs.Ports.{IsPortOf, port_text, side}
 use Rattle.fb_wave.specs.declared.ports.Port.{Port}
 use Rattle.fb_wave.proofs.Finding.{begins_three, one_place, path_event, sign, three_words}
@@ -114,10 +115,6 @@ event_once es j k once one two e =
 
 cons_names : (n : Name) (ns : List Name) → is_name n ≡ true → AreNames ns → AreNames (n ∷ ns)
 cons_names n ns one are m there = elim (Contains-cons_cases n ns m there) [ inl same ↦ subst (λ (k : Name). is_name k ≡ true) same one | inr rest ↦ are m rest ]
-
--- Each instance is found by its path.
-abbrev pub AreNumbered : System → Type 0
-AreNumbered sys = (i : ℕ) → i < length sys.paths → sys.number (path_at sys i) ≡ i
 
 ports_differ :
     (i : Inputs) → AreAccepted i → AreNumbered (system_of i) → HasNames (system_of i) → (p q : Port) → IsPortOf (system_of i) p → IsPortOf (system_of i) q

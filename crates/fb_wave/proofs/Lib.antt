@@ -23,6 +23,8 @@ pub mod Unlined
 pub mod Forming
 pub mod Porting
 pub mod Refusing
+pub mod ByTick
+pub mod Nesting
 pub mod Alike
 pub mod Ends
 pub mod Blaming

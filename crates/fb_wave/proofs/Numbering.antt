@@ -10,7 +10,7 @@ use Rattle.fb_types.specs.Numbers.{path_at, ports_at}
 use Rattle.fb_wave.specs.Signals.{size_of, sizes_of, first_signal}
 use Rattle.fb_wave.specs.Writing.{AreFirsts}
 
-sizes_of-append : (sys : System) (ps qs : List Path) → sizes_of sys (ps ++ qs) ≡ sizes_of sys ps + sizes_of sys qs
+pub sizes_of-append : (sys : System) (ps qs : List Path) → sizes_of sys (ps ++ qs) ≡ sizes_of sys ps + sizes_of sys qs
 sizes_of-append sys [] qs = omega arith
 sizes_of-append sys (p ∷ ps) qs = let e = sizes_of-append sys ps qs in omega arith
 

@@ -17,7 +17,8 @@ abbrev pub tick_changes : System → (before now : List Line) → List ℕ
 tick_changes sys before now =
     changes (fires_of sys (before ++ now)) (tells_of sys (before ++ now)) (touches_of sys now)
 
--- Lines by their ticks: those of earlier ticks, and those of this tick that came so far, and then the rest.
+-- Lines by their ticks: those of earlier ticks, and those of this tick that came so far, and then the rest. Where ticks do not fall,
+-- that is what each tick changes, one tick after another (`specs/ByTick`: `AreTickByTick`).
 abbrev pub ticks_text : System → (tick : ℕ) → (before now rest : List Line) → List ℕ
 ticks_text sys t before now [] = tick_changes sys before now
 ticks_text sys t before now (l ∷ ls) =

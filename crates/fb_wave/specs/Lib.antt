@@ -13,4 +13,6 @@ pub mod Named
 pub mod Reading
 pub mod Waves
 pub mod Refusals
+pub mod ByTick
+pub mod Nested
 pub mod Copying

@@ -101,7 +101,7 @@ own_name [] = []
 own_name (n ∷ p) = n
 
 -- The instances of a resource, where so many scopes of instances are open. Each lies in the scope of its composite, which
--- comes before it.
+-- comes before it: the scopes are nested as the networks are (`specs/Nested`: `AreNested`).
 abbrev pub instances_declared : System → (resource depth first : ℕ) → List Path → List ℕ
 instances_declared sys r depth s [] = closed depth
 instances_declared sys r depth s (p ∷ ps) =

@@ -4,6 +4,8 @@ use Rattle.clap.specs.Words.{Text}
 use Rattle.fb_types.specs.Headline.{Inputs, system_of}
 use Rattle.fb_sim.specs.Given.{Given}
 use Rattle.fb_sim.specs.Serial.{Declares}
+use Rattle.fb_wave.specs.Named.{HasNames}
+use Rattle.fb_wave.specs.Refusals.{IsFirstBad}
 use Rattle.fb_wave.specs.Waves.{IsWave, WritesFront, WritesPart}
 use Rattle.fbsim_command.specs.declared.line.Task.{Task}
 use Rattle.fbsim_command.specs.declared.line.Action.TheVariants.{Check}
@@ -36,9 +38,17 @@ DumpsFront given old new = (i : Inputs) × Declares given i × WritesFront (syst
 abbrev pub DumpsPart : Given → (old new : Held) → (written : ℕ) → Type 0
 DumpsPart given old new written = (i : Inputs) × Declares given i × WritesPart (system_of i) old new written
 
+-- The inputs are accepted, the writer got the first bytes of the dump of lines of their system, and the line is the first that
+-- no trace of it has after the lines before it. The latter is so where the resources, instances and ports have names, as those
+-- of every declaration and deployment that was read.
+abbrev pub RefusesTrace : Given → (trace : Held) → (old new : Held) → (line : ℕ) → Type 0
+RefusesTrace given trace old new line =
+    (i : Inputs) × Declares given i × WritesFront (system_of i) old new × (HasNames (system_of i) → IfSome trace (IsFirstBad (system_of i) line))
+
 -- the inputs are refused, as a check refuses them, or the trace is, in this line
-abbrev pub IsRefusedFor : Given → (old new : Held) → RefusalLine → Type 0
-IsRefusedFor given old new refusal = (IsRefused given refusal × (new ≡ old)) ⊎ ((line : ℕ) × (refusal ≡ Trace line) × DumpsFront given old new)
+abbrev pub IsRefusedFor : Given → (trace : Held) → (old new : Held) → RefusalLine → Type 0
+IsRefusedFor given trace old new refusal =
+    (IsRefused given refusal × (new ≡ old)) ⊎ ((line : ℕ) × (refusal ≡ Trace line) × RefusesTrace given trace old new line)
 
 -- a trace of what the inputs declare is read, of which these bytes are known, and its dump is written
 abbrev pub Dumps : Given → (trace : Held) → (old new : Held) → End → Type 0
@@ -48,7 +58,7 @@ Dumps given trace old new (Ok Explained) = ⊥
 Dumps given trace old new (Ok Accepted) = ⊥
 Dumps given trace old new (Ok Ended) = ⊥
 Dumps given trace old new (Ok Stopped) = ⊥
-Dumps given trace old new (Err (Refused refusal)) = IsRefusedFor given old new refusal
+Dumps given trace old new (Err (Refused refusal)) = IsRefusedFor given trace old new refusal
 Dumps given trace old new (Err File) = DumpsFront given old new
 Dumps given trace old new (Err (Write n)) = DumpsPart given old new n
 Dumps given trace old new (Err Memory) = (new ≡ old) ⊎ DumpsFront given old new

@@ -10,4 +10,4 @@ pub returns-in_err-written : goal.returns-in_err-written
 returns-in_err-written g c =
     passed c.args.inputs.now (g.R.Read.remaining c.args.trace.now) _ _ c.from_residual-in_err-written.result _ c.from_residual-in_err-written.ensures.1
     (dumps_front c.args.inputs.now (g.R.Read.remaining c.args.trace.now) _ _ c.in_ok-system.system c.in_ok-system.ensures.system c.in_err-written.field-0.0
-    c.in_err-written.ensures.part)
+    c.in_err-written.ensures.part c.in_err-written.ensures.refused)
