@@ -50,7 +50,7 @@ def at(lines, *ports):
     return [it for it in lines if it.port in ports]
 
 
-# ---- The rules. Each tells the ticks at which a trace breaks it.
+# ---- The rules. Each returns the ticks at which a trace breaks it.
 
 
 def nothing_moves(lines):
@@ -116,7 +116,7 @@ def caps_are_tight(lines):
 
 
 def labels_last(lines):
-    """A roll has so many labels. The lamp is lit 25 ms after the label that leaves two, and goes out 25 ms after a new roll."""
+    """A roll has a fixed number of labels. The lamp is lit 25 ms after the label that leaves two, and goes out 25 ms after a new roll."""
     left, lit = 0, []
     for it in at(lines, ">LABEL.ROLL", "<LABEL.LABELLED"):
         before = left

@@ -1,5 +1,5 @@
 #!/usr/bin/env python3
-"""tools/drawn.py [PROGRAM]: the built program on systems that are drawn by lot, each of which has one trace.
+"""tools/drawn.py [PROGRAM]: the built program on random systems, each of which has one trace.
 
 A system is drawn by a seed: two to five resources, instances in them, connections and links, some of which carry nothing, latencies
 by which a message may overtake another, stimuli of which several come at one tick, and where the run ends. Some of the systems stop,
@@ -167,7 +167,7 @@ class Sketch:
 
 def run_of(room, seed, ways):
     """Returns what is to come of the system of a seed, and what comes of it by each of these ways: the status, what is written and what
-    is told."""
+    is reported."""
     sketch = Sketch(Dice(seed))
     declaration, deployment, stimuli = sketch.declaration(), sketch.deployment(), sketch.stimuli()
     horizon, steps = sketch.dice.one_of(HORIZONS), sketch.dice.one_of(STEPS)
@@ -194,7 +194,7 @@ def try_all(program):
         stops += wanted[0] == 1
         faults += [f"the system of {seed}, {' '.join(way)}: {shown(*it)}" for way, it in zip(ways, runs) if it != wanted]
     print("\n".join(faults[:SHOWN]), end="\n" * bool(faults))
-    print(f"systems by lot: {len(seeds)}, of which {stops} stop; {len(faults)} faults", flush=True)
+    print(f"random systems: {len(seeds)}, of which {stops} stop; {len(faults)} faults", flush=True)
     return not faults and 20 < stops < 180
 
 

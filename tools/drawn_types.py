@@ -1,5 +1,5 @@
 #!/usr/bin/env python3
-"""tools/drawn_types.py [PROGRAM [FIRST LAST]]: the built program on systems whose block types are drawn by lot too.
+"""tools/drawn_types.py [PROGRAM [FIRST LAST]]: the built program on random systems with random block types.
 
 A seed gives up to three basic types, with charts, guards and algorithms of all statements, up to two composite types that hold these
 and event blocks, an application of up to six instances in up to three resources, and stimuli. What the program writes, by --serial or
@@ -65,13 +65,13 @@ class Writer:
         return self.lot.choice(of)
 
     def some(self, of, most):
-        """So many, up to this number, of what a call gives."""
+        """A random number of results of a call, at most this many."""
         return [of() for _ in range(self.lot.randint(1, most))]
 
     # -- Expressions and statements
 
     def number(self, depth):
-        """Draws an expression that is a number, so many levels deep at most."""
+        """Draws an expression that is a number, at most this many levels deep."""
         if depth == 0 or self.lot.random() < 0.25:
             return self.one("X", "Y", "Z", self.one(*LITERALS))
         form = self.one("({0} {op} {1})", "({0} {op} {1})", "(-{0})", "ABS({0})", "MIN({0}, {1})", "MAX({0}, {1})", "LIMIT({0}, {1}, {2})", "SEL({test}, {0}, {1})")
@@ -252,7 +252,7 @@ def try_all(program, first=SEEDS[0], last=SEEDS[1]):
     faults = [it for _, it in came if it]
     ends = {it: sum(end == it for end, _ in came) for it in ("end", *interpreter.REASONS)}
     print("\n".join(faults[:SHOWN]), end="\n" * bool(faults))
-    print(f"types by lot: {len(came)} systems, by their ends {ends}; {len(faults)} faults", flush=True)
+    print(f"random types: {len(came)} systems, by their ends {ends}; {len(faults)} faults", flush=True)
     return not faults and all(ends.values())
 
 

@@ -9,8 +9,8 @@ proved, every wrong body in crates/*/must-fail is shown to be refused, tests and
 called at least once for each status (tools/calls.py), as docs/FIRST_APPLICATION.md has it (tools/first_application.py), by ./simulate (tools/launcher.py),
 for the waveforms of the examples, which are compared with their traces (tools/waves.py), and of what is no trace
 (tools/traces.py), on the stored cases of cases/ (tools/cases.py), on rings of resources (tools/rings.py), on systems that
-are drawn by lot (tools/drawn.py), with their types too (tools/drawn_types.py), and on types with more events than 16 bits can number (tools/wide.py), with outputs that take little and readers that fail (tools/narrow.py), on texts that are cut or changed in one byte (tools/hostile.py), and with each
-of its requests for memory refused (tools/refuse.py). Then it tells the processor seconds and the memory of each crate. The last
+are random (tools/drawn.py), with random types too (tools/drawn_types.py), and on types with more events than 16 bits can number (tools/wide.py), with outputs that take little and readers that fail (tools/narrow.py), on texts that are cut or changed in one byte (tools/hostile.py), and with each
+of its requests for memory refused (tools/refuse.py). Then it prints the processor seconds and the memory of each crate. The last
 line is 'N passed, M failed', and the status 0 where none failed.
 
 With crates it does the same for these and those below them alone, on a copy of their files.

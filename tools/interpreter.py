@@ -3,7 +3,7 @@
 
 It is written from docs/FORMATS.md and docs/PROFILE.md alone and shares nothing with the program: one agenda, one thread, no limits,
 and no refusals. It runs the call that a folder's file `args` has, and compares its trace with the file `trace`. ./gate does it before
-anything is built; tools/drawn.py compares the program with it on systems that are drawn by lot. With --print it prints the trace of
+anything is built; tools/drawn.py compares the program with it on random systems. With --print it prints the trace of
 one folder instead."""
 
 import csv
