@@ -15,8 +15,7 @@ ghost use Rattle.fb_check.specs.Directory.{IsDirectory, IsFound, CanTake, IsTake
 use crate::directory::{Directory, directory_of, inputs_named};
 use crate::directory_making::TypeInputs;
 use fb_check_names::{Catalog, place_of, places_of};
-use fb_system::rows::SlotValue;
-use fb_system::{StimulusRow, number_of};
+use fb_system::{SlotValue, StimulusRow, number_of};
 use fb_types::{Items, Library, Name, Ports, Setting, Stimulus, Value, all_ports};
 use std::alloc::{AllocError, Global};
 

@@ -11,8 +11,7 @@ ghost use Rattle.fb_net.specs.Changes.{Changes};
 ghost use Rattle.fb_net.specs.Samples.{HoldsAll, all_sampled, names_in, slots_set};
 
 use crate::resource::Forest;
-use fb_system::System;
-use fb_system::stimulus::SlotValue;
+use fb_system::{SlotValue, System};
 use fb_types::{Carried, Place, Target, Value};
 
 /// Gives the variables WITH an event input, which stand at `places`, the values that they sampled. The instance is an

@@ -40,7 +40,7 @@ impl Kept {
 }
 
 /// The rows of a system.
-pub(crate) fn rows_of(alloc: Global, system: &System) -> Result<Kept, AllocError>
+pub(crate) fn kept_of(alloc: Global, system: &System) -> Result<Kept, AllocError>
     ensures { IfOk result (IsKept system.now) }
 {
     let heads = heads_of(alloc, system)?;

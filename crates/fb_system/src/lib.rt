@@ -10,11 +10,10 @@
 //! a lookup works; `making`. Then `links`, resources and links; `homes`, the resources of all instances; `interfaces`
 //! with `with_places` and `event_block_with_places`, the variables WITH each event; `kept`, rows for lookups in one step:
 //! `heads` with `heads_of`, the heads of lines, and `ends` with `ends_of`, where connections lead to and come from;
-//! `initial_values`; `rows`, the stimuli by number. The check fills them: `given`. `beside` passes owned values around
+//! `initial_values`; `rows`, the stimuli by number. The check fills them: `given`. `with_all` passes owned values around
 //! calls that may fail, so that each is dropped at one point.
 #![tactic(auto)]
 
-pub mod beside;
 mod declared;
 mod ends;
 mod ends_of;
@@ -39,6 +38,7 @@ mod types;
 mod whole;
 pub mod wiring;
 mod wiring_table;
+mod with_all;
 pub mod with_places;
 
 pub use given::Given;
@@ -48,7 +48,7 @@ pub use layout::{InstanceRow, Layout};
 pub use links::Links;
 pub use netlist::Netlist;
 pub use reached::Reached;
-pub use rows::{StimulusRow, number_of};
+pub use rows::{SlotValue, StimulusRow, number_of};
 pub use stimulus::StimulusAt;
 pub use system::System;
 pub use wiring::Wiring;

@@ -12,12 +12,12 @@ ghost use Rattle.fb_check_names.specs.Numbers.{IsResolved, kind_of_number, param
 ghost use Rattle.fb_system.specs.Layouts.{AreComponents, AreNumbers, IsParent, path_of, route_to};
 ghost use Rattle.fb_system.specs.Netlists.{IsPort, IsSource, IsTarget, IsVariable, port_of, variable_of};
 
-use crate::beside::beside;
 use crate::declared::{declared_at, parameters_at};
 use crate::making::{narrow_layout, wirings_of};
 use crate::reached::Reached;
 use crate::tables::{EndIn, Tables, entering, leaving, row_at, source_in, target_in};
 use crate::wiring::Wiring;
+use crate::with_all::with_all;
 use fb_check_names::{Resolved, TypeNumber};
 use fb_types::{Instance, Library, Place, Target};
 use std::alloc::{AllocError, Global};
@@ -69,7 +69,12 @@ impl Netlist {
         let layout = narrow_layout(alloc, &library, &numbers);
         let application = Wiring::of(alloc, numbers.application);
         let blocks = wirings_of(alloc, numbers.blocks);
-        let (library, layout, application, blocks) = beside(library, layout, application, blocks)?;
+        let (library, layout, application, blocks) = with_all(
+            library,
+            layout,
+            application,
+            blocks,
+        )?;
         Ok(Netlist {
             tables: Tables {
                 library,

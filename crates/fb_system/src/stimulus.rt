@@ -1,6 +1,6 @@
 //! The view of a stimulus.
 
-pub use crate::rows::SlotValue;
+use crate::rows::SlotValue;
 use fb_types::Target;
 
 /// A stimulus of a system: its tick in milliseconds, the event input that it triggers, and the slots that it sets.

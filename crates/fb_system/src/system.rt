@@ -18,18 +18,18 @@ ghost use Rattle.fb_system.specs.Linking.{AreHomes, IsLinked};
 ghost use Rattle.fb_system.specs.Ports.{IsPort, IsSource, IsTarget, IsVariable, variable_of};
 ghost use Rattle.fb_system.specs.Systems.{inputs_of, IsBare, IsGiven, IsKept, StandFor};
 
-use crate::beside::beside;
 use crate::given::Given;
 use crate::heads::{Head, HeadOf};
 use crate::homes::add_homes;
 use crate::initial_values::{input_values, output_values};
-use crate::kept::{Kept, rows_of};
+use crate::kept::{Kept, kept_of};
 use crate::links::Links;
 use crate::netlist::Netlist;
 use crate::reached::Reached;
 use crate::stimulus::StimulusAt;
 use crate::types::{ports_of_type, with_places_of_type};
 use crate::whole::{Whole, row_at};
+use crate::with_all::with_all;
 use crate::with_places::WithPlaces;
 use fb_check_names::TypeNumber;
 use fb_types::{
@@ -97,7 +97,12 @@ impl System {
         let links = Links::of(alloc, holders, &numbers);
         let netlist = Netlist::of(alloc, library, numbers);
         let rest = (deploy, stimuli, interfaces, rows);
-        let (rest, links, netlist, event_blocks) = beside(rest, links, netlist, all_ports(alloc))?;
+        let (rest, links, netlist, event_blocks) = with_all(
+            rest,
+            links,
+            netlist,
+            all_ports(alloc),
+        )?;
         let (deploy, stimuli, interfaces, rows) = rest;
         let tables = Whole {
             deploy,
@@ -122,7 +127,7 @@ impl System {
         add_homes(alloc, &mut tables)?;
         let whole = Arc::new(alloc, tables)?;
         let bare = System { whole };
-        let rows = rows_of(alloc, &bare)?;
+        let rows = kept_of(alloc, &bare)?;
         bare.with_rows(alloc, rows)
     }
 

@@ -10,9 +10,8 @@ use crate::fed::finding_with;
 use crate::refused::{bytes_finding, text_finding};
 use crate::spot::Finding;
 use fb_inputs::{InputError, read_deploy, read_stimuli};
-use fb_read::{ReadError, read_library};
+use fb_read::{ReadError, discard, read_library};
 use fb_types::{Deploy, Library, Plan, Stimulus};
-use fb_why_bytes::discard::discard;
 use std::alloc::{AllocError, Global};
 
 /// The result for a declaration that can't be read: no finding, unless memory ran out.

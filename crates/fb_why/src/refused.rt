@@ -5,13 +5,10 @@ ghost use Rattle.fb_why.specs.Findings.{IsDeploymentSpot, IsSilentOfBytes, IsSil
 
 use crate::cause::text_number;
 use crate::spot::{Finding, Spot, found};
-use fb_read::read_library;
-use fb_why_bytes::discard::discard;
-use fb_why_bytes::find::text_place;
-use fb_why_bytes::tell_deployment::tell_deployment;
-use fb_why_bytes::tell_stimuli::tell_stimuli;
-use fb_why_bytes::tell_text::tell_text;
-use fb_why_bytes::{deployment_place, stimuli_place};
+use fb_read::{discard, read_library};
+use fb_why_bytes::{
+    deployment_place, stimuli_place, tell_deployment, tell_stimuli, tell_text, text_place,
+};
 use std::alloc::{AllocError, Global};
 
 /// Where the text of a declaration is refused, if its refusal has this number.

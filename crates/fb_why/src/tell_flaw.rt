@@ -8,8 +8,7 @@ use crate::tell_unlinked::push_unlinked;
 use crate::tell_unmapped::push_unmapped;
 use crate::tell_unserved::push_unserved;
 use fb_types::{Library, Plan};
-use fb_why_kinds::tell_unknown::tell_unknown;
-use fb_why_kinds::{Text, tell_misfit, tell_misjoin};
+use fb_why_kinds::{Text, tell_misfit, tell_misjoin, tell_unknown};
 use std::alloc::{AllocError, Global};
 
 /// Says where the refusal applies, and what is wrong there.

@@ -5,7 +5,7 @@ use Rattle.fb_read.specs.declared.error.ReadError.TheVariants as error
 use Rattle.fb_read.specs.Blank.{Text, at}
 use Rattle.fb_read.specs.Front.{bad_byte, bad_token, is_plain}
 use Rattle.fb_read.specs.Whole.{IsDerived, IsLibraryText, HasTokenFault, HasTokens, most_bytes}
-use Rattle.fb_why_bytes.specs.declared.text_place.TextPlace.{TextPlace}
+use Rattle.fb_why_bytes.specs.declared.text_places.TextPlace.{TextPlace}
 use Rattle.fb_why_bytes.specs.Places.{IsPlace}
 use Rattle.fb_why_bytes.specs.TextVerdicts.{IsNoLibrary}
 

@@ -3,7 +3,7 @@ use Rattle.std.specs.Prelude.{◌≡◌, ◌≤◌, ℕ, ◌+◌, ◌==◌, not,
 use Rattle.std.specs.List.{suffix_len}
 use Rattle.fb_read.specs.Blank.{Text}
 use Rattle.fb_read.specs.Tokens.{behind_mark}
-use Rattle.fb_why_bytes.specs.declared.text_place.TextPlace.{TextPlace}
+use Rattle.fb_why_bytes.specs.declared.text_places.TextPlace.{TextPlace}
 
 -- the line of the byte at an offset: one more than there are line feeds before it
 abbrev pub line_at : Text → ℕ → ℕ

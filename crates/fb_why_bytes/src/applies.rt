@@ -9,7 +9,7 @@ ghost use Rattle.fb_why_bytes.specs.Faults.{AppliesAt, IsByteAt, IsFaultyTokenAt
 ghost use Rattle.fb_why_bytes.specs.Places.{IsPlace};
 ghost use Rattle.fb_why_bytes.specs.TextVerdicts.{IsNoLibrary};
 
-use crate::text_place::TextPlace;
+use crate::text_places::TextPlace;
 use crate::text_verdict::{TextVerdict, verdict_on};
 use fb_read::ReadError;
 use fb_types::MOST_BYTES;

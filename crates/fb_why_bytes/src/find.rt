@@ -5,7 +5,7 @@ ghost use Rattle.fb_why_bytes.specs.Faults.{TellsFault};
 
 use crate::applies::applies;
 use crate::scan::{Stretch, stretches};
-use crate::text_place::{TextPlace, line_feeds, place_at};
+use crate::text_places::{TextPlace, line_feeds, place_at};
 use crate::text_verdict::{TextVerdict, verdict_on};
 use fb_read::ReadError;
 use fb_types::MOST_BYTES;

@@ -1,20 +1,20 @@
 //! Finds where bytes are refused: the text of a declaration (E01 to E05), a deployment and stimuli (E10 to E16).
 //!
-//! Guarantees to callers: `find::text_place` returns a location in the text, with its line and column, at which the
-//! refusal applies. `stimuli::stimuli_place` returns a location, with the number of the refusal, or `None` exactly if the
-//! stimuli are accepted. `deployment::deployment_place` returns a location at which something is wrong, and `None` only
+//! Guarantees to callers: `text_place` returns a location in the text, with its line and column, at which the
+//! refusal applies. `stimuli_place` returns a location, with the number of the refusal, or `None` exactly if the
+//! stimuli are accepted. `deployment_place` returns a location at which something is wrong, and `None` only
 //! if the shape of the deployment is right. The wording of the texts is not part of any contract.
 //!
-//! Read in this order: `text_place`; `text_verdict`, what the reader of declarations says of a text, and `discard`, which
-//! frees what it read; `applies`, whether a refusal applies at a location; `scan` and `find`, which search it; `expected`
-//! and `tell_text`. Then `place`; `row_verdict`, which applies the reader of stimuli to a row or a word; `words`, `row`,
-//! `stimuli`; `names`, `table`, `numbers`, `deployment`; `text`, `tell_stimuli`, `tell_deployment`. All of this runs only
+//! Read in this order: `text_places`; `text_verdict`, what the reader of declarations says of a text;
+//! `applies`, whether a refusal applies at a location; `scan` and `find`, which search it; `expected`
+//! and `text_messages`. Then `place`; `row_verdict`, which applies the reader of stimuli to a row or a word; `words`, `row`,
+//! `stimuli`; `names`, `table`, `numbers`, `deployment`; `text`, `stimuli_messages`, `deployment_messages`. All of this runs only
 //! after a refusal, and reads the text of a declaration some hundred times at most.
 #![tactic(auto)]
 
 mod applies;
 pub mod deployment;
-pub mod discard;
+pub mod deployment_messages;
 mod expected;
 pub mod find;
 mod names;
@@ -24,16 +24,19 @@ mod row;
 mod row_verdict;
 mod scan;
 pub mod stimuli;
+pub mod stimuli_messages;
 mod table;
-pub mod tell_deployment;
-pub mod tell_stimuli;
-pub mod tell_text;
 mod text;
-pub mod text_place;
+pub mod text_messages;
+pub mod text_places;
 mod text_verdict;
 mod words;
 
 pub use deployment::deployment_place;
+pub use deployment_messages::tell_deployment;
+pub use find::text_place;
 pub use place::{DeployKey, DeployPlace, RowFault, StimuliPlace, TableFault, TablePlace};
 pub use stimuli::stimuli_place;
-pub use text_place::{TextPlace, behind_mark, place_at};
+pub use stimuli_messages::tell_stimuli;
+pub use text_messages::tell_text;
+pub use text_places::{TextPlace, behind_mark, place_at};

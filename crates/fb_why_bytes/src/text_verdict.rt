@@ -3,8 +3,7 @@
 ghost use Rattle.std.specs.Prelude.{IfOk};
 ghost use Rattle.fb_why_bytes.specs.TextVerdicts.{IsVerdict};
 
-use crate::discard::discard;
-use fb_read::{ReadError, read_library};
+use fb_read::{ReadError, discard, read_library};
 use std::alloc::{AllocError, Global};
 
 /// Whether a text is read, or how it is refused.

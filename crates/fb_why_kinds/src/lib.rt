@@ -9,7 +9,7 @@
 //!
 //! Read in this order: `place`; `lookup`, `networks`, `blocks`, `charts`, `mentions` and `deployment`, which search
 //! names; `unknown`. Then `types`, what names stand for; `misjoins`; `statements`, `parameters` and `misfits`; `laws`.
-//! Last `words`, `tell_sites`, `tell_unknown` and `tell_kinds`, a location as text. `fb_why` uses the growing text of
+//! Last `words`, `tell_sites`, `unknown_messages` and `tell_kinds`, a location as text. `fb_why` uses the growing text of
 //! `words` too.
 #![tactic(auto)]
 
@@ -27,9 +27,9 @@ pub mod place;
 mod statements;
 pub mod tell_kinds;
 pub mod tell_sites;
-pub mod tell_unknown;
 mod types;
 pub mod unknown;
+pub mod unknown_messages;
 pub mod words;
 
 pub use misfits::misfit_place;
@@ -41,4 +41,5 @@ pub use place::{
 pub use tell_kinds::{tell_misfit, tell_misjoin};
 pub use tell_sites::push_instance;
 pub use unknown::unknown_place;
+pub use unknown_messages::tell_unknown;
 pub use words::{Text, type_words};

@@ -7,8 +7,8 @@ use Rattle.fbsim_command.specs.Command.{ExplainsRefusal, IsRefusalName}
 use Rattle.fbsim_command.specs.Failures.{IsPartWritten, WritesPart, explained_text}
 use Rattle.fbsim_command.specs.declared.failure.Failure.{Failure}
 use Rattle.fbsim_command.specs.declared.failure.Failure.TheVariants.{Refused, File, Write, Memory, Line, BadOption}
-use Rattle.fbsim_command.specs.declared.status.Done.{Done}
-use Rattle.fbsim_command.specs.declared.status.Done.TheVariants.{Explained}
+use Rattle.fbsim_command.specs.declared.statuses.Done.{Done}
+use Rattle.fbsim_command.specs.declared.statuses.Done.TheVariants.{Explained}
 
 module _
     (e : Explanation) (name : List ℕ) (old new : Option (List ℕ)) (bytes text first second : List ℕ)

@@ -17,8 +17,8 @@ use Rattle.fbsim_command.specs.Failures.{WritesPart}
 use Rattle.fbsim_command.specs.Outcomes.{End, Held}
 use Rattle.fbsim_command.specs.declared.program.Answer.{Answer}
 use Rattle.fbsim_command.specs.declared.failure.Failure.TheVariants.{Refused, File, Write, Memory, Line, BadOption}
-use Rattle.fbsim_command.specs.declared.status.Done.{Done}
-use Rattle.fbsim_command.specs.declared.status.Done.TheVariants.{Helped}
+use Rattle.fbsim_command.specs.declared.statuses.Done.{Done}
+use Rattle.fbsim_command.specs.declared.statuses.Done.TheVariants.{Helped}
 
 -- where nothing is reported
 pub quiet : (err : Held) → Hears true err err []

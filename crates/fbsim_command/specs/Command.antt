@@ -30,8 +30,8 @@ use Rattle.fbsim_command.specs.declared.line.Action.TheVariants.{Check, Run}
 use Rattle.fbsim_command.specs.declared.line.Call.TheVariants as call
 use Rattle.fbsim_command.specs.declared.line.Wave.{Wave}
 use Rattle.fbsim_command.specs.declared.sources.SourceFault.{SourceFault}
-use Rattle.fbsim_command.specs.declared.status.Done.{Done}
-use Rattle.fbsim_command.specs.declared.status.Done.TheVariants.{Helped, Explained, Accepted, Shown, Ended, Stopped}
+use Rattle.fbsim_command.specs.declared.statuses.Done.{Done}
+use Rattle.fbsim_command.specs.declared.statuses.Done.TheVariants.{Helped, Explained, Accepted, Shown, Ended, Stopped}
 use Rattle.fbsim_command.specs.declared.texts.Part.{Part}
 
 -- the inputs are checked

@@ -19,8 +19,8 @@ use Rattle.fbsim_command.specs.declared.failure.RefusalLine.{RefusalLine}
 use Rattle.fbsim_command.specs.declared.failure.RefusalLine.TheVariants.{Numbered, Syntax, Trace}
 use Rattle.fbsim_command.specs.declared.sources.SourceFault.{SourceFault}
 use Rattle.fbsim_command.specs.declared.sources.SourceFault.TheVariants as source
-use Rattle.fbsim_command.specs.declared.status.Done.{Done}
-use Rattle.fbsim_command.specs.declared.status.Done.TheVariants.{Helped, Explained, Accepted, Shown, Ended, Stopped}
+use Rattle.fbsim_command.specs.declared.statuses.Done.{Done}
+use Rattle.fbsim_command.specs.declared.statuses.Done.TheVariants.{Helped, Explained, Accepted, Shown, Ended, Stopped}
 
 -- ---- Failures
 

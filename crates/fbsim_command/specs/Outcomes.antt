@@ -8,7 +8,7 @@ use Rattle.fbsim_command.specs.Failures.{failure_of}
 use Rattle.fbsim_command.specs.declared.failure.Failure.{Failure}
 use Rattle.fbsim_command.specs.declared.failure.Failure.TheVariants.{Refused}
 use Rattle.fbsim_command.specs.declared.failure.RefusalLine.{RefusalLine}
-use Rattle.fbsim_command.specs.declared.status.Done.{Done}
+use Rattle.fbsim_command.specs.declared.statuses.Done.{Done}
 
 -- what a call came to
 abbrev pub End : Type 0

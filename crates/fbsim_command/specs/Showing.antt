@@ -17,7 +17,7 @@ use Rattle.fbsim_command.specs.declared.failure.Failure.TheVariants.{Refused, Fi
 use Rattle.fbsim_command.specs.declared.failure.RefusalLine.{RefusalLine}
 use Rattle.fbsim_command.specs.declared.failure.RefusalLine.TheVariants.{Trace}
 use Rattle.fbsim_command.specs.declared.sources.SourceFault.{SourceFault}
-use Rattle.fbsim_command.specs.declared.status.Done.TheVariants.{Helped, Explained, Accepted, Shown, Ended, Stopped}
+use Rattle.fbsim_command.specs.declared.statuses.Done.TheVariants.{Helped, Explained, Accepted, Shown, Ended, Stopped}
 use Rattle.fbsim_command.specs.declared.texts.Part.{Part}
 
 -- what opening a named file may give, from one state of the source to the next: its bytes, where they are known

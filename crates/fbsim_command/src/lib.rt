@@ -16,7 +16,7 @@ mod notes;
 pub mod output;
 pub mod program;
 pub mod sources;
-pub mod status;
+pub mod statuses;
 mod texts;
 mod wave;
 
@@ -25,4 +25,4 @@ pub use files::{Files, Opened};
 pub use line::{Action, Call, LineFault, Task, Wave, parse};
 pub use program::{command, command_exit};
 pub use sources::{Source, SourceFault, Streams};
-pub use status::{Done, ExitStatus};
+pub use statuses::{Done, ExitStatus, status};

@@ -7,15 +7,15 @@ ghost use Rattle.fbsim_command.specs.Command.{Checks, Does, ExplainsRefusal, IsD
 ghost use Rattle.fbsim_command.specs.Texts.{given_of};
 ghost use Rattle.fbsim_command.specs.Failures.{WritesPart, explained_text, status_of, told, told_of};
 ghost use Rattle.fbsim_command.specs.declared.failure.Failure.{Failure};
-ghost use Rattle.fbsim_command.specs.declared.status.Done.{Done};
-ghost use Rattle.fbsim_command.specs.declared.status.Done.TheVariants.{Helped};
+ghost use Rattle.fbsim_command.specs.declared.statuses.Done.{Done};
+ghost use Rattle.fbsim_command.specs.declared.statuses.Done.TheVariants.{Helped};
 
 use crate::failure::Failure;
 use crate::line::{Action, Call, LineFault, Task, parse};
 use crate::notes::{note_of, note_of_file};
 use crate::output::write_text;
 use crate::sources::{Source, Streams};
-use crate::status::{Done, ExitStatus, status};
+use crate::statuses::{Done, ExitStatus, status};
 use crate::texts::{Texts, read_files};
 use crate::wave::show;
 use fb_phase::OpenGate;

@@ -6,7 +6,7 @@ ghost use Rattle.fbsim_command.specs.Showing.{Dumps, Shows, files_of};
 use crate::failure::Failure;
 use crate::line::{Action, Task, Wave};
 use crate::sources::{Source, Streams};
-use crate::status::Done;
+use crate::statuses::Done;
 use crate::texts::read_files;
 use fb_sim::{Inputs, let_go, open};
 use fb_wave::write_wave;

@@ -2,7 +2,7 @@
 
 use crate::expected::expected;
 use crate::text::{Text, front};
-use crate::text_place::TextPlace;
+use crate::text_places::TextPlace;
 use fb_read::ReadError;
 use fb_types::MOST_BYTES;
 use std::alloc::{AllocError, Global};

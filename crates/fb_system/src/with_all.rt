@@ -8,7 +8,7 @@ use std::alloc::AllocError;
 ///
 /// `?` writes out the drop of every owned value in scope at each exit, and each drop is proved there. A value of a type
 /// parameter is dropped by one call. So owned values of several types pass through this function.
-pub fn beside<G: Drop, A: Drop, B: Drop, C: Drop>(
+pub fn with_all<G: Drop, A: Drop, B: Drop, C: Drop>(
     given: G,
     first: Result<A, AllocError>,
     second: Result<B, AllocError>,

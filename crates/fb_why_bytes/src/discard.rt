@@ -1,3 +1,0 @@
-//! Frees libraries.
-
-pub use fb_read::discarding::discard;
