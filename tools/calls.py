@@ -265,7 +265,7 @@ CALLS = [
     Call(["check", "slip"], 2, err=b"refused E21\n"),
     Call(["check", "slip", "--why"], 2, err=b"refused E21\n" + AT_THE_SLIP),
     Call(["run", "-", "--horizon", "8", "--why"], 2, err=b"refused E21\n" + AT_THE_SLIP, given=FILES["slip"]),
-    Call(["check", "-", "--why"], 2, err=b"refused E01\nline 1, column 21: byte 255 may stand in comments alone\n", given=b"APPLICATION A FBS S \xff"),
+    Call(["check", "-", "--why"], 2, err=b"refused E01\nline 1, column 21: byte 255 is allowed only in comments\n", given=b"APPLICATION A FBS S \xff"),
     Call(["check", "-", "--why"], 2, err=b"refused E04\nline 1, column 1048577: a text has at most 1048576 bytes\n", given=b" " * (MOST_OF_A_TEXT + 1)),
     Call(["check", "cycle", "--deploy", "cut_plan", "--why"], 2, err=b"refused E10\ndeployment: line 2, column 5: this is no TOML\n"),
     Call(["check", "too_many", "--why"], 2, err=b"refused E30\napplication: there are more than 4,096 instances, components included\n"),
@@ -351,11 +351,11 @@ REFUSED = [
 # All refusals, and what is called as none is. A name stands in the fault's line as it was given.
 EXPLAINED = (*(f"E{at:02}" for at in (*range(1, 6), *range(10, 17), *range(20, 31))), "file fault")
 NOT_EXPLAINED = ("", "E", "E00", "E06", "E17", "E31", "E021", "e21", "E21 ", "file")
-SLIP_EXPLAINED = b"""E21: A name stands for nothing of the wanted sort in its place.
+SLIP_EXPLAINED = b"""E21: A name stands for nothing of the required kind.
 For example:
 - `F.EO TO W.EJ;` where `W` is an E_SWITCH: it has no event input `EJ`.
 - `S.COLD TO C;` in an application: only composites have ports that are named without an instance.
-Look at: Slips of the pen; an input where an output is wanted, or the other way round; an event among the data connections; an instance that a resource lists and the application does not have.
+Look at: Typing errors; an input where an output is required, or the other way round; an event among the data connections; an instance that a resource lists and the application does not have.
 """
 # Words that are no call.
 FAULTS = [
@@ -450,7 +450,7 @@ CALLS += [
     of("run slip --horizon 1 --why", 2, err=b"refused E21\n" + AT_THE_SLIP),
     of("check merge --deploy merge_plan --why", 2, err=b"refused E21\nresource R: instance N: application A has no instance N\n"),
     of("check - --why", 2, err=b"refused E03 line 2\nline 2, column 7: found the end of the text, expected :\n", given=b"APPLICATION A\nFBS M "),
-    of("check merge --stim merge_fed --why", 2, err=b"refused E29\nstimuli: 1st row behind the heading: there is no instance N\n"),
+    of("check merge --stim merge_fed --why", 2, err=b"refused E29\nstimuli: 1st row after the heading: there is no instance N\n"),
     of("check slip --deploy nowhere --why", 3, err=b"file fault\ndeployment nowhere: no file of this name can be read\n"),
     of("check nowhere --deploy nowhere --why", 3, err=b"file fault\ndeclaration nowhere: no file of this name can be read\n"),
     of(

@@ -10,21 +10,21 @@ use thiserror::Error;
 pub enum Fault {
     #[error("E20: a name or a connection is given twice")]
     NameTwice,
-    #[error("E21: a name stands for nothing of the wanted sort")]
+    #[error("E21: a name stands for nothing of the required kind")]
     NameUnknown,
     #[error("E22: an expression, a statement or a value has the wrong kind")]
     KindWrong,
-    #[error("E23: a data connection leads to a type that does not hold all values")]
+    #[error("E23: a data connection leads to a type that does not contain all values")]
     OutOfRange,
     #[error("E24: two data connections lead to one port")]
     TwoSources,
-    #[error("E25: a composite holds itself, or has a height over 16")]
+    #[error("E25: a composite contains itself, or has a height over 16")]
     TooHigh,
     #[error("E26: an instance is not mapped to one resource")]
     NotMapped,
     #[error("E27: a connection between two resources has no link")]
     NoLink,
-    #[error("E28: no event goes with a data connection between two resources")]
+    #[error("E28: no event serves a data connection between two resources")]
     NoEvent,
     #[error("E29: a stimulus does not fit its event input")]
     BadStimulus,

@@ -13,7 +13,7 @@ use crate::error::CheckError;
 use crate::fault::Fault;
 use crate::mapping_checks::judge_mapping;
 use crate::network_checks::judge_networks;
-use crate::stimuli::rows_of;
+use crate::stimuli::stimulus_rows;
 use fb_check_names::{Catalog, Resolved, catalog_of, resolve};
 use fb_check_networks::has_too_many_instances;
 use fb_check_types::are_parts_known;
@@ -59,7 +59,7 @@ fn judge_stimuli(
     ensures ok { IfOk result (λ _. HasPassed 30 case.now) }
     ensures refused { IfErr result (IsRightly (inputs_in case.now)) }
 {
-    match rows_of(alloc, case.library, catalog, case.stimuli)? {
+    match stimulus_rows(alloc, case.library, catalog, case.stimuli)? {
         Some(rows) => Ok(rows),
         None => Err(CheckError::Refused(Fault::BadStimulus)),
     }

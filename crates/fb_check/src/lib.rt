@@ -27,4 +27,4 @@ pub use error::CheckError;
 pub use fault::Fault;
 pub use fb_system::System;
 pub use judgement::{judge, judged};
-pub use stimuli::{has_bad_stimulus, rows_of};
+pub use stimuli::{has_bad_stimulus, stimulus_rows};

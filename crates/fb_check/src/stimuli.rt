@@ -192,7 +192,7 @@ fn rows_in(
 /// # Errors
 ///
 /// When memory runs out. An index of 2^32 or more counts as out of memory.
-pub fn rows_of(
+pub fn stimulus_rows(
     alloc: Global,
     library: &Library,
     catalog: &Catalog,
@@ -215,6 +215,6 @@ pub fn has_bad_stimulus(
     requires { (plan : Plan) × IsCatalog library.now plan catalog.now × ¬ (NameUnknown library.now plan) }
     ensures { IfOk result (λ b. IsTrue b ↔ BadStimulus library.now stimuli.now) }
 {
-    let rows = rows_of(alloc, library, catalog, stimuli)?;
+    let rows = stimulus_rows(alloc, library, catalog, stimuli)?;
     Ok(rows.is_none())
 }

@@ -1,6 +1,6 @@
 pub mod Refusals
 pub mod Lists
-pub mod Beside
+pub mod Paired
 pub mod Words
 pub mod Numbers
 pub mod Rows

@@ -6,7 +6,7 @@ ghost use Rattle.toml.specs.View.{table_view, view};
 ghost use Rattle.fb_inputs.specs.Lists as lists;
 ghost use Rattle.fb_inputs.specs.Documents as spec;
 
-use crate::beside::beside;
+use crate::paired::paired;
 use crate::text::name;
 use fb_types::{Items, Name, ResourceEntry};
 use std::alloc::{AllocError, Global};
@@ -134,11 +134,11 @@ impl Piece for ResourceEntry {
         let Some(device) = name_at(alloc, keys, "device")? else {
             return Ok(None);
         };
-        let Some(names) = beside(device, name_at(alloc, keys, "name"))? else {
+        let Some(names) = paired(device, name_at(alloc, keys, "name"))? else {
             return Ok(None);
         };
         let instances = array_at::<Name>(alloc, keys, "instances");
-        let Some((names, instances)) = beside(names, instances)? else {
+        let Some((names, instances)) = paired(names, instances)? else {
             return Ok(None);
         };
         let (device, name) = names;
@@ -211,10 +211,10 @@ impl Piece for LinkDraft {
         let Some(start) = name_at(alloc, keys, "from")? else {
             return Ok(None);
         };
-        let Some(ends) = beside(start, name_at(alloc, keys, "to"))? else {
+        let Some(ends) = paired(start, name_at(alloc, keys, "to"))? else {
             return Ok(None);
         };
-        let Some((ends, table)) = beside(ends, table_of(alloc, keys))? else {
+        let Some((ends, table)) = paired(ends, table_of(alloc, keys))? else {
             return Ok(None);
         };
         let (start, end) = ends;
@@ -254,7 +254,7 @@ pub fn draft_of(alloc: Global, keys: &Table) -> Result<Option<PlanDraft>, AllocE
     let Some(resources) = array_at::<ResourceEntry>(alloc, keys, "resource")? else {
         return Ok(None);
     };
-    let Some((resources, links)) = beside(resources, links_at(alloc, keys))? else {
+    let Some((resources, links)) = paired(resources, links_at(alloc, keys))? else {
         return Ok(None);
     };
     if count_of(keys) != known_keys(keys) || resources.len() == 0 {

@@ -12,7 +12,7 @@ use thiserror::Error;
 pub enum InputError {
     #[error("out of memory")]
     Memory,
-    #[error("E10: the deployment is no TOML")]
+    #[error("E10: the deployment is not TOML")]
     Document,
     #[error("E11: a key of the deployment is missing, unknown or of the wrong kind")]
     Shape,
@@ -20,7 +20,7 @@ pub enum InputError {
     Latency,
     #[error("E13: a row of the stimuli has the wrong shape")]
     Row,
-    #[error("E14: a tick or a value of the stimuli is no number or truth value")]
+    #[error("E14: a tick or a value of the stimuli is neither a number nor a truth value")]
     Number,
     #[error("E15: over a limit")]
     Limit,

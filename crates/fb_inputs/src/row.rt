@@ -4,8 +4,8 @@ ghost use Rattle.std.specs.Prelude.{◌≡◌, ◌++◌, [], ◌∷◌, length, 
 ghost use Rattle.fb_inputs.specs.Lists.{each};
 ghost use Rattle.fb_inputs.specs.Rows as spec;
 
-use crate::beside::beside;
 use crate::number::value_of;
+use crate::paired::paired;
 use crate::text::{name, parted};
 use fb_types::{Items, Name, Setting, Value};
 use std::alloc::{AllocError, Global};
@@ -41,7 +41,7 @@ fn event(alloc: Global, text: &[u8]) -> Result<Option<(Name, Name)>, AllocError>
     let Some(instance) = name(alloc, before)? else {
         return Ok(None);
     };
-    beside(instance, name(alloc, behind))
+    paired(instance, name(alloc, behind))
 }
 
 /// The word `NAME=VALUE`.
@@ -84,7 +84,7 @@ pub fn draft_of(alloc: Global, at: &[u8], values: &[u8]) -> Result<Option<Draft>
     let Some(ends) = event(alloc, at)? else {
         return Ok(None);
     };
-    let Some((ends, words)) = beside(ends, words(alloc, values))? else {
+    let Some((ends, words)) = paired(ends, words(alloc, values))? else {
         return Ok(None);
     };
     let (instance, event) = ends;

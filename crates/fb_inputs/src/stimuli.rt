@@ -8,9 +8,9 @@ ghost use Rattle.fb_inputs.specs.Refusals.{Answers, number_of};
 ghost use Rattle.fb_inputs.specs.Stimuli as spec;
 ghost use Rattle.fb_inputs.specs.Words.{Text};
 
-use crate::beside::beside;
 use crate::error::InputError;
 use crate::number::natural;
+use crate::paired::paired;
 use crate::row::{Draft, draft_of, settings};
 use csv::{ByteRecord, ByteRecordsIntoIter, Error, ErrorKind, ReaderBuilder};
 use fb_types::{Items, LATEST_TICK, MOST_STIMULI, MOST_STIMULI_BYTES, Stimulus};
@@ -70,7 +70,7 @@ pub fn stimulus_of(
         event,
         words,
     } = draft;
-    let Some((ends, settings)) = beside((instance, event), settings(alloc, words))? else {
+    let Some((ends, settings)) = paired((instance, event), settings(alloc, words))? else {
         return Err(InputError::Number);
     };
     if tick > LATEST_TICK as u128 || before >= MOST_STIMULI {
@@ -162,7 +162,7 @@ fn kept<T: Drop>(value: T, test: Result<bool, InputError>) -> Result<Option<T>, 
 }
 
 /// The reader of the records after the heading `tick,event,values`, if there is any record.
-pub fn rows_of(
+pub fn rows_after_heading(
     alloc: Global,
     bytes: &[u8],
 ) -> Result<Option<ByteRecordsIntoIter<&[u8]>>, InputError>
@@ -220,7 +220,7 @@ pub fn read_stimuli(alloc: Global, bytes: &[u8]) -> Result<Vec<Stimulus>, InputE
     if bytes.len() > MOST_STIMULI_BYTES {
         return Err(InputError::Limit);
     }
-    let opened = rows_of(alloc, bytes)?;
+    let opened = rows_after_heading(alloc, bytes)?;
     let Some(mut rows) = opened else {
         return Ok(Vec::new(alloc));
     };

@@ -7,7 +7,7 @@ pub mod Turns
 pub mod Joins
 pub mod Adding
 pub mod Turning
-pub mod Besides
+pub mod Paired
 pub mod Pairs
 pub mod Options
 pub mod Steps

@@ -7,7 +7,7 @@ pub mod Front
 pub mod Tokens
 pub mod Nodes
 pub mod Parser
-pub mod Beside
+pub mod Paired
 pub mod Added
 pub mod Operators
 pub mod Nesting

@@ -7,7 +7,7 @@ use crate::chart::{algorithms, states, transitions};
 use crate::cursor::Cursor;
 use crate::fault::ParseFault;
 use crate::ports::variables;
-use crate::rule::{Rule, beside, ended, run_after};
+use crate::rule::{Rule, ended, paired, run_after};
 use crate::token::Mark;
 use fb_types::{
     Application, BasicType, BlockType, CompositeType, Items, Library, Name, Network, Ports,
@@ -19,10 +19,10 @@ fn basic(cursor: &mut Cursor<'_>, name: Name, ports: Ports) -> Result<BlockType,
     ensures { Reads (spec.basic name ports cursor.old) result cursor.new }
 {
     let interface = (name, ports);
-    let (interface, internals) = beside(interface, variables(cursor, Mark::Var))?;
-    let (declared, states) = beside((interface, internals), states(cursor))?;
-    let (charted, transitions) = beside((declared, states), transitions(cursor))?;
-    let (found, algorithms) = beside((charted, transitions), algorithms(cursor))?;
+    let (interface, internals) = paired(interface, variables(cursor, Mark::Var))?;
+    let (declared, states) = paired((interface, internals), states(cursor))?;
+    let (charted, transitions) = paired((declared, states), transitions(cursor))?;
+    let (found, algorithms) = paired((charted, transitions), algorithms(cursor))?;
     let ((((name, ports), internals), states), transitions) = found;
     Ok(BlockType::Basic(BasicType {
         name,
@@ -39,7 +39,7 @@ fn basic(cursor: &mut Cursor<'_>, name: Name, ports: Ports) -> Result<BlockType,
 fn composite(cursor: &mut Cursor<'_>, name: Name, ports: Ports) -> Result<BlockType, ParseFault>
     ensures { Reads (spec.composite name ports cursor.old) result cursor.new }
 {
-    let (interface, network) = beside((name, ports), Network::read(cursor))?;
+    let (interface, network) = paired((name, ports), Network::read(cursor))?;
     let (name, ports) = interface;
     Ok(BlockType::Composite(CompositeType {
         name,
@@ -80,9 +80,9 @@ impl Rule for Library {
     fn read(cursor: &mut Cursor<'_>) -> Result<Library, ParseFault> {
         let none = cursor.no_items();
         let before = run_after::<BlockType>(cursor, Mark::FunctionBlock, none)?;
-        let (before, application) = beside(before, Application::read(cursor))?;
+        let (before, application) = paired(before, Application::read(cursor))?;
         let blocks = run_after(cursor, Mark::FunctionBlock, before);
-        let (application, blocks) = beside(application, blocks)?;
+        let (application, blocks) = paired(application, blocks)?;
         Ok(Library {
             blocks,
             application,

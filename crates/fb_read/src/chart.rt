@@ -6,7 +6,7 @@ ghost use Rattle.fb_read.specs.Charts as spec;
 use crate::cursor::Cursor;
 use crate::fault::ParseFault;
 use crate::rule::{
-    Rule, added, behind, beside, ended, listed, many_after, pair, run_after, section,
+    Rule, added, behind, ended, listed, many_after, pair, paired, run_after, section,
 };
 use crate::statement::body;
 use crate::token::Mark;
@@ -19,7 +19,7 @@ impl Rule for Action {
     fn read(cursor: &mut Cursor<'_>) -> Result<Action, ParseFault> {
         let algorithm = cursor.name_if()?;
         if cursor.eat(Mark::Arrow) {
-            let (algorithm, output) = beside(algorithm, Name::read(cursor))?;
+            let (algorithm, output) = paired(algorithm, Name::read(cursor))?;
             Ok(Action {
                 algorithm,
                 output: Some(output),
@@ -75,10 +75,10 @@ impl Rule for Condition {
     #[tactic(auto, unfolding(crate::specs::Charts::condition))]
     fn read(cursor: &mut Cursor<'_>) -> Result<Condition, ParseFault> {
         let event = cursor.name_if()?;
-        let (event, guard) = beside(event, guard(cursor))?;
+        let (event, guard) = paired(event, guard(cursor))?;
         let found = Condition { event, guard };
         if found.event.is_none() && found.guard.is_none() {
-            let (found, _) = beside(found, cursor.one())?;
+            let (found, _) = paired(found, cursor.one())?;
             Ok(found)
         } else {
             Ok(found)

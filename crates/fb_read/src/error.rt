@@ -8,7 +8,7 @@ pub enum ReadError {
     #[error("out of memory")]
     Memory,
     /// E01: a byte that may occur only in comments.
-    #[error("a byte that may stand in comments alone")]
+    #[error("a byte that is allowed only in comments")]
     Byte,
     /// E02: a comment that is not closed, a faulty literal, or a character that begins no token.
     #[error("a faulty token")]

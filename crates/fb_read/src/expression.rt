@@ -7,7 +7,7 @@ ghost use Rattle.fb_read.specs.Nests.{Nests};
 
 use crate::cursor::Cursor;
 use crate::fault::ParseFault;
-use crate::rule::{Rule, beside, ended};
+use crate::rule::{Rule, ended, paired};
 use crate::token::Mark;
 use fb_types::{BinaryOperator, Boxed, Expr, Items, MOST_NESTING, Name, Reference, UnaryOperator};
 use std::alloc::{AllocError, Global};
@@ -48,7 +48,7 @@ fn around(below: u32, depth: u32, expr: Expr, cursor: &Cursor<'_>) -> Result<Nes
     }
 }
 
-/// Moves two values to the heap. They have a type parameter, since `?` is between them: see [`beside`].
+/// Moves two values to the heap. They have a type parameter, since `?` is between them: see [`paired`].
 fn both_boxed<T: Drop>(alloc: Global, x: T, y: T) -> Result<(Boxed<T>, Boxed<T>), AllocError>
     ensures { IfOk result (λ both. both ≡ (x, y)) }
 {
@@ -205,7 +205,7 @@ impl<F: Fn(&mut Cursor<'_>, u32, u8) -> Result<Nested, ParseFault>> ExpressionRu
             return Err(ParseFault::Nesting);
         }
         cursor.take();
-        let (left, right) = beside(left, self.part(cursor, level - 1))?;
+        let (left, right) = paired(left, self.part(cursor, level - 1))?;
         let depth = left.nesting.max(right.nesting);
         let (x, y) = both_boxed(cursor.alloc(), left.expr, right.expr)?;
         around(self.below, depth, Expr::Binary(operator, x, y), cursor)

@@ -6,7 +6,7 @@ ghost use Rattle.fb_read.specs.Network as spec;
 
 use crate::cursor::Cursor;
 use crate::fault::ParseFault;
-use crate::rule::{Rule, beside, ended, many, pair, section, separated};
+use crate::rule::{Rule, ended, many, pair, paired, section, separated};
 use crate::token::Mark;
 use fb_types::{
     Application, Connection, Instance, Items, Name, Network, Parameter, PortName, Value,
@@ -89,7 +89,7 @@ impl Rule for Instance {
     #[tactic(auto, using(crate::proofs::Pairs::instance_is))]
     fn read(cursor: &mut Cursor<'_>) -> Result<Instance, ParseFault> {
         let both = pair::<Name, Name>(cursor, Mark::Colon)?;
-        let (both, parameters) = beside(both, parameters(cursor))?;
+        let (both, parameters) = paired(both, parameters(cursor))?;
         let (name, block_type) = both;
         let found = Instance {
             name,
@@ -132,7 +132,7 @@ impl Rule for Application {
     fn read(cursor: &mut Cursor<'_>) -> Result<Application, ParseFault> {
         cursor.expect(Mark::Application)?;
         let name = Name::read(cursor)?;
-        let (name, network) = beside(name, Network::read(cursor))?;
+        let (name, network) = paired(name, Network::read(cursor))?;
         ended(cursor, Mark::EndApplication, Application { name, network })
     }
 }

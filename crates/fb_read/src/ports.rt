@@ -7,7 +7,7 @@ ghost use Rattle.fb_read.specs.Ports as spec;
 
 use crate::cursor::Cursor;
 use crate::fault::ParseFault;
-use crate::rule::{Rule, behind, beside, ended, listed, optional, section, separated};
+use crate::rule::{Rule, behind, ended, listed, optional, paired, section, separated};
 use crate::token::Mark;
 use fb_types::{EventPort, Items, Name, Ports, Ty, Value, Variable};
 use std::alloc::{AllocError, Global};
@@ -38,7 +38,7 @@ impl Rule for Declaration {
     fn read(cursor: &mut Cursor<'_>) -> Result<Declaration, ParseFault> {
         let names = separated::<Name>(cursor)?;
         let both = behind::<Items<Name>, Ty>(cursor, names, Mark::Colon)?;
-        let (both, initial) = beside(both, optional::<Value>(cursor, Mark::Assign))?;
+        let (both, initial) = paired(both, optional::<Value>(cursor, Mark::Assign))?;
         let (names, ty) = both;
         ended(cursor, Mark::Semicolon, Declaration { names, ty, initial })
     }

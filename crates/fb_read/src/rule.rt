@@ -2,7 +2,7 @@
 
 ghost use Rattle.std.specs.Prelude.{◌≡◌, Ok, IfOk};
 ghost use Rattle.fb_read.specs.Parser.{Parser, Reads};
-ghost use Rattle.fb_read.specs.Beside.{second_of};
+ghost use Rattle.fb_read.specs.Paired.{second_of};
 ghost use Rattle.fb_read.specs.Added.{Adds};
 ghost use Rattle.fb_read.specs.Parser as spec;
 
@@ -24,7 +24,7 @@ pub trait Rule: Drop {
 ///
 /// `?` writes out the drop of every owned value in scope at each exit, and each drop is proved there. A value of a type
 /// parameter is dropped by one call. So owned values of several types pass through this function.
-pub fn beside<A: Drop, B: Drop>(found: A, read: Result<B, ParseFault>) -> Result<(A, B), ParseFault>
+pub fn paired<A: Drop, B: Drop>(found: A, read: Result<B, ParseFault>) -> Result<(A, B), ParseFault>
     ensures found { IfOk result (λ both. both.0 ≡ found) }
     ensures read { read ≡ second_of result }
 {
@@ -41,7 +41,7 @@ pub fn behind<A: Drop, B: Rule>(
     ensures { Reads (spec.behind found between B.parser cursor.old) result cursor.new }
 {
     let found = ended(cursor, between, found)?;
-    beside(found, B::read(cursor))
+    paired(found, B::read(cursor))
 }
 
 /// What two rules read, with this mark between them.

@@ -7,7 +7,7 @@ ghost use Rattle.fb_read.specs.StatementNests.{StatementNests};
 
 use crate::cursor::Cursor;
 use crate::fault::ParseFault;
-use crate::rule::{Rule, added, behind, beside, ended, finished, optional, pair, separated};
+use crate::rule::{Rule, added, behind, ended, finished, optional, pair, paired, separated};
 use crate::token::Mark;
 use fb_types::{Body, Branch, Choice, Expr, Items, Label, MOST_NESTING, Name, Reference, Stmt};
 
@@ -54,7 +54,7 @@ fn for_end(cursor: &mut Cursor<'_>) -> Result<(Expr, Option<Expr>), ParseFault>
 {
     cursor.expect(Mark::To)?;
     let end = Expr::read(cursor)?;
-    beside(end, optional::<Expr>(cursor, Mark::By))
+    paired(end, optional::<Expr>(cursor, Mark::By))
 }
 
 /// A statement without inner statements.
@@ -113,7 +113,7 @@ impl<F: Fn(&mut Cursor<'_>, u32) -> Result<Stmt, ParseFault>> StatementRules<F> 
     {
         let condition = Expr::read(cursor)?;
         let condition = ended(cursor, Mark::Then, condition)?;
-        let (condition, body) = beside(condition, self.block(cursor))?;
+        let (condition, body) = paired(condition, self.block(cursor))?;
         Ok(Choice { condition, body })
     }
 
@@ -191,7 +191,7 @@ impl<F: Fn(&mut Cursor<'_>, u32) -> Result<Stmt, ParseFault>> StatementRules<F> 
     {
         cursor.expect(Mark::Of)?;
         let branches = self.branches(cursor)?;
-        let both = beside(branches, self.others(cursor))?;
+        let both = paired(branches, self.others(cursor))?;
         finished(cursor, Mark::EndCase, both)
     }
 
@@ -202,7 +202,7 @@ impl<F: Fn(&mut Cursor<'_>, u32) -> Result<Stmt, ParseFault>> StatementRules<F> 
         ensures { Reads (spec.case_statement (spec.nested_statement self.now.below) cursor.old) result cursor.new }
     {
         let selector = Expr::read(cursor)?;
-        let (selector, cases) = beside(selector, self.case_body(cursor))?;
+        let (selector, cases) = paired(selector, self.case_body(cursor))?;
         let (branches, others) = cases;
         Ok(Stmt::Case(selector, branches, others))
     }
@@ -229,8 +229,8 @@ impl<F: Fn(&mut Cursor<'_>, u32) -> Result<Stmt, ParseFault>> StatementRules<F> 
         requires { StatementNests self.now.below (F.pre self.now.inner) (F.post self.now.inner) }
         ensures { Reads (spec.for_to (spec.nested_statement self.now.below) variable start cursor.old) result cursor.new }
     {
-        let (first, bounds) = beside((variable, start), for_end(cursor))?;
-        let (all, body) = beside((first, bounds), self.loop_body(cursor, Mark::EndFor))?;
+        let (first, bounds) = paired((variable, start), for_end(cursor))?;
+        let (all, body) = paired((first, bounds), self.loop_body(cursor, Mark::EndFor))?;
         let ((variable, start), (end, step)) = all;
         Ok(Stmt::For(variable, start, end, step, body))
     }
@@ -252,7 +252,7 @@ impl<F: Fn(&mut Cursor<'_>, u32) -> Result<Stmt, ParseFault>> StatementRules<F> 
         ensures { Reads (spec.while_statement (spec.nested_statement self.now.below) cursor.old) result cursor.new }
     {
         let condition = Expr::read(cursor)?;
-        let (condition, body) = beside(condition, self.loop_body(cursor, Mark::EndWhile))?;
+        let (condition, body) = paired(condition, self.loop_body(cursor, Mark::EndWhile))?;
         Ok(Stmt::While(condition, body))
     }
 

@@ -155,7 +155,7 @@ pub fn kind_named(name: &[u8]) -> Option<EventKind>
     look_up(&EVENT_BLOCKS, name)
 }
 
-fn rows_of(kind: EventKind) -> &'static Rows
+fn interface_rows(kind: EventKind) -> &'static Rows
     ensures { row.ports_of_rows result.now ≡ spec.ports_of_event_block kind }
 {
     match kind {
@@ -214,7 +214,7 @@ fn variables(alloc: Global, rows: &[VariableRow]) -> Result<Items<Variable>, All
 pub fn ports_of(alloc: Global, kind: EventKind) -> Result<Ports, AllocError>
     ensures { IfOk result (λ p. p ≡ spec.ports_of_event_block kind) }
 {
-    let rows = rows_of(kind);
+    let rows = interface_rows(kind);
     Ok(Ports {
         event_inputs: events(alloc, rows.event_inputs)?,
         event_outputs: events(alloc, rows.event_outputs)?,

@@ -15,7 +15,7 @@ use fb_types::{Deploy, Library, Plan, Stimulus};
 use std::alloc::{AllocError, Global};
 
 /// The result for a declaration that can't be read: no finding, unless memory ran out.
-fn untold(fault: ReadError) -> Result<Option<Finding>, AllocError>
+fn no_finding(fault: ReadError) -> Result<Option<Finding>, AllocError>
     ensures { IfOk result (λ o. (o ≡ None) × ¬ (IsMemory fault)) }
 {
     match fault {
@@ -83,7 +83,7 @@ fn flaw_finding(
             discard(library);
             finding
         }
-        Err(fault) => untold(fault),
+        Err(fault) => no_finding(fault),
     }
 }
 
@@ -138,7 +138,7 @@ fn excess_finding(
             discard(library);
             finding
         }
-        Err(fault) => untold(fault),
+        Err(fault) => no_finding(fault),
     }
 }
 

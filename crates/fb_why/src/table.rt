@@ -20,37 +20,37 @@ pub struct Explanation {
 pub static OF_DECLARATIONS: [Explanation; 5] = [
     Explanation {
         name: "E01",
-        meaning: "A byte of the declaration is none that may stand outside comments.",
+        meaning: "A byte of the declaration is allowed only in comments.",
         examples: [
             "A letter with an accent in the name of an instance.",
             "A form feed between two lines.",
         ],
-        look: "The first such byte of the text. Only tab, line feed, carriage return and the printed ASCII characters may stand there; in a comment any byte may.",
+        look: "The first such byte of the text. Outside comments, only tab, line feed, carriage return and the printable ASCII characters are allowed.",
     },
     Explanation {
         name: "E02",
-        meaning: "No token of the declaration begins in this way.",
+        meaning: "A part of the declaration is no token.",
         examples: [
             "`T#1.5s`: a time literal has whole parts; write `T#1s500ms`.",
             "A comment `(*` that is not closed.",
         ],
-        look: "The first such place of the text: a literal, a comment, or a character that stands for nothing.",
+        look: "The first such part of the text: a literal, a comment, or a character that begins no token.",
     },
     Explanation {
         name: "E03",
-        meaning: "The tokens of the declaration are no library. The line is that of the first token that can't stand there.",
+        meaning: "The tokens of the declaration are no library. The line is that of the first token that can't be there.",
         examples: [
-            "`S : E_RESTART` with no `;` behind it: the line is that of the next token.",
-            "`VAR_OUTPUT` before `VAR_INPUT`: the sections have one order.",
+            "`S : E_RESTART` with no `;` after it: the line is that of the next token.",
+            "`VAR_OUTPUT` before `VAR_INPUT`: the sections have a fixed order.",
         ],
-        look: "That line, and what ends the line before it. The grammar is above.",
+        look: "That line, and the end of the line before it. The grammar is above.",
     },
     Explanation {
         name: "E04",
         meaning: "The declaration has more than 1,048,576 bytes.",
         examples: [
             "A text that a tool wrote with long comments.",
-            "A file of another sort, given by mistake.",
+            "A file of another kind, given by mistake.",
         ],
         look: "The size of the file. Comments, blanks and a byte order mark count.",
     },
@@ -58,10 +58,10 @@ pub static OF_DECLARATIONS: [Explanation; 5] = [
         name: "E05",
         meaning: "An expression or a statement nests more than 64 deep.",
         examples: [
-            "A sum of 65 terms: each `+` holds all that stands before it.",
+            "A sum of 65 terms: each `+` contains all terms before it.",
             "65 statements IF, one inside the other.",
         ],
-        look: "Long chains of one operator: give a part of it to a variable of its own. The branches of one IF or CASE nest no deeper than one of them.",
+        look: "Long chains of one operator: assign a part to a variable. The branches of one IF or CASE nest no deeper than one of them.",
     },
 ];
 
@@ -69,7 +69,7 @@ pub static OF_DECLARATIONS: [Explanation; 5] = [
 pub static OF_INPUTS: [Explanation; 7] = [
     Explanation {
         name: "E10",
-        meaning: "The deployment is no TOML.",
+        meaning: "The deployment is not TOML.",
         examples: [
             "`name = R1`: a text has quotes, `name = \"R1\"`.",
             "The same key twice in one table.",
@@ -78,18 +78,18 @@ pub static OF_INPUTS: [Explanation; 7] = [
     },
     Explanation {
         name: "E11",
-        meaning: "A table of the deployment lacks a key, has another one, or has a value of another sort; or a link leads from a resource to itself.",
+        meaning: "A table of the deployment lacks a key, has an unknown one, or has a value of another kind; or a link leads from a resource to itself.",
         examples: [
             "`[[resource]]` with no `device`.",
             "`latency = \"2\"`: a latency is an integer.",
         ],
-        look: "Each `resource` has `device`, `name` and `instances`, each `link` has `from`, `to`, and `latency` or `latencies`, and no other keys. There is at least one `resource`. All texts are names, and a keyword is none.",
+        look: "Each `resource` has `device`, `name` and `instances`, each `link` has `from`, `to`, and `latency` or `latencies`, and no other keys. There is at least one `resource`. All texts are names, and a keyword is not a name.",
     },
     Explanation {
         name: "E12",
         meaning: "A latency is not within 1 to 1,000,000 ticks.",
         examples: [
-            "`latency = 0`: a message takes one tick at least.",
+            "`latency = 0`: a message takes at least one tick.",
             "`latency = 3600000`, an hour.",
         ],
         look: "The latencies of all links. A tick is one millisecond.",
@@ -99,13 +99,13 @@ pub static OF_INPUTS: [Explanation; 7] = [
         meaning: "A row of the stimuli has the wrong shape.",
         examples: [
             "A first line other than `tick,event,values`.",
-            "`5,D.STOP` with two fields: the third one may be empty, but its comma stands.",
+            "`5,D.STOP` with two fields: the third one may be empty, but needs its comma.",
         ],
-        look: "Each row has a tick, INSTANCE.EVENT, and words NAME=VALUE that are parted by spaces, not by commas.",
+        look: "Each row has a tick, INSTANCE.EVENT, and words NAME=VALUE that are separated by spaces, not by commas.",
     },
     Explanation {
         name: "E14",
-        meaning: "A tick or a value of the stimuli is no whole number and no truth value.",
+        meaning: "A tick or a value of the stimuli is neither a whole number nor a truth value.",
         examples: [
             "`DT=T#4ms`: a time is given in ticks, `DT=4`.",
             "`1.5,D.START,`: a tick is a whole number.",
@@ -139,18 +139,18 @@ pub static OF_CHECKS: [Explanation; 12] = [
         meaning: "A name, an event connection or a link is given twice.",
         examples: [
             "`Ab : E_MERGE; AB : E_MERGE;`: letter case makes no difference.",
-            "A block type called `E_CYCLE`, as one of the event blocks.",
+            "A block type called `E_CYCLE`, like one of the event blocks.",
         ],
         look: "The names of block types, of ports and variables of a type, of its states, of its algorithms, of instances, in a WITH, of an instance's parameters, and of resources.",
     },
     Explanation {
         name: "E21",
-        meaning: "A name stands for nothing of the wanted sort in its place.",
+        meaning: "A name stands for nothing of the required kind.",
         examples: [
             "`F.EO TO W.EJ;` where `W` is an E_SWITCH: it has no event input `EJ`.",
             "`S.COLD TO C;` in an application: only composites have ports that are named without an instance.",
         ],
-        look: "Slips of the pen; an input where an output is wanted, or the other way round; an event among the data connections; an instance that a resource lists and the application does not have.",
+        look: "Typing errors; an input where an output is required, or the other way round; an event among the data connections; an instance that a resource lists and the application does not have.",
     },
     Explanation {
         name: "E22",
@@ -159,29 +159,29 @@ pub static OF_CHECKS: [Explanation; 12] = [
             "`X := X + B;` where `B` is a BOOL.",
             "`C : E_CYCLE(DT := TRUE);`: `DT` is a TIME.",
         ],
-        look: "Operands, conditions, selectors and assigned values; the numbers of arguments; inputs that are assigned; EXIT outside of loops; initial values and parameters that their types do not hold.",
+        look: "Operands, conditions, selectors and assigned values; the numbers of arguments; inputs that are assigned; EXIT outside loops; initial values and parameters that their types do not contain.",
     },
     Explanation {
         name: "E23",
-        meaning: "A data connection leads to a type that does not hold all values of its source.",
+        meaning: "A data connection leads to a type that does not contain all values of its source.",
         examples: [
             "From a DINT to an INT.",
             "From an INT to a UINT: it may be negative.",
         ],
-        look: "The types at the two ends. A range goes into one that has it within, BOOL goes to BOOL alone.",
+        look: "The types at the two ends. A range fits a range that contains it; BOOL fits only BOOL.",
     },
     Explanation {
         name: "E24",
         meaning: "Two data connections lead to one port.",
         examples: [
-            "`A.Q TO W.G; B.Q TO W.G;`: the input has one source at most.",
+            "`A.Q TO W.G; B.Q TO W.G;`: an input has at most one source.",
             "The same data connection twice.",
         ],
-        look: "What stands behind TO in the data connections of one network.",
+        look: "The ports after TO in the data connections of one network.",
     },
     Explanation {
         name: "E25",
-        meaning: "A composite type holds itself, or composites nest more than 16 deep.",
+        meaning: "A composite type contains itself, or composites nest more than 16 deep.",
         examples: [
             "`FUNCTION_BLOCK F FBS X : F; END_FBS END_FUNCTION_BLOCK`.",
             "A type that has an instance of a type that has an instance of the first one.",
@@ -190,19 +190,19 @@ pub static OF_CHECKS: [Explanation; 12] = [
     },
     Explanation {
         name: "E26",
-        meaning: "An instance of the application lies in no resource, or in two.",
+        meaning: "An instance of the application is in no resource, or in two.",
         examples: [
             "A new instance that no `instances` of the deployment lists.",
             "The same instance in the lists of `R1` and `R2`.",
         ],
-        look: "The lists `instances` of all resources together: each instance of the application stands in them once. Components of composites do not stand there.",
+        look: "The lists `instances` of all resources together: each instance of the application is in them once. Components of composites are not listed.",
     },
     Explanation {
         name: "E27",
         meaning: "A connection between two resources has no link.",
         examples: [
             "`F.EO TO W.EI;` with `F` in `R1`, `W` in `R2`, and no link from `R1` to `R2`.",
-            "A link from `R2` to `R1` alone: a link goes one way.",
+            "Only a link from `R2` to `R1`: a link goes one way.",
         ],
         look: "For each connection of the application, of events and of data, the resources of its two ends.",
     },
@@ -213,7 +213,7 @@ pub static OF_CHECKS: [Explanation; 12] = [
             "`F.Q TO W.G;` over a link, with no event connection from `F` to the resource of `W`.",
             "An event connection of an output event that does not have the variable in its WITH.",
         ],
-        look: "Values go over a link with events only: some output event WITH the variable has to lead from the same block to that resource, to whatever block there.",
+        look: "Values go over a link only with events: an output event WITH the variable must lead from the same block to some block of that resource.",
     },
     Explanation {
         name: "E29",
@@ -222,7 +222,7 @@ pub static OF_CHECKS: [Explanation; 12] = [
             "`5,D.STOP,DT=4`: `DT` is not WITH the event `STOP`.",
             "A value for an input that a data connection feeds.",
         ],
-        look: "The instance is one of the application, the event one of its event inputs, and each variable is WITH that event, not connected, given once, and of a type that holds the value.",
+        look: "The instance is one of the application, the event one of its event inputs, and each variable is WITH that event, not connected, given once, and of a type that contains the value.",
     },
     Explanation {
         name: "E30",
@@ -237,7 +237,7 @@ pub static OF_CHECKS: [Explanation; 12] = [
         name: "file fault",
         meaning: "A file can't be read.",
         examples: [
-            "A name that no file has, or a folder in place of a file.",
+            "A name that no file has, or a folder instead of a file.",
             "`-` for two files: standard input is read once.",
         ],
         look: "The names in the call. The declaration is read first, then the deployment, then the stimuli.",

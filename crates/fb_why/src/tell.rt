@@ -43,7 +43,7 @@ fn push_stimulus(text: &mut Text, library: &Library, stimuli: &[Stimulus], place
     let counted = place.row.saturating_add(1);
     text.numbered("stimuli: ", counted as i128);
     text.words(ending(counted));
-    text.words(" row behind the heading: ");
+    text.words(" row after the heading: ");
     if let Some(stimulus) = stimuli.get(place.row) {
         push_fault(text, library, stimulus, place.fault);
     }

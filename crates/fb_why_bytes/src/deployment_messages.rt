@@ -2,7 +2,7 @@
 
 use crate::place::{DeployKey, DeployPlace, TableFault, TablePlace};
 use crate::table::{key_text, value_at};
-use crate::text::{Text, front};
+use crate::text::{ByteText, front};
 use std::alloc::{AllocError, Global};
 use toml::Table;
 
@@ -12,12 +12,12 @@ pub fn tell_deployment(
     bytes: &[u8],
     place: DeployPlace,
 ) -> Result<String, AllocError> {
-    let mut text = Text::new(alloc);
+    let mut text = ByteText::new(alloc);
     push_deployment(alloc, &mut text, bytes, place);
     text.into_string()
 }
 
-fn push_deployment(alloc: Global, text: &mut Text, bytes: &[u8], place: DeployPlace) {
+fn push_deployment(alloc: Global, text: &mut ByteText, bytes: &[u8], place: DeployPlace) {
     text.words("deployment: ");
     match place {
         DeployPlace::Bytes => text.words("there are more than 1,048,576 bytes"),
@@ -32,7 +32,7 @@ fn push_deployment(alloc: Global, text: &mut Text, bytes: &[u8], place: DeployPl
 }
 
 /// The line and the column of a byte, both counted from 1. A column counts characters.
-fn push_position(text: &mut Text, bytes: &[u8], at: usize) {
+fn push_position(text: &mut ByteText, bytes: &[u8], at: usize) {
     let mut line = 1usize;
     let mut column = 1usize;
     for byte in front(bytes, at) {
@@ -47,7 +47,7 @@ fn push_position(text: &mut Text, bytes: &[u8], at: usize) {
     text.words("this is no TOML");
 }
 
-fn push_table(text: &mut Text, table: TablePlace) {
+fn push_table(text: &mut ByteText, table: TablePlace) {
     match table {
         TablePlace::Top => {}
         TablePlace::Resource(place) => text.placed("", place, " resource: "),
@@ -55,12 +55,18 @@ fn push_table(text: &mut Text, table: TablePlace) {
     }
 }
 
-fn push_link(text: &mut Text, link: usize) {
+fn push_link(text: &mut ByteText, link: usize) {
     text.placed("", link, " link: ");
 }
 
 /// What is wrong with the table.
-fn push_fault(alloc: Global, text: &mut Text, bytes: &[u8], table: TablePlace, fault: TableFault) {
+fn push_fault(
+    alloc: Global,
+    text: &mut ByteText,
+    bytes: &[u8],
+    table: TablePlace,
+    fault: TableFault,
+) {
     match fault {
         TableFault::NoTable => text.words("it is no table"),
         TableFault::Missing(DeployKey::Latency) => {
@@ -118,7 +124,7 @@ fn known_keys(table: TablePlace) -> &'static [DeployKey] {
 }
 
 /// Adds the first unknown key of a table in a document.
-fn push_further(alloc: Global, text: &mut Text, bytes: &[u8], table: TablePlace) {
+fn push_further(alloc: Global, text: &mut ByteText, bytes: &[u8], table: TablePlace) {
     text.words("there is a further key");
     match toml::table_from_slice(alloc, bytes) {
         Ok(keys) => push_unknown(text, &keys, table),
@@ -127,7 +133,7 @@ fn push_further(alloc: Global, text: &mut Text, bytes: &[u8], table: TablePlace)
 }
 
 /// Adds the first unknown key of a table.
-fn push_unknown(text: &mut Text, keys: &Table, table: TablePlace) {
+fn push_unknown(text: &mut ByteText, keys: &Table, table: TablePlace) {
     let Some(keys) = table_at(keys, table) else {
         return;
     };
@@ -161,7 +167,7 @@ fn table_at(keys: &Table, table: TablePlace) -> Option<&Table> {
 }
 
 /// Adds the latency of an entry of a link.
-fn push_latency(alloc: Global, text: &mut Text, bytes: &[u8], link: usize, entry: usize) {
+fn push_latency(alloc: Global, text: &mut ByteText, bytes: &[u8], link: usize, entry: usize) {
     push_link(text, link);
     match toml::table_from_slice(alloc, bytes) {
         Ok(keys) => push_latency_of(text, &keys, link, entry),
@@ -171,7 +177,7 @@ fn push_latency(alloc: Global, text: &mut Text, bytes: &[u8], link: usize, entry
 }
 
 /// Adds the latency of an entry, or the latency of a link without a table.
-fn push_latency_of(text: &mut Text, keys: &Table, link: usize, entry: usize) {
+fn push_latency_of(text: &mut ByteText, keys: &Table, link: usize, entry: usize) {
     if has_one_latency(keys, link) {
         text.words("latency");
     } else {
@@ -188,7 +194,7 @@ fn has_one_latency(keys: &Table, link: usize) -> bool {
 }
 
 /// What is wrong with the other numbers of a deployment.
-fn push_numbers(text: &mut Text, place: DeployPlace) {
+fn push_numbers(text: &mut ByteText, place: DeployPlace) {
     match place {
         DeployPlace::NoEntry { link } => {
             push_link(text, link);
@@ -203,7 +209,7 @@ fn push_numbers(text: &mut Text, place: DeployPlace) {
             text.placed(
                 "the tick of the ",
                 entry,
-                " entry is not behind that of the entry before it, or is over 1,000,000,000,000",
+                " entry is not later than that of the entry before it, or is over 1,000,000,000,000",
             );
         }
         DeployPlace::Resources => text.words("there are more than 256 resources"),

@@ -10,7 +10,7 @@ ghost use Rattle.fb_why_bytes.specs.RowVerdicts.{IsFine, IsJudged, IsRefusedFor}
 use crate::place::{RowFault, StimuliPlace};
 use crate::row::row_fault;
 use csv::{ByteRecord, ByteRecordsIntoIter, Error};
-use fb_inputs::{InputError, columns, rows_of};
+use fb_inputs::{InputError, columns, rows_after_heading};
 use fb_types::MOST_STIMULI_BYTES;
 use std::alloc::{AllocError, Global};
 
@@ -68,7 +68,7 @@ pub fn stimuli_place(alloc: Global, bytes: &[u8]) -> Result<Option<StimuliPlace>
     if bytes.len() > MOST_STIMULI_BYTES {
         return Ok(Some(StimuliPlace::Bytes));
     }
-    let opened = match rows_of(alloc, bytes) {
+    let opened = match rows_after_heading(alloc, bytes) {
         Ok(opened) => opened,
         Err(InputError::Row) => return Ok(Some(StimuliPlace::Heading)),
         Err(_) => return Err(AllocError),

@@ -1,7 +1,7 @@
 //! The texts that say where stimuli are refused.
 
 use crate::place::{RowFault, StimuliPlace};
-use crate::text::Text;
+use crate::text::ByteText;
 use crate::words::words_of;
 use csv::{ByteRecord, Error};
 use fb_inputs::records_of;
@@ -13,18 +13,18 @@ pub fn tell_stimuli(
     bytes: &[u8],
     place: StimuliPlace,
 ) -> Result<String, AllocError> {
-    let mut text = Text::new(alloc);
+    let mut text = ByteText::new(alloc);
     push_stimuli(alloc, &mut text, bytes, place);
     text.into_string()
 }
 
-fn push_stimuli(alloc: Global, text: &mut Text, bytes: &[u8], place: StimuliPlace) {
+fn push_stimuli(alloc: Global, text: &mut ByteText, bytes: &[u8], place: StimuliPlace) {
     text.words("stimuli: ");
     match place {
         StimuliPlace::Bytes => text.words("there are more than 16,777,216 bytes"),
         StimuliPlace::Heading => text.words("the first record is not tick,event,values"),
         StimuliPlace::Row { row, fault } => {
-            text.placed("", row, " row behind the heading: ");
+            text.placed("", row, " row after the heading: ");
             push_row(alloc, text, bytes, row, fault);
         }
     }
@@ -37,7 +37,7 @@ fn row_at(alloc: Global, bytes: &[u8], place: usize) -> Option<Result<ByteRecord
 }
 
 /// Adds what is wrong with the row at a location. There is no text if the row was not read because memory ran out.
-fn push_row(alloc: Global, text: &mut Text, bytes: &[u8], place: usize, fault: RowFault) {
+fn push_row(alloc: Global, text: &mut ByteText, bytes: &[u8], place: usize, fault: RowFault) {
     match row_at(alloc, bytes, place) {
         Some(Ok(row)) => push_fault(alloc, text, &row, fault),
         Some(Err(_)) => text.give_up(),
@@ -45,9 +45,9 @@ fn push_row(alloc: Global, text: &mut Text, bytes: &[u8], place: usize, fault: R
     }
 }
 
-fn push_fault(alloc: Global, text: &mut Text, row: &ByteRecord, fault: RowFault) {
+fn push_fault(alloc: Global, text: &mut ByteText, row: &ByteRecord, fault: RowFault) {
     match fault {
-        RowFault::Fields => text.numbered("", row.len(), " in place of 3 fields"),
+        RowFault::Fields => text.numbered("", row.len(), " instead of 3 fields"),
         RowFault::Event => push_field(text, "the event ", row.get(1), " is not INSTANCE.EVENT"),
         RowFault::Word(place) => push_word(alloc, text, row, place, " is not NAME=VALUE"),
         RowFault::Tick => push_field(text, "the tick ", row.get(0), " is not a number"),
@@ -59,24 +59,24 @@ fn push_fault(alloc: Global, text: &mut Text, row: &ByteRecord, fault: RowFault)
             ": its value is neither a number nor TRUE or FALSE",
         ),
         RowFault::Late => push_field(text, "the tick ", row.get(0), " is over 1,000,000,000,000"),
-        RowFault::Crowded => text.words("100,000 rows stand before it"),
+        RowFault::Crowded => text.words("100,000 rows are before it"),
     }
 }
 
 /// Adds a word of the last field, with what is wrong with it.
-fn push_word(alloc: Global, text: &mut Text, row: &ByteRecord, place: usize, behind: &str) {
+fn push_word(alloc: Global, text: &mut ByteText, row: &ByteRecord, place: usize, after: &str) {
     let values = row.get(2).unwrap_or(&[]);
     match words_of(alloc, values) {
-        Ok(words) => push_field(text, "the word ", words.get(place).copied(), behind),
+        Ok(words) => push_field(text, "the word ", words.get(place).copied(), after),
         Err(_) => text.give_up(),
     }
 }
 
 /// Adds a field, between words.
-fn push_field(text: &mut Text, before: &str, field: Option<&[u8]>, behind: &str) {
+fn push_field(text: &mut ByteText, before: &str, field: Option<&[u8]>, after: &str) {
     text.words(before);
     if let Some(field) = field {
         text.quoted(field);
     }
-    text.words(behind);
+    text.words(after);
 }

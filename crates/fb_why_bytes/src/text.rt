@@ -3,7 +3,7 @@
 use std::alloc::{AllocError, Global};
 
 /// The most bytes that are shown as they are.
-const MOST_TOLD: usize = 60;
+const MOST_SHOWN: usize = 60;
 
 /// The ending of an ordinal number, as in 1st.
 fn ending(place: usize) -> &'static str {
@@ -32,16 +32,16 @@ fn shown(byte: u8) -> u8 {
 /// A growing text. If memory runs out for a part, it stops growing and ends in an error, so code that appends needs no
 /// check.
 #[derive(Drop)]
-pub struct Text {
+pub struct ByteText {
     all: String,
     /// `Ok` as long as there was memory for everything.
     written: Result<(), AllocError>,
 }
 
-impl Text {
+impl ByteText {
     /// An empty text.
-    pub fn new(alloc: Global) -> Text {
-        Text {
+    pub fn new(alloc: Global) -> ByteText {
+        ByteText {
             all: String::new(alloc),
             written: Ok(()),
         }
@@ -53,7 +53,7 @@ impl Text {
     ///
     /// If memory ran out on the way.
     pub fn into_string(self) -> Result<String, AllocError> {
-        let Text { all, written } = self;
+        let ByteText { all, written } = self;
         written?;
         Ok(all)
     }
@@ -78,19 +78,19 @@ impl Text {
     }
 
     /// Appends a number between words.
-    pub fn numbered(&mut self, before: &str, number: usize, behind: &str) {
+    pub fn numbered(&mut self, before: &str, number: usize, after: &str) {
         self.words(before);
         if self.written.is_ok() {
             self.written = write!(self.all, "{number}");
         }
-        self.words(behind);
+        self.words(after);
     }
 
     /// Appends an index between words. It is counted from 0, and shown as 1st for 0.
-    pub fn placed(&mut self, before: &str, place: usize, behind: &str) {
+    pub fn placed(&mut self, before: &str, place: usize, after: &str) {
         let counted = place.saturating_add(1);
         self.numbered(before, counted, ending(counted));
-        self.words(behind);
+        self.words(after);
     }
 
     /// Appends a line and a column of a text.
@@ -102,10 +102,10 @@ impl Text {
     /// Appends bytes between quotes, up to a limit.
     pub fn quoted(&mut self, bytes: &[u8]) {
         self.words("\"");
-        for byte in front(bytes, MOST_TOLD) {
+        for byte in front(bytes, MOST_SHOWN) {
             self.letter(shown(*byte));
         }
-        self.words(if bytes.len() > MOST_TOLD {
+        self.words(if bytes.len() > MOST_SHOWN {
             "\".."
         } else {
             "\""

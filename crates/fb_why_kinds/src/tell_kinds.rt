@@ -71,7 +71,7 @@ fn push_misfit(
 fn push_wanted(text: &mut Text, ty: Ty) {
     text.words(": a value of ");
     text.words(type_words(ty));
-    text.words(" is wanted");
+    text.words(" is expected");
 }
 
 fn push_initial(text: &mut Text, block: Option<&BlockType>, variables: Variables, variable: usize) {
@@ -137,8 +137,8 @@ fn push_guard(text: &mut Text, library: &Library, block: usize, transition: usiz
 
 fn words_for_wanted(sort: Sort) -> &'static str {
     match sort {
-        Sort::TruthValue => ": a truth value is wanted, and ",
-        Sort::WholeNumber => ": a number is wanted, and ",
+        Sort::TruthValue => ": a truth value is expected, and ",
+        Sort::WholeNumber => ": a number is expected, and ",
     }
 }
 
@@ -188,7 +188,7 @@ fn push_found(
 fn push_part(text: &mut Text, basic: &BasicType, statement: &Stmt, part: StatementPart) {
     match statement {
         Stmt::Empty | Stmt::Return => {}
-        Stmt::Exit => text.words("EXIT: a loop around it is wanted"),
+        Stmt::Exit => text.words("EXIT: a loop around it is expected"),
         Stmt::Assign(variable, expr) => push_assignment(text, basic, variable, expr, part),
         Stmt::If(choices, _) => push_choice(text, basic, choices.as_slice(), part),
         Stmt::Case(selector, _, _) => {
@@ -268,7 +268,7 @@ fn push_for(
                 push_kind(text, basic, " BY ..", (Sort::WholeNumber, step));
             }
         }
-        _ => text.words(": a number is wanted, and it is a truth value"),
+        _ => text.words(": a number is expected, and it is a truth value"),
     }
 }
 

@@ -20,11 +20,11 @@ pub fn tell_unknown(
     place: UnknownName,
 ) -> Result<String, AllocError> {
     let types = BlockTypes::new(alloc, library)?;
-    told(alloc, &types, plan, place)
+    unknown_text(alloc, &types, plan, place)
 }
 
 /// Writes the text of the location into a text that has one owner, outside all calls that may fail.
-fn told(
+fn unknown_text(
     alloc: Global,
     types: &BlockTypes,
     plan: &Plan,

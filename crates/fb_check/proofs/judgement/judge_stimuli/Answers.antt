@@ -5,8 +5,8 @@ use Rattle.fb_check.specs.Directory.{AreTaken}
 use Rattle.fb_check.proofs.Verdict.{known, passes_29, least_29}
 use Rattle.fb_check.proofs.judgement.judge_stimuli.Goals as goal
 
-pub rows_of-requires : goal.rows_of-requires
-rows_of-requires c = (
+pub stimulus_rows-requires : goal.stimulus_rows-requires
+stimulus_rows-requires c = (
   c.args.case.now.plan.now,
   c.requires.catalog,
   known 29 c.args.case.now.library.now c.args.case.now.plan.now c.args.case.now.stimuli.now (omega arith) c.requires.passed,

@@ -1,5 +1,5 @@
 use Rattle.csv.specs.Reading.{strip_bom}
-use Rattle.fb_inputs.proofs.stimuli.rows_of.Goals as goal
+use Rattle.fb_inputs.proofs.stimuli.rows_after_heading.Goals as goal
 
 pub take_heading-has_heading-requires : goal.take_heading-has_heading-requires
 take_heading-has_heading-requires c = (strip_bom c.args.bytes.now, c.records_of-rows.ensures)

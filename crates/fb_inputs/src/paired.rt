@@ -1,7 +1,7 @@
 //! What was found, with what is read after it.
 
 ghost use Rattle.std.specs.Prelude.{◌≡◌, IfOk, IfSome};
-ghost use Rattle.fb_inputs.specs.Beside.{second_of};
+ghost use Rattle.fb_inputs.specs.Paired.{second_of};
 
 use std::alloc::AllocError;
 
@@ -9,7 +9,7 @@ use std::alloc::AllocError;
 ///
 /// `?` writes out the drop of every owned value in scope at each exit, and each drop is proved there. A value of a type
 /// parameter is dropped by one call. So owned values of several types pass through this function.
-pub fn beside<A: Drop, B: Drop>(
+pub fn paired<A: Drop, B: Drop>(
     found: A,
     read: Result<Option<B>, AllocError>,
 ) -> Result<Option<(A, B)>, AllocError>
