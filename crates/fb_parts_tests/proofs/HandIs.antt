@@ -14,16 +14,20 @@ use Rattle.fb_types.specs.declared.run.Line as run
 use Rattle.fb_system.specs.Lines.{BelongsTo}
 use Rattle.fb_resource.specs.declared.resource.Resource.{Resource}
 use Rattle.fb_resource.specs.declared.resource.WindowDone.{WindowDone}
+use Rattle.fb_laws.specs.Sound.{AreGood}
 use Rattle.fb_laws.specs.Finality.{HasHanded, HasKept, core_of}
-use Rattle.fb_window.specs.Jobs.{AreOf, Does, JobModel, MayLeave, jobs_of}
+use Rattle.fb_window.specs.Jobs.{Does, JobModel, jobs_of}
+use Rattle.fb_window.specs.Reached.{KeepHorizon}
 use Rattle.fb_window.specs.Reaching.{OfEachCore}
-use Rattle.fb_window.specs.Settling.{AreLegal, HasLeft, Settles, after_phase, lists_of}
+use Rattle.fb_window.specs.Leaving.{AreLegal, HasLeft}
+use Rattle.fb_window.specs.Settling.{Settles, after_phase, lists_of}
 use Rattle.fb_window.specs.Standing.{IsAt}
-use Rattle.fb_window.specs.declared.cores.Away.{Away}
-use Rattle.fb_window.specs.declared.cores.Core.{Core}
+use Rattle.fb_window.specs.declared.cores.AwayState.{AwayState}
+use Rattle.fb_window.specs.declared.cores.CoreState.{CoreState}
 use Rattle.fb_window.specs.declared.cores.Settled.{Settled}
 use Rattle.fb_window.specs.declared.cores.Settled.TheVariants.{Going, Ended, Stopped}
 use Rattle.fb_laws.proofs.Phasing.{phase_of, is_phase}
+use Rattle.fb_window.proofs.Keeping.{keeps}
 use Rattle.fb_parts_tests.specs.Coming.{HasCome, IsAfter}
 
 -- ---- The opening
@@ -43,7 +47,7 @@ module _ (i : Inputs) (limit : ℕ) where
       subst (λ (ls : List run.Line). All (BelongsTo (system_of i)) ls) (sym none ∙ same) (λ j e b. absurd (omega arith))
 
   -- A core that was opened stands before the first event.
-  pub opened : {E : Type 0} (r : Result Core E) → IfOk r (λ c. c.system ≡ i) → IfOk r (λ c. c.steps ≡ limit) → IfOk r (λ c. IsAt i limit (core_of i limit []) c.resources.items)
+  pub opened : {E : Type 0} (r : Result CoreState E) → IfOk r (λ c. c.system ≡ i) → IfOk r (λ c. c.steps ≡ limit) → IfOk r (λ c. IsAt i limit (core_of i limit []) c.resources.items)
       → IfOk r (λ c. (horizon : ℕ) → HasHanded i limit horizon (core_of i limit []) (lists_of c.pending.items) []) → IfOk r (λ c. (horizon : ℕ) → HasCome i limit horizon c)
   opened (Err e) system steps at left = tt
   opened (Ok c) system steps at left =
@@ -64,7 +68,7 @@ module _ (i : Inputs) (limit : ℕ) where
 at_core : (P : Inputs → ℕ → Type 0) (j i : Inputs) (l limit : ℕ) → j ≡ i → l ≡ limit → P i limit → P j l
 at_core P j i l limit e f h = subst (λ (x : Inputs). P x l) (sym e) (subst (λ (y : ℕ). P i y) (sym f) h)
 
-module _ (i : Inputs) (limit horizon : ℕ) (core : Core) (h : HasCome i limit horizon core) where
+module _ (i : Inputs) (limit horizon : ℕ) (core : CoreState) (h : HasCome i limit horizon core) where
   -- what is settled after a phase
   after : (bounds : List ℕ) (workers : ℕ → ℕ) (s : Settled) → Settles i limit horizon h.way bounds (lists_of core.pending.items) workers s → IsAfter i limit horizon s
   after bounds workers (Going next out) st =
@@ -93,34 +97,20 @@ module _ (i : Inputs) (limit horizon : ℕ) (core : Core) (h : HasCome i limit h
       let se = st.settled fs ph in
       (se.2, se.0.counted)
 
-  -- the core has the resources of its system
-  pub are_of : AreOf core.system core.resources.items
-  are_of = subst (λ (j : Inputs). AreOf j core.resources.items) (sym h.inputs) (record {
-    counted = h.at.counted;
-    numbered = λ r x at. (h.at.each r x at).number;
-    of = λ r x at. (h.at.each r x at).of;
-  })
+  -- no clock is over the horizon
+  pub keep : AreGood i → KeepHorizon horizon core.resources.items
+  keep good = keeps i good limit core.resources.items horizon h.way h.schedule h.at
 
   module _ (all : List ℕ) where
-    pub may_leave : OfEachCore core.system core.steps horizon core.resources.items (λ c. MayLeave all core.resources.items) → MayLeave all core.resources.items
-    may_leave f =
-        let g : OfEachCore i limit horizon core.resources.items (λ c. MayLeave all core.resources.items) =
-        at_core (λ j l. OfEachCore j l horizon core.resources.items (λ c. MayLeave all core.resources.items)) i core.system limit core.steps (sym h.inputs) (sym h.steps) f in
-        g h.way h.schedule h.at
-
-    are_legal : OfEachCore core.system core.steps horizon core.resources.items (λ c. AreLegal core.system core.steps horizon c all) → AreLegal i limit horizon (core_of i limit h.way) all
+    are_legal : OfEachCore core.system core.steps core.resources.items (λ c. AreLegal core.system core.steps horizon c all) → AreLegal i limit horizon (core_of i limit h.way) all
     are_legal f =
-        let g : OfEachCore i limit horizon core.resources.items (λ c. AreLegal i limit horizon c all) =
-        at_core (λ j l. OfEachCore j l horizon core.resources.items (λ c. AreLegal j l horizon c all)) i core.system limit core.steps (sym h.inputs) (sym h.steps) f in
-        g h.way h.schedule h.at
+        let g : OfEachCore i limit core.resources.items (λ c. AreLegal i limit horizon c all) =
+        at_core (λ j l. OfEachCore j l core.resources.items (λ c. AreLegal j l horizon c all)) i core.system limit core.steps (sym h.inputs) (sym h.steps) f in
+        g horizon h.way h.schedule h.at
 
     -- ---- What is away
 
-    module _ (away : Away) (system : away.system ≡ core.system) (steps : away.steps ≡ core.steps) (pending : away.pending ≡ core.pending) (left : HasLeft core.resources.items all away) where
-      pub kept_belong : All (λ p. All (BelongsTo (system_of away.system)) p.items) away.pending.items
-      kept_belong =
-          rw pending (subst (λ (j : Inputs). All (λ p. All (BelongsTo (system_of j)) p.items) core.pending.items) (sym (system ∙ h.inputs)) h.kept)
-
+    module _ (away : AwayState) (system : away.system ≡ core.system) (steps : away.steps ≡ core.steps) (pending : away.pending ≡ core.pending) (left : HasLeft core.resources.items all away) where
       pub are_done : (jobs : List JobModel) (dones : List WindowDone) → jobs ≡ jobs_of core.system core.steps all 0 core.resources.items → AllZip Does jobs dones → AllZip Does away.jobs.value.items dones
       are_done jobs dones is done =
           subst (λ (js : List JobModel). AllZip Does js dones) (is ∙ sym (left.jobs ∙ ap₂ (λ j l. jobs_of j l all 0 core.resources.items) system steps)) done
@@ -136,7 +126,7 @@ module _ (i : Inputs) (limit horizon : ℕ) (core : Core) (h : HasCome i limit h
           → Settles j l u es bounds before workers s
 
       pub is_after : (s : Settled) → away.horizon ≡ horizon
-          → OfEachCore core.system core.steps horizon core.resources.items (λ c. AreLegal core.system core.steps horizon c all)
+          → OfEachCore core.system core.steps core.resources.items (λ c. AreLegal core.system core.steps horizon c all)
           → Says away.system away.steps away.horizon (lists_of away.pending.items) s → IsAfter i limit horizon s
       is_after s to legal says =
           let a : Says i away.steps away.horizon (lists_of away.pending.items) s = subst (λ (j : Inputs). Says j away.steps away.horizon (lists_of away.pending.items) s) (system ∙ h.inputs) says in

@@ -9,12 +9,12 @@ use Rattle.fb_system.specs.Lines.{BelongsTo}
 use Rattle.fb_laws.specs.Finality.{HasKept, core_of}
 use Rattle.fb_window.specs.Settling.{lists_of}
 use Rattle.fb_window.specs.Standing.{IsAt}
-use Rattle.fb_window.specs.declared.cores.Core.{Core}
+use Rattle.fb_window.specs.declared.cores.CoreState.{CoreState}
 use Rattle.fb_window.specs.declared.cores.Settled.{Settled}
 use Rattle.fb_window.specs.declared.cores.Settled.TheVariants.{Going, Ended, Stopped}
 
 -- Some steps, each in its turn, have brought the core of these inputs and this limit to where it stands, and some lines were handed out of it.
-pub record HasCome (i : Inputs) (limit horizon : ℕ) (core : Core) : Type 0 where
+pub record HasCome (i : Inputs) (limit horizon : ℕ) (core : CoreState) : Type 0 where
   pub inputs : core.system ≡ i
   pub steps : core.steps ≡ limit
   pub kept : All (λ p. All (BelongsTo (system_of i)) p.items) core.pending.items

@@ -9,7 +9,7 @@ use Rattle.fb_types.specs.Simulation.{Ending, AtHorizon, AtStop, ending_of}
 use Rattle.fb_types.specs.Text.{lines_text, last_line}
 use Rattle.fb_types.specs.declared.run.StopMark.{StopMark}
 use Rattle.fb_trace.specs.Progress.{IsPartWritten}
-use Rattle.fb_window.specs.declared.cores.Core.{Core}
+use Rattle.fb_window.specs.declared.cores.CoreState.{CoreState}
 use Rattle.fb_sim.specs.Advances.{AdvancesOn, Finishes, FinishesBy, FinishesOn, HasAdvanced, IsNext, stop_line}
 use Rattle.fb_sim.specs.Rounds.{AreAll, Begin, IsShort, RunsOn, text_of}
 use Rattle.fb_sim.specs.Sessions.{Session}
@@ -71,7 +71,7 @@ abbrev pub onward : Session → ℕ → Options
 onward s to = record { horizon = to; steps = s.steps; workers = s.workers; form = s.form }
 
 module _ (s : Session) (to : ℕ) (later : s.to < to) (ls : List Line) (was : AreAll s.inputs s.steps s.to ls (AtHorizon s.to)) (old : Option (List ℕ)) where
-  pub advanced_end : (new : Option (List ℕ)) (core : Core) (n : ℕ) → RunsOn s.inputs (onward s to) ls old new (Ok (AtEnd core, n)) → HasAdvanced s (record s { to = to; stage = going.Running }) to old new (End to)
+  pub advanced_end : (new : Option (List ℕ)) (core : CoreState) (n : ℕ) → RunsOn s.inputs (onward s to) ls old new (Ok (AtEnd core, n)) → HasAdvanced s (record s { to = to; stage = going.Running }) to old new (End to)
   advanced_end new core n r = record {
     later = later;
     bytes = text_of s.inputs s.form r.0 ++ stop_line (system_of s.inputs) (AtHorizon to);

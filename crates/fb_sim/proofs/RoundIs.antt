@@ -23,7 +23,7 @@ use Rattle.fb_laws.specs.Finality.{HasHanded, HasKept, core_of}
 use Rattle.fb_laws.specs.ScheduleLaw.{lines_to}
 use Rattle.fb_window.specs.Standing.{IsAt}
 use Rattle.fb_window.specs.Settling.{Settles, after_phase, lists_of}
-use Rattle.fb_window.specs.declared.cores.Core.{Core}
+use Rattle.fb_window.specs.declared.cores.CoreState.{CoreState}
 use Rattle.fb_window.specs.declared.cores.Settled.{Settled}
 use Rattle.fb_window.specs.declared.cores.Settled.TheVariants as settled
 use Rattle.fb_laws.proofs.Phasing.{phase_of, is_phase}
@@ -34,7 +34,7 @@ use Rattle.fb_sim.proofs.Rising.{rises}
 
 module _ (i : Inputs) (good : AreGood i) (limit horizon : ℕ) where
   -- what was handed out of a core begins the lines of the simulation
-  pub come_begins : (core : Core) (ls : List Line) → HasCome i limit horizon core ls → Begin i limit horizon ls
+  pub come_begins : (core : CoreState) (ls : List Line) → HasCome i limit horizon core ls → Begin i limit horizon ls
   come_begins core ls h =
       let x = there_is (system_of i) (sound_of i good) horizon limit (stimuli_of i) in
       let y = left_begins i good horizon limit h.steps h.way.schedule x.0 x.1 (lists_of core.pending.items) ls h.way.left in
@@ -44,7 +44,7 @@ module _ (i : Inputs) (good : AreGood i) (limit horizon : ℕ) where
   all_begin ls end h = record { takings = h.takings; simulation = h.simulation; rest = []; split = sym (append-nil ls ∙ h.lines) }
 
   -- with every clock at the horizon it is all of them
-  pub come_all : (core : Core) (ls : List Line) (h : HasCome i limit horizon core ls) → IsAtHorizon (machine (system_of i) limit) (count_of (system_of i)) horizon (core_of i limit h.steps)
+  pub come_all : (core : CoreState) (ls : List Line) (h : HasCome i limit horizon core ls) → IsAtHorizon (machine (system_of i) limit) (count_of (system_of i)) horizon (core_of i limit h.steps)
       → AreAll i limit horizon ls (AtHorizon horizon)
   come_all core ls h e =
       let told = end_told (system_of i) (sound_of i good) (stimuli_of i) horizon limit h.steps h.way.schedule e in
@@ -168,7 +168,7 @@ module _ (i : Inputs) (limit horizon : ℕ) where
 
 module _ {E : Type 0} (i : Inputs) (limit : ℕ) where
   -- A core that was opened stands before the first event.
-  pub opened_come : (r : Result Core E) → IfOk r (λ c. c.system ≡ i) → IfOk r (λ c. c.steps ≡ limit) → IfOk r (λ c. IsAt i limit (core_of i limit []) c.resources.items)
+  pub opened_come : (r : Result CoreState E) → IfOk r (λ c. c.system ≡ i) → IfOk r (λ c. c.steps ≡ limit) → IfOk r (λ c. IsAt i limit (core_of i limit []) c.resources.items)
       → IfOk r (λ c. (horizon : ℕ) → HasHanded i limit horizon (core_of i limit []) (lists_of c.pending.items) []) → IfOk r (λ c. (horizon : ℕ) → HasCome i limit horizon c [])
   opened_come (Err e) system steps at left = tt
   opened_come (Ok c) system steps at left =

@@ -14,7 +14,7 @@ use Rattle.fb_laws.specs.Sound.{AreGood}
 use Rattle.fb_trace.specs.Progress.{IsPartWritten, bounded}
 use Rattle.fb_laws.specs.Finality.{core_of}
 use Rattle.fb_window.specs.Settling.{IsUnderWay, lists_of}
-use Rattle.fb_window.specs.declared.cores.Core.{Core}
+use Rattle.fb_window.specs.declared.cores.CoreState.{CoreState}
 use Rattle.fb_sim.specs.Given.{Given}
 use Rattle.fb_sim.specs.Serial.{AreTrace, AreWithin, Declares, IsRefusal, Writes, WritesPart}
 use Rattle.fb_sim.specs.Rounds.{AreAll, Begin, CountedRounds, FailsRun, HasCome, IsFinished, IsShort, RunsOn, WritesFront, behind, text_of}
@@ -31,7 +31,7 @@ use Rattle.fb_sim.proofs.Texts.{bounded-length, lines_text-append, part-after, p
 -- ---- Rounds
 
 -- From where these lines were handed out, the core has come on by some rounds, and the writer has got the text of the next ones, of so many bytes. No event comes before the tick that has the number of the rounds.
-pub record Came (i : Inputs) (o : Options) (ls : List Line) (core : Core) (old now : Option (List ℕ)) (n rounds : ℕ) : Type 0 where
+pub record Came (i : Inputs) (o : Options) (ls : List Line) (core : CoreState) (old now : Option (List ℕ)) (n rounds : ℕ) : Type 0 where
   pub out : List Line
   pub come : HasCome i o.steps o.horizon core (ls ++ out)
   pub floor : IsFloor (machine (system_of i) o.steps) (core_of i o.steps come.steps) rounds
@@ -39,7 +39,7 @@ pub record Came (i : Inputs) (o : Options) (ls : List Line) (core : Core) (old n
   pub counted : n ≡ bounded (length (text_of i o.form out))
 
 -- the same lines, named otherwise
-abbrev come_as : (i : Inputs) (limit horizon : ℕ) (core : Core) (ks ls : List Line) → ks ≡ ls → HasCome i limit horizon core ks → HasCome i limit horizon core ls
+abbrev come_as : (i : Inputs) (limit horizon : ℕ) (core : CoreState) (ks ls : List Line) → ks ≡ ls → HasCome i limit horizon core ks → HasCome i limit horizon core ls
 come_as i limit horizon core ks ls e h = record {
   of = h.of;
   steps = h.steps;
@@ -47,7 +47,7 @@ come_as i limit horizon core ks ls e h = record {
 }
 
 module _ (i : Inputs) (o : Options) (ls : List Line) where
-  pub came_first : (core : Core) (old : Option (List ℕ)) → HasCome i o.steps o.horizon core ls → Came i o ls core old old 0 0
+  pub came_first : (core : CoreState) (old : Option (List ℕ)) → HasCome i o.steps o.horizon core ls → Came i o ls core old old 0 0
   came_first core old h = record {
     out = [];
     come = come_as i o.steps o.horizon core ls (ls ++ []) (sym (append-nil ls)) h;
@@ -68,12 +68,12 @@ module _ (i : Inputs) (o : Options) (ls : List Line) where
       ap (λ z. bounded (z + m)) a ∙ ap (λ z. bounded (bounded (length (text_of i o.form ks)) + z)) b
       ∙ bounded-length (text_of i o.form ks) (text_of i o.form ms) ∙ ap (λ (t : List ℕ). bounded (length t)) (joined ks ms)
 
-  module _ (core : Core) (old mid new : Option (List ℕ)) (n rounds : ℕ) (c : Came i o ls core old mid n rounds) where
+  module _ (core : CoreState) (old mid new : Option (List ℕ)) (n rounds : ℕ) (c : Came i o ls core old mid n rounds) where
     -- There are no more rounds than ticks.
-    pub came_early : (next : Core) (m : Tally) → CountedRounds i o (core_of i o.steps c.come.steps) (ls ++ c.out) mid new (Ok (Going next, m)) → rounds < o.horizon
+    pub came_early : (next : CoreState) (m : Tally) → CountedRounds i o (core_of i o.steps c.come.steps) (ls ++ c.out) mid new (Ok (Going next, m)) → rounds < o.horizon
     came_early next m r = let risen = r.1.3 rounds c.floor in risen.0
 
-    pub came_more : (next : Core) (m : Tally) → CountedRounds i o (core_of i o.steps c.come.steps) (ls ++ c.out) mid new (Ok (Going next, m)) → Came i o ls next old new (bounded (n + m.bytes)) (rounds + 1)
+    pub came_more : (next : CoreState) (m : Tally) → CountedRounds i o (core_of i o.steps c.come.steps) (ls ++ c.out) mid new (Ok (Going next, m)) → Came i o ls next old new (bounded (n + m.bytes)) (rounds + 1)
     came_more next m r = record {
       out = c.out ++ r.0;
       come = come_as i o.steps o.horizon next ((ls ++ c.out) ++ r.0) (ls ++ (c.out ++ r.0)) (append_assoc ls c.out r.0) r.1.0;
@@ -82,7 +82,7 @@ module _ (i : Inputs) (o : Options) (ls : List Line) where
       counted = both_counted c.out r.0 n m.bytes c.counted r.3;
     }
 
-    pub came_end : (last : Core) (m : Tally) → CountedRounds i o (core_of i o.steps c.come.steps) (ls ++ c.out) mid new (Ok (Ended last, m)) → RunsOn i o ls old new (Ok (AtEnd last, bounded (n + m.bytes)))
+    pub came_end : (last : CoreState) (m : Tally) → CountedRounds i o (core_of i o.steps c.come.steps) (ls ++ c.out) mid new (Ok (Ended last, m)) → RunsOn i o ls old new (Ok (AtEnd last, bounded (n + m.bytes)))
     came_end last m r = (
       c.out ++ r.0,
       subst (λ (ks : List Line). IsFinished i o.steps o.horizon (AtEnd last) ks) (append_assoc ls c.out r.0) r.1,
@@ -235,20 +235,20 @@ module _ (given : Given) (o : Options) (i : Inputs) (within : AreWithin o) (decl
   fails_at n old mid new end out all got counted Failed s = absurd s
 
   module _ (finish : Finish) (n : ℕ) (old mid new : Option (List ℕ)) (ran : RunsOn i o [] old mid (Ok (finish, n))) where
-    at_end : (core : Core) → finish ≡ AtEnd core → RunsOn i o [] old mid (Ok (AtEnd core, n))
+    at_end : (core : CoreState) → finish ≡ AtEnd core → RunsOn i o [] old mid (Ok (AtEnd core, n))
     at_end core is = subst (λ (f : Finish). RunsOn i o [] old mid (Ok (f, n))) is ran
 
     at_mark : (mark : StopMark) → finish ≡ AtMark mark → RunsOn i o [] old mid (Ok (AtMark mark, n))
     at_mark mark is = subst (λ (f : Finish). RunsOn i o [] old mid (Ok (f, n))) is ran
 
     -- with the last line behind it
-    pub ended : (core : Core) → finish ≡ AtEnd core → Appends mid new (last_line (system_of i) (AtHorizon o.horizon)) → Writes given o old new (AtHorizon o.horizon)
+    pub ended : (core : CoreState) → finish ≡ AtEnd core → Appends mid new (last_line (system_of i) (AtHorizon o.horizon)) → Writes given o old new (AtHorizon o.horizon)
     ended core is last = let r = at_end core is in writes_all old mid new r.0 (AtHorizon o.horizon) r.1.2 r.2 last
 
     pub stopped : (mark : StopMark) → finish ≡ AtMark mark → Appends mid new (last_line (system_of i) (AtStop mark.tick mark.resource mark.reason)) → Writes given o old new (AtStop mark.tick mark.resource mark.reason)
     stopped mark is last = let r = at_mark mark is in writes_all old mid new r.0 (AtStop mark.tick mark.resource mark.reason) r.1.1 r.2 last
 
-    pub ended_short : (core : Core) → finish ≡ AtEnd core → (e : RunError) → IsShort mid new (last_line (system_of i) (AtHorizon o.horizon)) n e → FailsRun given o old new e
+    pub ended_short : (core : CoreState) → finish ≡ AtEnd core → (e : RunError) → IsShort mid new (last_line (system_of i) (AtHorizon o.horizon)) n e → FailsRun given o old new e
     ended_short core is e s = let r = at_end core is in fails_at n old mid new (AtHorizon o.horizon) r.0 r.1.2 r.2 r.3 e s
 
     pub stopped_short : (mark : StopMark) → finish ≡ AtMark mark → (e : RunError) → IsShort mid new (last_line (system_of i) (AtStop mark.tick mark.resource mark.reason)) n e → FailsRun given o old new e

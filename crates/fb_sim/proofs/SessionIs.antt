@@ -15,7 +15,7 @@ use Rattle.fb_laws.proofs.Lines.{filter_nothing, merge_same}
 use Rattle.fb_laws.specs.Sound.{AreGood}
 use Rattle.fb_laws.specs.Finality.{Edge, until, lines_from, IsFinalIn, core_of}
 use Rattle.fb_window.specs.Settling.{lists_of}
-use Rattle.fb_window.specs.declared.cores.Core as cores
+use Rattle.fb_window.specs.declared.cores.CoreState as cores
 use Rattle.fb_sim.specs.Rounds.{AreAll, HasCome, IsFinished}
 use Rattle.fb_sim.specs.Sessions.{Session, IsAhead, HasStoppedAt}
 use Rattle.fb_sim.specs.declared.drive.Finish.TheVariants.{AtEnd}
@@ -48,7 +48,7 @@ until_tick t r = cond-false (nat_lt r 0) (t + 1) t (le-ltb r 0 (omega arith))
 
 module _ (i : Inputs) (good : AreGood i) (limit t u : ℕ) (later : t ≤ u) where
   -- With every clock at the tick, the core has come as far on the way to each later one.
-  pub come_later : (core : cores.Core) (ls : List Line) (h : HasCome i limit t core ls) → IsAtHorizon (machine (system_of i) limit) (count_of (system_of i)) t (core_of i limit h.steps)
+  pub come_later : (core : cores.CoreState) (ls : List Line) (h : HasCome i limit t core ls) → IsAtHorizon (machine (system_of i) limit) (count_of (system_of i)) t (core_of i limit h.steps)
       → HasCome i limit u core ls
   come_later core ls h e =
       let M = machine (system_of i) limit in
@@ -84,18 +84,18 @@ module _ (i : Inputs) (good : AreGood i) (limit t u : ℕ) (later : t ≤ u) whe
 
 module _ (i : Inputs) (good : AreGood i) (limit : ℕ) where
   -- before the first event
-  pub ahead_first : (core : cores.Core) → HasCome i limit 0 core [] → IsAhead i limit 0 core
+  pub ahead_first : (core : cores.CoreState) → HasCome i limit 0 core [] → IsAhead i limit 0 core
   ahead_first core h = record { lines = []; come = h; at = at_zero i good 0 limit h.steps h.way.schedule refl }
 
   -- the core on its way to a later tick
-  pub ahead_later : (t u : ℕ) → t ≤ u → (core : cores.Core) (a : IsAhead i limit t core) → HasCome i limit u core a.lines
+  pub ahead_later : (t u : ℕ) → t ≤ u → (core : cores.CoreState) (a : IsAhead i limit t core) → HasCome i limit u core a.lines
   ahead_later t u b core a = come_later i good limit t u b core a.lines a.come a.at
 
   -- what was handed out of it
-  pub ahead_all : (t : ℕ) (core : cores.Core) (a : IsAhead i limit t core) → AreAll i limit t a.lines (AtHorizon t)
+  pub ahead_all : (t : ℕ) (core : cores.CoreState) (a : IsAhead i limit t core) → AreAll i limit t a.lines (AtHorizon t)
   ahead_all t core a = come_all i good limit t core a.lines a.come a.at
 
-pub ahead_of : (i : Inputs) (limit t : ℕ) (core : cores.Core) (ls : List Line) → IsFinished i limit t (AtEnd core) ls → IsAhead i limit t core
+pub ahead_of : (i : Inputs) (limit t : ℕ) (core : cores.CoreState) (ls : List Line) → IsFinished i limit t (AtEnd core) ls → IsAhead i limit t core
 ahead_of i limit t core ls f = record { lines = ls; come = f.0; at = f.1 }
 
 pub stopped_of : (i : Inputs) (limit t : ℕ) (mark : StopMark) (ls : List Line) → AreAll i limit t ls (AtStop mark.tick mark.resource mark.reason) → HasStoppedAt i limit t mark
@@ -104,13 +104,13 @@ stopped_of i limit t mark ls all = record { lines = ls; all = all }
 -- ---- On the way to a later tick
 
 -- What is known of a simulation whose core has been taken out.
-pub record OnWay (s : Session) (to : ℕ) (core : cores.Core) : Type 0 where
+pub record OnWay (s : Session) (to : ℕ) (core : cores.CoreState) : Type 0 where
   pub later : s.to < to
   pub lines : List Line
   pub was : AreAll s.inputs s.steps s.to lines (AtHorizon s.to)
   pub come : HasCome s.inputs s.steps to core lines
 
-pub on_way : (v s : Session) → v ≡ s → AreGood v.inputs → (to : ℕ) (core : cores.Core) → IsAhead s.inputs s.steps s.to core → s.to < to → OnWay v to core
+pub on_way : (v s : Session) → v ≡ s → AreGood v.inputs → (to : ℕ) (core : cores.CoreState) → IsAhead s.inputs s.steps s.to core → s.to < to → OnWay v to core
 on_way v s same good to core ahead later =
     let a = subst (λ (x : Session). IsAhead x.inputs x.steps x.to core) (sym same) ahead in
     let l = subst (λ (x : Session). x.to < to) (sym same) later in

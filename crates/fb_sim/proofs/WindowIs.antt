@@ -21,13 +21,15 @@ use Rattle.fb_resource.specs.declared.resource.WindowDone.{WindowDone}
 use Rattle.fb_trace.specs.Progress.{IsPartWritten, bounded}
 use Rattle.fb_window.specs.Bounding.{AreGreatest}
 use Rattle.fb_laws.specs.Finality.{core_of}
-use Rattle.fb_window.specs.Jobs.{AreOf, Does, JobModel, MayLeave, jobs_of}
+use Rattle.fb_window.specs.Jobs.{Does, JobModel, jobs_of}
+use Rattle.fb_window.specs.Reached.{KeepHorizon}
 use Rattle.fb_window.specs.Reaching.{OfEachCore}
-use Rattle.fb_window.specs.Settling.{AreLegal, HasLeft, Settles, lists_of}
+use Rattle.fb_window.specs.Leaving.{AreLegal, HasLeft}
+use Rattle.fb_window.specs.Settling.{Settles, lists_of}
 use Rattle.fb_window.specs.Standing.{IsAt}
 use Rattle.fb_window.specs.Walking.{Walks, after_walk}
-use Rattle.fb_window.specs.declared.cores.Away.{Away}
-use Rattle.fb_window.specs.declared.cores.Core.{Core}
+use Rattle.fb_window.specs.declared.cores.AwayState.{AwayState}
+use Rattle.fb_window.specs.declared.cores.CoreState.{CoreState}
 use Rattle.fb_window.specs.declared.cores.Settled.{Settled}
 use Rattle.fb_window.specs.declared.cores.Settled.TheVariants as settled
 use Rattle.fb_sim.specs.Rounds.{Begin, CountedRounds, HasCome, HasWalked, IsAfter, IsHomeAgain, IsHomeOnce, IsOnItsWay, Rounds, WritesPartOf, lines_out, round_of, text_of}
@@ -37,48 +39,35 @@ use Rattle.fb_sim.specs.declared.outcome.RunError.TheVariants.{Refused, Memory, 
 use Rattle.fb_sim.specs.declared.progress.Round.{Round}
 use Rattle.fb_sim.specs.declared.progress.Round.TheVariants.{Going, Ended, Stopped}
 use Rattle.fb_sim.specs.declared.tally.Tally.{Tally}
+use Rattle.fb_window.proofs.Keeping.{keeps}
 use Rattle.fb_sim.proofs.RoundIs.{all_begin, come_begins, home_again, home_once}
 
 -- what holds of the inputs and the limit holds of the core's own
 at_core : (P : Inputs → ℕ → Type 0) (j i : Inputs) (l limit : ℕ) → j ≡ i → l ≡ limit → P i limit → P j l
 at_core P j i l limit e f h = subst (λ (x : Inputs). P x l) (sym e) (subst (λ (y : ℕ). P i y) (sym f) h)
 
-module _ (i : Inputs) (limit horizon : ℕ) (core : Core) (ls : List Line) (h : IsOnItsWay i limit horizon core ls) where
-  -- the core has the resources of its system
-  pub are_of : AreOf core.system core.resources.items
-  are_of = subst (λ (j : Inputs). AreOf j core.resources.items) (sym h.of.inputs) (record {
-    counted = h.at.counted;
-    numbered = λ r x at. (h.at.each r x at).number;
-    of = λ r x at. (h.at.each r x at).of;
-  })
+module _ (i : Inputs) (limit horizon : ℕ) (core : CoreState) (ls : List Line) (h : IsOnItsWay i limit horizon core ls) where
+  -- no clock is over the horizon
+  pub keep : AreGood i → KeepHorizon horizon core.resources.items
+  keep good = keeps i good limit core.resources.items horizon h.steps h.schedule h.at
 
   module _ (all : List ℕ) where
-    pub may_leave : OfEachCore core.system core.steps horizon core.resources.items (λ c. MayLeave all core.resources.items) → MayLeave all core.resources.items
-    may_leave f =
-        let g : OfEachCore i limit horizon core.resources.items (λ c. MayLeave all core.resources.items) =
-        at_core (λ j l. OfEachCore j l horizon core.resources.items (λ c. MayLeave all core.resources.items)) i core.system limit core.steps (sym h.of.inputs) (sym h.of.steps) f in
-        g h.steps h.schedule h.at
-
-    are_legal : OfEachCore core.system core.steps horizon core.resources.items (λ c. AreLegal core.system core.steps horizon c all) → AreLegal i limit horizon (core_of i limit h.steps) all
+    are_legal : OfEachCore core.system core.steps core.resources.items (λ c. AreLegal core.system core.steps horizon c all) → AreLegal i limit horizon (core_of i limit h.steps) all
     are_legal f =
-        let g : OfEachCore i limit horizon core.resources.items (λ c. AreLegal i limit horizon c all) =
-        at_core (λ j l. OfEachCore j l horizon core.resources.items (λ c. AreLegal j l horizon c all)) i core.system limit core.steps (sym h.of.inputs) (sym h.of.steps) f in
-        g h.steps h.schedule h.at
+        let g : OfEachCore i limit core.resources.items (λ c. AreLegal i limit horizon c all) =
+        at_core (λ j l. OfEachCore j l core.resources.items (λ c. AreLegal j l horizon c all)) i core.system limit core.steps (sym h.of.inputs) (sym h.of.steps) f in
+        g horizon h.steps h.schedule h.at
 
-    are_greatest : (cap : ℕ) → OfEachCore core.system core.steps horizon core.resources.items (λ c. AreGreatest (system_of core.system) core.steps horizon cap c all)
+    are_greatest : (cap : ℕ) → OfEachCore core.system core.steps core.resources.items (λ c. AreGreatest (system_of core.system) core.steps horizon cap c all)
         → AreGreatest (system_of i) limit horizon cap (core_of i limit h.steps) all
     are_greatest cap f =
-        let g : OfEachCore i limit horizon core.resources.items (λ c. AreGreatest (system_of i) limit horizon cap c all) =
-        at_core (λ j l. OfEachCore j l horizon core.resources.items (λ c. AreGreatest (system_of j) l horizon cap c all)) i core.system limit core.steps (sym h.of.inputs) (sym h.of.steps) f in
-        g h.steps h.schedule h.at
+        let g : OfEachCore i limit core.resources.items (λ c. AreGreatest (system_of i) limit horizon cap c all) =
+        at_core (λ j l. OfEachCore j l core.resources.items (λ c. AreGreatest (system_of j) l horizon cap c all)) i core.system limit core.steps (sym h.of.inputs) (sym h.of.steps) f in
+        g horizon h.steps h.schedule h.at
 
     -- ---- What is away
 
-    module _ (away : Away) (system : away.system ≡ core.system) (steps : away.steps ≡ core.steps) (pending : away.pending ≡ core.pending) (left : HasLeft core.resources.items all away) where
-      pub kept_belong : All (λ p. All (BelongsTo (system_of away.system)) p.items) away.pending.items
-      kept_belong =
-          rw pending (subst (λ (j : Inputs). All (λ p. All (BelongsTo (system_of j)) p.items) core.pending.items) (sym (system ∙ h.of.inputs)) h.of.kept)
-
+    module _ (away : AwayState) (system : away.system ≡ core.system) (steps : away.steps ≡ core.steps) (pending : away.pending ≡ core.pending) (left : HasLeft core.resources.items all away) where
       pub are_done : (jobs : List JobModel) (dones : List WindowDone) → jobs ≡ jobs_of core.system core.steps all 0 core.resources.items → AllZip Does jobs dones → AllZip Does away.jobs.value.items dones
       are_done jobs dones is done =
           subst (λ (js : List JobModel). AllZip Does js dones) (is ∙ sym (left.jobs ∙ ap₂ (λ j l. jobs_of j l all 0 core.resources.items) system steps)) done
@@ -94,7 +83,7 @@ module _ (i : Inputs) (limit horizon : ℕ) (core : Core) (ls : List Line) (h : 
           → Settles j l u es bounds before workers s
 
       settles : (s : Settled) → away.horizon ≡ horizon
-          → OfEachCore core.system core.steps horizon core.resources.items (λ c. AreLegal core.system core.steps horizon c all)
+          → OfEachCore core.system core.steps core.resources.items (λ c. AreLegal core.system core.steps horizon c all)
           → Says away.system away.steps away.horizon (lists_of away.pending.items) s → Settles i limit horizon h.steps all (lists_of core.pending.items) (λ r. 0) s
       settles s to legal says =
           let a : Says i away.steps away.horizon (lists_of away.pending.items) s = subst (λ (j : Inputs). Says j away.steps away.horizon (lists_of away.pending.items) s) (system ∙ h.of.inputs) says in
@@ -104,8 +93,8 @@ module _ (i : Inputs) (limit horizon : ℕ) (core : Core) (ls : List Line) (h : 
           d core.resources.items all h.steps (λ r. 0) left h.schedule h.at (are_legal legal)
 
       pub is_home : (s : Settled) → AreGood i → away.horizon ≡ horizon
-          → OfEachCore core.system core.steps horizon core.resources.items (λ c. AreLegal core.system core.steps horizon c all)
-          → (cap : ℕ) → OfEachCore core.system core.steps horizon core.resources.items (λ c. AreGreatest (system_of core.system) core.steps horizon cap c all)
+          → OfEachCore core.system core.steps core.resources.items (λ c. AreLegal core.system core.steps horizon c all)
+          → (cap : ℕ) → OfEachCore core.system core.steps core.resources.items (λ c. AreGreatest (system_of core.system) core.steps horizon cap c all)
           → Says away.system away.steps away.horizon (lists_of away.pending.items) s → IsHomeAgain i limit horizon (core_of i limit h.steps) ls s
       is_home s good to legal cap greatest says =
           home_again i good limit horizon h.steps core.resources.items (lists_of core.pending.items) ls h.schedule h.at h.left cap all (are_greatest cap greatest) (λ r. 0) s
@@ -113,34 +102,25 @@ module _ (i : Inputs) (limit horizon : ℕ) (core : Core) (ls : List Line) (h : 
 
       -- the same, with the one phase that led there
       pub is_home_once : (s : Settled) → AreGood i → away.horizon ≡ horizon
-          → OfEachCore core.system core.steps horizon core.resources.items (λ c. AreLegal core.system core.steps horizon c all)
-          → (cap : ℕ) → OfEachCore core.system core.steps horizon core.resources.items (λ c. AreGreatest (system_of core.system) core.steps horizon cap c all)
+          → OfEachCore core.system core.steps core.resources.items (λ c. AreLegal core.system core.steps horizon c all)
+          → (cap : ℕ) → OfEachCore core.system core.steps core.resources.items (λ c. AreGreatest (system_of core.system) core.steps horizon cap c all)
           → Says away.system away.steps away.horizon (lists_of away.pending.items) s → IsHomeOnce i limit horizon cap h.steps ls s
       is_home_once s good to legal cap greatest says =
           home_once i good limit horizon h.steps core.resources.items (lists_of core.pending.items) ls h.schedule h.at h.left cap all (are_greatest cap greatest) (λ r. 0) s
           (settles s to legal says)
 
 -- a core that all final lines were handed out of
-abbrev pub on_its_way : (i : Inputs) (limit horizon : ℕ) (core : Core) (ls : List Line) → HasCome i limit horizon core ls → IsOnItsWay i limit horizon core ls
+abbrev pub on_its_way : (i : Inputs) (limit horizon : ℕ) (core : CoreState) (ls : List Line) → HasCome i limit horizon core ls → IsOnItsWay i limit horizon core ls
 on_its_way i limit horizon core ls h = record { of = h.of; steps = h.steps; schedule = h.way.schedule; at = h.way.at; left = h.way.left.handed }
 
 -- ---- A walk before the window
 
-module _ (i : Inputs) (limit horizon : ℕ) (core : Core) (ls : List Line) (h : HasCome i limit horizon core ls) where
-  -- what a walk asks for
-  pub walk_come : (es : List (CoreStep (machine (system_of core.system) core.steps)))
-      × IsSchedule (machine (system_of core.system) core.steps) horizon (opening_core (system_of core.system) (stimuli_of core.system) core.steps) es
-      × IsAt core.system core.steps (core_of core.system core.steps es) core.resources.items
-  walk_come = at_core (λ j l. (es : List (CoreStep (machine (system_of j) l))) × IsSchedule (machine (system_of j) l) horizon (opening_core (system_of j) (stimuli_of j) l) es × IsAt j l (core_of j l es) core.resources.items)
-      core.system i core.steps limit h.of.inputs h.of.steps (h.steps, h.way.schedule, h.way.at)
+module _ (i : Inputs) (limit horizon : ℕ) (core : CoreState) (ls : List Line) (h : HasCome i limit horizon core ls) where
+  -- no clock is over the horizon
+  pub walk_keeps : AreGood i → KeepHorizon horizon core.resources.items
+  walk_keeps good = keeps i good limit core.resources.items horizon h.steps h.way.schedule h.way.at
 
-  pub walk_counted : length core.pending.items ≡ length core.resources.items
-  walk_counted = sym (length-map core.pending.items (λ (p : Vec run.Line). p.items)) ∙ h.way.left.handed.counted ∙ sym h.way.at.counted
-
-  pub walk_pending : All (λ p. All (BelongsTo (system_of core.system)) p.items) core.pending.items
-  walk_pending = subst (λ (j : Inputs). All (λ p. All (BelongsTo (system_of j)) p.items) core.pending.items) (sym h.of.inputs) h.of.kept
-
-  module _ (most : ℕ) (next : Core) (system : next.system ≡ core.system) (steps : next.steps ≡ core.steps) where
+  module _ (most : ℕ) (next : CoreState) (system : next.system ≡ core.system) (steps : next.steps ≡ core.steps) where
     has_walked : All (λ p. All (BelongsTo (system_of i)) p.items) next.pending.items → Walks i limit horizon most core next → HasWalked i limit horizon (core_of i limit h.steps) ls next
     has_walked belong walks =
         let led = walks h.steps h.way.schedule h.way.at in
@@ -163,13 +143,13 @@ module _ (i : Inputs) (limit horizon : ℕ) (core : Core) (ls : List Line) (h : 
         (at_core (λ j l. Walks j l horizon most core next) i core.system limit core.steps (sym h.of.inputs) (sym h.of.steps) walks)
 
 -- A round of the core after a walk is one of the core before it.
-module _ (i : Inputs) (limit horizon : ℕ) (c : model_cores.Core (machine (system_of i) limit)) (ls ms : List Line) (core : Core) (h : HasWalked i limit horizon c ls core) where
+module _ (i : Inputs) (limit horizon : ℕ) (c : model_cores.Core (machine (system_of i) limit)) (ls ms : List Line) (core : CoreState) (h : HasWalked i limit horizon c ls core) where
   after_since : (round : Round) → IsAfter i limit horizon (core_of i limit h.way.steps) ms round → IsAfter i limit horizon c ms round
   after_since (Going next) a = (a.0, a.1, a.2, λ m floor. a.3 m (h.floors m floor))
   after_since (Ended last) a = a
   after_since (Stopped mark) a = a
 
-pub home_since : (i : Inputs) (limit horizon : ℕ) (c : model_cores.Core (machine (system_of i) limit)) (ls : List Line) (core : Core) (h : HasWalked i limit horizon c ls core) (s : Settled)
+pub home_since : (i : Inputs) (limit horizon : ℕ) (c : model_cores.Core (machine (system_of i) limit)) (ls : List Line) (core : CoreState) (h : HasWalked i limit horizon c ls core) (s : Settled)
     → IsHomeAgain i limit horizon (core_of i limit h.way.steps) ls s → IsHomeAgain i limit horizon c ls s
 home_since i limit horizon c ls core h s home = record { belong = home.belong; after = after_since i limit horizon c ls (ls ++ map (line_of (system_of i)) (lines_out s)) core h (round_of s) home.after }
 

@@ -20,7 +20,7 @@ use Rattle.fb_laws.specs.Phases.{Turn, IsPhase}
 use Rattle.fb_window.specs.Bounding.{AreGreatest}
 use Rattle.fb_window.specs.Settling.{AreTurns, IsUnderWay, after_phase, lists_of}
 use Rattle.fb_window.specs.Standing.{IsAt}
-use Rattle.fb_window.specs.declared.cores.Core.{Core}
+use Rattle.fb_window.specs.declared.cores.CoreState.{CoreState}
 use Rattle.fb_window.specs.declared.cores.Settled.{Settled}
 use Rattle.fb_window.specs.declared.cores.Settled.TheVariants as settled
 use Rattle.fb_sim.specs.Given.{Given}
@@ -53,13 +53,13 @@ pub record AreAll (i : Inputs) (limit horizon : ℕ) (ls : List Line) (end : End
 -- ---- A round
 
 -- A core of these inputs and this limit, all of whose lines belong to the system.
-pub record IsCoreOf (i : Inputs) (limit : ℕ) (core : Core) : Type 0 where
+pub record IsCoreOf (i : Inputs) (limit : ℕ) (core : CoreState) : Type 0 where
   pub inputs : core.system ≡ i
   pub steps : core.steps ≡ limit
   pub kept : All (λ p. All (BelongsTo (system_of i)) p.items) core.pending.items
 
 -- The core has come to where it stands by some steps, each in its turn, and these lines were handed out of it.
-pub record HasCome (i : Inputs) (limit horizon : ℕ) (core : Core) (ls : List Line) : Type 0 where
+pub record HasCome (i : Inputs) (limit horizon : ℕ) (core : CoreState) (ls : List Line) : Type 0 where
   pub of : IsCoreOf i limit core
   pub steps : List (CoreStep (machine (system_of i) limit))
   pub way : IsUnderWay i limit horizon steps core.resources.items (lists_of core.pending.items) ls
@@ -217,7 +217,7 @@ pub record IsHomeOnce (i : Inputs) (limit horizon cap : ℕ) (es : List (CoreSte
   pub round : IsOneRound i limit horizon cap es (ls ++ map (line_of (system_of i)) (lines_out s)) (round_of s)
 
 -- The core has come to where it stands by some steps, each in its turn, and these lines were handed out of it: but of those that it keeps some may be final by now.
-pub record IsOnItsWay (i : Inputs) (limit horizon : ℕ) (core : Core) (ls : List Line) : Type 0 where
+pub record IsOnItsWay (i : Inputs) (limit horizon : ℕ) (core : CoreState) (ls : List Line) : Type 0 where
   pub of : IsCoreOf i limit core
   pub steps : List (CoreStep (machine (system_of i) limit))
   pub schedule : IsSchedule (machine (system_of i) limit) horizon (opening_core (system_of i) (stimuli_of i) limit) steps
@@ -225,6 +225,6 @@ pub record IsOnItsWay (i : Inputs) (limit horizon : ℕ) (core : Core) (ls : Lis
   pub left : HasKept i limit horizon (core_of i limit steps) (lists_of core.pending.items) ls
 
 -- So a core is after some turns of single resources from c, which hand nothing out and lower no floor.
-pub record HasWalked (i : Inputs) (limit horizon : ℕ) (c : model_cores.Core (machine (system_of i) limit)) (ls : List Line) (core : Core) : Type 0 where
+pub record HasWalked (i : Inputs) (limit horizon : ℕ) (c : model_cores.Core (machine (system_of i) limit)) (ls : List Line) (core : CoreState) : Type 0 where
   pub way : IsOnItsWay i limit horizon core ls
   pub floors : (m : ℕ) → IsFloor (machine (system_of i) limit) c m → IsFloor (machine (system_of i) limit) (core_of i limit way.steps) m

@@ -11,7 +11,7 @@ use Rattle.fb_types.specs.declared.run.Form.{Form}
 use Rattle.fb_types.specs.declared.run.StopMark.{StopMark}
 use Rattle.fb_system.specs.contracts.system.System as system
 use Rattle.fb_laws.specs.Finality.{core_of}
-use Rattle.fb_window.specs.declared.cores.Core.{Core}
+use Rattle.fb_window.specs.declared.cores.CoreState.{CoreState}
 use Rattle.fb_sim.specs.Rounds.{HasCome, AreAll}
 use Rattle.fb_sim.specs.contracts.state.Stage as stage_row
 use Rattle.fb_sim.specs.declared.state.Stage.{Stage}
@@ -43,13 +43,13 @@ stage_of (state.Stopped mark) = going.Stopped mark
 stage_of state.Failed = going.Failed
 
 -- the core, where there is one
-abbrev pub core_in : SessionState → Option Core
+abbrev pub core_in : SessionState → Option CoreState
 core_in (state.Open core) = Some core
 core_in (state.Stopped mark) = None
 core_in state.Failed = None
 
 -- The core has come to the tick, with every clock there, and all lines below it were handed out.
-pub record IsAhead (i : Inputs) (limit to : ℕ) (core : Core) : Type 0 where
+pub record IsAhead (i : Inputs) (limit to : ℕ) (core : CoreState) : Type 0 where
   pub lines : List Line
   pub come : HasCome i limit to core lines
   pub at : IsAtHorizon (machine (system_of i) limit) (count_of (system_of i)) to (core_of i limit come.steps)

@@ -117,6 +117,7 @@ fn walked(alloc: Global, system: &System, core: Core, plan: RoundPlan) -> Result
         → IfOk result (λ d. HasWalked system.now plan.options.steps plan.options.horizon (core_of system.now plan.options.steps come.steps) ls d) }
     ensures memory { IfErr result (λ e. e ≡ Memory) }
 {
+    system.facts();
     Ok(core.walk(alloc, system, plan.options.horizon, plan.turns)?)
 }
 

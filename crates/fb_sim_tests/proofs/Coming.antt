@@ -2,14 +2,14 @@
 use Rattle.std.proofs.Common.{◌≡◌, ℕ, List, ◌++◌, Option, Ok, subst}
 use Rattle.fb_types.specs.Headline.{Inputs}
 use Rattle.fb_types.specs.States.{Line}
-use Rattle.fb_window.specs.declared.cores.Core.{Core}
+use Rattle.fb_window.specs.declared.cores.CoreState.{CoreState}
 use Rattle.fb_sim.specs.Rounds.{HasCome, Rounds}
 use Rattle.fb_sim.specs.declared.options.Options.{Options}
 use Rattle.fb_sim.specs.declared.progress.Round.{Round}
 use Rattle.fb_sim.specs.declared.progress.Round.TheVariants.{Going}
 
 pub goes_on :
-    (i : Inputs) (o : Options) (core next : Core) (round : Round) (old new : Option (List ℕ))
+    (i : Inputs) (o : Options) (core next : CoreState) (round : Round) (old new : Option (List ℕ))
     → (ls : List Line) × HasCome i o.steps o.horizon core ls
     → round ≡ Going next
     → ((ls : List Line) (come : HasCome i o.steps o.horizon core ls) → Rounds i o come.steps ls old new (Ok round))

@@ -21,10 +21,12 @@ use Rattle.fb_laws.proofs.Opening.{is_opening}
 use Rattle.fb_laws.specs.Worlds.{World}
 use Rattle.fb_window.specs.Bounding.{AreGreatest}
 use Rattle.fb_laws.specs.Finality.{core_of, IsLeastTick}
+use Rattle.fb_window.specs.Reached.{KeepHorizon}
 use Rattle.fb_window.specs.Standing.{IsAt}
 use Rattle.fb_window.specs.Jobs.{MayLeave}
 use Rattle.fb_laws.specs.Phases.{Turn, IsPhase}
-use Rattle.fb_window.specs.Settling.{AreLegal, AreTurns, HasRisen, after_phase}
+use Rattle.fb_window.specs.Leaving.{AreLegal}
+use Rattle.fb_window.specs.Settling.{AreTurns, HasRisen, after_phase}
 use Rattle.fb_laws.proofs.AtHome.{clock_legal, clock_in_range}
 use Rattle.fb_types.proofs.ByPlace.{element_at}
 use Rattle.fb_window.proofs.Bounding.{IsCoreOf, AreComputed, greatest, least_floor, least_most}
@@ -85,23 +87,32 @@ module _ (i : Inputs) (good : AreGood i) (limit horizon : ℕ) (es : List (CoreS
     pub clock_within : (r : ℕ) → (core_of i limit es r).clock ≤ horizon
     clock_within r = clock_in_range M (lawful (system_of i) sound limit) horizon w (core_of i limit es) (runs_after M es) kept_by r (at_home r)
 
-    -- The computed bounds are the greatest, whatever the schedule that the core has come by.
-    pub are_greatest : (cap : ℕ) → 1 ≤ cap → (all : List ℕ) → AreComputed clock_of stop_of Rests (system_of i) horizon cap xs all
-        → AreGreatest (system_of i) limit horizon cap (core_of i limit es) all
-    are_greatest cap few all computed =
-        greatest clock_of stop_of Rests (system_of i) sound limit horizon cap few (core_of i limit es) xs all (core_is i limit (core_of i limit es) xs at) computed
+    -- The computed bounds are the greatest, whatever the schedule that the core has come by, and its horizon.
+    pub are_greatest : (to cap : ℕ) → 1 ≤ cap → (all : List ℕ) → AreComputed clock_of stop_of Rests (system_of i) to cap xs all
+        → AreGreatest (system_of i) limit to cap (core_of i limit es) all
+    are_greatest to cap few all computed =
+        greatest clock_of stop_of Rests (system_of i) sound limit to cap few (core_of i limit es) xs all (core_is i limit (core_of i limit es) xs at) computed
         (λ r b. clock_legal M (lawful (system_of i) sound limit) horizon w (core_of i limit es) (runs_after M es) kept_by r (at_home r))
 
-    -- So each resource may leave with its bound.
-    pub are_legal : (cap : ℕ) (all : List ℕ) → AreGreatest (system_of i) limit horizon cap (core_of i limit es) all → AreLegal i limit horizon (core_of i limit es) all
-    are_legal cap all g = record {
+    -- So each resource may leave with its bound, where all clocks keep the horizon.
+    pub are_legal : (to cap : ℕ) (all : List ℕ) → KeepHorizon to xs → AreGreatest (system_of i) limit to cap (core_of i limit es) all → AreLegal i limit to (core_of i limit es) all
+    are_legal to cap all keep g = record {
       legal = λ r b live. (g r b).legal;
       not_back = λ r b live. (g r b).not_back;
-      in_range = λ r b live. ⊎_elim (λ e. let c = clock_within r in omega arith) (λ h. h.0.in_range) (g r b).in_range;
+      in_range = λ r b live.
+          ⊎_elim
+          (λ e.
+          let n = at.counted in
+          let x = element_at xs r (omega arith) in
+          let c : (core_of i limit es r).clock ≡ x.0.clock = (at.each r x.0 x.1).clock in
+          let k = (keep r x.0 x.1).0 in
+          omega arith)
+          (λ h. h.0.in_range)
+          (g r b).in_range;
     }
 
-    pub may_leave : (all : List ℕ) → horizon ≤ 10 ^ 12 → AreLegal i limit horizon (core_of i limit es) all → MayLeave all xs
-    may_leave all early legal r x s live =
+    pub may_leave : (to : ℕ) (all : List ℕ) → to ≤ 10 ^ 12 → AreLegal i limit to (core_of i limit es) all → MayLeave all xs
+    may_leave to all early legal r x s live =
         let m = at.each r x s in
         let n : (core_of i limit es r).state.stop ≡ None = m.state.stop ∙ live in
         let c : (core_of i limit es r).clock ≡ x.clock = m.clock in

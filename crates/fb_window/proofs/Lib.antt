@@ -19,3 +19,5 @@ pub mod Walking
 pub mod Walked
 pub mod Noting
 pub mod LinkLemmas
+pub mod Within
+pub mod Keeping

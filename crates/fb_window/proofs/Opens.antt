@@ -1,8 +1,8 @@
 -- The opening core.
-use Rattle.std.proofs.Common.{◌≡◌, ℕ, zero, suc, Bool, true, false, Option, None, List, [], ◌∷◌, map, length, refl, sym, ap, ◌∙◌, subst, ⊎_elim, arith, All}
+use Rattle.std.proofs.Common.{◌≡◌, ℕ, ◌^◌, ◌≤◌, zero, suc, Bool, true, false, Option, None, List, [], ◌∷◌, map, length, refl, sym, ap, ◌∙◌, subst, ⊎_elim, arith, All}
 use Rattle.std.specs.Global.{Vec}
 use Rattle.std.specs.Prelude.{slice_index_or, if◌then◌else◌, ◌==◌}
-use Rattle.std.proofs.lemmas.List.Elements.{All-head, All-tail}
+use Rattle.std.proofs.lemmas.List.Elements.{All-head, All-nil, All-tail, All-weaker}
 use Rattle.fb_types.specs.Headline.{Inputs, system_of, stimuli_of}
 use Rattle.fb_types.specs.Keys.{or_else}
 use Rattle.fb_types.specs.Machines.{Each}
@@ -10,6 +10,7 @@ use Rattle.fb_types.specs.Numbers.{line_of}
 use Rattle.fb_types.specs.Parts.{count_of}
 use Rattle.fb_types.specs.Simulation.{opening}
 use Rattle.fb_types.specs.declared.run.Line.{Line}
+use Rattle.fb_system.specs.Lines.{BelongsTo}
 use Rattle.fb_laws.specs.Sound.{AreGood}
 use Rattle.fb_laws.proofs.Accepting.{sound_of}
 use Rattle.fb_laws.proofs.Opening.{is_counted}
@@ -17,6 +18,7 @@ use Rattle.fb_resource.specs.Resources.{AreOpened}
 use Rattle.fb_resource.specs.declared.resource.Resource.{Resource}
 use Rattle.fb_laws.specs.Finality.{Edge, until, HasHanded, core_of, lines_in}
 use Rattle.fb_window.specs.Settling.{lists_of}
+use Rattle.fb_window.specs.Reached.{IsBrought, IsReached}
 use Rattle.fb_window.specs.Standing.{IsAt}
 use Rattle.fb_laws.proofs.Edges.{until_cases}
 
@@ -82,3 +84,25 @@ opened_left i limit horizon pending counted none = record {
   where
     nothing : (r : ℕ) → lines_in i limit (lists_of pending) r ≡ []
     nothing r = ap (λ z. map (line_of (system_of i)) z) (no_lines_at pending r none)
+
+-- No step at all has led to the resources as they are opened.
+pub opened_brought : (i : Inputs) (limit : ℕ) (xs : List Resource) → AreGood i → AreOpened i xs → IsBrought i limit xs
+opened_brought i limit xs good o = record { range = 0; steps = []; schedule = tt; at = opened_at i limit xs good o; idle = λ r b. refl }
+
+-- where nothing is kept, all of it belongs to the system
+pub opened_belong : (i : Inputs) (pending : List (Vec Line)) → All (λ (p : Vec Line). p.items ≡ []) pending → All (λ (p : Vec Line). All (BelongsTo (system_of i)) p.items) pending
+opened_belong i pending none =
+    All-weaker (λ (p : Vec Line). p.items ≡ []) (λ (p : Vec Line). All (BelongsTo (system_of i)) p.items)
+    (λ p e. subst (All (BelongsTo (system_of i))) (sym e) (All-nil (BelongsTo (system_of i)))) pending none
+
+-- What is said of the inputs of a core is said of the core.
+pub reached_as : (i j : Inputs) (limit : ℕ) (resources : Vec Resource) (pending : Vec (Vec Line)) → j ≡ i → IsBrought i limit resources.items → 1 ≤ limit → limit ≤ 10 ^ 7
+    → length pending.items ≡ length resources.items → All (λ (p : Vec Line). All (BelongsTo (system_of i)) p.items) pending.items
+    → IsReached (record { system = j; steps = limit; resources = resources; pending = pending })
+reached_as i j limit resources pending same way some few counted belong = record {
+  way = subst (λ (z : Inputs). IsBrought z limit resources.items) (sym same) way;
+  some_steps = some;
+  few_steps = few;
+  counted = counted;
+  belong = subst (λ (z : Inputs). All (λ (p : Vec Line). All (BelongsTo (system_of z)) p.items) pending.items) (sym same) belong;
+}

@@ -1,5 +1,5 @@
 -- A round: all have come home, and what is found then says where the core is, which lines are handed out, and how far the run is.
-use Rattle.std.proofs.Common.{◌≡◌, ℕ, suc, ◌+◌, ◌<◌, ◌≤◌, ◌⊎◌, Option, Some, None, List, [], ◌∷◌, ◌++◌, map, length, refl, sym, ap, ◌∙◌, subst, inl, inr, ⊎_elim, arith, All, append_assoc}
+use Rattle.std.proofs.Common.{◌≡◌, ℕ, suc, ◌+◌, ◌<◌, ◌≤◌, ◌^◌, ◌⊎◌, Option, Some, None, List, [], ◌∷◌, ◌++◌, map, length, refl, sym, ap, ◌∙◌, subst, inl, inr, ⊎_elim, arith, All, append_assoc}
 use Rattle.std.specs.Global.{Vec}
 use Rattle.std.specs.List.{AllZip}
 use Rattle.std.specs.Prelude.{nat_lt, slice_get, slice_index_or, if◌then◌else◌}
@@ -37,11 +37,13 @@ use Rattle.fb_window.specs.Homes.{AreHome}
 use Rattle.fb_window.specs.Jobs.{Does, jobs_of, resting_of}
 use Rattle.fb_laws.specs.ScheduleLaw.{lines_to}
 use Rattle.fb_window.specs.Mails.{ArePosted}
-use Rattle.fb_laws.specs.Phases.{Turn, IsPhase}
-use Rattle.fb_window.specs.Settling.{AreLegal, AreTurns, HasLeft, HasRisen, IsKept, IsSettled, Settles, lists_of}
+use Rattle.fb_laws.specs.Phases.{Turn, IsPhase, turned}
+use Rattle.fb_window.specs.Leaving.{AreLegal, HasLeft}
+use Rattle.fb_window.specs.Settling.{AreTurns, HasRisen, IsKept, IsSettled, Settles, after_phase, lists_of}
+use Rattle.fb_window.specs.Reached.{IsBrought, IsReached}
 use Rattle.fb_window.specs.Standing.{IsAt}
-use Rattle.fb_window.specs.declared.cores.Away.{Away}
-use Rattle.fb_window.specs.declared.cores.Core as held
+use Rattle.fb_window.specs.declared.cores.AwayState.{AwayState}
+use Rattle.fb_window.specs.declared.cores.CoreState as held
 use Rattle.fb_window.specs.declared.cores.Settled.{Settled}
 use Rattle.fb_window.specs.declared.cores.Settled.TheVariants.{Going, Ended, Stopped}
 use Rattle.fb_window.specs.declared.ends.End.{End}
@@ -52,7 +54,7 @@ use Rattle.fb_window.proofs.Gather.{out_handed, out_merges}
 use Rattle.fb_laws.proofs.Handed.{until_at_stop}
 use Rattle.fb_laws.proofs.Handing.{AreLinesOf, core_lines, is_later}
 use Rattle.fb_laws.proofs.Keeps.{Inv}
-use Rattle.fb_laws.proofs.Phasing.{IsRound, all_turned, after_append, is_round}
+use Rattle.fb_laws.proofs.Phasing.{IsRound, all_turned, after_append, is_phase, is_round, phase_of}
 use Rattle.fb_laws.proofs.Places.{has_at, is_at as is_at_place, one_at}
 use Rattle.fb_window.proofs.Posted.{is_posted}
 use Rattle.fb_laws.proofs.Reached.{inv_after, runs_after}
@@ -228,7 +230,7 @@ module _ (i : Inputs) (good : AreGood i) (limit horizon : ℕ) (es : List (CoreS
 
     -- ---- The answers
 
-    module _ (core : held.Core) (inputs : core.system ≡ i) (steps : core.steps ≡ limit) (resources : core.resources.items ≡ zs) (pending : core.pending.items ≡ rests)
+    module _ (core : held.CoreState) (inputs : core.system ≡ i) (steps : core.steps ≡ limit) (resources : core.resources.items ≡ zs) (pending : core.pending.items ≡ rests)
         (belong : All (BelongsTo (system_of i)) out) (belongs : All (λ (p : Vec Line). All (BelongsTo (system_of i)) p.items) rests) where
       pub is_kept : IsKept i limit horizon c d (lists_of before) core out
       is_kept = record {
@@ -282,6 +284,20 @@ module _ (i : Inputs) (good : AreGood i) (limit horizon : ℕ) (es : List (CoreS
         clock : (d m.resource).clock ≡ m.tick
         clock = stop_clock i limit d zs is_at m ends.0
 
+  -- Some schedule has led to the resources as they are then: that of the turns one after another.
+  pub brought : ((r : ℕ) → count_of (system_of i) ≤ r → (core_of i limit es r).clock ≡ 0) → IsBrought i limit zs
+  brought idle =
+      let fs = phase_of M turns (count_of sys) in
+      let phase = is_phase M turns (count_of sys) turns_are.others in
+      let r = round fs phase in
+      record {
+        range = horizon;
+        steps = after_phase i limit es fs;
+        schedule = r.schedule;
+        at = subst (λ (z : Core M). IsAt i limit z zs) (sym r.comes_to) (is_at fs phase);
+        idle = λ q b. ap (λ (z : Core M). (z q).clock) r.comes_to ∙ ap (λ (o : Option (Turn M)). (turned M (c q) o).clock) (turns_are.others q b) ∙ idle q b;
+      }
+
   -- What is settled in every order of the steps.
   pub settles : (s : Settled) → ((fs : List (CoreStep (machine (system_of i) limit))) → IsPhase (machine (system_of i) limit) turns fs → IsSettled i limit horizon c d bounds (lists_of before) s)
       → Settles i limit horizon es bounds (lists_of before) workers s
@@ -302,7 +318,7 @@ pub record HasGathered (i : Inputs) (limit horizon : ℕ) (resting : List (Optio
   pub belong : All (BelongsTo (system_of i)) out
   pub belongs : All (λ (p : Vec Line). All (BelongsTo (system_of i)) p.items) rests
 
-module _ (a : Away) (dones : List WindowDone) (done : AllZip Does a.jobs.value.items dones) (h : Home) (zs : List Resource) (fronts rests : List (Vec Line)) (out : List Line) (end : End)
+module _ (a : AwayState) (dones : List WindowDone) (done : AllZip Does a.jobs.value.items dones) (h : Home) (zs : List Resource) (fronts rests : List (Vec Line)) (out : List Line) (end : End)
     (x : HasGathered a.system a.steps a.horizon a.resting.items a.pending.items dones h zs fronts rests out end)
     (xs : List Resource) (bounds : List ℕ) (es : List (CoreStep (machine (system_of a.system) a.steps))) (workers : ℕ → ℕ) (left : HasLeft xs bounds a)
     (sc : IsSchedule (machine (system_of a.system) a.steps) a.horizon (opening_core (system_of a.system) (stimuli_of a.system) a.steps) es)
@@ -310,7 +326,7 @@ module _ (a : Away) (dones : List WindowDone) (done : AllZip Does a.jobs.value.i
   came : AreHome a.system a.steps bounds xs a.pending.items h
   came = x.home bounds xs left.resting (subst (λ z. AllZip Does z dones) left.jobs done)
 
-  pub settle_going : (core : held.Core) (lines : Vec Line) → end ≡ Open → core.system ≡ a.system → core.steps ≡ a.steps → core.resources.items ≡ zs → core.pending.items ≡ rests → lines.items ≡ out
+  pub settle_going : (core : held.CoreState) (lines : Vec Line) → end ≡ Open → core.system ≡ a.system → core.steps ≡ a.steps → core.resources.items ≡ zs → core.pending.items ≡ rests → lines.items ≡ out
       → Settles a.system a.steps a.horizon es bounds (lists_of a.pending.items) workers (Going core lines)
   settle_going core lines e inputs steps resources pending same =
       settles a.system x.good a.steps a.horizon es sc xs bounds workers a.pending.items h at legal came zs fronts rests out end x.found (Going core lines)
@@ -319,7 +335,7 @@ module _ (a : Away) (dones : List WindowDone) (done : AllZip Does a.jobs.value.i
       let g = going a.system x.good a.steps a.horizon es sc xs bounds workers a.pending.items h at legal came zs fronts rests out end x.found fs phase e in
       (subst (IsKept a.system a.steps a.horizon _ _ (lists_of a.pending.items) core) (sym same) k, g.0, g.1, g.2))
 
-  pub settle_ended : (core : held.Core) (lines : Vec Line) → end ≡ Horizon → core.system ≡ a.system → core.steps ≡ a.steps → core.resources.items ≡ zs → core.pending.items ≡ rests → lines.items ≡ out
+  pub settle_ended : (core : held.CoreState) (lines : Vec Line) → end ≡ Horizon → core.system ≡ a.system → core.steps ≡ a.steps → core.resources.items ≡ zs → core.pending.items ≡ rests → lines.items ≡ out
       → Settles a.system a.steps a.horizon es bounds (lists_of a.pending.items) workers (Ended core lines)
   settle_ended core lines e inputs steps resources pending same =
       settles a.system x.good a.steps a.horizon es sc xs bounds workers a.pending.items h at legal came zs fronts rests out end x.found (Ended core lines)
@@ -328,6 +344,20 @@ module _ (a : Away) (dones : List WindowDone) (done : AllZip Does a.jobs.value.i
         subst (IsKept a.system a.steps a.horizon _ _ (lists_of a.pending.items) core) (sym same) k,
         ended a.system x.good a.steps a.horizon es sc xs bounds workers a.pending.items h at legal came zs fronts rests out end x.found fs phase e,
       ))
+
+  -- The core that is put together is one.
+  pub settle_reached : ((r : ℕ) → count_of (system_of a.system) ≤ r → (core_of a.system a.steps es r).clock ≡ 0) → 1 ≤ a.steps → a.steps ≤ 10 ^ 7
+      → (resources : Vec Resource) (pending : Vec (Vec Line)) → resources.items ≡ zs → pending.items ≡ rests
+      → IsReached (record { system = a.system; steps = a.steps; resources = resources; pending = pending })
+  settle_reached idle some few resources pending same kept =
+      let way : IsBrought a.system a.steps zs = brought a.system x.good a.steps a.horizon es sc xs bounds workers a.pending.items h at legal came zs fronts rests out end x.found idle in
+      record {
+        way = subst (λ (z : List Resource). IsBrought a.system a.steps z) (sym same) way;
+        some_steps = some;
+        few_steps = few;
+        counted = ap length kept ∙ x.found.cut.rests ∙ came.pending ∙ at.counted ∙ sym way.at.counted ∙ sym (ap length same);
+        belong = subst (λ (z : List (Vec Line)). All (λ (p : Vec Line). All (BelongsTo (system_of a.system)) p.items) z) (sym kept) x.belongs;
+      }
 
   pub settle_stopped : (lines : Vec Line) (m : StopMark) → end ≡ Stop m → lines.items ≡ out
       → Settles a.system a.steps a.horizon es bounds (lists_of a.pending.items) workers (Stopped lines m)

@@ -43,7 +43,7 @@ use Rattle.fb_laws.specs.Phases.{Turn, IsPhase, MayTurn, steps_of, turn_steps, t
 use Rattle.fb_window.specs.Settling.{lists_of}
 use Rattle.fb_window.specs.Standing.{IsAt, IsQuiet, Sits}
 use Rattle.fb_window.specs.Walking.{IsSingle, Leads, Single, single_steps}
-use Rattle.fb_window.specs.declared.cores.Core as held
+use Rattle.fb_window.specs.declared.cores.CoreState as held
 use Rattle.fb_laws.proofs.AtHome.{outbox_sends}
 use Rattle.fb_laws.proofs.Boxes.{found_some}
 use Rattle.fb_types.proofs.ByPlace.{all_at}
@@ -176,7 +176,7 @@ module _ (i : Inputs) (good : AreGood i) (limit horizon : ℕ) (es : List (CoreS
       none_some _ _ (rests (core_live r) j.0 (own ∙ sits.number) (omega arith)) (sits.state.waits j.0 own ∙ ap (λ o. option_map (event_of i) o) e.1)
 
   pub is_single : IsSingle (machine (system_of i) limit) (count_of (system_of i)) (core_of i limit es) single
-  is_single = record { live = λ q b. core_live q; least = (m, is_floor, refl); some = some }
+  is_single = record { counted = let b = within in let n = at.counted in omega arith; live = λ q b. core_live q; least = (m, is_floor, refl); some = some }
 
   -- ---- The turn, and the exchange after it
 
@@ -366,7 +366,7 @@ module _ (i : Inputs) (good : AreGood i) (limit horizon : ℕ) (es : List (CoreS
     }
 
     -- So the turn leads from the one core to the other.
-    pub leads : (a b : held.Core) → a.resources.items ≡ xs → b.resources.items ≡ zs → a.pending.items ≡ ps → b.pending.items ≡ slice_set ps r new_p
+    pub leads : (a b : held.CoreState) → a.resources.items ≡ xs → b.resources.items ≡ zs → a.pending.items ≡ ps → b.pending.items ≡ slice_set ps r new_p
         → (t : Single (machine (system_of i) limit)) × Leads i limit horizon es a b (t ∷ [])
     leads a b a_is b_is a_keeps b_keeps = (
       single,

@@ -18,7 +18,8 @@ use Rattle.fb_resource.specs.Resources.{IsOf, StandsFor, RanTo}
 use Rattle.fb_resource.specs.declared.resource.Resource.{Resource}
 use Rattle.fb_window.specs.Homes.{HasCome, IsHomeAt, AreHome}
 use Rattle.fb_laws.specs.Phases.{Turn, MayTurn, turned}
-use Rattle.fb_window.specs.Settling.{AreLegal, AreTurns}
+use Rattle.fb_window.specs.Leaving.{AreLegal}
+use Rattle.fb_window.specs.Settling.{AreTurns}
 use Rattle.fb_window.specs.Standing.{IsAt, Sits}
 use Rattle.fb_window.specs.declared.home.Home.{Home}
 

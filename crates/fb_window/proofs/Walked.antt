@@ -24,7 +24,7 @@ use Rattle.fb_laws.specs.Finality.{core_of}
 use Rattle.fb_window.specs.Frontiers.{AreLive}
 use Rattle.fb_window.specs.Standing.{IsAt}
 use Rattle.fb_window.specs.Walking.{HasTurned, IsWalked, Leads, Single, Walks, after_walk}
-use Rattle.fb_window.specs.declared.cores.Core.{Core}
+use Rattle.fb_window.specs.declared.cores.CoreState.{CoreState}
 use Rattle.fb_laws.proofs.Places.{has_at, is_at, one_at, push_counted}
 use Rattle.fb_window.proofs.Receives.{set_same}
 use Rattle.fb_window.proofs.Single.{leads}
@@ -34,7 +34,7 @@ use Rattle.fb_window.proofs.Targets.{all_by_place}
 use Rattle.fb_window.proofs.Walking.{leads_more, leads_none}
 
 -- So many turns have led from the one core to the other.
-pub record HasGone (i : Inputs) (limit horizon : ℕ) (first core : Core) (k : ℕ) : Type 0 where
+pub record HasGone (i : Inputs) (limit horizon : ℕ) (first core : CoreState) (k : ℕ) : Type 0 where
   pub system : core.system ≡ i
   pub steps : core.steps ≡ limit
   pub counted : length core.pending.items ≡ length core.resources.items
@@ -44,7 +44,7 @@ pub record HasGone (i : Inputs) (limit horizon : ℕ) (first core : Core) (k : �
       → IsAt i limit (core_of i limit es) first.resources.items
       → (ts : List (Single (machine (system_of i) limit))) × Leads i limit horizon es first core ts × (length ts ≡ k)
 
-pub gone_none : (i : Inputs) (limit horizon : ℕ) (first : Core) → first.system ≡ i → first.steps ≡ limit → length first.pending.items ≡ length first.resources.items
+pub gone_none : (i : Inputs) (limit horizon : ℕ) (first : CoreState) → first.system ≡ i → first.steps ≡ limit → length first.pending.items ≡ length first.resources.items
     → All (λ (p : Vec Line). All (BelongsTo (system_of i)) p.items) first.pending.items → HasGone i limit horizon first first 0
 gone_none i limit horizon first system steps counted belong = record {
   system = system;
@@ -54,31 +54,31 @@ gone_none i limit horizon first system steps counted belong = record {
   leads = λ es sc at. ([], leads_none i limit horizon es first sc at, refl);
 }
 
-module _ (i : Inputs) (limit horizon : ℕ) (first : Core) where
+module _ (i : Inputs) (limit horizon : ℕ) (first : CoreState) where
   -- What is said of the core that the turns lead to is said of the walk.
-  pub walks_of : (most k : ℕ) (core : Core) → HasGone i limit horizon first core k
+  pub walks_of : (most k : ℕ) (core : CoreState) → HasGone i limit horizon first core k
       → ((d : model_cores.Core (machine (system_of i) limit)) → IsAt i limit d core.resources.items → IsWalked i limit horizon most d k) → Walks i limit horizon most first core
   walks_of most k core g f es sc at =
       let h = g.leads es sc at in
       (h.0, h.1, subst (λ (n : ℕ). IsWalked i limit horizon most (core_of i limit (after_walk i limit es h.0)) n) (sym h.2) (f (core_of i limit (after_walk i limit es h.0)) h.1.at))
 
   -- a resource has stopped
-  pub by_stop : (most k r : ℕ) (core : Core) (x : Resource) (reason : Reason) → slice_get core.resources.items r ≡ Some x → x.stopped ≡ Some reason → HasGone i limit horizon first core k → Walks i limit horizon most first core
+  pub by_stop : (most k r : ℕ) (core : CoreState) (x : Resource) (reason : Reason) → slice_get core.resources.items r ≡ Some x → x.stopped ≡ Some reason → HasGone i limit horizon first core k → Walks i limit horizon most first core
   by_stop most k r core x reason e s g =
       walks_of most k core g
       (λ d at. let b = is_at core.resources.items r x e in let n = at.counted in inr (inl (r, omega arith, reason, (at.each r x e).state.stop ∙ s)))
 
   -- nothing comes before the horizon
-  pub by_horizon : (most k : ℕ) (core : Core) → ((r : ℕ) (x : Resource) (j : Key) → slice_get core.resources.items r ≡ Some x → j.tick < horizon → waiting x.agenda j ≡ None)
+  pub by_horizon : (most k : ℕ) (core : CoreState) → ((r : ℕ) (x : Resource) (j : Key) → slice_get core.resources.items r ≡ Some x → j.tick < horizon → waiting x.agenda j ≡ None)
       → HasGone i limit horizon first core k → Walks i limit horizon most first core
   by_horizon most k core low g =
       walks_of most k core g (λ d at. inr (inr (is_least i limit d core.resources.items at horizon horizon (omega arith) low (λ b. absurd (omega arith))).is_floor))
 
-  pub by_count : (most : ℕ) (core : Core) → HasGone i limit horizon first core most → Walks i limit horizon most first core
+  pub by_count : (most : ℕ) (core : CoreState) → HasGone i limit horizon first core most → Walks i limit horizon most first core
   by_count most core g = walks_of most most core g (λ d at. inl refl)
 
   -- the resources are those of a system, in order
-  module _ (k : ℕ) (core : Core) (gone : HasGone i limit horizon first core k)
+  module _ (k : ℕ) (core : CoreState) (gone : HasGone i limit horizon first core k)
       (come : (es : List (CoreStep (machine (system_of i) limit))) × IsSchedule (machine (system_of i) limit) horizon (opening_core (system_of i) (stimuli_of i) limit) es
       × IsAt i limit (core_of i limit es) first.resources.items) where
     pub all_counted : length core.resources.items ≡ count_of (system_of i)
@@ -89,10 +89,10 @@ module _ (i : Inputs) (limit horizon : ℕ) (first : Core) where
 
   -- ---- One turn more
 
-  module _ (good : AreGood i) (k : ℕ) (old : Core) (live : AreLive old.resources.items) (gone : HasGone i limit horizon first old k)
+  module _ (good : AreGood i) (k : ℕ) (old : CoreState) (live : AreLive old.resources.items) (gone : HasGone i limit horizon first old k)
       (m : ℕ) (early : m < horizon) (low : (q : ℕ) (z : Resource) (j : Key) → slice_get old.resources.items q ≡ Some z → j.tick < m → waiting z.agenda j ≡ None)
       (place : ℕ) (x : Resource) (x_at : slice_get old.resources.items place ≡ Some x) (next : IsNext x.agenda m)
-      (new : Core) (stop : Option StopMark) (turned : HasTurned i limit place (m + 1) old new stop) (system : new.system ≡ old.system) (steps : new.steps ≡ old.steps) where
+      (new : CoreState) (stop : Option StopMark) (turned : HasTurned i limit place (m + 1) old new stop) (system : new.system ≡ old.system) (steps : new.steps ≡ old.steps) where
     next_of : IsNext turned.before.agenda m
     next_of = subst (λ (z : Resource). IsNext z.agenda m) (one_at old.resources.items place x turned.before x_at turned.was) next
 
@@ -155,15 +155,15 @@ module _ (i : Inputs) (limit horizon : ℕ) (first : Core) where
             (option_cases turned.after.stopped)
 
 -- What is known after one turn more.
-pub record HasStepped (i : Inputs) (limit horizon : ℕ) (first : Core) (k : ℕ) (new : Core) (stop : Option StopMark) : Type 0 where
+pub record HasStepped (i : Inputs) (limit horizon : ℕ) (first : CoreState) (k : ℕ) (new : CoreState) (stop : Option StopMark) : Type 0 where
   pub gone : HasGone i limit horizon first new (k + 1)
   pub live : stop ≡ None → AreLive new.resources.items
   pub ends : (mark : StopMark) → stop ≡ Some mark → (most : ℕ) → Walks i limit horizon most first new
 
-pub stepped : (i : Inputs) (limit horizon : ℕ) (first : Core) → AreGood i → (k : ℕ) (old : Core) → AreLive old.resources.items → HasGone i limit horizon first old k
+pub stepped : (i : Inputs) (limit horizon : ℕ) (first : CoreState) → AreGood i → (k : ℕ) (old : CoreState) → AreLive old.resources.items → HasGone i limit horizon first old k
     → (m : ℕ) → m < horizon → ((q : ℕ) (z : Resource) (j : Key) → slice_get old.resources.items q ≡ Some z → j.tick < m → waiting z.agenda j ≡ None)
     → (place : ℕ) (x : Resource) → slice_get old.resources.items place ≡ Some x → IsNext x.agenda m
-    → (new : Core) (stop : Option StopMark) → HasTurned old.system old.steps place (m + 1) old new stop → new.system ≡ old.system → new.steps ≡ old.steps
+    → (new : CoreState) (stop : Option StopMark) → HasTurned old.system old.steps place (m + 1) old new stop → new.system ≡ old.system → new.steps ≡ old.steps
     → HasStepped i limit horizon first k new stop
 stepped i limit horizon first good k old live gone m early low place x x_at next new stop turned system steps =
     let same : HasTurned i limit place (m + 1) old new stop =

@@ -11,7 +11,7 @@ use Rattle.fb_laws.specs.Finality.{HasKept, core_of}
 use Rattle.fb_window.specs.Settling.{lists_of}
 use Rattle.fb_window.specs.Standing.{IsAt}
 use Rattle.fb_window.specs.Walking.{AreSingle, Leads, Single, after_walk, single_steps, walk_steps}
-use Rattle.fb_window.specs.declared.cores.Core.{Core}
+use Rattle.fb_window.specs.declared.cores.CoreState.{CoreState}
 use Rattle.fb_laws.proofs.Phasing.{after_append}
 
 module _ (M : Machine) where
@@ -28,7 +28,7 @@ module _ (i : Inputs) (limit horizon : ℕ) (es : List (CoreStep (machine (syste
   M = machine (system_of i) limit
 
   -- no turn at all
-  pub leads_none : (a : Core) → IsSchedule (machine (system_of i) limit) horizon (opening_core (system_of i) (stimuli_of i) limit) es → IsAt i limit (core_of i limit es) a.resources.items
+  pub leads_none : (a : CoreState) → IsSchedule (machine (system_of i) limit) horizon (opening_core (system_of i) (stimuli_of i) limit) es → IsAt i limit (core_of i limit es) a.resources.items
       → Leads i limit horizon es a a []
   leads_none a sc at =
       let same : es ≡ es ++ [] = sym (append-nil es) in
@@ -41,7 +41,7 @@ module _ (i : Inputs) (limit horizon : ℕ) (es : List (CoreStep (machine (syste
       }
 
   -- one walk behind another
-  pub leads_more : (a b c : Core) (ts us : List (Single (machine (system_of i) limit))) → Leads i limit horizon es a b ts → Leads i limit horizon (after_walk i limit es ts) b c us
+  pub leads_more : (a b c : CoreState) (ts us : List (Single (machine (system_of i) limit))) → Leads i limit horizon es a b ts → Leads i limit horizon (after_walk i limit es ts) b c us
       → Leads i limit horizon es a c (ts ++ us)
   leads_more a b c ts us f g =
       let same : after_walk i limit (after_walk i limit es ts) us ≡ after_walk i limit es (ts ++ us) = walk_append M es ts us in

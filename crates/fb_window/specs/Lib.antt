@@ -6,6 +6,8 @@ pub mod LinkRows
 pub mod Homes
 pub mod Mails
 pub mod Frontiers
+pub mod Leaving
 pub mod Settling
+pub mod Reached
 pub mod Walking
 pub mod Noting

@@ -1,6 +1,6 @@
 -- What becomes of the core when all jobs of a phase have come home and their messages are exchanged (this project's profile).
 use Rattle.std.specs.Global.{Vec}
-use Rattle.std.specs.Prelude.{◌≡◌, ℕ, ◌+◌, ◌<◌, ◌≤◌, ◌++◌, List, [], ◌∷◌, map, length, All, Option, Some, None, slice_get, slice_index_or}
+use Rattle.std.specs.Prelude.{◌≡◌, ℕ, ◌+◌, ◌<◌, ◌≤◌, ◌++◌, List, [], ◌∷◌, map, All, Option, Some, None, slice_index_or}
 use Rattle.fb_types.specs.Headline.{Inputs, system_of, stimuli_of}
 use Rattle.fb_types.specs.Machines.{Item}
 use Rattle.fb_types.specs.Numbers.{line_of}
@@ -18,24 +18,9 @@ use Rattle.fb_laws.specs.ScheduleLaw.{lines_to}
 use Rattle.fb_laws.specs.Phases.{Turn, IsPhase, MayTurn}
 use Rattle.fb_laws.specs.Finality.{HasHanded, HasKept, core_of}
 use Rattle.fb_window.specs.Standing.{IsAt}
-use Rattle.fb_window.specs.Jobs.{jobs_of, resting_of}
-use Rattle.fb_window.specs.declared.cores.Away.{Away}
-use Rattle.fb_window.specs.declared.cores.Core.{Core}
+use Rattle.fb_window.specs.declared.cores.CoreState.{CoreState}
 use Rattle.fb_window.specs.declared.cores.Settled.{Settled}
 use Rattle.fb_window.specs.declared.cores.Settled.TheVariants.{Going, Ended, Stopped}
-
--- What is away has left these resources with these bounds: each that has not stopped is a job, and each other stayed at its place.
-pub record HasLeft (xs : List Resource) (bounds : List ℕ) (a : Away) : Type 0 where
-  pub counted : length xs ≡ count_of (system_of a.system)
-  pub numbered : (r : ℕ) (x : Resource) → slice_get xs r ≡ Some x → x.tree.resource ≡ r
-  pub jobs : a.jobs.value.items ≡ jobs_of a.system a.steps bounds 0 xs
-  pub resting : a.resting.items ≡ map resting_of xs
-
--- Each resource that has not stopped may leave with its bound: a legal one, not below its clock nor over the horizon.
-pub record AreLegal (i : Inputs) (limit horizon : ℕ) (c : model_cores.Core (machine (system_of i) limit)) (bounds : List ℕ) : Type 0 where
-  pub legal : (r : ℕ) → r < count_of (system_of i) → (c r).state.stop ≡ None → IsLegal (machine (system_of i) limit) c r (slice_index_or bounds r 0)
-  pub not_back : (r : ℕ) → r < count_of (system_of i) → (c r).state.stop ≡ None → (c r).clock ≤ slice_index_or bounds r 0
-  pub in_range : (r : ℕ) → r < count_of (system_of i) → (c r).state.stop ≡ None → slice_index_or bounds r 0 ≤ horizon
 
 -- The run is under way: these steps have brought the core to these resources, these lines were handed out, and the others are kept.
 pub record IsUnderWay (i : Inputs) (limit horizon : ℕ) (es : List (CoreStep (machine (system_of i) limit))) (xs : List Resource) (pending : List (List Line)) (ls : List model.Line) : Type 0 where
@@ -59,7 +44,7 @@ abbrev pub lists_of : List (Vec Line) → List (List Line)
 lists_of ps = map (λ p. p.items) ps
 
 -- The core has come from c to d. It keeps the lines that are not final, and those that have become so are handed out.
-pub record IsKept (i : Inputs) (limit horizon : ℕ) (c d : model_cores.Core (machine (system_of i) limit)) (before : List (List Line)) (core : Core) (out : List Line) : Type 0 where
+pub record IsKept (i : Inputs) (limit horizon : ℕ) (c d : model_cores.Core (machine (system_of i) limit)) (before : List (List Line)) (core : CoreState) (out : List Line) : Type 0 where
   pub inputs : core.system ≡ i
   pub steps : core.steps ≡ limit
   pub at : IsAt i limit d core.resources.items

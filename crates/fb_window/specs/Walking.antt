@@ -19,7 +19,7 @@ use Rattle.fb_laws.specs.Finality.{HasKept, core_of}
 use Rattle.fb_window.specs.Mails.{AreGiven}
 use Rattle.fb_window.specs.Settling.{lists_of}
 use Rattle.fb_window.specs.Standing.{IsAt}
-use Rattle.fb_window.specs.declared.cores.Core.{Core}
+use Rattle.fb_window.specs.declared.cores.CoreState.{CoreState}
 
 -- A turn while all others are at home: the resource that has it, its bound, and what it takes.
 pub record Single (M : Machine) : Type 0 where
@@ -37,6 +37,7 @@ module _ (M : Machine) where
 
   -- None of so many resources has stopped, and one takes what it has at the least tick of all events: one event at least.
   pub record IsSingle (count : ℕ) (c : model_cores.Core M) (t : Single M) : Type 0 where
+    pub counted : t.resource < count
     pub live : (r : ℕ) → r < count → (c r).state.stop ≡ None
     pub least : (m : ℕ) × IsFloor M c m × (t.bound ≡ m + 1)
     pub some : t.run ≡ [] → ⊥
@@ -58,7 +59,7 @@ IsWalked i limit horizon most d turns =
     ⊎ IsFloor (machine (system_of i) limit) d horizon)
 
 -- These turns after the steps es lead from the one core to the other. No line was handed out: those that were kept are kept with the new ones.
-pub record Leads (i : Inputs) (limit horizon : ℕ) (es : List (CoreStep (machine (system_of i) limit))) (before after : Core) (ts : List (Single (machine (system_of i) limit))) : Type 0 where
+pub record Leads (i : Inputs) (limit horizon : ℕ) (es : List (CoreStep (machine (system_of i) limit))) (before after : CoreState) (ts : List (Single (machine (system_of i) limit))) : Type 0 where
   pub singles : AreSingle (machine (system_of i) limit) (count_of (system_of i)) (core_of i limit es) ts
   pub schedule : IsSchedule (machine (system_of i) limit) horizon (opening_core (system_of i) (stimuli_of i) limit) (after_walk i limit es ts)
   pub at : IsAt i limit (core_of i limit (after_walk i limit es ts)) after.resources.items
@@ -68,7 +69,7 @@ pub record Leads (i : Inputs) (limit horizon : ℕ) (es : List (CoreStep (machin
   pub floors : (m : ℕ) → IsFloor (machine (system_of i) limit) (core_of i limit es) m → IsFloor (machine (system_of i) limit) (core_of i limit (after_walk i limit es ts)) m
 
 -- After any steps that have brought the core to its resources there are turns that lead on to the other.
-abbrev pub Walks : (i : Inputs) (limit horizon most : ℕ) (before after : Core) → Type 0
+abbrev pub Walks : (i : Inputs) (limit horizon most : ℕ) (before after : CoreState) → Type 0
 Walks i limit horizon most before after =
     (es : List (CoreStep (machine (system_of i) limit)))
     → IsSchedule (machine (system_of i) limit) horizon (opening_core (system_of i) (stimuli_of i) limit) es
@@ -79,7 +80,7 @@ Walks i limit horizon most before after =
 -- ---- In code
 
 -- A resource has run below a tick by itself. Its lines stand behind those that were kept, its messages were delivered, and nothing else has changed.
-pub record HasTurned (i : Inputs) (limit place to : ℕ) (old new : Core) (stop : Option StopMark) : Type 0 where
+pub record HasTurned (i : Inputs) (limit place to : ℕ) (old new : CoreState) (stop : Option StopMark) : Type 0 where
   pub before : Resource
   pub after : Resource
   pub told : Vec Line

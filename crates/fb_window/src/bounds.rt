@@ -9,11 +9,12 @@ ghost use Rattle.fb_types.specs.Parts.{count_of};
 ghost use Rattle.fb_types.specs.declared.key.Key.{Key};
 ghost use Rattle.fb_window.specs.Bounding.{AreGreatest};
 ghost use Rattle.fb_laws.specs.Cuts.{IsCut, LinkAllows, StopAllows};
-ghost use Rattle.fb_window.specs.Jobs.{AreOf, MayLeave};
+ghost use Rattle.fb_window.specs.Jobs.{AreOf};
+ghost use Rattle.fb_window.specs.Reached.{KeepHorizon};
 ghost use Rattle.fb_window.specs.Reaching.{OfEachCore};
-ghost use Rattle.fb_window.specs.Settling.{AreLegal};
+ghost use Rattle.fb_window.specs.Leaving.{AreLegal};
 
-use crate::cores::{Bounds, Core};
+use crate::cores::{Bounds, Core, CoreState};
 use crate::links::SystemLinks;
 use fb_link::earliest;
 use fb_resource::Resource;
@@ -25,13 +26,27 @@ impl Core {
     /// clock where that is greater. A resource that has stopped has its bound too, though it gets no job. This takes no
     /// memory: the links were copied when the core was opened.
     pub fn bounds(&self, horizon: u64, cap: u64) -> Bounds
-        requires resources { AreOf self.now.system self.now.resources.items }
+        requires clocks { KeepHorizon horizon self.now.resources.items }
         requires early { horizon ≤ 10 ^ 12 }
         requires cap { 1 ≤ cap }
         ensures horizon { result.horizon ≡ horizon }
-        ensures bounds { OfEachCore self.now.system self.now.steps horizon self.now.resources.items (λ c. AreGreatest (system_of self.now.system) self.now.steps horizon cap c result.all) }
-        ensures legal { OfEachCore self.now.system self.now.steps horizon self.now.resources.items (λ c. AreLegal self.now.system self.now.steps horizon c result.all) }
-        ensures leave { OfEachCore self.now.system self.now.steps horizon self.now.resources.items (λ c. MayLeave result.all self.now.resources.items) }
+        ensures bounds { OfEachCore self.now.system self.now.steps self.now.resources.items (λ c. AreGreatest (system_of self.now.system) self.now.steps horizon cap c result.all) }
+        ensures legal { OfEachCore self.now.system self.now.steps self.now.resources.items (λ c. AreLegal self.now.system self.now.steps horizon c result.all) }
+    {
+        self.state.bounds(horizon, cap)
+    }
+}
+
+impl CoreState {
+    /// How far each resource may run.
+    fn bounds(&self, horizon: u64, cap: u64) -> Bounds
+        requires resources { AreOf self.now.system self.now.resources.items }
+        requires clocks { KeepHorizon horizon self.now.resources.items }
+        requires early { horizon ≤ 10 ^ 12 }
+        requires cap { 1 ≤ cap }
+        ensures horizon { result.horizon ≡ horizon }
+        ensures bounds { OfEachCore self.now.system self.now.steps self.now.resources.items (λ c. AreGreatest (system_of self.now.system) self.now.steps horizon cap c result.all) }
+        ensures legal { OfEachCore self.now.system self.now.steps self.now.resources.items (λ c. AreLegal self.now.system self.now.steps horizon c result.all) }
     {
         self.system.facts();
         let least = least_next(&self.resources, horizon);

@@ -1,15 +1,18 @@
 //! The core of the parallel run: all resources at home, and what of it stays behind while they are away.
 
+ghost use Rattle.std.specs.Prelude.{◌≡◌};
+
 use crate::job::Job;
 use crate::links::SystemLinks;
 use fb_resource::Resource;
 use fb_types::{Line, MOST_RESOURCES, StopMark};
 use std::alloc::AllocError;
+use std::marker::Model;
 use std::snapshot::Snapshot;
 
-/// All resources of a system at home, with no message on its way.
+/// What a core holds.
 #[derive(Drop)]
-pub struct Core {
+pub struct CoreState {
     /// The links of the system that is run. Contracts see by them which system it is.
     pub system: SystemLinks,
     /// The limit on the steps of one tick of a resource.
@@ -18,6 +21,36 @@ pub struct Core {
     pub resources: Vec<Resource>,
     /// For each resource its lines that are not final yet.
     pub pending: Vec<Vec<Line>>,
+}
+
+/// All resources of a system at home, with no message on its way: some schedule of the model's steps has led to them.
+/// Contracts see what the core holds.
+#[derive(Drop)]
+pub struct Core {
+    pub(crate) state: CoreState,
+}
+
+impl Model for Core {
+    ghost use Rattle.fb_window.specs.Reached.{IsReached};
+    ghost use Rattle.fb_window.specs.declared.cores.CoreState.{CoreState};
+    ghost use Rattle.fb_window.specs.contracts.cores.CoreState.{the_row};
+
+    ghost Value = { CoreState };
+
+    ghost coded = { the_row.coded };
+
+    ghost view = { λ c. c.state };
+
+    ghost invariant = { λ c. IsReached c.state };
+}
+
+impl Core {
+    /// What it holds.
+    pub fn state(&self) -> &CoreState
+        ensures { result.now ≡ self.now }
+    {
+        &self.state
+    }
 }
 
 /// How far each resource may run, in ticks: to below the bound at its place. The places past the last resource
@@ -32,7 +65,7 @@ pub struct Bounds {
 
 /// What stays behind while resources are away.
 #[derive(Drop)]
-pub struct Away {
+pub struct AwayState {
     /// The links of the system that is run. Contracts see by them which system it is.
     pub system: SystemLinks,
     /// The limit on the steps of one tick of a resource.
@@ -45,6 +78,26 @@ pub struct Away {
     pub pending: Vec<Vec<Line>>,
     /// The jobs with which the others have left, for contracts alone.
     pub jobs: Snapshot<Vec<Job>>,
+}
+
+/// What stays behind of a core while resources are away, which have left with legal bounds. Contracts see what it holds.
+#[derive(Drop)]
+pub struct Away {
+    pub(crate) state: AwayState,
+}
+
+impl Model for Away {
+    ghost use Rattle.fb_window.specs.Reached.{IsBehind};
+    ghost use Rattle.fb_window.specs.declared.cores.AwayState.{AwayState};
+    ghost use Rattle.fb_window.specs.contracts.cores.AwayState.{the_row};
+
+    ghost Value = { AwayState };
+
+    ghost coded = { the_row.coded };
+
+    ghost view = { λ a. a.state };
+
+    ghost invariant = { λ a. IsBehind a.state };
 }
 
 /// How far the run is when all resources are home again.

@@ -4,9 +4,11 @@ ghost use Rattle.std.specs.Prelude.{◌≡◌, ◌^◌, ◌≤◌, ◌++◌, ℕ
 ghost use Rattle.fb_resource.specs.Resources.{IsOf};
 ghost use Rattle.fb_resource.specs.declared.resource.Resource.{Resource};
 ghost use Rattle.fb_window.specs.Jobs.{AreOf, MayLeave, job_of, jobs_of, resting_of};
-ghost use Rattle.fb_window.specs.Settling.{HasLeft};
+ghost use Rattle.fb_window.specs.Leaving.{AreLegal, HasLeft};
+ghost use Rattle.fb_window.specs.Reached.{KeepHorizon};
+ghost use Rattle.fb_window.specs.Reaching.{OfEachCore};
 
-use crate::cores::{Away, Bounds, Core, Failed};
+use crate::cores::{Away, AwayState, Bounds, Core, CoreState, Failed};
 use crate::job::Job;
 use fb_resource::Resource;
 use fb_system::System;
@@ -38,7 +40,7 @@ fn leave(
     Ok(())
 }
 
-impl Core {
+impl CoreState {
     /// Sends each resource out with the bound at its place, or lets it rest. What has left is lent here, so that no exit of
     /// the loop drops it.
     fn leave_all(
@@ -65,17 +67,13 @@ impl Core {
         Ok(())
     }
 
-    /// Takes the core apart: one job for each resource that has not stopped, with the bound at its place, and what
-    /// stays behind.
-    ///
-    /// # Errors
-    /// When memory runs out.
-    pub fn jobs(
+    /// One job for each resource that has not stopped, with the bound at its place, and what stays behind.
+    fn jobs(
         self,
         alloc: Global,
         system: &System,
         bounds: Bounds,
-    ) -> Result<(Away, Vec<Job>), Failed>
+    ) -> Result<(AwayState, Vec<Job>), Failed>
         requires system { system.now ≡ self.system }
         requires resources { AreOf self.system self.resources.items }
         requires bounds { MayLeave bounds.all self.resources.items }
@@ -89,7 +87,7 @@ impl Core {
         system.facts();
         let mut jobs = Vec::new(alloc);
         let mut resting = Vec::new(alloc);
-        Core::leave_all(
+        CoreState::leave_all(
             &mut jobs,
             &mut resting,
             system,
@@ -97,7 +95,7 @@ impl Core {
             self.resources,
             &bounds,
         )?;
-        let away = Away {
+        let away = AwayState {
             system: self.system,
             steps: self.steps,
             horizon: bounds.horizon,
@@ -106,5 +104,33 @@ impl Core {
             jobs: Snapshot::of(&jobs),
         };
         Ok((away, jobs))
+    }
+}
+
+impl Core {
+    /// Takes the core apart: one job for each resource that has not stopped, with the bound at its place, and what
+    /// stays behind.
+    ///
+    /// # Errors
+    /// When memory runs out.
+    pub fn jobs(
+        self,
+        alloc: Global,
+        system: &System,
+        bounds: Bounds,
+    ) -> Result<(Away, Vec<Job>), Failed>
+        requires system { system.now ≡ self.system }
+        requires clocks { KeepHorizon bounds.horizon self.resources.items }
+        requires early { bounds.horizon ≤ 10 ^ 12 }
+        requires legal { OfEachCore self.system self.steps self.resources.items (λ c. AreLegal self.system self.steps bounds.horizon c bounds.all) }
+        ensures jobs { IfOk result (λ r. r.1.items ≡ jobs_of self.system self.steps bounds.all 0 self.resources.items) }
+        ensures away { IfOk result (λ r. HasLeft self.resources.items bounds.all r.0) }
+        ensures kept { IfOk result (λ r. (r.0.system ≡ self.system) × (r.0.steps ≡ self.steps) × (r.0.horizon ≡ bounds.horizon) × (r.0.pending ≡ self.pending)) }
+        ensures few { IfOk result (λ r. vec_len r.1 ≤ 256) }
+    {
+        system.facts();
+        let Core { state } = self;
+        let (away, jobs) = state.jobs(alloc, system, bounds)?;
+        Ok((Away { state: away }, jobs))
     }
 }

@@ -27,7 +27,7 @@ mod post;
 pub mod settle;
 mod walk;
 
-pub use cores::{Away, Bounds, Core, Failed, Settled};
+pub use cores::{Away, AwayState, Bounds, Core, CoreState, Failed, Settled};
 pub use job::Job;
 pub use let_go::{let_jobs_go, let_resource_go, let_system_go};
 pub use links::{LinkRow, SystemLinks};

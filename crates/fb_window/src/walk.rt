@@ -12,10 +12,11 @@ ghost use Rattle.fb_laws.specs.Finality.{core_of};
 ghost use Rattle.fb_window.specs.Frontiers.{AreLive};
 ghost use Rattle.fb_window.specs.Mails.{AreGiven};
 ghost use Rattle.fb_window.specs.Noting.{AreNoted, IsHanded};
+ghost use Rattle.fb_window.specs.Reached.{KeepHorizon};
 ghost use Rattle.fb_window.specs.Standing.{IsAt};
 ghost use Rattle.fb_window.specs.Walking.{HasTurned, Walks};
 
-use crate::cores::{Core, Failed};
+use crate::cores::{Core, CoreState, Failed};
 use crate::ends::first_stop;
 use crate::home::put_behind;
 use crate::nexts::Nexts;
@@ -95,7 +96,7 @@ fn give(
     Ok(())
 }
 
-impl Core {
+impl CoreState {
     /// Runs a resource below a tick, keeps its lines, and delivers its messages. Tells where it stopped, if it did.
     fn turn(
         &mut self,
@@ -129,6 +130,41 @@ impl Core {
         Ok(output.stop)
     }
 
+    /// Up to `most` turns, each of the first resource that has the least event of all.
+    fn walk(
+        self,
+        alloc: Global,
+        system: &System,
+        horizon: u64,
+        most: u64,
+    ) -> Result<CoreState, Failed>
+        requires system { system.now ≡ self.system }
+        requires come { (es : List (CoreStep (machine (system_of self.system) self.steps)))
+            × IsSchedule (machine (system_of self.system) self.steps) horizon (opening_core (system_of self.system) (stimuli_of self.system) self.steps) es
+            × IsAt self.system self.steps (core_of self.system self.steps es) self.resources.items }
+        requires counted { length self.pending.items ≡ length self.resources.items }
+        requires pending { All (λ p. All (BelongsTo (system_of self.system)) p.items) self.pending.items }
+        requires early { horizon ≤ 10 ^ 12 }
+        requires some_steps { 1 ≤ self.steps }
+        requires few_steps { self.steps ≤ 10 ^ 7 }
+        ensures system { IfOk result (λ d. d.system ≡ self.system) }
+        ensures steps { IfOk result (λ d. d.steps ≡ self.steps) }
+        ensures pending { IfOk result (λ d. All (λ p. All (BelongsTo (system_of self.system)) p.items) d.pending.items) }
+        ensures counted { IfOk result (λ d. length d.pending.items ≡ length d.resources.items) }
+        ensures walks { IfOk result (Walks self.system self.steps horizon most self) }
+    {
+        system.facts();
+        let mut state = self;
+        if first_stop(&state.resources).is_some() {
+            return Ok(state);
+        }
+        let mut nexts = Nexts::of_all(alloc, &state.resources, horizon)?;
+        take_turns(&mut state, &mut nexts, alloc, system, horizon, most)?;
+        Ok(state)
+    }
+}
+
+impl Core {
     /// Up to `most` turns, each of the first resource that has the least event of all: it takes what it has at the
     /// tick of this event, and its messages are delivered. All is done on this thread, and no line is handed out. The
     /// walk ends early where a resource has stopped, or no event comes before the horizon. Ticks are milliseconds.
@@ -145,33 +181,23 @@ impl Core {
         most: u64,
     ) -> Result<Core, Failed>
         requires system { system.now ≡ self.system }
-        requires come { (es : List (CoreStep (machine (system_of self.system) self.steps)))
-            × IsSchedule (machine (system_of self.system) self.steps) horizon (opening_core (system_of self.system) (stimuli_of self.system) self.steps) es
-            × IsAt self.system self.steps (core_of self.system self.steps es) self.resources.items }
-        requires counted { length self.pending.items ≡ length self.resources.items }
-        requires pending { All (λ p. All (BelongsTo (system_of self.system)) p.items) self.pending.items }
+        requires clocks { KeepHorizon horizon self.resources.items }
         requires early { horizon ≤ 10 ^ 12 }
-        requires some_steps { 1 ≤ self.steps }
-        requires few_steps { self.steps ≤ 10 ^ 7 }
         ensures system { IfOk result (λ d. d.system ≡ self.system) }
         ensures steps { IfOk result (λ d. d.steps ≡ self.steps) }
         ensures pending { IfOk result (λ d. All (λ p. All (BelongsTo (system_of self.system)) p.items) d.pending.items) }
         ensures walks { IfOk result (Walks self.system self.steps horizon most self) }
     {
         system.facts();
-        let mut core = self;
-        if first_stop(&core.resources).is_some() {
-            return Ok(core);
-        }
-        let mut nexts = Nexts::of_all(alloc, &core.resources, horizon)?;
-        take_turns(&mut core, &mut nexts, alloc, system, horizon, most)?;
-        Ok(core)
+        let Core { state } = self;
+        let state = state.walk(alloc, system, horizon, most)?;
+        Ok(Core { state })
     }
 }
 
-/// The turns of a walk where no resource has stopped. The core is lent here, so that no exit of the loop drops it.
+/// The turns of a walk where no resource has stopped. What the core holds is lent here, so that no exit of the loop drops it.
 fn take_turns(
-    core: &mut Core,
+    core: &mut CoreState,
     nexts: &mut Nexts,
     alloc: Global,
     system: &System,
@@ -192,6 +218,7 @@ fn take_turns(
     ensures system { OnOk result (core.new.system ≡ core.old.system) }
     ensures steps { OnOk result (core.new.steps ≡ core.old.steps) }
     ensures pending { OnOk result (All (λ p. All (BelongsTo (system_of core.old.system)) p.items) core.new.pending.items) }
+    ensures counted { OnOk result (length core.new.pending.items ≡ length core.new.resources.items) }
     ensures walks { OnOk result (Walks core.old.system core.old.steps horizon most core.old core.new) }
 {
     system.facts();

@@ -87,7 +87,7 @@ fn push_number<R: Abort>(rt: &R, text: &mut Vec<u8>, number: u64) {
 /// Writes the bounds of a round, in the order of the resources. A dash stands for one that has stopped.
 fn tell<R: Abort>(rt: &R, core: &Core, bounds: &Bounds, out: &mut Vec<u8>) {
     out.extend_from_slice(b"below").expect(rt, "memory");
-    for (resource, bound) in core.resources.iter().zip(bounds.all.iter()) {
+    for (resource, bound) in core.state().resources.iter().zip(bounds.all.iter()) {
         out.push(b' ').expect(rt, "memory");
         if resource.stopped().is_some() {
             out.push(b'-').expect(rt, "memory");
@@ -113,6 +113,7 @@ fn window<R: Abort>(
     requires come { HasCome system.now plan.steps plan.horizon core }
     ensures { IsAfter system.now plan.steps plan.horizon result }
 {
+    system.facts();
     let bounds = core.bounds(plan.horizon, CAP);
     if plan.tells_bounds {
         tell(rt, &core, &bounds, out);

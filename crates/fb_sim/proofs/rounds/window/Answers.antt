@@ -1,37 +1,30 @@
-use Rattle.std.proofs.Common.{sym, ◌∙◌}
-use Rattle.fb_sim.proofs.WindowIs.{are_of, may_leave, kept_belong, are_done, is_home}
+use Rattle.std.proofs.Common.{ℕ, subst, sym, ◌∙◌}
+use Rattle.fb_window.specs.Leaving.{AreLegal}
+use Rattle.fb_window.specs.Reached.{KeepHorizon}
+use Rattle.fb_window.specs.Reaching.{OfEachCore}
+use Rattle.fb_sim.proofs.WindowIs.{are_done, is_home, keep}
 use Rattle.fb_sim.proofs.rounds.window.Goals as goal
 
-pub bounds-bounds-requires-clause-resources : goal.bounds-bounds-requires-clause-resources
-bounds-bounds-requires-clause-resources g c = are_of c.args.system.now c.args.options.steps c.args.options.horizon c.args.core c.requires.come.0 c.requires.come.1
+pub bounds-bounds-requires-clause-clocks : goal.bounds-bounds-requires-clause-clocks
+bounds-bounds-requires-clause-clocks g c = keep c.args.system.now c.args.options.steps c.args.options.horizon c.args.core c.requires.come.0 c.requires.come.1 (record { accepted = c.facts.ensures.accepted; limits = c.facts.ensures.limits })
 
 pub jobs-requires-clause-system : goal.jobs-requires-clause-system
 jobs-requires-clause-system g c = sym c.requires.come.1.of.inputs
 
-pub jobs-requires-clause-resources : goal.jobs-requires-clause-resources
-jobs-requires-clause-resources g c = are_of c.args.system.now c.args.options.steps c.args.options.horizon c.args.core c.requires.come.0 c.requires.come.1
+pub jobs-requires-clause-clocks : goal.jobs-requires-clause-clocks
+jobs-requires-clause-clocks g c =
+    subst (λ (n : ℕ). KeepHorizon n c.args.core.resources.items) (sym c.bounds-bounds.ensures.horizon)
+    (keep c.args.system.now c.args.options.steps c.args.options.horizon c.args.core c.requires.come.0 c.requires.come.1 (record { accepted = c.facts.ensures.accepted; limits = c.facts.ensures.limits }))
 
-pub jobs-requires-clause-bounds : goal.jobs-requires-clause-bounds
-jobs-requires-clause-bounds g c = may_leave c.args.system.now c.args.options.steps c.args.options.horizon c.args.core c.requires.come.0 c.requires.come.1 c.bounds-bounds.result.all c.bounds-bounds.ensures.leave
-
-pub jobs-requires-clause-some_steps : goal.jobs-requires-clause-some_steps
-jobs-requires-clause-some_steps g c = rw c.requires.come.1.of.steps c.requires.options.steps_least
-
-pub jobs-requires-clause-few_steps : goal.jobs-requires-clause-few_steps
-jobs-requires-clause-few_steps g c = rw c.requires.come.1.of.steps c.requires.options.steps_most
+pub jobs-requires-clause-legal : goal.jobs-requires-clause-legal
+jobs-requires-clause-legal g c =
+    subst (λ (n : ℕ). OfEachCore c.args.core.system c.args.core.steps c.args.core.resources.items (λ d. AreLegal c.args.core.system c.args.core.steps n d c.bounds-bounds.result.all)) (sym c.bounds-bounds.ensures.horizon)
+    c.bounds-bounds.ensures.legal
 
 pub settle-requires-clause-system : goal.settle-requires-clause-system
 settle-requires-clause-system g c =
     let kept = c.in_ok-away.ensures.kept in
     sym (kept.0 ∙ c.requires.come.1.of.inputs)
-
-pub settle-requires-clause-left : goal.settle-requires-clause-left
-settle-requires-clause-left g c = (c.args.core.resources.items, c.bounds-bounds.result.all, c.in_ok-away.ensures.away)
-
-pub settle-requires-clause-pending : goal.settle-requires-clause-pending
-settle-requires-clause-pending g c =
-    let kept = c.in_ok-away.ensures.kept in
-    kept_belong c.args.system.now c.args.options.steps c.args.options.horizon c.args.core c.requires.come.0 c.requires.come.1 c.bounds-bounds.result.all _ kept.0 kept.1 kept.3 c.in_ok-away.ensures.away
 
 pub settle-requires-clause-done : goal.settle-requires-clause-done
 settle-requires-clause-done g c =

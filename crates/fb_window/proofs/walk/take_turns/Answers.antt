@@ -9,7 +9,7 @@ use Rattle.fb_agenda.specs.Agendas.{IsNext, waiting}
 use Rattle.fb_resource.specs.Resources.{IsOf}
 use Rattle.fb_resource.specs.declared.resource.Resource.{Resource}
 use Rattle.fb_window.specs.Walking.{HasTurned}
-use Rattle.fb_window.specs.declared.cores.Core.{Core}
+use Rattle.fb_window.specs.declared.cores.CoreState.{CoreState}
 use Rattle.fb_types.proofs.Options.{none_from_is_some, some_from_is_some}
 use Rattle.fb_laws.proofs.Places.{is_at, one_at}
 use Rattle.fb_window.proofs.Single.{clock_before}
@@ -42,7 +42,7 @@ there_of c n = let early = early_of c n in let same = c.loop.invariant.same in c
 of_at : (c : After-least-place) (r : ℕ) (x : Resource) → slice_get c.loop.core.resources.items r ≡ Some x → IsOf c.args.core.now.system x
 of_at c r x e = each_of c.args.core.now.system c.args.core.now.steps c.args.horizon c.args.core.now c.loop.counter c.loop.core c.loop.invariant.gone c.requires.come r x e
 
-step : (c : After-least-place) → (c.least-place.result.1 ≡ c.args.horizon → ⊥) → (new : Core) (stop : Option StopMark)
+step : (c : After-least-place) → (c.least-place.result.1 ≡ c.args.horizon → ⊥) → (new : CoreState) (stop : Option StopMark)
     → HasTurned c.loop.core.system c.loop.core.steps c.least-place.result.0 (c.least-place.result.1 + 1) c.loop.core new stop → new.system ≡ c.loop.core.system → new.steps ≡ c.loop.core.steps
     → HasStepped c.args.core.now.system c.args.core.now.steps c.args.horizon c.args.core.now c.loop.counter new stop
 step c n new stop turned system steps =
@@ -117,3 +117,17 @@ returns-clause-walks c =
     let end : c.loop.counter ≡ c.args.most = let a = c.loop-test.false in let b = c.loop.auto.counter-end in omega (arith, a, b) in
     by_count c.args.core.now.system c.args.core.now.steps c.args.horizon c.args.core.now c.args.most c.loop.core
     (subst (λ (n : ℕ). HasGone c.args.core.now.system c.args.core.now.steps c.args.horizon c.args.core.now c.loop.core n) end c.loop.invariant.gone)
+
+-- ---- As many lists as resources
+
+pub returns-then-tick-horizon-clause-counted : goal.returns-then-tick-horizon-clause-counted
+returns-then-tick-horizon-clause-counted c = c.loop.invariant.gone.counted
+
+pub returns-then-is_some-clause-counted : goal.returns-then-is_some-clause-counted
+returns-then-is_some-clause-counted c =
+    let d = (goal.at.returns-then-is_some-clause-counted c).After-least-place in
+    let e = c.in_ok-stop.ensures in
+    (step d c.if-tick-horizon.false c.turn.new.self c.in_ok-stop.stop e.turned e.system e.steps).gone.counted
+
+pub returns-clause-counted : goal.returns-clause-counted
+returns-clause-counted c = c.loop.invariant.gone.counted

@@ -1,126 +1,28 @@
-use Rattle.std.proofs.Common.{◌≡◌, ◌<◌, ℕ, List, length, refl, sym, ap, subst, ◌∙◌, arith, All}
-use Rattle.std.specs.Global.{Vec}
+use Rattle.std.proofs.Common.{◌∙◌, ap, subst, sym, ℕ, List, IfOk}
 use Rattle.std.specs.List.{AllZip}
-use Rattle.std.specs.List.Sorted.{IsPermutation}
-use Rattle.std.specs.Prelude.{Some, None, slice_get}
-use Rattle.fb_types.specs.Headline.{AreAccepted, Inputs, system_of}
-use Rattle.fb_types.specs.Limits.{IsWithinLimits}
-use Rattle.fb_types.specs.declared.key.Key.{Key}
-use Rattle.fb_types.specs.declared.run.Line.{Line}
-use Rattle.fb_agenda.specs.Agendas.{IsNext, waiting}
-use Rattle.fb_system.specs.Lines.{BelongsTo}
-use Rattle.fb_link.specs.Exchanges.{all_of}
-use Rattle.fb_laws.specs.Sound.{AreGood}
+use Rattle.fb_types.specs.Cores.{CoreStep, opening_core}
+use Rattle.fb_types.specs.Headline.{stimuli_of, system_of}
+use Rattle.fb_types.specs.Parts.{machine}
+use Rattle.fb_types.specs.Schedules.{IsSchedule}
+use Rattle.fb_laws.specs.Finality.{core_of}
 use Rattle.fb_resource.specs.declared.resource.Resource.{Resource}
-use Rattle.fb_window.specs.Homes.{AreHome}
 use Rattle.fb_window.specs.Jobs.{Does}
-use Rattle.fb_trace.specs.Merging.{AreMerged, AreRising, flat}
-use Rattle.fb_window.specs.Frontiers.{AreCut, IsEnd, IsFrontier, edge_of}
-use Rattle.fb_window.specs.Mails.{ArePosted}
-use Rattle.fb_window.proofs.Passes.{few_resources}
-use Rattle.fb_window.proofs.Rounds.{HasGathered, settle_going, settle_ended, settle_stopped}
-use Rattle.fb_window.proofs.Walks.{made_ok}
-use Rattle.fb_window.proofs.Targets.{lines_belong, merged_in, rests_in, targets_in}
+use Rattle.fb_window.specs.Leaving.{AreLegal, HasLeft}
+use Rattle.fb_window.specs.Settling.{Settles, lists_of}
+use Rattle.fb_window.specs.Standing.{IsAt}
+use Rattle.fb_window.specs.declared.cores.AwayState.{AwayState}
 use Rattle.fb_window.proofs.cores.Away.settle.Goals as goal
-use Rattle.fb_window.proofs.cores.Away.settle.Goals.{After-end_of-end}
 
-pub post-posted-requires : goal.post-posted-requires
-post-posted-requires c =
-    let a = c.args.self in
-    let left = c.requires.left in
-    let done = subst (λ z. AllZip Does z c.args.dones.items) left.2.jobs c.requires.done in
-    let home = c.in_ok-home.ensures a.system a.steps left.1 left.0 left.2.resting done in
-    subst (λ (i : Inputs). All (λ box. All (λ m. m.target.instance < length (system_of i).paths) box.items) c.in_ok-home.home.outboxes.items) (sym c.requires.system)
-    (targets_in a.system a.steps left.1 left.0 a.pending.items c.in_ok-home.home home)
+pub settle-requires-clause-system : goal.settle-requires-clause-system
+settle-requires-clause-system c = c.requires.system ∙ sym (ap (λ (a : AwayState). a.system) c.self.view_is)
 
-pub end_of-end-requires : goal.end_of-end-requires
-end_of-end-requires c =
-    let a = c.args.self in
-    let left = c.requires.left in
-    let done = subst (λ z. AllZip Does z c.args.dones.items) left.2.jobs c.requires.done in
-    let home : AreHome a.system a.steps left.1 left.0 a.pending.items c.in_ok-home.home = c.in_ok-home.ensures a.system a.steps left.1 left.0 left.2.resting done in
-    let good : AreGood a.system = record {
-      accepted = subst AreAccepted c.requires.system c.facts.ensures.accepted;
-      limits = subst (λ (i : Inputs). IsWithinLimits i.plan) c.requires.system c.facts.ensures.limits;
-    } in
-    let few = few_resources a.system good in
-    let posted = made_ok _ c.post-posted.result c.in_ok-kept.resources c.in_ok-kept.ensures.made c.post-posted.ensures in
-    let same = ap (λ (ys : List Resource). length ys) c.deref-3.ensures.value in
-    let found = ap (λ (v : Vec Resource). length v.items) (c.in_ok-resources.ensures.kept) in
-    omega (arith, few, same, found, posted.counted, home.resources, left.2.counted)
-
--- what was posted, to the resources that have come home
-posted : (c : After-end_of-end)
-    → ArePosted (system_of c.args.self.system) (all_of c.in_ok-home.home.outboxes.items) c.in_ok-home.home.resources.items c.in_ok-kept.resources.items
-posted c =
-    let h = c.in_ok-home.home in
-    subst (λ (i : Inputs). ArePosted (system_of i) (all_of h.outboxes.items) h.resources.items c.in_ok-kept.resources.items) c.requires.system
-    (made_ok _ c.post-posted.result c.in_ok-kept.resources c.in_ok-kept.ensures.made c.post-posted.ensures)
-
--- how the lines that were kept were cut
-found : (c : After-end_of-end) → (finals : List (Vec Line)) × AreCut (edge_of c.frontier_of-frontier.result) c.in_ok-home.home.pending.items finals c.in_ok-resources.cut.1.items
-    × (AreRising finals → AreMerged finals c.in_ok-resources.cut.0.items) × IsPermutation (flat finals) c.in_ok-resources.cut.0.items
-found c =
-    let t = made_ok _ c.final_lines.result c.in_ok-resources.cut c.in_ok-resources.ensures.made c.final_lines.ensures in (
-      t.0,
-      subst (λ (v : Vec (Vec Line)). AreCut (edge_of c.frontier_of-frontier.result) v.items t.0 c.in_ok-resources.cut.1.items) c.in_ok-kept.ensures.kept t.1,
-      t.2,
-      t.3,
-    )
-
--- what all three returns rest on
-gathered : (c : After-end_of-end) → HasGathered c.args.self.system c.args.self.steps c.args.self.horizon c.args.self.resting.items c.args.self.pending.items c.args.dones.items c.in_ok-home.home
-    c.in_ok-kept.resources.items (found c).0 c.in_ok-resources.cut.1.items c.in_ok-resources.cut.0.items c.end_of-end.result
-gathered c =
-    let a = c.args.self in
-    let left = c.requires.left in
-    let done = subst (λ z. AllZip Does z c.args.dones.items) left.2.jobs c.requires.done in
-    let h = c.in_ok-home.home in
-    let home : AreHome a.system a.steps left.1 left.0 a.pending.items h = c.in_ok-home.ensures a.system a.steps left.1 left.0 left.2.resting done in
-    let zs = c.in_ok-kept.resources.items in
-    let least = c.least_next-least.result in
-    let edge = edge_of c.frontier_of-frontier.result in
-    let f = found c in
-    let fronts = f.0 in
-    let rests = c.in_ok-resources.cut.1.items in
-    let out = c.in_ok-resources.cut.0.items in
-    let belong : All (λ (p : Vec Line). All (BelongsTo (system_of a.system)) p.items) h.pending.items = lines_belong a.system a.steps left.1 left.0 a.pending.items h home c.requires.pending in
-    record {
-      good = record {
-        accepted = subst AreAccepted c.requires.system c.facts.ensures.accepted;
-        limits = subst (λ (i : Inputs). IsWithinLimits i.plan) c.requires.system c.facts.ensures.limits;
-      };
-      home = λ bounds xs same jobs. c.in_ok-home.ensures a.system a.steps bounds xs same jobs;
-      found = record {
-        least = least;
-        edge = edge;
-        posted = posted c;
-        cap = c.least_next-least.ensures.cap;
-        low = subst (λ (ys : List Resource). (r : ℕ) (x : Resource) (j : Key) → slice_get ys r ≡ Some x → j.tick < least → waiting x.agenda j ≡ None) c.deref.ensures.value c.least_next-least.ensures.low;
-        there = subst (λ (ys : List Resource). least < a.horizon → (r : ℕ) × (x : Resource) × (slice_get ys r ≡ Some x) × IsNext x.agenda least) c.deref.ensures.value c.least_next-least.ensures.there;
-        frontier = subst (λ (ys : List Resource). IsFrontier least ys edge) c.deref-2.ensures.value c.frontier_of-frontier.ensures;
-        cut = f.1;
-        merged = f.2;
-        ends = subst (λ (ys : List Resource). IsEnd a.horizon ys c.end_of-end.result) (c.deref-3.ensures.value ∙ ap (λ (v : Vec Resource). v.items) c.in_ok-resources.ensures.kept) c.end_of-end.ensures;
-      };
-      belong = merged_in (BelongsTo (system_of a.system)) edge h.pending.items fronts rests f.1 belong out f.3;
-      belongs = rests_in (BelongsTo (system_of a.system)) edge h.pending.items fronts rests f.1 belong;
-    }
-
-pub returns-in-Open : goal.returns-in-Open
-returns-in-Open c = λ xs bounds es workers left sc at legal.
-    let d = (goal.at.returns-in-Open c).After-end_of-end in
-    settle_going c.args.self c.args.dones.items c.requires.done c.in_ok-home.home c.in_ok-kept.resources.items (found d).0 c.in_ok-resources.cut.1.items c.in_ok-resources.cut.0.items
-    c.end_of-end.result (gathered d) xs bounds es workers left sc at legal _ _ c.in-Open.is refl refl (ap (λ (v : Vec Resource). v.items) c.in_ok-resources.ensures.kept) refl refl
-
-pub returns-in-Horizon : goal.returns-in-Horizon
-returns-in-Horizon c = λ xs bounds es workers left sc at legal.
-    let d = (goal.at.returns-in-Horizon c).After-end_of-end in
-    settle_ended c.args.self c.args.dones.items c.requires.done c.in_ok-home.home c.in_ok-kept.resources.items (found d).0 c.in_ok-resources.cut.1.items c.in_ok-resources.cut.0.items
-    c.end_of-end.result (gathered d) xs bounds es workers left sc at legal _ _ c.in-Horizon.is refl refl (ap (λ (v : Vec Resource). v.items) c.in_ok-resources.ensures.kept) refl refl
+pub settle-requires-clause-done : goal.settle-requires-clause-done
+settle-requires-clause-done c = subst (λ (a : AwayState). AllZip Does a.jobs.value.items c.args.dones.items) (sym c.self.view_is) c.requires.done
 
 pub returns : goal.returns
-returns c = λ xs bounds es workers left sc at legal.
-    let d = (goal.at.returns c).After-end_of-end in
-    settle_stopped c.args.self c.args.dones.items c.requires.done c.in_ok-home.home c.in_ok-kept.resources.items (found d).0 c.in_ok-resources.cut.1.items c.in_ok-resources.cut.0.items
-    c.end_of-end.result (gathered d) xs bounds es workers left sc at legal _ c.in-Stop.mark c.in-Stop.is refl
+returns c =
+    subst
+    (λ (a : AwayState). IfOk c.settle.result (λ s. (xs : List Resource) (bounds : List ℕ) (es : List (CoreStep (machine (system_of a.system) a.steps))) (workers : ℕ → ℕ) → HasLeft xs bounds a
+    → IsSchedule (machine (system_of a.system) a.steps) a.horizon (opening_core (system_of a.system) (stimuli_of a.system) a.steps) es → IsAt a.system a.steps (core_of a.system a.steps es) xs
+    → AreLegal a.system a.steps a.horizon (core_of a.system a.steps es) bounds → Settles a.system a.steps a.horizon es bounds (lists_of a.pending.items) workers s))
+    c.self.view_is c.settle.ensures

@@ -1,35 +1,41 @@
-use Rattle.std.proofs.Common.{◌≡◌, ℕ, true, false, Option, List, length, refl, sym, subst, ◌∙◌}
-use Rattle.std.specs.Prelude.{IfNone, IfSome, is_some}
-use Rattle.fb_types.specs.declared.run.StopMark.{StopMark}
-use Rattle.fb_resource.specs.declared.resource.Resource.{Resource}
-use Rattle.fb_window.specs.Frontiers.{AreLive, IsFirstStop}
-use Rattle.fb_window.specs.Noting.{AreNoted}
-use Rattle.fb_types.proofs.Options.{none_from_is_some, some_from_is_some}
-use Rattle.fb_window.proofs.Walked.{by_stop, gone_none}
+use Rattle.std.proofs.Common.{◌∙◌, ap, subst, sym, All}
+use Rattle.fb_types.specs.Headline.{system_of}
+use Rattle.fb_system.specs.Lines.{BelongsTo}
+use Rattle.fb_laws.specs.Sound.{AreGood}
+use Rattle.fb_window.specs.Reached.{KeepHorizon}
+use Rattle.fb_window.specs.Walking.{Walks}
+use Rattle.fb_window.specs.declared.cores.CoreState.{CoreState}
+use Rattle.fb_window.proofs.Keeping.{come, is_reached}
 use Rattle.fb_window.proofs.cores.Core.walk.Goals as goal
 
-stop_found : (xs : List Resource) (o : Option StopMark) → IfSome o (IsFirstStop xs (length xs)) → is_some o ≡ true → (m : StopMark) × IsFirstStop xs (length xs) m
-stop_found xs o h e = let s = some_from_is_some o e in (s.0, subst (λ z. IfSome z (IsFirstStop xs (length xs))) s.1 h)
+pub walk-requires-clause-system : goal.walk-requires-clause-system
+walk-requires-clause-system c = c.requires.system ∙ sym (ap (λ (s : CoreState). s.system) c.self.view_is)
 
-none_found : (xs : List Resource) (o : Option StopMark) → IfNone o (AreLive xs) → is_some o ≡ false → AreLive xs
-none_found xs o h e = subst (λ z. IfNone z (AreLive xs)) (none_from_is_some o e) h
+pub walk-requires-clause-come : goal.walk-requires-clause-come
+walk-requires-clause-come c =
+    let s : CoreState = c.self.inside.state in
+    let good : AreGood s.system =
+    subst AreGood (c.requires.system ∙ sym (ap (λ (z : CoreState). z.system) c.self.view_is)) (record { accepted = c.facts.ensures.accepted; limits = c.facts.ensures.limits }) in
+    come s good c.self.invariant c.args.horizon (subst (λ (z : CoreState). KeepHorizon c.args.horizon z.resources.items) (sym c.self.view_is) c.requires.clocks)
 
-pub returns-then-is_some-clause-walks : goal.returns-then-is_some-clause-walks
-returns-then-is_some-clause-walks c =
-    let self = c.args.self in
-    let xs = self.resources.items in
-    let some = subst (λ (ys : List Resource). IfSome c.first_stop.result (IsFirstStop ys (length ys))) c.deref.ensures.value c.first_stop.ensures.some in
-    let f = stop_found xs c.first_stop.result some (sym c.is_some.ensures ∙ c.if-is_some.true) in
-    let t = f.1.there in
-    by_stop self.system self.steps c.args.horizon self c.args.most 0 f.0.resource self t.0 f.0.reason t.1 t.2
-    (gone_none self.system self.steps c.args.horizon self refl refl c.requires.counted c.requires.pending)
+pub invariant_of-result : goal.invariant_of-result
+invariant_of-result c =
+    let s : CoreState = c.self.inside.state in
+    let good : AreGood s.system =
+    subst AreGood (c.requires.system ∙ sym (ap (λ (z : CoreState). z.system) c.self.view_is)) (record { accepted = c.facts.ensures.accepted; limits = c.facts.ensures.limits }) in
+    let on = c.in_ok-state.ensures in
+    is_reached s good c.self.invariant c.args.horizon (subst (λ (z : CoreState). KeepHorizon c.args.horizon z.resources.items) (sym c.self.view_is) c.requires.clocks)
+    c.args.most c.in_ok-state.state on.system on.steps on.counted on.pending on.walks
 
-pub take_turns-requires-clause-live : goal.take_turns-requires-clause-live
-take_turns-requires-clause-live c =
-    none_found c.args.self.resources.items c.first_stop.result
-    (subst (λ (ys : List Resource). IfNone c.first_stop.result (AreLive ys)) c.deref.ensures.value c.first_stop.ensures.none) (sym c.is_some.ensures ∙ c.if-is_some.false)
+pub returns-clause-system : goal.returns-clause-system
+returns-clause-system c = c.in_ok-state.ensures.system ∙ ap (λ (s : CoreState). s.system) c.self.view_is
 
-pub take_turns-requires-clause-noted : goal.take_turns-requires-clause-noted
-take_turns-requires-clause-noted c =
-    subst (λ (h : ℕ). AreNoted h c.args.self.resources.items c.in_ok-nexts.nexts.ticks.items) (sym c.in_ok-nexts.ensures.horizon)
-    (subst (λ (ys : List Resource). AreNoted c.args.horizon ys c.in_ok-nexts.nexts.ticks.items) c.deref-2.ensures.value c.in_ok-nexts.ensures.noted)
+pub returns-clause-steps : goal.returns-clause-steps
+returns-clause-steps c = c.in_ok-state.ensures.steps ∙ ap (λ (s : CoreState). s.steps) c.self.view_is
+
+pub returns-clause-pending : goal.returns-clause-pending
+returns-clause-pending c =
+    subst (λ (s : CoreState). All (λ p. All (BelongsTo (system_of s.system)) p.items) c.in_ok-state.state.pending.items) c.self.view_is c.in_ok-state.ensures.pending
+
+pub returns-clause-walks : goal.returns-clause-walks
+returns-clause-walks c = subst (λ (s : CoreState). Walks s.system s.steps c.args.horizon c.args.most s c.in_ok-state.state) c.self.view_is c.in_ok-state.ensures.walks

@@ -2,8 +2,8 @@ use Rattle.std.proofs.Common.{◌≡◌, length, ◌∙◌}
 use Rattle.fb_types.specs.Headline.{system_of}
 use Rattle.fb_types.specs.Parts.{count_of}
 use Rattle.fb_laws.specs.Sound.{AreGood}
-use Rattle.fb_window.proofs.Opens.{opened_at, opened_left}
-use Rattle.fb_window.proofs.cores.Core.open.Goals as goal
+use Rattle.fb_window.proofs.Opens.{opened_at, opened_belong, opened_brought, opened_left, reached_as}
+use Rattle.fb_window.proofs.cores.CoreState.open.Goals as goal
 
 pub returns-clause-at : goal.returns-clause-at
 returns-clause-at c =
@@ -15,3 +15,10 @@ returns-clause-left c = λ horizon.
     let counted : length c.in_ok-pending.pending.items ≡ count_of (system_of c.args.system.now) =
     c.in_ok-pending.ensures.counted ∙ c.len.ensures ∙ c.args.resources.ok.0 ∙ c.requires.opened.counted in
     opened_left c.args.system.now c.args.steps horizon c.in_ok-pending.pending.items counted c.in_ok-pending.ensures.none
+
+pub returns-clause-reached : goal.returns-clause-reached
+returns-clause-reached c =
+    let good : AreGood c.args.system.now = record { accepted = c.facts.ensures.accepted; limits = c.facts.ensures.limits } in
+    reached_as c.args.system.now c.in_ok-system.system c.args.steps c.args.resources c.in_ok-pending.pending (c.in_ok-system.ensures)
+    (opened_brought c.args.system.now c.args.steps c.args.resources.items good c.requires.opened) c.requires.some_steps c.requires.few_steps
+    (c.in_ok-pending.ensures.counted ∙ c.len.ensures ∙ c.args.resources.ok.0) (opened_belong c.args.system.now c.in_ok-pending.pending.items c.in_ok-pending.ensures.none)

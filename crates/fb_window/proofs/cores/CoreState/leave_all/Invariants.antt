@@ -1,7 +1,7 @@
 use Rattle.std.proofs.Common.{◌≡◌, ◌++◌, length, map}
 use Rattle.std.specs.Vec.Iter.{into_iter_items, into_iter_len}
 use Rattle.fb_window.specs.Jobs.{jobs_of, resting_of}
-use Rattle.fb_window.proofs.cores.Core.leave_all.Given as goal
+use Rattle.fb_window.proofs.cores.CoreState.leave_all.Given as goal
 
 abbrev pub invariant-loop-resource : goal.invariant-loop-resource
 invariant-loop-resource l = record {

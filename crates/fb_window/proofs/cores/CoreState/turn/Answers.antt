@@ -10,8 +10,8 @@ use Rattle.fb_window.specs.Mails.{AreGiven}
 use Rattle.fb_window.specs.Noting.{AreNoted}
 use Rattle.fb_laws.proofs.Places.{one_at}
 use Rattle.fb_window.proofs.Receives.{set_same}
-use Rattle.fb_window.proofs.cores.Core.turn.Goals as goal
-use Rattle.fb_window.proofs.cores.Core.turn.Goals.{After-index}
+use Rattle.fb_window.proofs.cores.CoreState.turn.Goals as goal
+use Rattle.fb_window.proofs.cores.CoreState.turn.Goals.{After-index}
 
 -- the resource that ran, where it is looked at again
 looked : (c : After-index) → c.index.result.now ≡ c.run_here.new.self
