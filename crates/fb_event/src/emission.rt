@@ -43,6 +43,22 @@ fn emit_all_bare(block: KindState, events: &[u32], emits: &mut Emits) -> Result<
     ensures kept { BeginsWith emits.old emits.new }
     ensures silent { events.now ≡ [] → IsOk result }
 {
+    // Mostly it is one event.
+    if let [event] = events {
+        return emit_bare(block, *event, emits);
+    }
+    emit_each_bare(block, events, emits)
+}
+
+#[inline(never)]
+fn emit_each_bare(block: KindState, events: &[u32], emits: &mut Emits) -> Result<(), AllocError>
+    requires events { All (IsEventOutput (state_of block).kind) events.now }
+    requires bare { values_of block ≡ [] }
+    ensures ok { OnOk result (emits.new ≡ emits.old ++ map (emission_at block) events.now) }
+    ensures well_formed { let IsFit = IsWellFormed (state_of block).kind in All IsFit emits.old → All IsFit emits.new }
+    ensures kept { BeginsWith emits.old emits.new }
+    ensures silent { events.now ≡ [] → IsOk result }
+{
     for event in events {
         emit_bare(block, *event, emits)?;
     }

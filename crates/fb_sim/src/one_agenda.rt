@@ -37,7 +37,7 @@ use std::io::Write;
 
 /// This many lines are gathered before they are written: enough for few writes, and few enough to stay in a processor's
 /// cache until then.
-const MANY_LINES: usize = 1024;
+const MANY_LINES: usize = 4096;
 
 /// The answer of a run that ended so.
 fn outcome_of(end: RunEnd) -> Outcome

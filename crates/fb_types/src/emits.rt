@@ -1,6 +1,6 @@
 //! The emissions of a reaction.
 
-ghost use Rattle.std.specs.Prelude.{◌≡◌, ◌↔◌, [], ◌∷◌, ◌++◌, IsTrue, MatchOption, OnErr, OnOk};
+ghost use Rattle.std.specs.Prelude.{◌≡◌, ◌≢◌, ◌↔◌, [], ◌∷◌, ◌++◌, IsTrue, MatchOption, OnErr, OnOk};
 
 use crate::run::Emission;
 use std::alloc::{AllocError, Global};
@@ -76,6 +76,16 @@ impl Emits {
             self.first = Some(emission);
             return Ok(());
         }
+        self.push_other(emission)
+    }
+
+    /// Adds an emission after the first. It is apart so that a reaction with one emission does not pay for it.
+    #[inline(never)]
+    fn push_other(&mut self, emission: Emission) -> Result<(), AllocError>
+        requires { self.old ≢ [] }
+        ensures ok { OnOk result (self.new ≡ self.old ++ emission ∷ []) }
+        ensures err { OnErr result (self.new ≡ self.old) }
+    {
         self.others.push_back(emission)?;
         Ok(())
     }
